@@ -1,2 +1,14 @@
-//! To be written.
+//! Plans of a job graph, what they cost, and certificates that a plan is a cheapest one.
 #![tactic(auto)]
+
+mod broken;
+mod charges;
+mod graph;
+mod plan;
+mod vertex;
+
+pub use broken::Broken;
+pub use charges::Charges;
+pub use graph::{Graph, MOST_COST, MOST_ENTRIES, MOST_VERTICES};
+pub use plan::{Mark, Plan};
+pub use vertex::Vertex;

@@ -1,0 +1,34 @@
+use Rattle.std.specs.Prelude.{◌≡◌, ◌≤◌, ℕ, List}
+use Rattle.plan_checker.specs.declared.vertex.Vertex.{Vertex}
+use Rattle.plan_checker.specs.declared.plan.Mark.{Mark}
+use Rattle.plan_checker.specs.declared.charges.Charges.{Charges}
+use Rattle.plan_checker.specs.declared.broken.Broken.{Broken}
+use Rattle.plan_checker.specs.Graph.{IsGraph}
+use Rattle.plan_checker.specs.Plan.{cost, IsValid}
+use Rattle.plan_checker.specs.Least.{IsCheapest, IsLeast}
+use Rattle.plan_checker.specs.Charges.{value, AreFair}
+use Rattle.plan_checker.specs.Certificate.{IsCertificate}
+use Rattle.plan_checker.specs.Broken.{Breaks}
+
+-- weak duality: fair charges are worth no more than any valid plan costs
+abbrev pub ChargesBoundCosts : Type 0
+ChargesBoundCosts =
+    (graph : List Vertex) (charges : Charges) (marks : List Mark) →
+    IsGraph graph → AreFair graph charges → IsValid graph marks → value charges ≤ cost graph marks
+
+-- a certificate's plan is a cheapest one
+abbrev pub CertificatesAreCheapest : Type 0
+CertificatesAreCheapest =
+    (graph : List Vertex) (marks : List Mark) (charges : Charges) →
+    IsGraph graph → IsCertificate graph marks charges → IsCheapest graph marks
+
+-- a graph has no two Least plans
+abbrev pub LeastIsOne : Type 0
+LeastIsOne =
+    (graph : List Vertex) (marks other : List Mark) → IsLeast graph marks → IsLeast graph other → marks ≡ other
+
+-- a certificate breaks no rule
+abbrev pub CertificatesAreSound : Type 0
+CertificatesAreSound =
+    (graph : List Vertex) (marks : List Mark) (charges : Charges) →
+    IsCertificate graph marks charges → (broken : Broken) → ¬ Breaks graph marks charges broken
