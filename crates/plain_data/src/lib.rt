@@ -2,18 +2,12 @@
 #![tactic(auto)]
 
 mod items;
+mod keyed;
 mod text;
 
 pub use items::Items;
+pub use keyed::Keyed;
 pub use text::Text;
 
 #[cfg(test)]
-mod tests {
-    use crate::Items;
-
-    #[derive(Drop)]
-    pub enum Tree {
-        Leaf(u64),
-        List(Items<Tree>),
-    }
-}
+mod tree;

@@ -12,8 +12,11 @@ pub struct Text {
 
 impl Model for Text {
     ghost use Rattle.std.specs.Prelude.{List, ℕ, string_bytes};
+    ghost use Rattle.std.specs.Coded.{coded_list, coded_ℕ};
 
     ghost Value = { List ℕ };
+
+    ghost coded = { coded_list coded_ℕ };
 
     ghost view = { λ fields. string_bytes fields.held };
 }
@@ -57,5 +60,12 @@ impl Text {
         Ok(Text {
             held: String::from_str(alloc, text)?,
         })
+    }
+
+    /// The same bytes in memory of its own.
+    pub fn copied(&self, alloc: Global) -> Result<Text, AllocError>
+        ensures { IfOk result (λ copy. copy ≡ self.now) }
+    {
+        Text::from_text(alloc, self.as_str())
     }
 }
