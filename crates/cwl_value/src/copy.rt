@@ -1,0 +1,139 @@
+//! Copies in new memory, equal to what was copied.
+ghost use Rattle.std.specs.Prelude.{◌≡◌, IfOk};
+
+use crate::place::{JobPlace, Place, Segment};
+use crate::value::{DirVal, FileVal, Value};
+use plain_data::{Items, Keyed, Text};
+use std::alloc::{AllocError, Global};
+
+fn copy_if_any(alloc: Global, text: &Option<Text>) -> Result<Option<Text>, AllocError>
+    ensures { IfOk result (λ copy. copy ≡ text.now) }
+{
+    match text {
+        None => Ok(None),
+        Some(text) => Ok(Some(text.copied(alloc)?)),
+    }
+}
+
+fn copy_index(alloc: Global, index: &Items<usize>) -> Result<Items<usize>, AllocError>
+    ensures { IfOk result (λ copy. copy ≡ index.now) }
+{
+    let mut copies = Items::new(alloc);
+    for number in index.as_slice() {
+        copies.push(*number)?;
+    }
+    Ok(copies)
+}
+
+impl Segment {
+    pub fn clone_in(&self, alloc: Global) -> Result<Segment, AllocError>
+        ensures { IfOk result (λ copy. copy ≡ self.now) }
+    {
+        Ok(Segment {
+            step: self.step.copied(alloc)?,
+            index: copy_index(alloc, &self.index)?,
+        })
+    }
+}
+
+pub fn copy_job(alloc: Global, job: &JobPlace) -> Result<JobPlace, AllocError>
+    ensures { IfOk result (λ copy. copy ≡ job.now) }
+{
+    let mut copies = Items::new(alloc);
+    for segment in job.as_slice() {
+        copies.push(segment.clone_in(alloc)?)?;
+    }
+    Ok(copies)
+}
+
+impl Place {
+    pub fn clone_in(&self, alloc: Global) -> Result<Place, AllocError>
+        ensures { IfOk result (λ copy. copy ≡ self.now) }
+    {
+        match self {
+            Place::Nowhere => Ok(Place::Nowhere),
+            Place::Url(location) => Ok(Place::Url(location.copied(alloc)?)),
+            Place::Path(path) => Ok(Place::Path(path.copied(alloc)?)),
+            Place::Made(job, name) => {
+                Ok(Place::Made(copy_job(alloc, job)?, name.copied(alloc)?))
+            }
+        }
+    }
+}
+
+impl Value {
+    /// An equal value in new memory.
+    #[cycle(copy)]
+    pub fn clone_in(&self, alloc: Global) -> Result<Value, AllocError>
+        ensures { IfOk result (λ copy. copy ≡ self.now) }
+    {
+        match self {
+            Value::Null => Ok(Value::Null),
+            Value::Bool(flag) => Ok(Value::Bool(*flag)),
+            Value::Whole(number) => Ok(Value::Whole(*number)),
+            Value::Text(text) => Ok(Value::Text(text.copied(alloc)?)),
+            Value::FileVal(file) => Ok(Value::FileVal(file.clone_in(alloc)?)),
+            Value::DirVal(dir) => Ok(Value::DirVal(dir.clone_in(alloc)?)),
+            Value::List(items) => Ok(Value::List(copy_items(alloc, items)?)),
+            Value::Fields(fields) => Ok(Value::Fields(copy_fields(alloc, fields)?)),
+        }
+    }
+}
+
+impl FileVal {
+    #[cycle(copy)]
+    pub fn clone_in(&self, alloc: Global) -> Result<FileVal, AllocError>
+        ensures { IfOk result (λ copy. copy ≡ self.now) }
+    {
+        Ok(FileVal {
+            place: self.place.clone_in(alloc)?,
+            basename: copy_if_any(alloc, &self.basename)?,
+            checksum: copy_if_any(alloc, &self.checksum)?,
+            size: self.size,
+            contents: copy_if_any(alloc, &self.contents)?,
+            secondary: copy_items(alloc, &self.secondary)?,
+        })
+    }
+}
+
+impl DirVal {
+    #[cycle(copy)]
+    pub fn clone_in(&self, alloc: Global) -> Result<DirVal, AllocError>
+        ensures { IfOk result (λ copy. copy ≡ self.now) }
+    {
+        let place = self.place.clone_in(alloc)?;
+        let basename = copy_if_any(alloc, &self.basename)?;
+        let listing = match &self.listing {
+            None => None,
+            Some(items) => Some(copy_items(alloc, items)?),
+        };
+        Ok(DirVal {
+            place,
+            basename,
+            listing,
+        })
+    }
+}
+
+#[cycle(copy)]
+pub fn copy_items(alloc: Global, items: &Items<Value>) -> Result<Items<Value>, AllocError>
+    ensures { IfOk result (λ copy. copy ≡ items.now) }
+{
+    let mut copies = Items::new(alloc);
+    for item in items.as_slice() {
+        copies.push(item.clone_in(alloc)?)?;
+    }
+    Ok(copies)
+}
+
+#[cycle(copy)]
+pub fn copy_fields(alloc: Global, fields: &Keyed<Value>) -> Result<Keyed<Value>, AllocError>
+    ensures { IfOk result (λ copy. copy ≡ fields.now) }
+{
+    let mut copies = Vec::new(alloc);
+    for field in fields.as_slice() {
+        let name = field.0.copied(alloc)?;
+        copies.push((name, field.1.clone_in(alloc)?))?;
+    }
+    Ok(Keyed::from_sorted(copies))
+}

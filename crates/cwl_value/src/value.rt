@@ -1,0 +1,38 @@
+use crate::place::Place;
+use plain_data::{Items, Keyed, Text};
+
+/// A value of CWL, as inputs and outputs are made of (CWL v1.2, "Data concepts").
+#[derive(Drop)]
+#[cycle(value)]
+pub enum Value {
+    Null,
+    Bool(bool),
+    Whole(i64),
+    Text(Text),
+    FileVal(FileVal),
+    DirVal(DirVal),
+    List(Items<Value>),
+    Fields(Keyed<Value>),
+}
+
+/// A File (CWL v1.2, section 5.2.1.1 of the command line tool document).
+#[derive(Drop)]
+#[cycle(value)]
+pub struct FileVal {
+    pub place: Place,
+    pub basename: Option<Text>,
+    /// `sha1$` and the sum in hexadecimal.
+    pub checksum: Option<Text>,
+    /// In bytes.
+    pub size: Option<u64>,
+    pub contents: Option<Text>,
+    pub secondary: Items<Value>,
+}
+
+#[derive(Drop)]
+#[cycle(value)]
+pub struct DirVal {
+    pub place: Place,
+    pub basename: Option<Text>,
+    pub listing: Option<Items<Value>>,
+}
