@@ -1,2 +1,14 @@
-//! To be written.
+//! Reads the documents of CWL v1.2: from the bytes of a file to a process.
+//!
+//! `read_process` takes a `CommandLineTool` whose fields, and the fields of each object in it, are
+//! those of the tables in `specs/Fields.antt`. An `Ok` is the process that the document stands for,
+//! as `specs/Document.antt` says it, and no other; a refusal comes only where its cause holds
+//! (`specs/Refusal.antt`), and then the document stands for no process. Want of memory is the one
+//! exception.
 #![tactic(auto)]
+
+mod process;
+mod refusal;
+
+pub use process::{Binding, CwlType, OutputSource, Process, Tool, ToolInput, ToolOutput};
+pub use refusal::DocumentRefusal;
