@@ -1,0 +1,3 @@
+pub mod SumsBelow
+pub mod Duality
+pub mod OneLeast

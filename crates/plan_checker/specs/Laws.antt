@@ -28,7 +28,7 @@ LeastIsOne =
     (graph : List Vertex) (marks other : List Mark) → IsLeast graph marks → IsLeast graph other → marks ≡ other
 
 -- a certificate breaks no rule
-abbrev pub CertificatesAreSound : Type 0
-CertificatesAreSound =
+abbrev pub CertificatesBreakNothing : Type 0
+CertificatesBreakNothing =
     (graph : List Vertex) (marks : List Mark) (charges : Charges) →
     IsCertificate graph marks charges → (broken : Broken) → ¬ Breaks graph marks charges broken

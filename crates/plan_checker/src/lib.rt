@@ -4,11 +4,15 @@
 mod broken;
 mod charges;
 mod graph;
+mod laws;
 mod plan;
 mod vertex;
 
 pub use broken::Broken;
 pub use charges::Charges;
 pub use graph::{Graph, MOST_COST, MOST_ENTRIES, MOST_VERTICES};
+pub use laws::{
+    certificates_are_cheapest, certificates_break_nothing, charges_bound_costs, least_is_one,
+};
 pub use plan::{Mark, Plan};
 pub use vertex::Vertex;
