@@ -47,7 +47,7 @@ impl<T> Keyed<T> {
     /// The entries by value, without memory.
     pub fn into_entries(self) -> Vec<(Text, T)>
         ensures entries { result.items ≡ self }
-        ensures order { IsByName self }
+        ensures order { IsByName result.items }
     {
         let Keyed { entries } = self;
         entries
@@ -55,7 +55,7 @@ impl<T> Keyed<T> {
 
     pub fn as_slice(&self) -> &[(Text, T)]
         ensures entries { result.now ≡ self.now }
-        ensures order { IsByName self.now }
+        ensures order { IsByName result.now }
     {
         self.entries.as_slice()
     }
