@@ -3,6 +3,7 @@ ghost use Rattle.plain_data.specs.ByName.{IsByName};
 
 use crate::Text;
 use std::alloc::Global;
+use std::fmt;
 use std::marker::Model;
 
 /// Values under names, in the order of the names' bytes, each name once.
@@ -70,5 +71,11 @@ impl<T> Keyed<T> {
         ensures { IsTrue result ↔ (self.now ≡ []) }
     {
         self.entries.is_empty()
+    }
+}
+
+impl<T: fmt::Debug> fmt::Debug for Keyed<T> {
+    fn fmt<W: fmt::Write>(&self, f: &mut fmt::Formatter<W>) -> fmt::Result {
+        fmt::Debug::fmt(&self.as_slice(), f)
     }
 }

@@ -5,7 +5,7 @@ use crate::{Items, Keyed, Text};
 use std::alloc::{AllocError, Global};
 
 #[cycle(tree)]
-#[derive(Drop)]
+#[derive(Debug, Drop)]
 pub enum Tree {
     Leaf(u64),
     Name(Text),
