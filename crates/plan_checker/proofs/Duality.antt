@@ -29,7 +29,7 @@ passed_by_weight weight graph charges i =
 weigh_place : (weight : ℕ → ℕ) (n parent amount : ℕ) → parent < n → sum_below n (λ p. weight p * cond (eqb parent p) amount 0) ≡ weight parent * amount
 weigh_place weight n parent amount h =
     let others : (p : ℕ) → p < n → p ≢ parent → weight p * cond (eqb parent p) amount 0 ≡ 0 =
-        λ p below ne. ap (λ x. weight p * x) (cond-false (eqb parent p) amount 0 (ne_eqb parent p (λ e. ne (sym e)))) ∙ mul-zero (weight p)
+    λ p below ne. ap (λ x. weight p * x) (cond-false (eqb parent p) amount 0 (ne_eqb parent p (λ e. ne (sym e)))) ∙ mul-zero (weight p)
     in
     sum_below_only n (λ p. weight p * cond (eqb parent p) amount 0) parent h others
     ∙ ap (λ x. weight parent * x) (cond-true (eqb parent parent) amount 0 (eq-eqb parent parent refl))
@@ -41,15 +41,15 @@ received_is_passed weight graph charges good =
     let m : ℕ → ℕ = λ i. length (vertex graph i).parents in
     let part : ℕ → ℕ → ℕ → ℕ = λ p i k. cond (eqb (parent_at graph i k) p) (amount_at charges i k) 0 in
     let spread : (p : ℕ) → weight p * received graph charges p ≡ sum_below n (λ i. sum_below (m i) (λ k. weight p * part p i k)) =
-        λ p.
-        sym (sum_below-scale n (weight p) (λ i. sum_below (m i) (part p i)))
-        ∙ sum_below_same n (λ i. weight p * sum_below (m i) (part p i)) (λ i. sum_below (m i) (λ k. weight p * part p i k)) (λ i h. sym (sum_below-scale (m i) (weight p) (part p i)))
+    λ p.
+    sym (sum_below-scale n (weight p) (λ i. sum_below (m i) (part p i)))
+    ∙ sum_below_same n (λ i. weight p * sum_below (m i) (part p i)) (λ i. sum_below (m i) (λ k. weight p * part p i k)) (λ i h. sym (sum_below-scale (m i) (weight p) (part p i)))
     in
     let gather : (i : ℕ) → i < n → sum_below n (λ p. sum_below (m i) (λ k. weight p * part p i k)) ≡ passed_by_weight weight graph charges i =
-        λ i h.
-        sum_below-swap n (m i) (λ p k. weight p * part p i k)
-        ∙ sum_below_same (m i) (λ k. sum_below n (λ p. weight p * part p i k)) (λ k. weight (parent_at graph i k) * amount_at charges i k)
-            (λ k hk. let below = (good i h).below k 0 hk in weigh_place weight n (parent_at graph i k) (amount_at charges i k) (omega arith))
+    λ i h.
+    sum_below-swap n (m i) (λ p k. weight p * part p i k)
+    ∙ sum_below_same (m i) (λ k. sum_below n (λ p. weight p * part p i k)) (λ k. weight (parent_at graph i k) * amount_at charges i k)
+    (λ k hk. let below = (good i h).below k 0 hk in weigh_place weight n (parent_at graph i k) (amount_at charges i k) (omega arith))
     in
     sum_below_same n (λ p. weight p * received graph charges p) (λ p. sum_below n (λ i. sum_below (m i) (λ k. weight p * part p i k))) (λ p h. spread p)
     ∙ sum_below-swap n n (λ p i. sum_below (m i) (λ k. weight p * part p i k))
@@ -80,7 +80,7 @@ outlay graph marks charges i = cost_of (vertex graph i) (mark marks i) + passed_
 passed_to_kept : (graph : List Vertex) (marks : List Mark) (charges : Charges) (i : ℕ) → length (passes charges i) ≡ length (vertex graph i).parents → IsAllowed marks (vertex graph i) Compute → passed_by_weight (is_kept marks) graph charges i ≡ sum (passes charges i)
 passed_to_kept graph marks charges i counted parents_kept =
     sum_below_same (length (vertex graph i).parents) (λ k. is_kept marks (parent_at graph i k) * amount_at charges i k) (amount_at charges i)
-        (λ k hk. let one = kept_is_one (mark marks (parent_at graph i k)) (parents_kept k 0 hk) in rw one (omega arith))
+    (λ k hk. let one = kept_is_one (mark marks (parent_at graph i k)) (parents_kept k 0 hk) in rw one (omega arith))
     ∙ ap (λ n. sum_below n (amount_at charges i)) (sym counted)
     ∙ sym (sum_is_below (passes charges i))
 
@@ -170,6 +170,6 @@ none_to_kept graph marks charges i k none h there =
 
 pub certificate_is_cheapest : (graph : List Vertex) (marks : List Mark) (charges : Charges) → IsGraph graph → IsCertificate graph marks charges → IsCheapest graph marks
 certificate_is_cheapest graph marks charges good certificate = record {
-    valid = certificate.valid;
-    cheapest = λ other valid. let le = value-le-cost graph charges other good certificate.fair valid in let e = certificate.balanced in omega arith;
-  }
+  valid = certificate.valid;
+  cheapest = λ other valid. let le = value-le-cost graph charges other good certificate.fair valid in let e = certificate.balanced in omega arith;
+}

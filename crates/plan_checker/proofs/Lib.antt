@@ -1,3 +1,4 @@
 pub mod SumsBelow
 pub mod Duality
 pub mod OneLeast
+pub mod ChildLists

@@ -24,4 +24,4 @@ least_plans_are_equal graph marks other a b =
     let back = b.least marks a.cheapest in
     let count = a.cheapest.valid.one_each in
     ext_get_or Prune marks other (count ∙ sym b.cheapest.valid.one_each)
-        (λ i h. let below : i < length graph = omega arith in same_mark (mark marks i) (mark other i) (there.computes i below) (back.computes i below) (there.keeps i below) (back.keeps i below))
+    (λ i h. let below : i < length graph = omega arith in same_mark (mark marks i) (mark other i) (there.computes i below) (back.computes i below) (there.keeps i below) (back.keeps i below))

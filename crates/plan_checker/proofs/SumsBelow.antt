@@ -74,15 +74,15 @@ pub sum_below_changed : (n : ℕ) (f g : ℕ → ℕ) (i : ℕ) → i < n → ((
 sum_below_changed zero f g i h others = absurd (omega arith)
 sum_below_changed (suc n) f g i h others =
     ⊎_elim
-        (λ lt.
-            let rest = sum_below_changed n f g i lt (λ j below ne. others j (omega arith) ne) in
-            let last : f n ≡ g n = others n (omega arith) (omega arith) in
-            omega arith)
-        (λ e.
-            let rest : sum_below n f ≡ sum_below n g = sum_below_same n f g (λ j below. others j (omega arith) (omega arith)) in
-            let here : (f i ≡ f n) × (g i ≡ g n) = (ap f e, ap g e) in
-            omega (arith, here.0, here.1))
-        (below_or_last n i h)
+    (λ lt.
+    let rest = sum_below_changed n f g i lt (λ j below ne. others j (omega arith) ne) in
+    let last : f n ≡ g n = others n (omega arith) (omega arith) in
+    omega arith)
+    (λ e.
+    let rest : sum_below n f ≡ sum_below n g = sum_below_same n f g (λ j below. others j (omega arith) (omega arith)) in
+    let here : (f i ≡ f n) × (g i ≡ g n) = (ap f e, ap g e) in
+    omega (arith, here.0, here.1))
+    (below_or_last n i h)
 
 -- one term alone: the others are 0
 pub sum_below_only : (n : ℕ) (f : ℕ → ℕ) (i : ℕ) → i < n → ((j : ℕ) → j < n → j ≢ i → f j ≡ 0) → sum_below n f ≡ f i

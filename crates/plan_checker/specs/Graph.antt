@@ -3,6 +3,8 @@ use Rattle.std.specs.Option.{ForSome}
 use Rattle.std.specs.List.Sorted.{IsStrictlyIncreasing}
 use Rattle.plan_checker.specs.declared.vertex.Vertex.{Vertex}
 use Rattle.plan_checker.specs.declared.graph.TheConstants.{MOST_VERTICES, MOST_ENTRIES, MOST_COST}
+use Rattle.plan_checker.specs.declared.graph_error.GraphError.{GraphError}
+use Rattle.plan_checker.specs.declared.graph_error.GraphError.TheVariants.{BadGraph, OutOfMemory}
 use Rattle.plan_checker.specs.Sums.{sum_below}
 
 -- what is read past the end of a list of vertices: one that nothing wants
@@ -17,14 +19,18 @@ vertex graph i = slice_index_or graph i no_vertex
 abbrev pub entries_below : List Vertex → ℕ → ℕ
 entries_below graph n = sum_below n (λ i. length (vertex graph i).parents)
 
--- vertex i is within the limits, and its parents stand below it, in rising order
-pub record FitsAt (graph : List Vertex) (i : ℕ) : Type 0 where
-  pub number : i < MOST_VERTICES
-  pub entries : entries_below graph (i + 1) ≤ MOST_ENTRIES
-  pub load_cost : ForSome (vertex graph i).load (λ cost. cost ≤ MOST_COST)
-  pub compute_cost : (1 ≤ (vertex graph i).compute) × ((vertex graph i).compute ≤ MOST_COST)
-  pub below : All (λ parent. parent < i) (vertex graph i).parents
-  pub rising : IsStrictlyIncreasing (vertex graph i).parents
+-- a vertex of this number, with this many parent entries up to its own, is within the limits; its parents stand below
+-- it, in rising order
+pub record Fits (number entries : ℕ) (job : Vertex) : Type 0 where
+  pub few_vertices : number < MOST_VERTICES
+  pub few_entries : entries ≤ MOST_ENTRIES
+  pub load_cost : ForSome job.load (λ cost. cost ≤ MOST_COST)
+  pub compute_cost : (1 ≤ job.compute) × (job.compute ≤ MOST_COST)
+  pub below : All (λ parent. parent < number) job.parents
+  pub rising : IsStrictlyIncreasing job.parents
+
+abbrev pub FitsAt : List Vertex → ℕ → Type 0
+FitsAt graph i = Fits i (entries_below graph (i + 1)) (vertex graph i)
 
 -- a job graph: each vertex fits
 abbrev pub IsGraph : List Vertex → Type 0
@@ -35,3 +41,8 @@ pub record IsFirstMisfit (graph : List Vertex) (i : ℕ) : Type 0 where
   pub there : i < length graph
   pub fit_before : (k : ℕ) → k < i → FitsAt graph k
   pub misfit : ¬ FitsAt graph i
+
+-- why a list of vertices is refused: it is no graph, or memory is wanting
+abbrev pub IsRefused : List Vertex → GraphError → Type 0
+IsRefused graph (BadGraph i) = IsFirstMisfit graph i
+IsRefused graph OutOfMemory = Unit {0}

@@ -6,3 +6,4 @@ pub mod Charges
 pub mod Certificate
 pub mod Broken
 pub mod Laws
+pub mod Children

@@ -1,10 +1,18 @@
 //! Graphs of jobs.
 
-use std::marker::Model;
+ghost use Rattle.std.specs.Prelude.{◌≡◌, ℕ, ◌+◌, ◌-◌, ◌<◌, ◌≤◌, ◌↔◌, length, sum_by, IsTrue, IfOk, OnOk, IfErr, MatchOption, All, slice_index_or, []};
+ghost use Rattle.std.specs.List.Sorted.{IsStrictlyIncreasing};
+ghost use Rattle.plan_checker.specs.Graph.{Fits, IsGraph, IsFirstMisfit, IsRefused};
+ghost use Rattle.plan_checker.specs.Charges.{IsCounted, received};
+ghost use Rattle.plan_checker.specs.Children.{AddsChild, AreChildren};
 
-use plain_data::Items;
-
+use crate::charges::Charges;
+use crate::child::Child;
+use crate::graph_error::GraphError;
 use crate::vertex::Vertex;
+use plain_data::Items;
+use std::alloc::{AllocError, Global};
+use std::marker::Model;
 
 /// The most vertices that a graph has.
 pub const MOST_VERTICES: usize = 4096;
@@ -13,19 +21,110 @@ pub const MOST_ENTRIES: usize = 65_536;
 /// The highest cost of loading or computing a vertex.
 pub const MOST_COST: u64 = 1_000_000_000_000;
 
+/// Vertices within the limits, each with its parents below it; contracts see the list of them.
 #[derive(Debug, Drop)]
 pub struct Graph {
     vertices: Items<Vertex>,
+    children: Vec<Items<Child>>,
 }
 
 impl Model for Graph {
     ghost use Rattle.std.specs.Prelude.{List};
     ghost use Rattle.plan_checker.specs.declared.vertex.Vertex.{Vertex};
     ghost use Rattle.plan_checker.specs.Graph.{IsGraph};
+    ghost use Rattle.plan_checker.specs.Children.{AddsChild, AreChildren};
 
     ghost Value = { List Vertex };
 
     ghost view = { λ graph. graph.vertices };
 
-    ghost invariant = { λ graph. IsGraph graph.vertices };
+    ghost invariant = { λ graph. IsGraph graph.vertices × AreChildren graph.vertices graph.children.items };
+}
+
+impl Graph {
+    /// The graph of these vertices, or the first of them that may not stand in a graph (X2).
+    pub fn new(alloc: Global, vertices: Vec<Vertex>) -> Result<Graph, GraphError>
+        ensures ok { IfOk result (λ graph. graph ≡ vertices.items) }
+        ensures within { OnOk result (IsGraph vertices.items) }
+        ensures refused { IfErr result (IsRefused vertices.items) }
+    {
+        if let Some(vertex) = first_misfit(&vertices) {
+            return Err(GraphError::BadGraph(vertex));
+        }
+        let children = children_of(alloc, &vertices)?;
+        let vertices = Items::from_vec(vertices);
+        Ok(Graph { vertices, children })
+    }
+
+    /// The vertices, in their order.
+    pub fn vertices(&self) -> &[Vertex]
+        ensures list { result.now ≡ self.now }
+        ensures within { IsGraph self.now }
+    {
+        self.vertices.as_slice()
+    }
+}
+
+/// The first vertex that may not stand in a graph.
+fn first_misfit(vertices: &[Vertex]) -> Option<usize>
+    ensures { MatchOption result (IsGraph vertices.now) (IsFirstMisfit vertices.now) }
+{
+    let mut entries = 0;
+    for (number, vertex) in vertices.iter().enumerate() {
+        if !fits(number, entries, vertex) {
+            return Some(number);
+        }
+        entries += vertex.parents.len();
+    }
+    None
+}
+
+/// Whether a vertex may stand at this place, behind vertices with this many parent entries.
+fn fits(number: usize, entries: usize, vertex: &Vertex) -> bool
+    requires { entries ≤ MOST_ENTRIES }
+    ensures { IsTrue result ↔ Fits number (entries + length vertex.now.parents) vertex.now }
+{
+    number < MOST_VERTICES
+        && vertex.parents.len() <= MOST_ENTRIES - entries
+        && vertex.load.unwrap_or(0) <= MOST_COST
+        && 1 <= vertex.compute
+        && vertex.compute <= MOST_COST
+        && rise_below(vertex.parents.as_slice(), number)
+}
+
+/// Whether these numbers rise, and stay below a limit.
+fn rise_below(numbers: &[usize], limit: usize) -> bool
+    ensures { IsTrue result ↔ (All (λ n. n < limit) numbers.now × IsStrictlyIncreasing numbers.now) }
+{
+    numbers.iter().all(|n| *n < limit) && numbers.windows(2).all(|pair| pair[0] < pair[1])
+}
+
+/// The children of each vertex.
+fn children_of(alloc: Global, vertices: &[Vertex]) -> Result<Vec<Items<Child>>, AllocError>
+    requires { IsGraph vertices.now }
+    ensures { IfOk result (λ children. AreChildren vertices.now children.items) }
+{
+    let mut children = Vec::with_capacity(alloc, vertices.len())?;
+    for _ in 0..vertices.len() {
+        children.push(Items::new(alloc))?;
+    }
+    for (vertex, job) in vertices.iter().enumerate() {
+        add_child(&mut children, vertex, job.parents.as_slice())?;
+    }
+    Ok(children)
+}
+
+/// Adds a vertex to the children of each of its parents.
+fn add_child(
+    children: &mut Vec<Items<Child>>,
+    vertex: usize,
+    parents: &[usize],
+) -> Result<(), AllocError>
+    requires { All (λ p. p < length children.old.items) parents.now }
+    ensures { OnOk result (AddsChild children.old.items children.new.items vertex parents.now (length parents.now)) }
+{
+    for (place, parent) in parents.iter().enumerate() {
+        children[*parent].push(Child { vertex, place })?;
+    }
+    Ok(())
 }

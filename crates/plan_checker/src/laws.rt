@@ -5,23 +5,19 @@ ghost use Rattle.plan_checker.specs.Laws.{CertificatesAreCheapest, CertificatesB
 /// Fair charges are worth no more than any valid plan costs.
 pub fn charges_bound_costs()
     ensures { ChargesBoundCosts }
-{
-}
+{}
 
 /// The plan of a certificate is a cheapest one.
 pub fn certificates_are_cheapest()
     ensures { CertificatesAreCheapest }
-{
-}
+{}
 
 /// A graph has at most one Least plan.
 pub fn least_is_one()
     ensures { LeastIsOne }
-{
-}
+{}
 
 /// No rule is broken by a certificate.
 pub fn certificates_break_nothing()
     ensures { CertificatesBreakNothing }
-{
-}
+{}

@@ -3,7 +3,9 @@
 
 mod broken;
 mod charges;
+mod child;
 mod graph;
+mod graph_error;
 mod laws;
 mod plan;
 mod vertex;
@@ -11,6 +13,7 @@ mod vertex;
 pub use broken::Broken;
 pub use charges::Charges;
 pub use graph::{Graph, MOST_COST, MOST_ENTRIES, MOST_VERTICES};
+pub use graph_error::GraphError;
 pub use laws::{
     certificates_are_cheapest, certificates_break_nothing, charges_bound_costs, least_is_one,
 };
