@@ -1,0 +1,4 @@
+pub mod ExitClass
+pub mod Faults
+pub mod Log
+pub mod Tickets

@@ -1,2 +1,22 @@
-//! To be written.
+//! What a run asks of the world, and what the world answers.
+//!
+//! A `Host` stages files, starts children, collects their ends, scans folders and delivers outputs. It keeps a
+//! log: each call adds exactly one entry, of what was asked and what was answered, or none where memory was
+//! wanting, and the log never shrinks. A call fails only by its own fault, and the fault stands in the log. It
+//! also keeps the tickets of the children that run: a start adds a fresh one, `close` alone takes one out, and
+//! a collect answers one of them. `exit_class` says what an exit code means.
+//!
+//! `Scripted` is a host that answers from a list, and its contracts say what it answers.
 #![tactic(auto)]
+
+mod call;
+mod child;
+mod found;
+mod host;
+mod plan;
+
+pub use call::{Entry, HostAnswer, HostError, HostFault, HostRequest};
+pub use child::{Ending, ExitClass, Ticket, exit_class};
+pub use found::{Found, listing_in};
+pub use host::Host;
+pub use plan::{Move, StagePlan};

@@ -1,0 +1,6 @@
+use Rattle.std.proofs.Common.{◌≡◌, take}
+use Rattle.proc_host.proofs.found.listing_in.Given as goal
+
+-- the front of the listing is copied
+abbrev pub invariant-loop-found : goal.invariant-loop-found
+invariant-loop-found l = l.copies.items ≡ take l.found-index l.found-items

@@ -1,0 +1,94 @@
+ghost use Rattle.std.specs.Prelude.{◌≡◌};
+ghost use Rattle.proc_host.specs.Faults.{code_of};
+ghost use Rattle.proc_host.specs.declared.call.HostError.TheVariants.{OutOfMemory};
+
+use crate::{Ending, Found, StagePlan};
+use command_line::Launch;
+use plain_data::{Items, Text};
+use std::alloc::{AllocError, AllocFailed};
+
+/// What was asked of a host.
+#[derive(Drop)]
+pub enum HostRequest {
+    /// To lay out the folder of a job, by its number, from 1.
+    Stage(StagePlan, u64),
+    Start(Launch),
+    Collect,
+    /// To list a folder.
+    Scan(Text),
+    Deliver(StagePlan),
+}
+
+/// What a host answered.
+#[derive(Drop)]
+pub enum HostAnswer {
+    Done,
+    /// The number of the new child's ticket.
+    Started(u64),
+    Ended(Ending),
+    Listed(Items<Found>),
+    Failed(HostFault),
+}
+
+/// Which call failed.
+#[derive(Clone, Copy, Debug, PartialEq, Eq)]
+pub enum HostFault {
+    Measure,
+    Stage,
+    Start,
+    Collect,
+    Scan,
+    Head,
+    Fetch,
+    Store,
+    Deliver,
+}
+
+impl HostFault {
+    /// The fault's code in reports, `H1` to `H9`.
+    pub fn code(self) -> &'static str
+        ensures { result.now ≡ code_of self }
+    {
+        match self {
+            HostFault::Measure => "H1",
+            HostFault::Stage => "H2",
+            HostFault::Start => "H3",
+            HostFault::Collect => "H4",
+            HostFault::Scan => "H5",
+            HostFault::Head => "H6",
+            HostFault::Fetch => "H7",
+            HostFault::Store => "H8",
+            HostFault::Deliver => "H9",
+        }
+    }
+}
+
+/// Why a call gave no answer.
+#[derive(Clone, Copy, Debug, PartialEq, Eq)]
+pub enum HostError {
+    Fault(HostFault),
+    OutOfMemory,
+}
+
+impl From<AllocError> for HostError {
+    ghost from_gives = { λ _ e. e ≡ OutOfMemory };
+
+    fn from(_: AllocError) -> HostError {
+        HostError::OutOfMemory
+    }
+}
+
+impl<T: Drop> From<AllocFailed<T>> for HostError {
+    ghost from_gives = { λ _ e. e ≡ OutOfMemory };
+
+    fn from(_: AllocFailed<T>) -> HostError {
+        HostError::OutOfMemory
+    }
+}
+
+/// One line of a host's log.
+#[derive(Drop)]
+pub struct Entry {
+    pub request: HostRequest,
+    pub answer: HostAnswer,
+}

@@ -1,0 +1,68 @@
+ghost use Rattle.std.specs.Prelude.{◌≡◌};
+ghost use Rattle.proc_host.specs.ExitClass.{class_of};
+
+use std::marker::Model;
+
+/// The right to a started child. It is no `Drop`: whoever holds one has to spend it, by `Host::close`.
+pub struct Ticket {
+    number: u64,
+}
+
+impl Model for Ticket {
+    ghost use Rattle.std.specs.Prelude.{ℕ};
+
+    ghost Value = { ℕ };
+
+    ghost view = { λ fields. fields.number };
+}
+
+impl Ticket {
+    /// For a host that has started a child, under a number that none of its running children has.
+    pub fn new(number: u64) -> Ticket
+        ensures { result ≡ number }
+    {
+        Ticket { number }
+    }
+
+    pub fn number(&self) -> u64
+        ensures { result ≡ self.now }
+    {
+        self.number
+    }
+
+    /// For a host that closes the child.
+    pub fn spend(self) -> u64
+        ensures { result ≡ self }
+    {
+        let Ticket { number } = self;
+        number
+    }
+}
+
+/// How a child ended: its ticket, its exit code where it has one (a child that a signal ended has none), and
+/// how long it ran.
+#[derive(Clone, Copy, Debug, PartialEq, Eq)]
+pub struct Ending {
+    pub ticket: u64,
+    pub code: Option<i32>,
+    pub millis: u64,
+}
+
+/// What an end means for the job (CWL v1.2, CommandLineTool, "Output binding": exit codes).
+#[derive(Clone, Copy, Debug, PartialEq, Eq)]
+pub enum ExitClass {
+    Success,
+    Temporary,
+    Permanent,
+}
+
+/// The class of an end: `Temporary` by a signal, `Success` at 0, and `Permanent` at every other code.
+pub fn exit_class(code: Option<i32>) -> ExitClass
+    ensures { result ≡ class_of code }
+{
+    match code {
+        None => ExitClass::Temporary,
+        Some(0) => ExitClass::Success,
+        Some(_) => ExitClass::Permanent,
+    }
+}

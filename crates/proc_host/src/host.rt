@@ -1,0 +1,63 @@
+ghost use Rattle.std.specs.Prelude.{◌≡◌, ◌≢◌, ◌++◌, List, ℕ, [], IfOk, Contains};
+ghost use Rattle.proc_host.specs.declared.call.Entry.{Entry};
+ghost use Rattle.proc_host.specs.Log.{told, entries_of, FailsOnlyBy};
+ghost use Rattle.proc_host.specs.Tickets.{IsFresh, running_after, without};
+
+use crate::{Ending, Found, HostAnswer, HostError, HostFault, HostRequest, StagePlan, Ticket};
+use command_line::Launch;
+use plain_data::{Items, Text};
+
+/// The world of a run: its files and its children.
+///
+/// Each call makes room for its entry in the log, acts, and adds the entry. One that is refused for want of
+/// memory adds none and changes nothing that is told of here.
+pub trait Host {
+    /// What was asked and answered so far, oldest first.
+    ghost log: { Self → List Entry };
+
+    /// The tickets that were started and not closed yet.
+    ghost running: { Self → List ℕ };
+
+    /// Lays out the folder of a job: each move copies a file to its target.
+    fn stage(&mut self, plan: &StagePlan, number: u64) -> Result<(), HostError>
+        ensures logged { log self.new ≡ log self.old
+            ++ entries_of (HostRequest.Stage plan.now number) (told (λ _. HostAnswer.Done) result) }
+        ensures own { FailsOnlyBy HostFault.Stage result }
+        ensures running { running self.new ≡ running self.old };
+
+    /// Starts a child.
+    fn start(&mut self, launch: &Launch) -> Result<Ticket, HostError>
+        ensures logged { log self.new ≡ log self.old
+            ++ entries_of (HostRequest.Start launch.now) (told (λ ticket. HostAnswer.Started ticket) result) }
+        ensures own { FailsOnlyBy HostFault.Start result }
+        ensures fresh { IfOk result (λ ticket. IsFresh ticket (running self.old)) }
+        ensures started { running self.new ≡ running_after (running self.old) result };
+
+    /// Waits for the end of a child that runs. Its ticket is still to be closed.
+    fn collect(&mut self) -> Result<Ending, HostError>
+        requires { running self.old ≢ [] }
+        ensures logged { log self.new ≡ log self.old
+            ++ entries_of HostRequest.Collect (told (λ ending. HostAnswer.Ended ending) result) }
+        ensures own { FailsOnlyBy HostFault.Collect result }
+        ensures child { IfOk result (λ ending. Contains (running self.old) ending.ticket) }
+        ensures running { running self.new ≡ running self.old };
+
+    /// Lists what is below a folder.
+    fn scan(&mut self, folder: &Text) -> Result<Items<Found>, HostError>
+        ensures logged { log self.new ≡ log self.old
+            ++ entries_of (HostRequest.Scan folder.now) (told (λ found. HostAnswer.Listed found) result) }
+        ensures own { FailsOnlyBy HostFault.Scan result }
+        ensures running { running self.new ≡ running self.old };
+
+    /// Copies a run's outputs to where they are wanted.
+    fn deliver(&mut self, plan: &StagePlan) -> Result<(), HostError>
+        ensures logged { log self.new ≡ log self.old
+            ++ entries_of (HostRequest.Deliver plan.now) (told (λ _. HostAnswer.Done) result) }
+        ensures own { FailsOnlyBy HostFault.Deliver result }
+        ensures running { running self.new ≡ running self.old };
+
+    /// Spends a ticket, without memory. A child that still runs under it is no longer watched.
+    fn close(&mut self, ticket: Ticket)
+        ensures logged { log self.new ≡ log self.old }
+        ensures closed { running self.new ≡ without ticket (running self.old) };
+}

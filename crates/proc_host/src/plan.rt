@@ -1,0 +1,44 @@
+ghost use Rattle.std.specs.Prelude.{◌≡◌, IfOk};
+
+use cwl_value::{Value, fields_clone_in};
+use plain_data::{Items, Keyed, Text};
+use std::alloc::{AllocError, Global};
+
+/// A file to copy, by the path where it stands and the path where it is wanted.
+#[derive(Drop)]
+pub struct Move {
+    pub source: Text,
+    pub target: Text,
+}
+
+/// Files to copy, and the values that name them by their new paths.
+#[derive(Drop)]
+pub struct StagePlan {
+    pub moves: Items<Move>,
+    pub value: Keyed<Value>,
+}
+
+impl Move {
+    pub fn clone_in(&self, alloc: Global) -> Result<Move, AllocError>
+        ensures { IfOk result (λ copy. copy ≡ self.now) }
+    {
+        Ok(Move {
+            source: self.source.copied(alloc)?,
+            target: self.target.copied(alloc)?,
+        })
+    }
+}
+
+impl StagePlan {
+    pub fn clone_in(&self, alloc: Global) -> Result<StagePlan, AllocError>
+        ensures { IfOk result (λ copy. copy ≡ self.now) }
+    {
+        let mut moves = Vec::new(alloc);
+        for planned in self.moves.as_slice() {
+            moves.push(planned.clone_in(alloc)?)?;
+        }
+        let moves = Items::from_vec(moves);
+        let value = fields_clone_in(alloc, &self.value)?;
+        Ok(StagePlan { moves, value })
+    }
+}
