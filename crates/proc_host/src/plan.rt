@@ -1,6 +1,6 @@
 ghost use Rattle.std.specs.Prelude.{◌≡◌, IfOk};
 
-use cwl_value::{Value, fields_clone_in};
+use cwl_value::{Value, copy_fields};
 use plain_data::{Items, Keyed, Text};
 use std::alloc::{AllocError, Global};
 
@@ -38,7 +38,7 @@ impl StagePlan {
             moves.push(planned.clone_in(alloc)?)?;
         }
         let moves = Items::from_vec(moves);
-        let value = fields_clone_in(alloc, &self.value)?;
+        let value = copy_fields(alloc, &self.value)?;
         Ok(StagePlan { moves, value })
     }
 }
