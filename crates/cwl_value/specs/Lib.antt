@@ -1,1 +1,3 @@
 pub mod Erased
+pub mod Json
+pub mod NameParts

@@ -6,7 +6,7 @@ use crate::value::{DirVal, FileVal, Value};
 use plain_data::{Items, Keyed, Text};
 use std::alloc::{AllocError, Global};
 
-fn copy_if_any(alloc: Global, text: &Option<Text>) -> Result<Option<Text>, AllocError>
+pub(crate) fn copy_if_any(alloc: Global, text: &Option<Text>) -> Result<Option<Text>, AllocError>
     ensures { IfOk result (λ copy. copy ≡ text.now) }
 {
     match text {

@@ -1,0 +1,227 @@
+//! The JSON of values.
+ghost use Rattle.std.specs.Prelude.{◌≡◌, IfOk, OnOk, option_map, map, codes};
+ghost use Rattle.serde_json.specs.View.{view, members_view};
+ghost use Rattle.cwl_value.specs.NameParts.{nameroot, nameext};
+ghost use Rattle.cwl_value.specs.Json.{json_of, file_data, dir_data, items_json, fields_json, with_member, with_entry, by_name, name_in, text_json, location_json, size_json, unless_empty};
+
+use crate::names::name_parts;
+use crate::place::Place;
+use crate::value::{DirVal, FileVal, Value};
+use plain_data::{Items, Keyed, Text};
+use serde_json::Value as Json;
+use serde_json::value::Map;
+use std::alloc::{AllocError, Global};
+
+/// The JSON of a value (CWL v1.2, "Data concepts", File and Directory).
+///
+/// A File or Directory has its `basename`, `checksum`, `size`, `contents`, `secondaryFiles` and `listing` where they
+/// are there, its `location` where its place is a `Url`, and `nameroot` and `nameext` where it has a basename.
+#[cycle(write)]
+pub fn to_json(alloc: Global, value: &Value) -> Result<Json, AllocError>
+    ensures { IfOk result (λ json. view json ≡ json_of value.now) }
+{
+    match value {
+        Value::Null => Ok(Json::Null),
+        Value::Bool(flag) => Ok(Json::Bool(*flag)),
+        Value::Whole(number) => Ok(Json::from(*number)),
+        Value::Text(text) => Json::try_from_str(alloc, text.as_str()),
+        Value::FileVal(file) => file_to_json(alloc, file),
+        Value::DirVal(dir) => dir_to_json(alloc, dir),
+        Value::List(items) => Ok(Json::Array(items_to_json(alloc, items)?)),
+        Value::Fields(fields) => Ok(Json::Object(fields_to_json(alloc, fields)?)),
+    }
+}
+
+#[cycle(write)]
+fn file_to_json(alloc: Global, file: &FileVal) -> Result<Json, AllocError>
+    ensures { IfOk result (λ json. view json ≡ file_data file.now) }
+{
+    let secondary = items_to_json(alloc, &file.secondary)?;
+    let mut members = Map::new(alloc);
+    put_text(&mut members, alloc, "basename", &file.basename)?;
+    put_text(&mut members, alloc, "checksum", &file.checksum)?;
+    put(
+        &mut members,
+        alloc,
+        "class",
+        Some(Json::try_from_str(alloc, "File")?),
+    )?;
+    put_text(&mut members, alloc, "contents", &file.contents)?;
+    put(
+        &mut members,
+        alloc,
+        "location",
+        location(alloc, &file.place)?,
+    )?;
+    put_parts(&mut members, alloc, &file.basename)?;
+    put(&mut members, alloc, "secondaryFiles", some_array(secondary))?;
+    put(&mut members, alloc, "size", size(file.size))?;
+    Ok(Json::Object(members))
+}
+
+#[cycle(write)]
+fn dir_to_json(alloc: Global, dir: &DirVal) -> Result<Json, AllocError>
+    ensures { IfOk result (λ json. view json ≡ dir_data dir.now) }
+{
+    let listing = match &dir.listing {
+        None => None,
+        Some(items) => Some(Json::Array(sorted(alloc, items_to_json(alloc, items)?)?)),
+    };
+    let mut members = Map::new(alloc);
+    put_text(&mut members, alloc, "basename", &dir.basename)?;
+    put(
+        &mut members,
+        alloc,
+        "class",
+        Some(Json::try_from_str(alloc, "Directory")?),
+    )?;
+    put(&mut members, alloc, "listing", listing)?;
+    put(
+        &mut members,
+        alloc,
+        "location",
+        location(alloc, &dir.place)?,
+    )?;
+    Ok(Json::Object(members))
+}
+
+#[cycle(write)]
+fn items_to_json(alloc: Global, items: &Items<Value>) -> Result<Vec<Json>, AllocError>
+    ensures { IfOk result (λ found. map view found.items ≡ items_json items.now) }
+{
+    let mut found = Vec::new(alloc);
+    for item in items.as_slice() {
+        found.push(to_json(alloc, item)?)?;
+    }
+    Ok(found)
+}
+
+#[cycle(write)]
+fn fields_to_json(alloc: Global, fields: &Keyed<Value>) -> Result<Map<String, Json>, AllocError>
+    ensures { IfOk result (λ members. members_view members.entries ≡ fields_json fields.now) }
+{
+    let mut members = Map::new(alloc);
+    for field in fields.as_slice() {
+        let json = to_json(alloc, &field.1)?;
+        put(&mut members, alloc, field.0.as_str(), Some(json))?;
+    }
+    Ok(members)
+}
+
+// Adds a member, if there is one.
+fn put(
+    members: &mut Map<String, Json>,
+    alloc: Global,
+    name: &str,
+    json: Option<Json>,
+) -> Result<(), AllocError>
+    ensures { OnOk result (members_view members.new.entries
+        ≡ with_member name.now (option_map view json) (members_view members.old.entries)) }
+{
+    match json {
+        None => Ok(()),
+        Some(json) => serde_json::put(members, alloc, name, json),
+    }
+}
+
+fn put_text(
+    members: &mut Map<String, Json>,
+    alloc: Global,
+    name: &str,
+    text: &Option<Text>,
+) -> Result<(), AllocError>
+    ensures { OnOk result (members_view members.new.entries
+        ≡ with_member name.now (text_json text.now) (members_view members.old.entries)) }
+{
+    match text {
+        None => Ok(()),
+        Some(text) => {
+            let json = Json::try_from_str(alloc, text.as_str())?;
+            serde_json::put(members, alloc, name, json)
+        }
+    }
+}
+
+fn put_parts(
+    members: &mut Map<String, Json>,
+    alloc: Global,
+    basename: &Option<Text>,
+) -> Result<(), AllocError>
+    ensures { OnOk result (members_view members.new.entries
+        ≡ with_member (codes "nameroot") (text_json (option_map nameroot basename.now))
+        (with_member (codes "nameext") (text_json (option_map nameext basename.now))
+        (members_view members.old.entries))) }
+{
+    match basename {
+        None => Ok(()),
+        Some(basename) => {
+            let (root, extension) = name_parts(basename.as_str());
+            serde_json::put(
+                members,
+                alloc,
+                "nameext",
+                Json::try_from_str(alloc, extension)?,
+            )?;
+            serde_json::put(members, alloc, "nameroot", Json::try_from_str(alloc, root)?)
+        }
+    }
+}
+
+fn location(alloc: Global, place: &Place) -> Result<Option<Json>, AllocError>
+    ensures { IfOk result (λ json. option_map view json ≡ location_json place.now) }
+{
+    match place {
+        Place::Url(location) => Ok(Some(Json::try_from_str(alloc, location.as_str())?)),
+        Place::Nowhere | Place::Path(_) | Place::Made(_, _) => Ok(None),
+    }
+}
+
+fn size(bytes: Option<u64>) -> Option<Json>
+    ensures { option_map view result ≡ size_json bytes }
+{
+    match bytes {
+        None => None,
+        Some(bytes) => Some(Json::from(bytes)),
+    }
+}
+
+fn some_array(items: Vec<Json>) -> Option<Json>
+    ensures { option_map view result ≡ unless_empty (map view items.items) }
+{
+    if items.is_empty() {
+        None
+    } else {
+        Some(Json::Array(items))
+    }
+}
+
+// In the order of the basenames.
+fn sorted(alloc: Global, listing: Vec<Json>) -> Result<Vec<Json>, AllocError>
+    ensures { IfOk result (λ found. map view found.items ≡ by_name (map view listing.items)) }
+{
+    let mut found = Vec::with_capacity(alloc, listing.len())?;
+    for entry in listing {
+        insert_entry(&mut found, entry)?;
+    }
+    Ok(found)
+}
+
+// From the end on, so that a list which is in order already costs one look for each entry.
+fn insert_entry(found: &mut Vec<Json>, entry: Json) -> Result<(), AllocError>
+    ensures { OnOk result (map view found.new.items ≡ with_entry (map view found.old.items) (view entry)) }
+{
+    let mut at = found.len();
+    while at > 0 && name_of(&entry) < name_of(&found[at - 1]) {
+        at -= 1;
+    }
+    Ok(found.insert(at, entry)?)
+}
+
+fn name_of(entry: &Json) -> &str
+    ensures { result.now ≡ name_in (view entry.now) }
+{
+    match entry.get("basename") {
+        Some(Json::String(name)) => name.as_str(),
+        _ => "",
+    }
+}
