@@ -1,3 +1,2 @@
-pub mod ByName
 pub mod Listing
 pub mod Periods

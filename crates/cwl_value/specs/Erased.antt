@@ -1,5 +1,6 @@
 -- A value without its places: equal contents, wherever they are.
 use Rattle.std.specs.Prelude.{ℕ, List, map}
+use Rattle.plain_data.specs.ByName.{map_values}
 use Rattle.cwl_value.specs.declared.place.Place.TheVariants.{Nowhere}
 use Rattle.cwl_value.specs.declared.value.Value.{Value, roll-Value, fold-Value}
 use Rattle.cwl_value.specs.declared.value.FileVal.{FileVal, roll-FileVal, fold-FileVal}
@@ -26,4 +27,4 @@ abbrev pub items_erased : List Value → List Value
 items_erased = map erased
 
 abbrev pub fields_erased : List (List ℕ × Value) → List (List ℕ × Value)
-fields_erased = map (λ field. (field.0, erased field.1))
+fields_erased = map_values erased
