@@ -1,1 +1,3 @@
 pub mod ByName
+pub mod Lookup
+mod Place

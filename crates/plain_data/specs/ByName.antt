@@ -1,7 +1,9 @@
--- Lists of named values: the order of names, and looking one up.
-use Rattle.std.specs.Prelude.{ℕ, List, Option, map, bytes_eq}
+-- Lists of named values: the order of names, looking one up, putting one in, and a list put in order.
+use Rattle.std.specs.Prelude.{◌≡◌, ℕ, ◌<◌, ◌≤◌, List, [], ◌∷◌, length, Option, Some, Result, MatchResult, map, slice_get, bytes_eq}
 use Rattle.std.specs.Ordering.{nat_cmp}
 use Rattle.std.specs.declared.cmp.Ordering.{Ordering}
+use Rattle.std.specs.declared.cmp.Ordering.TheVariants.{Less, Greater}
+use Rattle.std.specs.BTreeMap.{insert_entry}
 use Rattle.std.specs.Cmp.Lexicographic.{slice_cmp}
 use Rattle.std.specs.List.Sorted.{IsStrictlySortedBy}
 use Rattle.std.specs.Map.{keys_of, lookup}
@@ -22,6 +24,33 @@ module _ {X : Type 0} where
   -- the value beside a name: that of the first entry with the name's bytes
   abbrev pub value_at : List ℕ → List (List ℕ × X) → Option X
   value_at name entries = lookup (bytes_eq name) entries
+
+  -- the entries with a value put under a name: in the place of the one that has the name, and else before the first greater name
+  abbrev pub with_value : List ℕ → X → List (List ℕ × X) → List (List ℕ × X)
+  with_value name value entries = insert_entry name_cmp entries name value
+
+  -- the entries in the order of their names; of those with one name, the first
+  abbrev pub by_name : List (List ℕ × X) → List (List ℕ × X)
+  by_name [] = []
+  by_name (e ∷ es) = with_value e.0 e.1 (by_name es)
+
+  -- the name stands at two places
+  pub record Repeats (name : List ℕ) (entries : List (List ℕ × X)) : Type 0 where
+    pub first : ℕ
+    pub later : ℕ
+    pub apart : first < later
+    pub at_first : slice_get (names entries) first ≡ Some name
+    pub at_later : slice_get (names entries) later ≡ Some name
+
+  -- a name that no entry has would stand at index: all before it are less, and the one there is greater
+  pub record IsGapFor (name : List ℕ) (entries : List (List ℕ × X)) (index : ℕ) : Type 0 where
+    pub fits : index ≤ length entries
+    pub past : (k : ℕ) (e : List ℕ × X) → k < index → slice_get entries k ≡ Some e → name_cmp name e.0 ≡ Greater
+    pub ahead : (e : List ℕ × X) → slice_get entries index ≡ Some e → name_cmp name e.0 ≡ Less
+
+  -- the index of the name, or of the gap for it
+  abbrev pub IsPlaceOf : List ℕ → List (List ℕ × X) → Result ℕ ℕ → Type 0
+  IsPlaceOf name entries place = MatchResult place (λ index. slice_get (names entries) index ≡ Some name) (IsGapFor name entries)
 
 -- the same names, with f of each value
 abbrev pub map_values : {X Y : Type 0} → (X → Y) → List (List ℕ × X) → List (List ℕ × Y)

@@ -1,10 +1,12 @@
-ghost use Rattle.std.specs.Prelude.{◌≡◌, [], length, ◌↔◌, IsTrue};
-ghost use Rattle.plain_data.specs.ByName.{IsByName};
+ghost use Rattle.std.specs.Prelude.{◌≡◌, [], length, ◌↔◌, IsTrue, IsSome, IsOk, IfOk, OnOk, OnErr};
+ghost use Rattle.std.specs.Option.{option_copied};
+ghost use Rattle.plain_data.specs.ByName.{IsByName, IsPlaceOf, name_cmp, value_at, with_value};
 
 use crate::Text;
-use std::alloc::Global;
-use std::fmt;
+use std::alloc::{AllocError, Global};
+use std::cmp::Ordering;
 use std::marker::Model;
+use std::{fmt, mem};
 
 /// Values under names, in the order of the names' bytes, each name once.
 #[derive(Drop)]
@@ -61,6 +63,33 @@ impl<T> Keyed<T> {
         self.entries.as_slice()
     }
 
+    /// The value under a name, found by halving.
+    pub fn get(&self, name: &str) -> Option<&T>
+        ensures { option_copied result ≡ value_at name.now self.now }
+    {
+        match self.place(name) {
+            Ok(index) => Some(&self.entries[index].1),
+            Err(_) => None,
+        }
+    }
+
+    pub fn contains(&self, name: &str) -> bool
+        ensures { IsTrue result ↔ IsSome (value_at name.now self.now) }
+    {
+        self.get(name).is_some()
+    }
+
+    // Where the name stands, or where it would stand.
+    fn place(&self, name: &str) -> Result<usize, usize>
+        ensures { IsPlaceOf name.now self.now result }
+    {
+        self.entries.binary_search_by(
+            |entry| -> Ordering
+                ensures { result ≡ name_cmp entry.now.0 name.entry.now }
+            { entry.0.as_str().cmp(name) },
+        )
+    }
+
     pub fn len(&self) -> usize
         ensures { result ≡ length self.now }
     {
@@ -71,6 +100,28 @@ impl<T> Keyed<T> {
         ensures { IsTrue result ↔ (self.now ≡ []) }
     {
         self.entries.is_empty()
+    }
+}
+
+impl<T: Drop> Keyed<T> {
+    /// Puts a value under a name, and gives back the one that was there. Only a new name needs memory;
+    /// where that is wanting, nothing changes.
+    pub fn insert(&mut self, name: Text, value: T) -> Result<Option<T>, AllocError>
+        ensures old { IfOk result (λ old. old ≡ value_at name self.old) }
+        ensures new { OnOk result (self.new ≡ with_value name value self.old) }
+        ensures err { OnErr result (self.new ≡ self.old) }
+        ensures replaces { IsSome (value_at name self.old) → IsOk result }
+    {
+        match self.place(name.as_str()) {
+            Ok(index) => {
+                let entry = &mut self.entries[index];
+                Ok(Some(mem::replace(&mut entry.1, value)))
+            }
+            Err(index) => {
+                self.entries.insert(index, (name, value))?;
+                Ok(None)
+            }
+        }
     }
 }
 
