@@ -1,4 +1,5 @@
 pub mod ExitClass
 pub mod Faults
 pub mod Log
+pub mod Script
 pub mod Tickets

@@ -1,5 +1,5 @@
 -- The tickets of the children that run.
-use Rattle.std.specs.Prelude.{◌≡◌, ℕ, ◌==◌, Bool, not, List, [], ◌∷◌, ◌++◌, filter, Result, Ok, Err}
+use Rattle.std.specs.Prelude.{◌≡◌, ◌≤◌, ℕ, ◌==◌, Bool, not, List, [], ◌∷◌, ◌++◌, filter, Result, Ok, Err}
 use Rattle.proc_host.specs.declared.call.HostError.{HostError}
 
 -- the others
@@ -14,3 +14,8 @@ IsFresh ticket running = without ticket running ≡ running
 abbrev pub running_after : List ℕ → Result ℕ HostError → List ℕ
 running_after running (Ok ticket) = running ++ ticket ∷ []
 running_after running (Err error) = running
+
+-- no number above this one
+abbrev pub AllUpTo : ℕ → List ℕ → Type 0
+AllUpTo last [] = Unit {0}
+AllUpTo last (n ∷ ns) = (n ≤ last) × AllUpTo last ns

@@ -14,9 +14,13 @@ mod child;
 mod found;
 mod host;
 mod plan;
+mod reply;
+mod scripted;
 
 pub use call::{Entry, HostAnswer, HostError, HostFault, HostRequest};
 pub use child::{Ending, ExitClass, Ticket, exit_class};
 pub use found::{Found, listing_in};
 pub use host::Host;
 pub use plan::{Move, StagePlan};
+pub use reply::Reply;
+pub use scripted::Scripted;

@@ -1,0 +1,32 @@
+-- What the script says next is what the answer tells.
+use Rattle.std.proofs.Common.{◌≡◌, ℕ, zero, suc, ◌+◌, ◌<◌, List, [], ◌∷◌, ◌++◌, cond, Option, Some, None, length, drop, IsTrue, slice_get, refl, ap, arith, true}
+use Rattle.std.specs.Prelude.{if◌then◌else◌}
+use Rattle.command_line.specs.declared.launch.Launch.{Launch}
+use Rattle.proc_host.specs.declared.call.HostAnswer.TheVariants as answers
+use Rattle.proc_host.specs.declared.call.HostRequest.TheVariants as requests
+use Rattle.proc_host.specs.declared.child.Ending.{Ending}
+use Rattle.proc_host.specs.declared.reply.Reply.{Reply}
+use Rattle.proc_host.specs.declared.reply.Reply.TheVariants as replies
+use Rattle.std.proofs.lemmas.List.Sums.{sum_by-append}
+use Rattle.proc_host.specs.declared.call.Entry.{Entry}
+use Rattle.proc_host.specs.declared.call.HostRequest.{HostRequest}
+use Rattle.proc_host.specs.Script.{ScriptState, answer_by, can_end, is_start, starts}
+
+pub start_told : (state : ScriptState) (launch : Launch) (reply : Option Reply) → reply ≡ Some replies.Start →
+    answers.Started (state.started + 1) ≡ answer_by state (requests.Start launch) reply
+start_told state launch reply next = rw next refl
+
+pub end_told : (state : ScriptState) (ending : Ending) (reply : Option Reply) → reply ≡ Some (replies.Collect ending) → can_end state ending ≡ true →
+    answers.Ended ending ≡ answer_by state requests.Collect reply
+end_told state ending reply next can = rw (next, can) refl
+
+-- where there is a next reply, the replies given are not all
+pub next_within : (given : ℕ) (script : List Reply) (reply : Reply) → slice_get (drop given script) 0 ≡ Some reply → given < length script
+next_within zero [] reply next = absurd (cc)
+next_within zero (x ∷ xs) reply next = omega arith
+next_within (suc given) [] reply next = absurd (cc)
+next_within (suc given) (x ∷ xs) reply next = omega (arith, next_within given xs reply next)
+
+pub starts_more : (log : List Entry) (request : HostRequest) (ticket : ℕ) →
+    starts (log ++ record { request = request; answer = answers.Started ticket } ∷ []) ≡ starts log + 1
+starts_more log request ticket = sum_by-append (λ (entry : Entry). cond (is_start entry.answer) 1 0) log (record { request = request; answer = answers.Started ticket } ∷ [])

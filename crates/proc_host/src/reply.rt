@@ -1,0 +1,12 @@
+use crate::{Ending, Found};
+use plain_data::Items;
+
+/// What a script says next: the call that it answers, and its answer.
+#[derive(Drop)]
+pub enum Reply {
+    Stage,
+    Start,
+    Collect(Ending),
+    Scan(Items<Found>),
+    Deliver,
+}

@@ -1,0 +1,276 @@
+ghost use Rattle.std.specs.Prelude.{◌≡◌, ◌++◌, ◌∷◌, ◌↔◌, [], IfOk, OnOk, OnErr, IfSome, IfNone, IsTrue, slice_get, Contains};
+ghost use Rattle.proc_host.specs.Log.{told, told_error, entries_of, FailsOnlyBy, IsOnly};
+ghost use Rattle.proc_host.specs.Tickets.{IsFresh, running_after, without};
+ghost use Rattle.proc_host.specs.Script.{Answers, after, can_end, starts};
+ghost use Rattle.proc_host.specs.declared.child.Ending.{Ending};
+
+use crate::found::listing_in;
+use crate::{
+    Ending, Entry, Found, Host, HostAnswer, HostError, HostFault, HostRequest, Reply, StagePlan,
+    Ticket,
+};
+use command_line::Launch;
+use plain_data::{Items, Text};
+use std::alloc::{AllocError, Global};
+use std::marker::Model;
+
+/// A host that answers from a list, for tests and for showing a run.
+///
+/// Ticket numbers count its starts, from 1. A call that the script doesn't answer next fails, and so does a
+/// collect of a child that doesn't run, or before `least_started` children were started. A call that fails
+/// leaves the script where it is.
+#[derive(Drop)]
+pub struct Scripted {
+    alloc: Global,
+    script: Vec<Reply>,
+    // how many replies were given
+    given: usize,
+    log: Vec<Entry>,
+    running: Vec<u64>,
+    started: u64,
+    least_started: u64,
+}
+
+impl Model for Scripted {
+    ghost use Rattle.std.specs.Prelude.{drop};
+    ghost use Rattle.proc_host.specs.Script.{ScriptState, IsInStep};
+    ghost use Rattle.cwl_value.specs.contracts.value.Value as value;
+    ghost use Rattle.std.specs.Coded.{codes};
+
+    ghost Value = { ScriptState };
+
+    ghost coded = { Prim.hlevel (codes, value.the_row.coded) };
+
+    ghost view = { λ fields. record {
+      script = drop fields.given fields.script.items;
+      log = fields.log.items;
+      running = fields.running.items;
+      started = fields.started;
+      least_started = fields.least_started;
+    } };
+
+    ghost invariant = { λ fields.
+        IsInStep fields.script.items fields.given fields.log.items fields.running.items fields.started };
+}
+
+impl Scripted {
+    /// A host with nothing behind it: no entries and no children.
+    pub fn new(alloc: Global, script: Items<Reply>, least_started: u64) -> Scripted
+        ensures { result ≡ record { script = script; log = []; running = []; started = 0; least_started = least_started } }
+    {
+        Scripted {
+            alloc,
+            script: script.into_vec(),
+            given: 0,
+            log: Vec::new(alloc),
+            running: Vec::new(alloc),
+            started: 0,
+            least_started,
+        }
+    }
+
+    /// What was asked and answered so far, oldest first.
+    pub fn log(&self) -> &[Entry]
+        ensures { result.now ≡ self.now.log }
+    {
+        self.log.as_slice()
+    }
+
+    /// The tickets of the children that run.
+    pub fn running(&self) -> &[u64]
+        ensures { result.now ≡ self.now.running }
+    {
+        self.running.as_slice()
+    }
+
+    /// How many children were started: as many as the log tells of.
+    pub fn started(&self) -> u64
+        ensures number { result ≡ self.now.started }
+        ensures by_log { result ≡ starts self.now.log }
+    {
+        self.started
+    }
+
+    /// What the script has still to say.
+    pub fn script_left(&self) -> &[Reply]
+        ensures { result.now ≡ self.now.script }
+    {
+        &self.script[self.given..]
+    }
+
+    // Whether the script answers a start next.
+    fn says_start(&self) -> bool
+        ensures { IsTrue result ↔ (slice_get self.now.script 0 ≡ Some Reply.Start) }
+    {
+        matches!(self.script.get(self.given), Some(Reply::Start))
+    }
+
+    // The end that the script tells next, where it can be told now.
+    fn next_end(&self) -> Option<Ending>
+        ensures told { IfSome result (λ ending. slice_get self.now.script 0 ≡ Some (Reply.Collect ending)) }
+        ensures runs { IfSome result (λ ending. Contains self.now.running ending.ticket) }
+        ensures can { IfSome result (λ ending. IsTrue (can_end self.now ending)) }
+        ensures none { IfNone result ((ending : Ending) → slice_get self.now.script 0 ≡ Some (Reply.Collect ending)
+            → IsTrue (can_end self.now ending) → ⊥) }
+    {
+        let Some(Reply::Collect(ending)) = self.script.get(self.given) else {
+            return None;
+        };
+        let ending = *ending;
+        if self.running.contains(&ending.ticket) && self.least_started <= self.started {
+            return Some(ending);
+        }
+        None
+    }
+
+    // Notes that a call failed.
+    fn refuse(&mut self, request: HostRequest, fault: HostFault) -> HostError
+        ensures refused { self.new ≡ after self.old request (told_error result) }
+        ensures own { IsOnly fault result }
+    {
+        match self.log.push(Entry {
+            request,
+            answer: HostAnswer::Failed(fault),
+        }) {
+            Ok(()) => HostError::Fault(fault),
+            Err(_) => HostError::OutOfMemory,
+        }
+    }
+}
+
+// Notes a start in the log, and its ticket among those that run: both, or neither.
+fn note_start(
+    log: &mut Vec<Entry>,
+    running: &mut Vec<u64>,
+    request: HostRequest,
+    number: u64,
+) -> Result<(), AllocError>
+    ensures log { OnOk result (log.new.items ≡ log.old.items
+        ++ record { request = request; answer = HostAnswer.Started number } ∷ []) }
+    ensures running { OnOk result (running.new.items ≡ running.old.items ++ number ∷ []) }
+    ensures err { OnErr result ((log.new.items ≡ log.old.items) × (running.new.items ≡ running.old.items)) }
+{
+    running.reserve(1)?;
+    log.push(Entry {
+        request,
+        answer: HostAnswer::Started(number),
+    })?;
+    running.push(number).unwrap();
+    Ok(())
+}
+
+// Takes a ticket out of the running ones.
+fn remove(running: &mut Vec<u64>, number: u64)
+    ensures { running.new.items ≡ without number running.old.items }
+{
+    running.retain(|other| *other != number);
+}
+
+impl Host for Scripted {
+    ghost log = { λ state. state.log };
+
+    ghost running = { λ state. state.running };
+
+    fn stage(&mut self, plan: &StagePlan, number: u64) -> Result<(), HostError>
+        ensures logged { self.new.log ≡ self.old.log
+            ++ entries_of (HostRequest.Stage plan.now number) (told (λ _. HostAnswer.Done) result) }
+        ensures own { FailsOnlyBy HostFault.Stage result }
+        ensures running { self.new.running ≡ self.old.running }
+        ensures scripted { Answers self.old (HostRequest.Stage plan.now number) (told (λ _. HostAnswer.Done) result) self.new }
+    {
+        let request = HostRequest::Stage(plan.clone_in(self.alloc)?, number);
+        if let Some(Reply::Stage) = self.script.get(self.given) {
+            self.log.push(Entry {
+                request,
+                answer: HostAnswer::Done,
+            })?;
+            self.given += 1;
+            return Ok(());
+        }
+        Err(self.refuse(request, HostFault::Stage))
+    }
+
+    fn start(&mut self, launch: &Launch) -> Result<Ticket, HostError>
+        ensures logged { self.new.log ≡ self.old.log
+            ++ entries_of (HostRequest.Start launch.now) (told (λ ticket. HostAnswer.Started ticket) result) }
+        ensures own { FailsOnlyBy HostFault.Start result }
+        ensures fresh { IfOk result (λ ticket. IsFresh ticket self.old.running) }
+        ensures started { self.new.running ≡ running_after self.old.running result }
+        ensures scripted { Answers self.old (HostRequest.Start launch.now) (told (λ ticket. HostAnswer.Started ticket) result) self.new }
+    {
+        let request = HostRequest::Start(launch.clone_in(self.alloc)?);
+        if !self.says_start() {
+            return Err(self.refuse(request, HostFault::Start));
+        }
+        let number = self.started + 1;
+        note_start(&mut self.log, &mut self.running, request, number)?;
+        self.started = number;
+        self.given += 1;
+        Ok(Ticket::new(number))
+    }
+
+    fn collect(&mut self) -> Result<Ending, HostError>
+        ensures logged { self.new.log ≡ self.old.log
+            ++ entries_of HostRequest.Collect (told (λ ending. HostAnswer.Ended ending) result) }
+        ensures own { FailsOnlyBy HostFault.Collect result }
+        ensures child { IfOk result (λ ending. Contains self.old.running ending.ticket) }
+        ensures running { self.new.running ≡ self.old.running }
+        ensures scripted { Answers self.old HostRequest.Collect (told (λ ending. HostAnswer.Ended ending) result) self.new }
+    {
+        let Some(ending) = self.next_end() else {
+            return Err(self.refuse(HostRequest::Collect, HostFault::Collect));
+        };
+        self.log.push(Entry {
+            request: HostRequest::Collect,
+            answer: HostAnswer::Ended(ending),
+        })?;
+        self.given += 1;
+        Ok(ending)
+    }
+
+    fn scan(&mut self, folder: &Text) -> Result<Items<Found>, HostError>
+        ensures logged { self.new.log ≡ self.old.log
+            ++ entries_of (HostRequest.Scan folder.now) (told (λ found. HostAnswer.Listed found) result) }
+        ensures own { FailsOnlyBy HostFault.Scan result }
+        ensures running { self.new.running ≡ self.old.running }
+        ensures scripted { Answers self.old (HostRequest.Scan folder.now) (told (λ found. HostAnswer.Listed found) result) self.new }
+    {
+        let request = HostRequest::Scan(folder.copied(self.alloc)?);
+        if let Some(Reply::Scan(found)) = self.script.get(self.given) {
+            let listed = listing_in(self.alloc, found)?;
+            let answer = HostAnswer::Listed(listing_in(self.alloc, found)?);
+            self.log.push(Entry { request, answer })?;
+            self.given += 1;
+            return Ok(listed);
+        }
+        Err(self.refuse(request, HostFault::Scan))
+    }
+
+    fn deliver(&mut self, plan: &StagePlan) -> Result<(), HostError>
+        ensures logged { self.new.log ≡ self.old.log
+            ++ entries_of (HostRequest.Deliver plan.now) (told (λ _. HostAnswer.Done) result) }
+        ensures own { FailsOnlyBy HostFault.Deliver result }
+        ensures running { self.new.running ≡ self.old.running }
+        ensures scripted { Answers self.old (HostRequest.Deliver plan.now) (told (λ _. HostAnswer.Done) result) self.new }
+    {
+        let request = HostRequest::Deliver(plan.clone_in(self.alloc)?);
+        if let Some(Reply::Deliver) = self.script.get(self.given) {
+            self.log.push(Entry {
+                request,
+                answer: HostAnswer::Done,
+            })?;
+            self.given += 1;
+            return Ok(());
+        }
+        Err(self.refuse(request, HostFault::Deliver))
+    }
+
+    fn close(&mut self, ticket: Ticket)
+        ensures logged { self.new.log ≡ self.old.log }
+        ensures closed { self.new.running ≡ without ticket self.old.running }
+        ensures scripted { self.new ≡ record self.old { running = without ticket self.old.running } }
+    {
+        let number = ticket.spend();
+        remove(&mut self.running, number);
+    }
+}
