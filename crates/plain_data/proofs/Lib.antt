@@ -1,3 +1,4 @@
 pub mod ByName
 pub mod Lookup
-mod Place
+pub mod Once
+pub mod Place

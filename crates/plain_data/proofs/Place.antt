@@ -1,8 +1,7 @@
 -- Where a binary search ends among entries in the order of their names, and what stands there.
-use Rattle.std.proofs.Common.{◌≡◌, ℕ, zero, suc, ◌+◌, ◌<◌, ◌≤◌, List, [], ◌∷◌, length, get_or, Bool, true, false, cond, Option, Some, None, IsSome, Result, Ok, Err, slice_get, set, bytes_eq, refl, sym, ap, subst, ◌∙◌, arith}
+use Rattle.std.proofs.Common.{◌≡◌, ℕ, zero, suc, ◌+◌, ◌<◌, List, [], ◌∷◌, length, get_or, Option, Some, None, IsSome, Result, Ok, Err, slice_get, set, refl, sym, ap, subst, ◌∙◌, arith}
 use mathlib.Core.Bool.{false≢true}
-use Rattle.std.specs.declared.cmp.Ordering.{Ordering}
-use Rattle.std.specs.declared.cmp.Ordering.TheVariants.{Less, Equal, Greater}
+use Rattle.std.specs.declared.cmp.Ordering.TheVariants.{Less, Greater}
 use Rattle.std.specs.Ordering.{ordering_reverse, ordering_index, is_lt}
 use Rattle.std.specs.Cmp.Lexicographic.{nat_list_cmp_total}
 use Rattle.std.specs.List.{insert}
@@ -18,7 +17,8 @@ use Rattle.plain_data.proofs.ByName.{IsBelow, by_name_first, by_name_rest, order
 use Rattle.plain_data.proofs.Lookup.{names_apart, name_order_itself, some_one, value_at_is, value_at_first, value_at_past}
 
 module _ {X : Type 0} where
-  length_names : (entries : List (List ℕ × X)) → length (names entries) ≡ length entries
+  -- as many names as entries
+  pub length_names : (entries : List (List ℕ × X)) → length (names entries) ≡ length entries
   length_names [] = refl
   length_names (e ∷ es) = ap suc (length_names es)
 
@@ -31,7 +31,7 @@ module _ {X : Type 0} where
   named_one : (name : List ℕ) (entries : List (List ℕ × X)) (index : ℕ) (e : List ℕ × X) → slice_get (names entries) index ≡ Some name → slice_get entries index ≡ Some e → e.0 ≡ name
   named_one name entries index e named is = some_one e.0 name (sym (name_there entries index e is) ∙ named)
 
-  entry_at : (entries : List (List ℕ × X)) (k : ℕ) → k < length entries → (e : List ℕ × X) × (slice_get entries k ≡ Some e)
+  pub entry_at : (entries : List (List ℕ × X)) (k : ℕ) → k < length entries → (e : List ℕ × X) × (slice_get entries k ≡ Some e)
   entry_at [] k within = absurd (omega arith)
   entry_at (a ∷ as') zero within = (a, refl)
   entry_at (a ∷ as') (suc k) within = entry_at as' k (omega arith)

@@ -1,5 +1,5 @@
 -- Lists of named values: the order of names, looking one up, putting one in, and a list put in order.
-use Rattle.std.specs.Prelude.{◌≡◌, ℕ, ◌<◌, ◌≤◌, List, [], ◌∷◌, length, Option, Some, Result, MatchResult, map, slice_get, bytes_eq}
+use Rattle.std.specs.Prelude.{◌≡◌, ◌≢◌, ℕ, ◌+◌, ◌<◌, ◌≤◌, List, [], ◌∷◌, length, Option, Some, Result, MatchResult, map, slice_get, count_by, bytes_eq}
 use Rattle.std.specs.Ordering.{nat_cmp}
 use Rattle.std.specs.declared.cmp.Ordering.{Ordering}
 use Rattle.std.specs.declared.cmp.Ordering.TheVariants.{Less, Greater}
@@ -34,13 +34,24 @@ module _ {X : Type 0} where
   by_name [] = []
   by_name (e ∷ es) = with_value e.0 e.1 (by_name es)
 
-  -- the name stands at two places
-  pub record Repeats (name : List ℕ) (entries : List (List ℕ × X)) : Type 0 where
-    pub first : ℕ
-    pub later : ℕ
-    pub apart : first < later
-    pub at_first : slice_get (names entries) first ≡ Some name
-    pub at_later : slice_get (names entries) later ≡ Some name
+  -- how often the name stands among the entries
+  abbrev pub times : List ℕ → List (List ℕ × X) → ℕ
+  times name entries = count_by (bytes_eq name) (names entries)
+
+  -- each name stands at most once
+  abbrev pub IsOnce : List (List ℕ × X) → Type 0
+  IsOnce entries = (name : List ℕ) → times name entries ≤ 1
+
+  -- the entry at index has the name of the one before it
+  pub record IsRepeatAt (entries : List (List ℕ × X)) (index : ℕ) : Type 0 where
+    pub before : ℕ
+    pub next : index ≡ before + 1
+    pub within : index < length entries
+    pub same : slice_get (names entries) before ≡ slice_get (names entries) index
+
+  -- no entry below the bound has the name of the one before it
+  abbrev pub IsUnrepeatedBelow : List (List ℕ × X) → ℕ → Type 0
+  IsUnrepeatedBelow entries bound = (k : ℕ) → k + 1 < bound → slice_get (names entries) k ≢ slice_get (names entries) (k + 1)
 
   -- a name that no entry has would stand at index: all before it are less, and the one there is greater
   pub record IsGapFor (name : List ℕ) (entries : List (List ℕ × X)) (index : ℕ) : Type 0 where

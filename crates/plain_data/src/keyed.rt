@@ -1,10 +1,12 @@
-ghost use Rattle.std.specs.Prelude.{◌≡◌, [], length, ◌↔◌, IsTrue, IsSome, IsOk, IfOk, OnOk, OnErr};
+ghost use Rattle.std.specs.Prelude.{◌≡◌, [], length, ◌↔◌, IsTrue, IsSome, IsOk, IfOk, IfErr, OnOk, OnErr, MatchOption, ◌<◌};
 ghost use Rattle.std.specs.Option.{option_copied};
-ghost use Rattle.plain_data.specs.ByName.{IsByName, IsPlaceOf, name_cmp, value_at, with_value};
+ghost use Rattle.std.specs.List.Sorted.{IsPermutation, IsSortedByKey};
+ghost use Rattle.plain_data.specs.ByName.{IsByName, IsOnce, IsPlaceOf, IsRepeatAt, IsUnrepeatedBelow, by_name, name_cmp, times, value_at, with_value};
 
 use crate::Text;
 use std::alloc::{AllocError, Global};
 use std::cmp::Ordering;
+use std::error::Error;
 use std::marker::Model;
 use std::{fmt, mem};
 
@@ -104,6 +106,22 @@ impl<T> Keyed<T> {
 }
 
 impl<T: Drop> Keyed<T> {
+    /// Puts entries in the order of their names, without memory. A name that stands more than once is refused.
+    pub fn from_entries(entries: Vec<(Text, T)>) -> Result<Keyed<T>, RepeatedName>
+        ensures ok { IfOk result (λ keyed. keyed ≡ by_name entries.items) }
+        ensures once { IfOk result (λ _. IsOnce entries.items) }
+        ensures err { IfErr result (λ refused. 1 < times refused.name entries.items) }
+    {
+        let mut entries = sorted(entries);
+        match repeat(entries.as_slice()) {
+            Some(index) => {
+                let (name, _value) = entries.swap_remove(index);
+                Err(RepeatedName { name })
+            }
+            None => Ok(Keyed { entries }),
+        }
+    }
+
     /// Puts a value under a name, and gives back the one that was there. Only a new name needs memory;
     /// where that is wanting, nothing changes.
     pub fn insert(&mut self, name: Text, value: T) -> Result<Option<T>, AllocError>
@@ -130,3 +148,42 @@ impl<T: fmt::Debug> fmt::Debug for Keyed<T> {
         fmt::Debug::fmt(&self.as_slice(), f)
     }
 }
+
+// The entries in the order of their names, those with one name side by side.
+fn sorted<T>(mut entries: Vec<(Text, T)>) -> Vec<(Text, T)>
+    ensures moved { IsPermutation entries.items result.items }
+    ensures climbs { IsSortedByKey (λ e. e.0) name_cmp result.items }
+{
+    entries.sort_unstable_by(
+        |one, other| -> Ordering
+            ensures { result ≡ name_cmp one.now.0 other.now.0 }
+        { one.0.cmp(&other.0) },
+    );
+    entries
+}
+
+// The index of an entry that has the name of the one before it.
+fn repeat<T>(entries: &[(Text, T)]) -> Option<usize>
+    ensures { MatchOption result (IsUnrepeatedBelow entries.now (length entries.now)) (IsRepeatAt entries.now) }
+{
+    for index in 1..entries.len() {
+        if entries[index - 1].0.equals(&entries[index].0) {
+            return Some(index);
+        }
+    }
+    None
+}
+
+/// A name that stands more than once where each may stand once.
+#[derive(Debug, Drop)]
+pub struct RepeatedName {
+    pub name: Text,
+}
+
+impl fmt::Display for RepeatedName {
+    fn fmt<W: fmt::Write>(&self, f: &mut fmt::Formatter<W>) -> fmt::Result {
+        write!(f, "the name {:?} stands more than once", self.name)
+    }
+}
+
+impl Error for RepeatedName {}

@@ -6,7 +6,7 @@ mod keyed;
 mod text;
 
 pub use items::Items;
-pub use keyed::Keyed;
+pub use keyed::{Keyed, RepeatedName};
 pub use text::Text;
 
 #[cfg(test)]

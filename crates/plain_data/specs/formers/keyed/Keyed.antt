@@ -3,7 +3,7 @@ use mathlib.Core.Path.{◌≡◌, refl, sym, ap, subst}
 use mathlib.Core.List.{List, [], ◌∷◌, map}
 use mathlib.Core.Former.{Former, this, const, pair, list, via, children}
 use Prim.Native.Nat.{ℕ}
-use base.Stored.{code_map, coded×, coded_list, gcons}
+use base.Stored.{code_map, coded×, gcons}
 use denote.RattleType.{RattleType}
 use denote.HoleLaws.{Alike}
 use denote.HolePlaces.{Recodes, struct_places, laid, stays}
