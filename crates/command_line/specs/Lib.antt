@@ -1,1 +1,6 @@
 pub mod Fault
+pub mod Launch
+pub mod Order
+pub mod Steps
+pub mod View
+pub mod Words

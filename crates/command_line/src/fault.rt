@@ -3,7 +3,7 @@ ghost use Rattle.command_line.specs.Fault.{code_of};
 ghost use Rattle.command_line.specs.declared.fault.BuildError.TheVariants.{OutOfMemory};
 
 use plain_data::Text;
-use std::alloc::AllocError;
+use std::alloc::{AllocError, AllocFailed};
 
 /// Why a tool and its inputs give no launch.
 #[derive(Drop)]
@@ -40,6 +40,14 @@ impl From<AllocError> for BuildError {
     ghost from_gives = { λ _ e. e ≡ OutOfMemory };
 
     fn from(_error: AllocError) -> BuildError {
+        BuildError::OutOfMemory
+    }
+}
+
+impl<T: Drop> From<AllocFailed<T>> for BuildError {
+    ghost from_gives = { λ _ e. e ≡ OutOfMemory };
+
+    fn from(_error: AllocFailed<T>) -> BuildError {
         BuildError::OutOfMemory
     }
 }

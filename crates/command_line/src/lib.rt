@@ -4,10 +4,18 @@
 //! streams go to and the folder that it runs in.
 #![tactic(auto)]
 
+mod builder;
+mod environment;
 mod fault;
 mod launch;
+mod order;
+mod plain;
 mod runtime;
+mod stream;
+mod words;
 
+pub use builder::build;
 pub use fault::{BuildError, BuildFault};
 pub use launch::{Launch, Variable};
 pub use runtime::Runtime;
+pub use stream::stdout_name;

@@ -1,0 +1,4 @@
+pub mod Answered
+pub mod Bindings
+pub mod Joined
+pub mod Rising

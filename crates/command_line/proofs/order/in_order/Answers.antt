@@ -1,0 +1,18 @@
+-- The rows are sorted by their keys, and so what they stand for is in order.
+use Rattle.std.proofs.Common.{rules, map, subst, List}
+use Rattle.std.specs.List.Sorted.{IsPermutation}
+use Rattle.std.specs.Ordering.{is_lt}
+use Rattle.std.proofs.lemmas.List.Sorted.{answers_always, IsPermutation-map}
+use Rattle.command_line.specs.Order.{Bound, key_cmp}
+use Rattle.command_line.specs.View.{bound_of}
+use Rattle.command_line.proofs.Rising.{sorted_map}
+use Rattle.command_line.proofs.Bindings.{in_order_from_sort}
+use Rattle.command_line.proofs.order.in_order.Goals as goal
+
+pub returns : goal.returns
+returns c =
+    in_order_from_sort c.args.tool.now (map bound_of c.sort_by_key.new.self.items)
+    (subst (λ (bound : List Bound). IsPermutation bound (map bound_of c.sort_by_key.new.self.items)) c.in_ok-rows.ensures
+    (IsPermutation-map bound_of _ _ c.in_ok-sort_by_key.ensures.permutation))
+    (sorted_map bound_of (λ a b. is_lt (key_cmp a b)) c.sort_by_key.new.self.items
+    (c.in_ok-sort_by_key.ensures.sorted (λ row. row.key) (answers_always _ _ _ (λ f a r g h. search rules))))

@@ -1,0 +1,8 @@
+-- What the code's sorted rows stand for.
+use Rattle.std.specs.Option.{option_copied}
+use Rattle.command_line.specs.Order.{Bound}
+use Rattle.command_line.specs.declared.order.BoundInput.{BoundInput}
+
+abbrev pub bound_of : BoundInput → Bound
+bound_of row =
+    record { position = row.key.position; id = row.key.name.now; place = row.key.place; prefix = option_copied row.prefix; separate = row.separate }
