@@ -2,7 +2,7 @@
 use Rattle.std.specs.Prelude.{ℕ, Bool, true, false, ◌-◌, if◌then◌else◌, List, [], ◌∷◌, length, fold, insert, map, Option, Some, None, option_map, option_and_then, unwrap_or, codes}
 use Rattle.std.specs.Ordering.{is_lt}
 use Rattle.std.specs.List.{suffix_len}
-use Rattle.plain_data.specs.ByName.{name_cmp}
+use Rattle.plain_data.specs.ByName.{name_cmp, map_values}
 use Rattle.serde_json.specs.Data.{Data, null, boolean, number, string, array, object, unsigned, Members, no_members, put}
 use Rattle.serde_json.specs.View.{items_of}
 use Rattle.serde_json.specs.Find.{of_integer, get, as_str}
@@ -14,7 +14,11 @@ use Rattle.cwl_value.specs.declared.value.FileVal.{FileVal, fold-FileVal}
 use Rattle.cwl_value.specs.declared.value.DirVal.{DirVal, fold-DirVal}
 use Rattle.cwl_value.specs.declared.value.Value.TheOpen.{Value-F, FileVal-F, DirVal-F}
 
--- an object's members, where one may be absent
+-- an object's members, put in one by one: serde_json keeps them in the order of their names' bytes
+abbrev pub object_of : List (List ℕ × Data) → Members
+object_of = fold (λ members m. put m.0 m.1 members) no_members
+
+-- the same where a member may be absent
 abbrev pub with_member : List ℕ → Option Data → Members → Members
 with_member name None members = members
 with_member name (Some d) members = put name d members
@@ -38,9 +42,8 @@ unless_empty (d ∷ ds) = Some (array (items_of (d ∷ ds)))
 abbrev pub size_json : Option ℕ → Option Data
 size_json = option_map (λ n. number (unsigned n))
 
-abbrev pub file_json : FileVal-F Data Data Data → Data
-file_json f = object (members_of (
-    (codes "basename", text_json f.basename)
+abbrev pub file_members : FileVal-F Data Data Data → List (List ℕ × Option Data)
+file_members f = (codes "basename", text_json f.basename)
     ∷ (codes "checksum", text_json f.checksum)
     ∷ (codes "class", Some (string (codes "File")))
     ∷ (codes "contents", text_json f.contents)
@@ -49,7 +52,10 @@ file_json f = object (members_of (
     ∷ (codes "nameroot", text_json (option_map nameroot f.basename))
     ∷ (codes "secondaryFiles", unless_empty f.secondary)
     ∷ (codes "size", size_json f.size)
-    ∷ []))
+    ∷ []
+
+abbrev pub file_json : FileVal-F Data Data Data → Data
+file_json f = object (members_of (file_members f))
 
 -- A listing is in the order of its names: each entry goes before the last ones whose names are all above its own.
 
@@ -68,13 +74,15 @@ by_name = fold with_entry []
 abbrev pub listing_json : Option (List Data) → Option Data
 listing_json = option_map (λ ds. array (items_of (by_name ds)))
 
-abbrev pub dir_json : DirVal-F Data Data Data → Data
-dir_json d = object (members_of (
-    (codes "basename", text_json d.basename)
+abbrev pub dir_members : DirVal-F Data Data Data → List (List ℕ × Option Data)
+dir_members d = (codes "basename", text_json d.basename)
     ∷ (codes "class", Some (string (codes "Directory")))
     ∷ (codes "listing", listing_json d.listing)
     ∷ (codes "location", location_json d.place)
-    ∷ []))
+    ∷ []
+
+abbrev pub dir_json : DirVal-F Data Data Data → Data
+dir_json d = object (members_of (dir_members d))
 
 abbrev pub value_json : Value-F Data Data Data → Data
 value_json Value-F.Null = null
@@ -84,7 +92,7 @@ value_json (Value-F.Text s) = string s
 value_json (Value-F.FileVal d) = d
 value_json (Value-F.DirVal d) = d
 value_json (Value-F.List ds) = array (items_of ds)
-value_json (Value-F.Fields es) = object (members_of (map (λ e. (e.0, Some e.1)) es))
+value_json (Value-F.Fields ds) = object (object_of ds)
 
 abbrev pub json_of : Value → Data
 json_of = fold-Value Data Data Data value_json dir_json file_json
@@ -101,4 +109,4 @@ abbrev pub items_json : List Value → List Data
 items_json = map json_of
 
 abbrev pub fields_json : List (List ℕ × Value) → Members
-fields_json fields = members_of (map (λ e. (e.0, Some (json_of e.1))) fields)
+fields_json fields = object_of (map_values json_of fields)

@@ -16,4 +16,4 @@ pub use erase::{erased, erased_fields, erased_items};
 pub use names::name_parts;
 pub use place::{JobPlace, Place, Segment};
 pub use value::{DirVal, FileVal, Value};
-pub use write::to_json;
+pub use write::{canonical_text, to_json};

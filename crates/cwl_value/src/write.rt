@@ -1,6 +1,7 @@
 //! The JSON of values.
 ghost use Rattle.std.specs.Prelude.{◌≡◌, IfOk, OnOk, option_map, map, codes};
 ghost use Rattle.serde_json.specs.View.{view, members_view};
+ghost use Rattle.serde_json.specs.Written.{compact_text};
 ghost use Rattle.cwl_value.specs.NameParts.{nameroot, nameext};
 ghost use Rattle.cwl_value.specs.Json.{json_of, file_data, dir_data, items_json, fields_json, with_member, with_entry, by_name, name_in, text_json, location_json, size_json, unless_empty};
 
@@ -224,4 +225,12 @@ fn name_of(entry: &Json) -> &str
         Some(Json::String(name)) => name.as_str(),
         _ => "",
     }
+}
+
+#[tactic(auto, using(crate::proofs::NoFloat::exact))]
+/// The JSON of a value as text: with no space, and each object's keys in the order of their bytes.
+pub fn canonical_text(alloc: Global, value: &Value) -> Result<Text, AllocError>
+    ensures { IfOk result (λ text. text ≡ compact_text (json_of value.now)) }
+{
+    Ok(Text::from_string(to_json(alloc, value)?.to_string(alloc)?))
 }
