@@ -1,4 +1,4 @@
-use Rattle.std.proofs.Common.{◌≡◌, ◌≢◌, ℕ, ◌+◌, ◌<◌, List, [], ◌∷◌, ◌++◌, cond, eqb, length, get_or, set, replicate, All, sum_by, sym, refl, ap, subst, ◌∙◌, inl, inr, ⊎_elim, arith, get_or-set_other, get_or-set_same}
+use Rattle.std.proofs.Common.{◌≡◌, ◌≢◌, ℕ, ◌+◌, ◌<◌, List, [], ◌∷◌, ◌++◌, cond, eqb, length, get_or, set, replicate, sum_by, sym, refl, ap, subst, ◌∙◌, ⊎_elim, arith, get_or-set_other, get_or-set_same}
 use Rattle.std.proofs.lemmas.List.{length-set, length-replicate, get_or-replicate, get_or_past}
 use Rattle.std.proofs.lemmas.List.Elements.{All-push, All-nil, All-same}
 use Rattle.std.proofs.lemmas.List.Sums.{sum_by_push}
@@ -16,16 +16,16 @@ use Rattle.plan_checker.proofs.SumsBelow.{sum_below_more}
 no_child : (n p : ℕ) → get_or (replicate n (let none : List Child = [] in none)) p [] ≡ []
 no_child n p =
     ⊎_elim
-        (λ lt. get_or-replicate n p [] [] lt)
-        (λ le. let count = length-replicate n (let none : List Child = [] in none) in get_or_past (replicate n []) p [] (omega arith))
-        (cases_lt p n)
+    (λ lt. get_or-replicate n p [] [] lt)
+    (λ le. let count = length-replicate n (let none : List Child = [] in none) in get_or_past (replicate n []) p [] (omega arith))
+    (cases_lt p n)
 
 pub no_children : (graph : List Vertex) (n : ℕ) → n ≡ length graph → AreChildrenBelow graph (replicate n []) 0
 no_children graph n count = record {
-    one_each = length-replicate n [] ∙ count;
-    there = λ p. All-same (IsThere graph) (get_or (replicate n []) p []) [] (no_child n p) (All-nil (IsThere graph));
-    sums = λ charges p h. ap (sum_by (amount_from charges)) (no_child n p);
-  }
+  one_each = length-replicate n [] ∙ count;
+  there = λ p. All-same (IsThere graph) (get_or (replicate n []) p []) [] (no_child n p) (All-nil (IsThere graph));
+  sums = λ charges p h. ap (sum_by (amount_from charges)) (no_child n p);
+}
 
 -- the lists after a child was put at the end of one of them
 list_at : (cur new : List (List Child)) (p : ℕ) (y : Child) → p < length cur → new ≡ set cur p (get_or cur p [] ++ y ∷ []) → get_or new p [] ≡ get_or cur p [] ++ y ∷ []
@@ -51,24 +51,24 @@ adds_one old cur new child parents k there within done e =
     let p : ℕ = get_or parents k 0 in
     let y : Child = record { vertex = child; place = k } in
     record {
-        one_each = ap length e ∙ length-set cur p (get_or cur p [] ++ y ∷ []) ∙ done.one_each;
-        there = λ graph below same was q.
-            let before = done.there graph below same was q in
-            let here : IsThere graph y = record { numbered = below; placed = omega arith } in
-            ⊎_elim
-                (λ eq. rw eq (All-same (IsThere graph) (get_or new p []) (get_or cur p [] ++ y ∷ []) (list_at cur new p y within e) (All-push (IsThere graph) (get_or cur p []) y (done.there graph below same was p) here)))
-                (λ ne. All-same (IsThere graph) (get_or new q []) (get_or cur q []) (list_beside cur new p q y ne e) before)
-                (cases_eq q p);
-        sums = λ charges q below.
-            let before = done.sums charges q below in
-            let more = sum_below_more k (λ k. cond (eqb (get_or parents k 0) q) (get_or (passes charges child) k 0) 0) in
-            ⊎_elim
-                (λ eq. rw eq (sum_at_parent old cur new child parents k charges there within done e))
-                (λ ne.
-                    let now : sum_by (amount_from charges) (get_or new q []) ≡ sum_by (amount_from charges) (get_or cur q []) = ap (sum_by (amount_from charges)) (list_beside cur new p q y ne e) in
-                    let term = cond-false (eqb p q) (get_or (passes charges child) k 0) 0 (ne_eqb p q (λ eq. ne (sym eq))) in
-                    omega arith)
-                (cases_eq q p);
+      one_each = ap length e ∙ length-set cur p (get_or cur p [] ++ y ∷ []) ∙ done.one_each;
+      there = λ graph below same was q.
+          let before = done.there graph below same was q in
+          let here : IsThere graph y = record { numbered = below; placed = omega arith } in
+          ⊎_elim
+          (λ eq. rw eq (All-same (IsThere graph) (get_or new p []) (get_or cur p [] ++ y ∷ []) (list_at cur new p y within e) (All-push (IsThere graph) (get_or cur p []) y (done.there graph below same was p) here)))
+          (λ ne. All-same (IsThere graph) (get_or new q []) (get_or cur q []) (list_beside cur new p q y ne e) before)
+          (cases_eq q p);
+      sums = λ charges q below.
+          let before = done.sums charges q below in
+          let more = sum_below_more k (λ k. cond (eqb (get_or parents k 0) q) (get_or (passes charges child) k 0) 0) in
+          ⊎_elim
+          (λ eq. rw eq (sum_at_parent old cur new child parents k charges there within done e))
+          (λ ne.
+          let now : sum_by (amount_from charges) (get_or new q []) ≡ sum_by (amount_from charges) (get_or cur q []) = ap (sum_by (amount_from charges)) (list_beside cur new p q y ne e) in
+          let term = cond-false (eqb p q) (get_or (passes charges child) k 0) 0 (ne_eqb p q (λ eq. ne (sym eq))) in
+          omega arith)
+          (cases_eq q p);
     }
 
 pub same_parents : (old new : List (List Child)) (child : ℕ) (ps qs : List ℕ) → ps ≡ qs → AddsChild old new child ps (length ps) → AddsChild old new child qs (length qs)
@@ -77,12 +77,12 @@ same_parents old new child ps qs e adds = let P : List ℕ → Type 0 = λ ps. A
 -- one more vertex, whose parents have been gone through
 pub one_more_child : (graph : List Vertex) (cur new : List (List Child)) (i : ℕ) → i < length graph → AreChildrenBelow graph cur i → AddsChild cur new i (vertex graph i).parents (length (vertex graph i).parents) → AreChildrenBelow graph new (i + 1)
 one_more_child graph cur new i h done adds = record {
-    one_each = adds.one_each ∙ done.one_each;
-    there = adds.there graph h refl done.there;
-    sums = λ charges p below.
-        let before = done.sums charges p below in
-        let count = done.one_each in
-        let now = adds.sums charges p (omega arith) in
-        let more = sum_below_more i (λ i. passed_to p (vertex graph i).parents (passes charges i)) in
-        now ∙ (omega arith);
-  }
+  one_each = adds.one_each ∙ done.one_each;
+  there = adds.there graph h refl done.there;
+  sums = λ charges p below.
+      let before = done.sums charges p below in
+      let count = done.one_each in
+      let now = adds.sums charges p (omega arith) in
+      let more = sum_below_more i (λ i. passed_to p (vertex graph i).parents (passes charges i)) in
+      now ∙ (omega arith);
+}

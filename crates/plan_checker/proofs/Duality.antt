@@ -1,15 +1,15 @@
-use Rattle.std.proofs.Common.{◌≡◌, ◌≢◌, ℕ, zero, suc, ◌+◌, ◌*◌, ◌<◌, ◌≤◌, List, [], ◌∷◌, Bool, true, false, cond, eqb, length, get_or, sum, sym, refl, ap, ◌∙◌, subst, inl, inr, ⊎_elim, ◌⊎◌, arith, None, Some, Option, IsSome, unwrap_or}
-use Rattle.std.proofs.Math.Nat.{mul-zero, zero-mul}
+use Rattle.std.proofs.Common.{◌≡◌, ◌≢◌, ℕ, ◌+◌, ◌*◌, ◌<◌, ◌≤◌, List, cond, eqb, length, get_or, sum, sym, refl, ap, ◌∙◌, arith, None, Some, Option, IsSome, unwrap_or}
+use Rattle.std.proofs.Math.Nat.{mul-zero}
 use Rattle.std.proofs.lemmas.Bool.{eq-eqb, ne_eqb, cond-true, cond-false}
 use Rattle.plan_checker.specs.declared.vertex.Vertex.{Vertex}
 use Rattle.plan_checker.specs.declared.plan.Mark.{Mark}
 use Rattle.plan_checker.specs.declared.plan.Mark.TheVariants.{Load, Compute, Prune}
 use Rattle.plan_checker.specs.declared.charges.Charges.{Charges}
 use Rattle.plan_checker.specs.Sums.{sum_below}
-use Rattle.plan_checker.specs.Graph.{vertex, IsGraph, FitsAt}
+use Rattle.plan_checker.specs.Graph.{vertex, IsGraph}
 use Rattle.plan_checker.specs.Plan.{mark, cost_of, cost, IsAllowed, IsValid}
-use Rattle.plan_checker.specs.Charges.{passes, passed_to, received, value, IsCounted, IsFair, AreFair}
-use Rattle.plan_checker.proofs.SumsBelow.{sum_below_same, sum_below_le, sum_below_tight, sum_below-zero, sum_below-add, sum_below-scale, sum_below-swap, sum_below_only, sum_is_below, term-le-sum_below}
+use Rattle.plan_checker.specs.Charges.{passes, received, value, IsCounted, IsFair, AreFair}
+use Rattle.plan_checker.proofs.SumsBelow.{sum_below_same, sum_below_le, sum_below_tight, sum_below-add, sum_below-scale, sum_below-swap, sum_below_only, sum_is_below, term-le-sum_below}
 use Rattle.plan_checker.specs.Certificate.{IsCertificate}
 use Rattle.plan_checker.specs.Least.{IsCheapest}
 

@@ -2,3 +2,5 @@ pub mod SumsBelow
 pub mod Duality
 pub mod OneLeast
 pub mod ChildLists
+pub mod ParentLists
+pub mod Settled

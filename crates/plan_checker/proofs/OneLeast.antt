@@ -1,10 +1,10 @@
-use Rattle.std.proofs.Common.{◌≡◌, ◌≢◌, ℕ, ◌<◌, List, length, get_or, sym, refl, ◌∙◌, arith}
+use Rattle.std.proofs.Common.{◌≡◌, ◌≢◌, ◌<◌, List, length, sym, refl, ◌∙◌, arith}
 use Rattle.std.proofs.lemmas.List.{ext_get_or}
 use Rattle.plan_checker.specs.declared.vertex.Vertex.{Vertex}
 use Rattle.plan_checker.specs.declared.plan.Mark.{Mark}
 use Rattle.plan_checker.specs.declared.plan.Mark.TheVariants.{Load, Compute, Prune}
 use Rattle.plan_checker.specs.Plan.{mark}
-use Rattle.plan_checker.specs.Least.{IsLeast, DoesNoMore}
+use Rattle.plan_checker.specs.Least.{IsLeast}
 
 -- marks that compute alike and prune alike are equal
 same_mark : (a b : Mark) → (a ≡ Compute → b ≡ Compute) → (b ≡ Compute → a ≡ Compute) → (a ≢ Prune → b ≢ Prune) → (b ≢ Prune → a ≢ Prune) → a ≡ b

@@ -7,3 +7,4 @@ pub mod Certificate
 pub mod Broken
 pub mod Laws
 pub mod Children
+pub mod Claim

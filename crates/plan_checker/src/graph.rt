@@ -1,10 +1,10 @@
 //! Graphs of jobs.
 
-ghost use Rattle.std.specs.Prelude.{◌≡◌, ℕ, ◌+◌, ◌-◌, ◌<◌, ◌≤◌, ◌↔◌, length, sum_by, IsTrue, IfOk, OnOk, IfErr, MatchOption, All, slice_index_or, []};
+ghost use Rattle.std.specs.Prelude.{◌≡◌, ℕ, ◌+◌, ◌-◌, ◌<◌, ◌≤◌, ◌^◌, ◌↔◌, length, sum_by, IsTrue, IfOk, OnOk, IfErr, MatchOption, All, slice_index_or, []};
 ghost use Rattle.std.specs.List.Sorted.{IsStrictlyIncreasing};
 ghost use Rattle.plan_checker.specs.Graph.{Fits, IsGraph, IsFirstMisfit, IsRefused};
-ghost use Rattle.plan_checker.specs.Charges.{IsCounted, received};
-ghost use Rattle.plan_checker.specs.Children.{AddsChild, AreChildren};
+ghost use Rattle.plan_checker.specs.Charges.{IsCounted, passes, received};
+ghost use Rattle.plan_checker.specs.Children.{AddsChild, AreChildren, amount_from};
 
 use crate::charges::Charges;
 use crate::child::Child;
@@ -32,7 +32,7 @@ impl Model for Graph {
     ghost use Rattle.std.specs.Prelude.{List};
     ghost use Rattle.plan_checker.specs.declared.vertex.Vertex.{Vertex};
     ghost use Rattle.plan_checker.specs.Graph.{IsGraph};
-    ghost use Rattle.plan_checker.specs.Children.{AddsChild, AreChildren};
+    ghost use Rattle.plan_checker.specs.Children.{AddsChild, AreChildren, amount_from};
 
     ghost Value = { List Vertex };
 
@@ -63,6 +63,29 @@ impl Graph {
     {
         self.vertices.as_slice()
     }
+
+    /// What the children of a vertex pass to it, which may not fit in 64 bits.
+    pub(crate) fn received(&self, charges: &Charges, vertex: usize) -> u128
+        requires there { vertex < length self.now }
+        requires counted { IsCounted self.now charges.now }
+        ensures sum { result ≡ received self.now charges.now vertex }
+        ensures small { result < 2 ^ 127 }
+    {
+        let mut sum = 0;
+        for child in self.children[vertex].as_slice() {
+            sum += u128::from(amount_from(charges, *child));
+        }
+        sum
+    }
+}
+
+/// What a child passes to its parent.
+fn amount_from(charges: &Charges, child: Child) -> u64
+    requires numbered { child.vertex < length charges.now.pass }
+    requires placed { child.place < length (passes charges.now child.vertex) }
+    ensures { result ≡ amount_from charges.now child }
+{
+    charges.pass.as_slice()[child.vertex].as_slice()[child.place]
 }
 
 /// The first vertex that may not stand in a graph.

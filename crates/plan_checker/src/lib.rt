@@ -3,7 +3,9 @@
 
 mod broken;
 mod charges;
+mod checker;
 mod child;
+mod claim;
 mod graph;
 mod graph_error;
 mod laws;
@@ -12,6 +14,7 @@ mod vertex;
 
 pub use broken::Broken;
 pub use charges::Charges;
+pub use checker::check;
 pub use graph::{Graph, MOST_COST, MOST_ENTRIES, MOST_VERTICES};
 pub use graph_error::GraphError;
 pub use laws::{

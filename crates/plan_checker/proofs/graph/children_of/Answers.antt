@@ -1,8 +1,3 @@
-use Rattle.std.proofs.Common.{rules, ◌≡◌, ℕ, ◌+◌, ◌-◌, ◌<◌, ◌≤◌, ◌↔◌, length, sum_by, IsTrue, IfOk, OnOk, IfErr, MatchOption, All, slice_index_or, [], ◌*◌, ◌/◌, ◌%◌, Bool, true, false, nat_eq, nat_lt, List, ◌∷◌, ◌++◌, slice_set, bit_and, bit_or, w8, w32, w64, Bor, MutBor}
-use Rattle.std.specs.List.Sorted.{IsStrictlyIncreasing}
-use Rattle.plan_checker.specs.Graph.{Fits, IsGraph, IsFirstMisfit, IsRefused}
-use Rattle.plan_checker.specs.Charges.{IsCounted, received}
-use Rattle.plan_checker.specs.Children.{AddsChild, AreChildren}
 use Rattle.std.proofs.Common.{ap, ◌∙◌}
 use Rattle.std.proofs.lemmas.List.{get_or_read}
 use Rattle.plan_checker.specs.Graph.{no_vertex}
@@ -14,4 +9,4 @@ pub loop-vertex-preserved : goal.loop-vertex-preserved
 loop-vertex-preserved c =
     let job = get_or_read c.args.vertices.now _ _ c.loop-vertex-test.true c.index-vertices-vertex.is no_vertex in
     one_more_child c.args.vertices.now c.loop-vertex.children.items c.add_child.new.children.items c.loop-vertex.vertex c.loop-vertex-test.true c.loop-vertex.invariant
-        (same_parents _ _ _ _ _ (c.as_slice.ensures ∙ ap (λ job. job.parents) job) c.in_ok-add_child.ensures)
+    (same_parents _ _ _ _ _ (c.as_slice.ensures ∙ ap (λ job. job.parents) job) c.in_ok-add_child.ensures)
