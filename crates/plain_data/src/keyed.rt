@@ -1,5 +1,7 @@
-ghost use Rattle.std.specs.Prelude.{◌≡◌, [], length, ◌↔◌, IsTrue, IsSome, IsOk, IfOk, IfErr, OnOk, OnErr, MatchOption, ◌<◌};
+ghost use Rattle.std.specs.Prelude.{◌≡◌, [], length, ◌↔◌, IsTrue, IsSome, IsOk, IfOk, IfErr, OnOk, OnErr, MatchOption, ◌<◌, ◌&&◌, bytes_eq};
 ghost use Rattle.std.specs.Option.{option_copied};
+ghost use Rattle.std.specs.Cmp.{and_per, on_per, partial_equiv_from_equiv};
+ghost use Rattle.std.specs.Cmp.Lexicographic.{pointwise, lists_per, nat_list_eq_equiv};
 ghost use Rattle.std.specs.List.Sorted.{IsPermutation, IsSortedByKey};
 ghost use Rattle.plain_data.specs.ByName.{IsByName, IsOnce, IsPlaceOf, IsRepeatAt, IsUnrepeatedBelow, by_name, name_cmp, times, value_at, with_value};
 
@@ -140,6 +142,16 @@ impl<T: Drop> Keyed<T> {
                 Ok(None)
             }
         }
+    }
+}
+
+impl<T: PartialEq> PartialEq for Keyed<T> {
+    ghost eq = { pointwise (λ one other. bytes_eq one.0 other.0 && T.eq one.1 other.1) };
+
+    ghost laws = { lists_per (and_per (on_per (λ e. e.0) (partial_equiv_from_equiv nat_list_eq_equiv)) (on_per (λ e. e.1) T.laws)) };
+
+    fn eq(&self, other: &Keyed<T>) -> bool {
+        self.as_slice() == other.as_slice()
     }
 }
 

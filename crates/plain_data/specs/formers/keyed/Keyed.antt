@@ -12,6 +12,10 @@ use denote.Hole.Fix.{over}
 use denote.Param.Weighed.{Weighed, w_const, w_pair, w_list}
 use denote.Model.Placed.{view_places}
 use denote.Struct.Tuple.{Tuple, tuple_type}
+use Rattle.std.specs.Prelude.{◌&&◌, bytes_eq}
+use Rattle.std.specs.Cmp.Derive.Mapped.{pointwise-map}
+use Rattle.std.specs.Cmp.Lexicographic.{pointwise}
+use Rattle.std.specs.declared.cmp.PartialEq as eq
 use Rattle.std.specs.formers.vec.Vec as vec
 use Rattle.std.specs.declared.alloc.Global.{Global}
 use Rattle.std.specs.contracts.alloc.Global as heap
@@ -75,3 +79,9 @@ module _ (R S : RattleType) (h : R.Denot → S.Denot) where
   the_codes_placed recodes entries =
       let name_code = text.the_row.coded in
       sym (code_map (coded× name_code R.coded).code (coded× name_code S.coded).code (on_value h) (λ e i. gcons (name_code.code e.0) (sym (recodes e.1) i)) entries)
+
+-- `==` after a map of the values is `==` along it
+pub the_eq_natural : (X Y : Type 0) (h : X → Y) (V : eq.Ghosts Y) (these those : List (List ℕ × X))
+    → pointwise (λ one other. bytes_eq one.0 other.0 && V.eq one.1 other.1) (map (on_value h) these) (map (on_value h) those)
+    ≡ pointwise (λ one other. bytes_eq one.0 other.0 && V.eq (h one.1) (h other.1)) these those
+the_eq_natural X Y h V these those = pointwise-map (on_value h) (λ one other. bytes_eq one.0 other.0 && V.eq one.1 other.1) these those
