@@ -39,3 +39,8 @@ is_failure _ = false
 -- how often the host failed
 abbrev pub failures : List Entry → ℕ
 failures log = count_by (λ entry. is_failure entry.answer) log
+
+-- 1 where what was told is a fault, and 0 otherwise
+abbrev pub faults_in : Option HostAnswer → ℕ
+faults_in (Some (Failed fault)) = 1
+faults_in _ = 0

@@ -6,6 +6,8 @@ use crate::{Ending, Found, StagePlan};
 use command_line::Launch;
 use plain_data::{Items, Text};
 use std::alloc::{AllocError, AllocFailed};
+use std::error::Error;
+use std::fmt;
 
 /// What was asked of a host.
 #[derive(Drop)]
@@ -69,6 +71,17 @@ pub enum HostError {
     Fault(HostFault),
     OutOfMemory,
 }
+
+impl fmt::Display for HostError {
+    fn fmt<W: fmt::Write>(&self, f: &mut fmt::Formatter<W>) -> fmt::Result {
+        match self {
+            HostError::Fault(fault) => write!(f, "a call of the host failed ({})", fault.code()),
+            HostError::OutOfMemory => write!(f, "out of memory"),
+        }
+    }
+}
+
+impl Error for HostError {}
 
 impl From<AllocError> for HostError {
     ghost from_gives = { λ _ e. e ≡ OutOfMemory };

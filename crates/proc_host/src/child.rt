@@ -21,7 +21,7 @@ impl Ticket {
     pub fn new(number: u64) -> Ticket
         ensures { result ≡ number }
     {
-        Ticket { number }
+        Self { number }
     }
 
     pub fn number(&self) -> u64

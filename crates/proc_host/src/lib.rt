@@ -13,6 +13,7 @@ mod call;
 mod child;
 mod found;
 mod host;
+mod laws;
 mod plan;
 mod reply;
 mod scripted;
@@ -21,6 +22,10 @@ pub use call::{Entry, HostAnswer, HostError, HostFault, HostRequest};
 pub use child::{Ending, ExitClass, Ticket, exit_class};
 pub use found::{Found, listing_in};
 pub use host::Host;
+pub use laws::{closing_undoes_starting, failures_count_faults};
 pub use plan::{Move, StagePlan};
 pub use reply::Reply;
 pub use scripted::Scripted;
+
+#[cfg(test)]
+mod tests;

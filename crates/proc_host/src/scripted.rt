@@ -1,4 +1,4 @@
-ghost use Rattle.std.specs.Prelude.{◌≡◌, ◌++◌, ◌∷◌, ◌↔◌, [], IfOk, OnOk, OnErr, IfSome, IfNone, IsTrue, slice_get, Contains};
+ghost use Rattle.std.specs.Prelude.{◌≡◌, ◌+◌, ◌++◌, ◌∷◌, ◌↔◌, [], IfOk, OnOk, OnErr, IfSome, IfNone, IsTrue, slice_get, Contains};
 ghost use Rattle.proc_host.specs.Log.{told, told_error, entries_of, FailsOnlyBy, IsOnly};
 ghost use Rattle.proc_host.specs.Tickets.{IsFresh, running_after, without};
 ghost use Rattle.proc_host.specs.Script.{Answers, after, can_end, starts};
@@ -81,14 +81,6 @@ impl Scripted {
         ensures { result.now ≡ self.now.running }
     {
         self.running.as_slice()
-    }
-
-    /// How many children were started: as many as the log tells of.
-    pub fn started(&self) -> u64
-        ensures number { result ≡ self.now.started }
-        ensures by_log { result ≡ starts self.now.log }
-    {
-        self.started
     }
 
     /// What the script has still to say.
@@ -196,6 +188,7 @@ impl Host for Scripted {
         ensures own { FailsOnlyBy HostFault.Start result }
         ensures fresh { IfOk result (λ ticket. IsFresh ticket self.old.running) }
         ensures started { self.new.running ≡ running_after self.old.running result }
+        ensures numbered { IfOk result (λ ticket. ticket ≡ starts self.old.log + 1) }
         ensures scripted { Answers self.old (HostRequest.Start launch.now) (told (λ ticket. HostAnswer.Started ticket) result) self.new }
     {
         let request = HostRequest::Start(launch.clone_in(self.alloc)?);

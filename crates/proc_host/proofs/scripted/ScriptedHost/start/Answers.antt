@@ -27,3 +27,6 @@ returns-clause-scripted c =
       answer = rw (c.new.ensures, ap (λ (s : ScriptState). s.started) c.self.view_is) (start_told c.args.self.now c.args.launch.now _ next);
       state = rw (← c.self.view_is, c.new.ensures, c.in_ok-note_start.ensures.log, c.in_ok-note_start.ensures.running, c.in_ok-clone_in.ensures, drop-drop);
     }
+
+pub returns-clause-numbered : goal.returns-clause-numbered
+returns-clause-numbered c = rw (c.new.ensures, ← c.self.view_is) (ap (λ n. n + 1) c.self.invariant.counted)
