@@ -7,6 +7,11 @@
 //! exception.
 #![tactic(auto)]
 
+mod fields;
+mod forms;
+mod kept;
+mod objects;
+mod parameters;
 mod process;
 mod refusal;
 

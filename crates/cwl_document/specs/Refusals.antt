@@ -1,0 +1,88 @@
+-- What is wrong with a document, by the refusal that says so.
+use Rattle.std.specs.Prelude.{◌≡◌, ◌<◌, ◌≤◌, ◌⊎◌, ⊤, ℕ, List, [], ◌∷◌, map, Bool, true, false, Option, Some, None, IsSomeAnd, IsUtf8, count_by, codes}
+use Rattle.std.specs.List.{list_any}
+use Rattle.std.specs.Str.{bytes_eq}
+use Rattle.serde_json.specs.Data.{Data, depth}
+use Rattle.serde_json.specs.Find.{get}
+use Rattle.serde_json.specs.Written.{has_float}
+use Rattle.cwl_document.specs.Document.{IsJson, ids_in}
+use Rattle.cwl_document.specs.Fields.{is_known, is_required, has_form, names_of}
+use Rattle.cwl_document.specs.Forms.{is_named, is_object}
+use Rattle.cwl_document.specs.Kept.{kept}
+use Rattle.cwl_document.specs.Values.{parameters}
+use Rattle.cwl_document.specs.declared.fields.ObjectKind.{ObjectKind}
+use Rattle.cwl_document.specs.declared.fields.ObjectKind.TheVariants.{ToolObject, InputObject, BindingObject, OutputObject}
+use Rattle.cwl_document.specs.declared.kept.Level.TheVariants.{ToolLevel}
+use Rattle.cwl_document.specs.declared.refusal.DocumentRefusal.{DocumentRefusal}
+use Rattle.cwl_document.specs.declared.refusal.DocumentRefusal.TheVariants.{NotJson, WrongVersion, WrongClass, MissingField, UnknownField, WrongShape, RepeatedId, TooDeep, OutOfMemory}
+
+-- the field that such an object stands at
+abbrev pub place_of : ObjectKind → List ℕ
+place_of ToolObject = []
+place_of InputObject = codes "inputs"
+place_of BindingObject = codes "inputBinding"
+place_of OutputObject = codes "outputs"
+
+-- a name that is no field of such an object, and is not read over, is among the names
+abbrev pub HasUnknown : List ℕ → ObjectKind → List (List ℕ) → Type 0
+HasUnknown name kind names = (list_any (bytes_eq name) names ≡ true) × (is_known kind name ≡ false)
+
+-- the object breaks its table
+abbrev pub Breaks : DocumentRefusal → ObjectKind → Data → Type 0
+Breaks NotJson kind d = ⊥
+Breaks WrongVersion kind d = ⊥
+Breaks WrongClass kind d = ⊥
+Breaks (MissingField name) kind d = (is_required kind name ≡ true) × (get name d ≡ None)
+Breaks (UnknownField name) kind d = HasUnknown name kind (names_of d)
+Breaks (WrongShape name) kind d = ((name ≡ place_of kind) × (is_object d ≡ false)) ⊎ IsSomeAnd (get name d) (λ v. has_form kind name v ≡ false)
+Breaks (RepeatedId id) kind d = ⊥
+Breaks TooDeep kind d = ⊥
+Breaks OutOfMemory kind d = ⊤
+
+-- the input breaks its table, or its binding does
+abbrev pub InputBreaks : DocumentRefusal → Data → Type 0
+InputBreaks e d = Breaks e InputObject d ⊎ IsSomeAnd (get (codes "inputBinding") d) (Breaks e BindingObject)
+
+abbrev pub OutputBreaks : DocumentRefusal → Data → Type 0
+OutputBreaks e d = Breaks e OutputObject d
+
+abbrev pub SomeOf : (Data → Type 0) → List Data → Type 0
+SomeOf P [] = ⊥
+SomeOf P (d ∷ ds) = P d ⊎ SomeOf P ds
+
+-- some object of the document breaks its table
+abbrev pub ObjectBreaks : DocumentRefusal → Data → Type 0
+ObjectBreaks e d =
+    Breaks e ToolObject d
+    ⊎ (SomeOf (InputBreaks e) (parameters (get (codes "inputs") d)) ⊎ SomeOf (OutputBreaks e) (parameters (get (codes "outputs") d)))
+
+-- the name is among the ids more than once
+abbrev pub Repeats : List ℕ → List (List ℕ) → Type 0
+Repeats id ids = (list_any (bytes_eq id) ids ≡ true) × (1 < count_by (bytes_eq id) ids)
+
+-- another value than that text stands there
+abbrev pub IsOther : List ℕ → Option Data → Type 0
+IsOther text o = IsSomeAnd o (λ v. is_named text v ≡ false)
+
+abbrev pub IsCause : DocumentRefusal → Data → Type 0
+IsCause NotJson d = ⊥
+IsCause WrongVersion d = IsOther (codes "v1.2") (get (codes "cwlVersion") d)
+IsCause WrongClass d = IsOther (codes "CommandLineTool") (get (codes "class") d)
+IsCause (MissingField name) d = ObjectBreaks (MissingField name) d
+IsCause (UnknownField name) d = ObjectBreaks (UnknownField name) d
+IsCause (WrongShape name) d = ObjectBreaks (WrongShape name) d ⊎ ((name ≡ []) × (has_float (kept ToolLevel d) ≡ true))
+IsCause (RepeatedId id) d = Repeats id (ids_in (get (codes "inputs") d)) ⊎ Repeats id (ids_in (get (codes "outputs") d))
+IsCause TooDeep d = 100 < depth d
+IsCause OutOfMemory d = ⊤
+
+-- the cause in the bytes: they are no JSON, or the JSON that they are has it
+abbrev pub Refuses : DocumentRefusal → List ℕ → Type 0
+Refuses NotJson bytes = (d : Data) → ¬ IsJson bytes d
+Refuses WrongVersion bytes = (d : Data) × IsJson bytes d × IsCause WrongVersion d
+Refuses WrongClass bytes = (d : Data) × IsJson bytes d × IsCause WrongClass d
+Refuses (MissingField name) bytes = (d : Data) × IsJson bytes d × IsCause (MissingField name) d
+Refuses (UnknownField name) bytes = (d : Data) × IsJson bytes d × IsCause (UnknownField name) d
+Refuses (WrongShape name) bytes = (d : Data) × IsJson bytes d × IsCause (WrongShape name) d
+Refuses (RepeatedId id) bytes = (d : Data) × IsJson bytes d × IsCause (RepeatedId id) d
+Refuses TooDeep bytes = (d : Data) × IsJson bytes d × IsCause TooDeep d
+Refuses OutOfMemory bytes = ⊤
