@@ -27,6 +27,18 @@ place_of OutputObject = codes "outputs"
 abbrev pub HasUnknown : List ℕ → ObjectKind → List (List ℕ) → Type 0
 HasUnknown name kind names = (list_any (bytes_eq name) names ≡ true) × (is_known kind name ≡ false)
 
+-- for private clauses: what the names alone can break
+abbrev pub NamesBreak : DocumentRefusal → ObjectKind → List (List ℕ) → Type 0
+NamesBreak NotJson kind names = ⊥
+NamesBreak WrongVersion kind names = ⊥
+NamesBreak WrongClass kind names = ⊥
+NamesBreak (MissingField name) kind names = ⊥
+NamesBreak (UnknownField name) kind names = HasUnknown name kind names
+NamesBreak (WrongShape name) kind names = ⊥
+NamesBreak (RepeatedId id) kind names = ⊥
+NamesBreak TooDeep kind names = ⊥
+NamesBreak OutOfMemory kind names = ⊤
+
 -- the object breaks its table
 abbrev pub Breaks : DocumentRefusal → ObjectKind → Data → Type 0
 Breaks NotJson kind d = ⊥

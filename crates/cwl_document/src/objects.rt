@@ -1,10 +1,9 @@
 ghost use Rattle.std.specs.Prelude.{◌≡◌, true, OnOk, IfOk, IfErr};
 ghost use Rattle.std.specs.List.{list_all};
-ghost use Rattle.serde_json.specs.Data.{object};
 ghost use Rattle.serde_json.specs.View.{view, members_view};
 ghost use Rattle.cwl_document.specs.Fields.{fields_of, follows, is_known, is_there, names_of, names_in};
 ghost use Rattle.cwl_document.specs.Forms.{is_object};
-ghost use Rattle.cwl_document.specs.Refusals.{Breaks, place_of};
+ghost use Rattle.cwl_document.specs.Refusals.{Breaks, NamesBreak, place_of};
 ghost use Rattle.cwl_document.specs.Values.{binding_in};
 
 use crate::fields::{ObjectKind, is_known, missing_field};
@@ -28,7 +27,7 @@ fn place_of(kind: ObjectKind) -> &'static str
 }
 
 /// That a value is an object with no field but its kind's and those that are read over.
-pub fn check_names(alloc: Global, kind: ObjectKind, value: &Value) -> Result<(), DocumentRefusal>
+fn check_names(alloc: Global, kind: ObjectKind, value: &Value) -> Result<(), DocumentRefusal>
     ensures object { OnOk result (is_object (view value.now) ≡ true) }
     ensures names { OnOk result (list_all (is_known kind) (names_of (view value.now)) ≡ true) }
     ensures err { IfErr result (λ e. Breaks e kind (view value.now)) }
@@ -39,14 +38,16 @@ pub fn check_names(alloc: Global, kind: ObjectKind, value: &Value) -> Result<(),
     }
 }
 
-fn check_members(
+/// That an object has no field but its kind's and those that are read over.
+pub fn check_members(
     alloc: Global,
     kind: ObjectKind,
     members: &Map<String, Value>,
 ) -> Result<(), DocumentRefusal>
     ensures ok { OnOk result
         (list_all (is_known kind) (names_in (members_view members.now.entries)) ≡ true) }
-    ensures err { IfErr result (λ e. Breaks e kind (object (members_view members.now.entries))) }
+    ensures err { IfErr result
+        (λ e. NamesBreak e kind (names_in (members_view members.now.entries))) }
 {
     for (name, _value) in members.iter() {
         let name = name.as_str();

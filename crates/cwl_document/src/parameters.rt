@@ -11,7 +11,7 @@ ghost use Rattle.cwl_document.specs.Values.{parameter, input_in, output_in, text
 
 use crate::fields::ObjectKind;
 use crate::forms::{is_id_text, is_named, type_of};
-use crate::objects::{check_names, check_object, read_binding};
+use crate::objects::{check_members, check_object, read_binding};
 use crate::process::{OutputSource, ToolInput, ToolOutput};
 use crate::refusal::DocumentRefusal;
 use plain_data::Text;
@@ -30,11 +30,75 @@ fn type_field<'v>(key: Option<&str>, value: &'v Value) -> Option<&'v Value>
     }
 }
 
-/// The binding of a parameter.
+/// The binding of a parameter; a type that stands alone has none.
 fn binding_field<'v>(key: Option<&str>, value: &'v Value) -> Option<&'v Value>
     ensures { option_map (λ v. view v.now) result
         ≡ get (codes "inputBinding") (parameter (option_copied key.entry) (view value.now)) }
 {
-    let _ = key;
-    value.get("inputBinding")
+    if key.is_some() && !value.is_object() {
+        None
+    } else {
+        value.get("inputBinding")
+    }
+}
+
+/// That a parameter's object has what its kind has to have, and no field of another name.
+fn check_parameter(
+    alloc: Global,
+    kind: ObjectKind,
+    key: Option<&str>,
+    value: &Value,
+) -> Result<(), DocumentRefusal>
+    requires { is_required kind (codes "id") ≡ true }
+    ensures object { OnOk result
+        (is_object (parameter (option_copied key.entry) (view value.now)) ≡ true) }
+    ensures names { OnOk result (list_all (is_known kind)
+        (names_of (parameter (option_copied key.entry) (view value.now))) ≡ true) }
+    ensures required { OnOk result (list_all
+        (is_there (parameter (option_copied key.entry) (view value.now))) (fields_of kind) ≡ true) }
+    ensures err { IfErr result
+        (λ e. Breaks e kind (parameter (option_copied key.entry) (view value.now))) }
+{
+    if key.is_none() {
+        return check_object(alloc, kind, value);
+    }
+    let Value::Object(members) = value else {
+        return Ok(());
+    };
+    check_members(alloc, kind, members)?;
+    match value.get("type") {
+        Some(_) => Ok(()),
+        None => Err(DocumentRefusal::MissingField(Text::from_text(alloc, "type")?)),
+    }
+}
+
+/// The id of a parameter: the key in a map, and else its field.
+fn read_id(
+    alloc: Global,
+    kind: ObjectKind,
+    key: Option<&str>,
+    value: &Value,
+) -> Result<Text, DocumentRefusal>
+    requires { is_required kind (codes "id") ≡ true }
+    ensures ok { IfOk result (λ id. IsSomeAnd
+        (get (codes "id") (parameter (option_copied key.entry) (view value.now)))
+        (λ v. (is_id v ≡ true) × (id ≡ text_in v))) }
+    ensures err { IfErr result
+        (λ e. Breaks e kind (parameter (option_copied key.entry) (view value.now))) }
+{
+    match key {
+        Some(key) => {
+            if is_id_text(key) {
+                return Ok(Text::from_text(alloc, key)?);
+            }
+            Err(DocumentRefusal::WrongShape(Text::from_text(alloc, "id")?))
+        }
+        None => match value.get("id") {
+            None => Err(DocumentRefusal::MissingField(Text::from_text(alloc, "id")?)),
+            Some(found) => match found.as_str() {
+                Some(text) if is_id_text(text) => Ok(Text::from_text(alloc, text)?),
+                _ => Err(DocumentRefusal::WrongShape(Text::from_text(alloc, "id")?)),
+            },
+        },
+    }
 }
