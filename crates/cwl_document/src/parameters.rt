@@ -102,3 +102,61 @@ fn read_id(
         },
     }
 }
+
+/// A value that the tool takes (CWL v1.2, `CommandInputParameter`).
+pub fn read_input(
+    alloc: Global,
+    key: Option<&str>,
+    value: &Value,
+) -> Result<ToolInput, DocumentRefusal>
+    ensures follows { OnOk result
+        (input_follows (parameter (option_copied key.entry) (view value.now)) ≡ true) }
+    ensures value { IfOk result
+        (λ input. input ≡ input_in (parameter (option_copied key.entry) (view value.now))) }
+    ensures err { IfErr result
+        (λ e. InputBreaks e (parameter (option_copied key.entry) (view value.now))) }
+{
+    check_parameter(alloc, ObjectKind::InputObject, key, value)?;
+    let id = read_id(alloc, ObjectKind::InputObject, key, value)?;
+    let kind = match type_field(key, value) {
+        None => return Err(DocumentRefusal::MissingField(Text::from_text(alloc, "type")?)),
+        Some(found) => match type_of(found) {
+            Some(kind) => kind,
+            None => return Err(DocumentRefusal::WrongShape(Text::from_text(alloc, "type")?)),
+        },
+    };
+    let binding = match binding_field(key, value) {
+        None => None,
+        Some(found) => Some(read_binding(alloc, found)?),
+    };
+    Ok(ToolInput { id, kind, binding })
+}
+
+/// A value that the tool gives (CWL v1.2, `CommandOutputParameter`).
+pub fn read_output(
+    alloc: Global,
+    key: Option<&str>,
+    value: &Value,
+) -> Result<ToolOutput, DocumentRefusal>
+    ensures follows { OnOk result
+        (output_follows (parameter (option_copied key.entry) (view value.now)) ≡ true) }
+    ensures value { IfOk result
+        (λ output. output ≡ output_in (parameter (option_copied key.entry) (view value.now))) }
+    ensures err { IfErr result
+        (λ e. OutputBreaks e (parameter (option_copied key.entry) (view value.now))) }
+{
+    check_parameter(alloc, ObjectKind::OutputObject, key, value)?;
+    let id = read_id(alloc, ObjectKind::OutputObject, key, value)?;
+    match type_field(key, value) {
+        None => Err(DocumentRefusal::MissingField(Text::from_text(alloc, "type")?)),
+        Some(found) => {
+            if is_named(found, "stdout") {
+                return Ok(ToolOutput {
+                    id,
+                    source: OutputSource::Stdout,
+                });
+            }
+            Err(DocumentRefusal::WrongShape(Text::from_text(alloc, "type")?))
+        }
+    }
+}
