@@ -1,3 +1,4 @@
 pub mod Names
 pub mod ParameterLemmas
+pub mod Reading
 pub mod References

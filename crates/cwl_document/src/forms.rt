@@ -1,7 +1,7 @@
 ghost use Rattle.std.specs.Prelude.{◌≡◌, ◌==◌, ◌||◌, [], ◌∷◌, true, false, map, IfOk, MatchOption};
 ghost use Rattle.std.specs.List.{list_all, list_any};
 ghost use Rattle.serde_json.specs.View.{view, items_view};
-ghost use Rattle.cwl_document.specs.Forms.{elements, is_text, is_words, is_id_text, holds_reference, as_position, as_type, type_named, is_named};
+ghost use Rattle.cwl_document.specs.Forms.{elements, is_text, is_words, is_id_text, is_parameters, holds_reference, as_position, as_type, type_named, is_named};
 ghost use Rattle.cwl_document.specs.Values.{text_in, words_in};
 
 use crate::process::CwlType;
@@ -114,4 +114,11 @@ pub fn is_named(value: &Value, text: &str) -> bool
         Some(found) => found == text,
         None => false,
     }
+}
+
+/// Whether parameters may stand so: in a list, or in a map.
+pub fn is_parameters(value: &Value) -> bool
+    ensures { result ≡ is_parameters (view value.now) }
+{
+    matches!(value, Value::Array(_) | Value::Object(_))
 }

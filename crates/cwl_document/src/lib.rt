@@ -10,6 +10,7 @@
 mod fields;
 mod forms;
 mod kept;
+mod lists;
 mod objects;
 mod parameters;
 mod process;
