@@ -24,7 +24,7 @@ pub Reads-next : {A : Type 0} {f : Data → A} {ok : Data → Bool} {breaks : Do
 Reads-next {A} {f} {ok} {breaks} {made} {more} {before} {all} {d} {rest} here reads passes put = record {
   follows = sym (ap (list_all ok) here ∙ all_of_first ok d rest passes) ∙ reads.follows;
   values = ap (λ xs. xs ++ map f rest) put ∙ append_assoc made (f d ∷ []) (map f rest) ∙ sym (ap (λ ds. made ++ map f ds) here) ∙ reads.values;
-  some = λ e later. reads.some e (subst (SomeOf (breaks e)) (sym here) (inr later))
+  some = λ e later. reads.some e (subst (SomeOf (breaks e)) (sym here) (inr later));
 }
 
 pub Reads-fails : {A : Type 0} {f : Data → A} {ok : Data → Bool} {breaks : DocumentRefusal → Data → Type 0} {made : List A} {before all : List Data} {d : Data} {rest : List Data} → before ≡ d ∷ rest → Reads f ok breaks made before all → (e : DocumentRefusal) → breaks e d → SomeOf (breaks e) all

@@ -46,3 +46,12 @@ abbrev mutual
   pub kept_members : Level → Members → Members
   kept_members level no_members = no_members
   kept_members level (member name d ms) = if is_left_out level name then kept_members level ms else member name (kept (level_under level name) d) (kept_members level ms)
+
+-- for private clauses: the value holds no other
+abbrev pub is_leaf : Data → Bool
+is_leaf null = true
+is_leaf (boolean b) = true
+is_leaf (number n) = true
+is_leaf (string s) = true
+is_leaf (array ds) = false
+is_leaf (object ms) = false

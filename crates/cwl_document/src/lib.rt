@@ -7,6 +7,7 @@
 //! exception.
 #![tactic(auto)]
 
+mod depth;
 mod fields;
 mod forms;
 mod kept;

@@ -51,10 +51,7 @@ fn inputs_in(alloc: Global, value: &Value) -> Result<Items<ToolInput>, DocumentR
     }
 }
 
-fn read_listed_inputs(
-    alloc: Global,
-    list: &Vec<Value>,
-) -> Result<Items<ToolInput>, DocumentRefusal>
+fn read_listed_inputs(alloc: Global, list: &Vec<Value>) -> Result<Items<ToolInput>, DocumentRefusal>
     ensures follows { OnOk result
         (list_all input_follows (elements (items_view list.now.items)) ≡ true) }
     ensures value { IfOk result
