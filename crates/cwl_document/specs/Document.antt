@@ -30,9 +30,12 @@ output_follows = follows OutputObject
 abbrev pub ids_in : Option Data → List (List ℕ)
 ids_in o = map id_in (parameters o)
 
+abbrev pub is_once : List (List ℕ) → List ℕ → Bool
+is_once ids id = nat_le (count_by (bytes_eq id) ids) 1
+
 -- no id stands twice
 abbrev pub are_distinct : List (List ℕ) → Bool
-are_distinct ids = list_all (λ id. nat_le (count_by (bytes_eq id) ids) 1) ids
+are_distinct ids = list_all (is_once ids) ids
 
 pub record IsAccepted (d : Data) : Type 0 where
   pub shallow : depth d ≤ 100

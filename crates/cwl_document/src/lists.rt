@@ -130,8 +130,8 @@ fn read_listed_outputs(
         (λ e. SomeOf (OutputBreaks e) (elements (items_view list.now.items))) }
 {
     let mut outputs = Items::new(alloc);
-    for item in list {
-        push_output(alloc, &mut outputs, None, item)?;
+    for entry in list {
+        push_output(alloc, &mut outputs, None, entry)?;
     }
     Ok(outputs)
 }

@@ -7,5 +7,5 @@ use Rattle.cwl_document.specs.Values.{output_in}
 use Rattle.cwl_document.proofs.Reading.{Reads}
 use Rattle.cwl_document.proofs.lists.read_listed_outputs.Given as goal
 
-abbrev pub invariant-loop-item : goal.invariant-loop-item
-invariant-loop-item l = Reads output_in output_follows OutputBreaks l.outputs (elements (items_view (drop l.item-index l.item-items))) (elements (items_view l.item-items))
+abbrev pub invariant-loop-entry : goal.invariant-loop-entry
+invariant-loop-entry l = Reads output_in output_follows OutputBreaks l.outputs (elements (items_view (drop l.entry-index l.entry-items))) (elements (items_view l.entry-items))

@@ -1,0 +1,52 @@
+-- From what the tool's object, its inputs or its outputs break to the cause in the document.
+use Rattle.std.proofs.Common.{◌≡◌, ◌⊎◌, List, [], ◌∷◌, Option, Some, None, IsSomeAnd, inl, inr, codes}
+use Rattle.serde_json.specs.Data.{Data}
+use Rattle.serde_json.specs.Find.{get}
+use Rattle.cwl_document.specs.Refusals.{Breaks, InputBreaks, OutputBreaks, SomeOf, ObjectBreaks, IsCause}
+use Rattle.cwl_document.specs.Values.{parameters}
+use Rattle.cwl_document.specs.declared.fields.ObjectKind.TheVariants.{ToolObject, InputObject, BindingObject, OutputObject}
+use Rattle.cwl_document.specs.declared.refusal.DocumentRefusal.{DocumentRefusal}
+use Rattle.cwl_document.specs.declared.refusal.DocumentRefusal.TheVariants.{NotJson, WrongVersion, WrongClass, MissingField, UnknownField, WrongShape, RepeatedId, TooDeep, OutOfMemory}
+
+none_of : (P : Data → Type 0) → ((d : Data) → P d → ⊥) → (ds : List Data) → SomeOf P ds → ⊥
+none_of P never [] h = h
+none_of P never (d ∷ ds) h = elim h [ inl here ↦ never d here | inr later ↦ none_of P never ds later ]
+
+no_value : (o : Option Data) → IsSomeAnd o (λ _. ⊥) → ⊥
+no_value None h = h
+no_value (Some v) h = h
+
+-- an object breaks its table in one of three ways
+no_part : (a b : List Data) (o : Data → Option Data) → ⊥ ⊎ (SomeOf (λ d. ⊥ ⊎ IsSomeAnd (o d) (λ _. ⊥)) a ⊎ SomeOf (λ _. ⊥) b) → ⊥
+no_part a b o h =
+    elim h [
+      | inl own ↦ own
+      | inr parts ↦
+          elim parts [
+            | inl input ↦ none_of (λ d. ⊥ ⊎ IsSomeAnd (o d) (λ _. ⊥)) (λ d k. elim k [ inl x ↦ x | inr x ↦ no_value (o d) x ]) a input
+            | inr output ↦ none_of (λ _. ⊥) (λ d k. k) b output
+          ]
+    ]
+
+no_object : (d : Data) → ⊥ ⊎ (SomeOf (λ x. ⊥ ⊎ IsSomeAnd (get (codes "inputBinding") x) (λ _. ⊥)) (parameters (get (codes "inputs") d)) ⊎ SomeOf (λ _. ⊥) (parameters (get (codes "outputs") d))) → ⊥
+no_object d = no_part (parameters (get (codes "inputs") d)) (parameters (get (codes "outputs") d)) (λ x. get (codes "inputBinding") x)
+
+pub IsCause-from_object : (e : DocumentRefusal) (d : Data) → ObjectBreaks e d → IsCause e d
+IsCause-from_object NotJson d h = no_object d h
+IsCause-from_object WrongVersion d h = absurd (no_object d h)
+IsCause-from_object WrongClass d h = absurd (no_object d h)
+IsCause-from_object (MissingField name) d h = h
+IsCause-from_object (UnknownField name) d h = h
+IsCause-from_object (WrongShape name) d h = inl h
+IsCause-from_object (RepeatedId id) d h = absurd (no_object d h)
+IsCause-from_object TooDeep d h = absurd (no_object d h)
+IsCause-from_object OutOfMemory d h = tt
+
+pub IsCause-from_tool : (e : DocumentRefusal) (d : Data) → Breaks e ToolObject d → IsCause e d
+IsCause-from_tool e d h = IsCause-from_object e d (inl h)
+
+pub IsCause-from_inputs : (e : DocumentRefusal) (d : Data) → Breaks e ToolObject d ⊎ SomeOf (InputBreaks e) (parameters (get (codes "inputs") d)) → IsCause e d
+IsCause-from_inputs e d h = elim h [ inl own ↦ IsCause-from_object e d (inl own) | inr input ↦ IsCause-from_object e d (inr (inl input)) ]
+
+pub IsCause-from_outputs : (e : DocumentRefusal) (d : Data) → Breaks e ToolObject d ⊎ SomeOf (OutputBreaks e) (parameters (get (codes "outputs") d)) → IsCause e d
+IsCause-from_outputs e d h = elim h [ inl own ↦ IsCause-from_object e d (inl own) | inr output ↦ IsCause-from_object e d (inr (inr output)) ]
