@@ -1,4 +1,6 @@
 pub mod Answered
 pub mod Bindings
 pub mod Joined
+pub mod Keys
 pub mod Rising
+pub mod Settled

@@ -44,13 +44,13 @@ contains_at : {K : Type 0} (y x : K) (ys : List K) (k : ℕ) → k < length (y �
 contains_at y x ys zero within is = inl is
 contains_at y x ys (suc k) within is = inr (k, omega arith, is)
 
-contains_cases : {K : Type 0} (y x : K) (ys : List K) → Contains (y ∷ ys) x → (y ≡ x) ⊎ Contains ys x
+pub contains_cases : {K : Type 0} (y x : K) (ys : List K) → Contains (y ∷ ys) x → (y ≡ x) ⊎ Contains ys x
 contains_cases y x ys c = contains_at y x ys c.0 c.1 c.2
 
-contains_first : {K : Type 0} (x : K) (xs : List K) → Contains (x ∷ xs) x
+pub contains_first : {K : Type 0} (x : K) (xs : List K) → Contains (x ∷ xs) x
 contains_first x xs = (0, omega arith, refl)
 
-contains_later : {K : Type 0} (x y : K) (xs : List K) → Contains xs y → Contains (x ∷ xs) y
+pub contains_later : {K : Type 0} (x y : K) (xs : List K) → Contains xs y → Contains (x ∷ xs) y
 contains_later x y xs c = (suc c.0, omega arith, c.2)
 
 -- the first key is below each later one

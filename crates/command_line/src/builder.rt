@@ -2,7 +2,6 @@ ghost use Rattle.std.specs.Prelude.{IfOk, IfErr};
 ghost use Rattle.command_line.specs.Launch.{IsLaunch, IsError};
 
 use crate::environment::environment;
-use crate::launch::text_copy;
 use crate::stream::stdout_file;
 use crate::words::words;
 use crate::{BuildError, BuildFault, Launch, Runtime};
@@ -37,6 +36,6 @@ pub fn build(
         stdin: None,
         stdout,
         stderr: None,
-        dir: text_copy(alloc, &runtime.outdir)?,
+        dir: runtime.outdir.copied(alloc)?,
     })
 }

@@ -6,7 +6,7 @@ use plain_data::Text;
 use std::alloc::{AllocError, AllocFailed};
 
 /// Why a tool and its inputs give no launch.
-#[derive(Drop)]
+#[derive(Debug, Drop)]
 pub enum BuildFault {
     /// What stands at the named place is no text that an operating system takes: the id of an input,
     /// `baseCommand`, `stdout`, or the name of a variable of the environment.
@@ -28,7 +28,7 @@ impl BuildFault {
 }
 
 /// What `build` answers in place of a launch.
-#[derive(Drop)]
+#[derive(Debug, Drop)]
 pub enum BuildError {
     /// No launch is right for this tool and these inputs.
     Refused(BuildFault),

@@ -4,14 +4,14 @@ use plain_data::{Items, Text};
 use std::alloc::{AllocError, Global};
 
 /// A variable of the child's environment.
-#[derive(Drop)]
+#[derive(Debug, Drop)]
 pub struct Variable {
     pub name: Text,
     pub text: Text,
 }
 
 /// What a host is to start: one child, whole (CWL v1.2, Command Line Tool, "Runtime environment").
-#[derive(Drop)]
+#[derive(Debug, Drop)]
 pub struct Launch {
     /// The program, and then its arguments: each word is one argument, whatever is in it.
     pub words: Items<Text>,
@@ -33,8 +33,8 @@ impl Variable {
         ensures { IfOk result (λ copy. copy ≡ self.now) }
     {
         Ok(Variable {
-            name: text_copy(alloc, &self.name)?,
-            text: text_copy(alloc, &self.text)?,
+            name: self.name.copied(alloc)?,
+            text: self.text.copied(alloc)?,
         })
     }
 }
@@ -50,23 +50,17 @@ impl Launch {
             stdin: name_copy(alloc, &self.stdin)?,
             stdout: name_copy(alloc, &self.stdout)?,
             stderr: name_copy(alloc, &self.stderr)?,
-            dir: text_copy(alloc, &self.dir)?,
+            dir: self.dir.copied(alloc)?,
         })
     }
 }
 
-pub(crate) fn text_copy(alloc: Global, text: &Text) -> Result<Text, AllocError>
-    ensures { IfOk result (λ copy. copy ≡ text.now) }
-{
-    Text::from_text(alloc, text.as_str())
-}
-
-pub(crate) fn name_copy(alloc: Global, name: &Option<Text>) -> Result<Option<Text>, AllocError>
+fn name_copy(alloc: Global, name: &Option<Text>) -> Result<Option<Text>, AllocError>
     ensures { IfOk result (λ copy. copy ≡ name.now) }
 {
     match name {
         None => Ok(None),
-        Some(text) => Ok(Some(text_copy(alloc, text)?)),
+        Some(text) => Ok(Some(text.copied(alloc)?)),
     }
 }
 
@@ -75,7 +69,7 @@ fn words_copy(alloc: Global, words: &[Text]) -> Result<Items<Text>, AllocError>
 {
     let mut copies = Vec::new(alloc);
     for word in words {
-        copies.push(text_copy(alloc, word)?)?;
+        copies.push(word.copied(alloc)?)?;
     }
     Ok(Items::from_vec(copies))
 }

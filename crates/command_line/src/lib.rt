@@ -1,21 +1,29 @@
-//! From a tool and its inputs to what has to be started.
+//! From a tool and its inputs to what has to be started (CWL v1.2, Command Line Tool).
 //!
-//! `Launch` is everything that a host needs to start one child: its words, its environment, the files that its
-//! streams go to and the folder that it runs in.
+//! `build` gives the launch of a tool: the words of its base command and then those of its bindings, whose keys
+//! strictly rise, the whole environment, the file of standard output and the folder to run in. What these are is said
+//! in `specs/Order.antt`, `specs/Words.antt` and `specs/Launch.antt`, without the sort that the code does. An `Ok` is
+//! the launch that they say, and a tool has one at most; a refusal comes only where its cause holds, and then there
+//! is no launch (`laws.rt`). Want of memory is the one exception.
 #![tactic(auto)]
 
 mod builder;
 mod environment;
 mod fault;
 mod launch;
+mod laws;
 mod order;
 mod plain;
 mod runtime;
 mod stream;
 mod words;
 
+#[cfg(test)]
+mod tests;
+
 pub use builder::build;
 pub use fault::{BuildError, BuildFault};
 pub use launch::{Launch, Variable};
+pub use laws::{keys_decide, launch_excludes_refusal, launch_is_settled, words_are_settled};
 pub use runtime::Runtime;
 pub use stream::stdout_name;

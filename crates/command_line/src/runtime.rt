@@ -1,7 +1,7 @@
 use plain_data::Text;
 
 /// What a job is given to run in, as paths and a list of paths (CWL v1.2, Command Line Tool, "Runtime environment").
-#[derive(Drop)]
+#[derive(Debug, Drop)]
 pub struct Runtime {
     /// The output folder, which the child runs in and finds in `HOME`.
     pub outdir: Text,

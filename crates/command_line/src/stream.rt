@@ -3,7 +3,6 @@ ghost use Rattle.command_line.specs.Launch.{collects_stdout, is_file_name, stdou
 ghost use Rattle.command_line.specs.Steps.{StreamError};
 
 use crate::BuildError;
-use crate::launch::text_copy;
 use crate::plain::{is_plain, not_text};
 use cwl_document::{OutputSource, Tool};
 use plain_data::Text;

@@ -1,7 +1,6 @@
 ghost use Rattle.std.specs.Prelude.{◌≡◌, codes, ℕ, false, List, [], ◌∷◌, ◌++◌, Option, Some, IsSome, IfOk, IfErr, OnOk, All, map};
 ghost use Rattle.std.specs.Option.{option_copied, option_map, option_to_list};
 ghost use Rattle.std.specs.List.{AllPass, flat_map, list_all};
-ghost use Rattle.plain_data.specs.ByName.{value_at};
 ghost use Rattle.command_line.specs.Launch.{IsError, are_plain_words};
 ghost use Rattle.command_line.specs.Steps.{NotTextAt, InputError};
 ghost use Rattle.command_line.specs.View.{bound_of};
@@ -9,7 +8,6 @@ ghost use Rattle.command_line.specs.Words.{AreWords, input_words, is_plain, pref
 ghost use Rattle.command_line.specs.declared.runtime.Runtime.{Runtime};
 
 use crate::BuildError;
-use crate::launch::text_copy;
 use crate::order::{BoundInput, in_order};
 use crate::plain::{all_plain, not_text};
 use cwl_document::Tool;
@@ -43,7 +41,7 @@ fn base_words(alloc: Global, base: &[Text]) -> Result<Vec<Text>, BuildError>
     }
     let mut words = Vec::new(alloc);
     for word in base {
-        words.push(text_copy(alloc, word)?)?;
+        words.push(word.copied(alloc)?)?;
     }
     Ok(words)
 }
@@ -77,7 +75,7 @@ fn plain_words_of(
     ensures plain { IfOk result (λ words. AllPass is_plain words.items) }
     ensures refused { IfErr result (NotTextAt row.now.key.name.now (are_plain_words (words_of inputs.now (bound_of row.now)) ≡ false)) }
 {
-    let value = value_under(inputs, row.key.name);
+    let value = inputs.get(row.key.name);
     let Some(words) = written(alloc, row, value)? else {
         return Err(not_text(alloc, row.key.name));
     };
@@ -85,17 +83,6 @@ fn plain_words_of(
         return Err(not_text(alloc, row.key.name));
     }
     Ok(words)
-}
-
-fn value_under<'v>(inputs: &'v Keyed<Value>, name: &str) -> Option<&'v Value>
-    ensures { option_copied result ≡ value_at name.now inputs.now }
-{
-    for (known, value) in inputs.as_slice() {
-        if name == known.as_str() {
-            return Some(value);
-        }
-    }
-    None
 }
 
 /// The words that a value adds, or none where it is no text (CWL v1.2, Command Line Tool, "Input binding").
@@ -128,7 +115,7 @@ fn flag_words(alloc: Global, row: &BoundInput<'_>) -> Result<Vec<Text>, AllocErr
 {
     let mut words = Vec::new(alloc);
     if let Some(prefix) = row.prefix {
-        words.push(text_copy(alloc, prefix)?)?;
+        words.push(prefix.copied(alloc)?)?;
     }
     Ok(words)
 }
@@ -141,7 +128,7 @@ fn text_words(alloc: Global, row: &BoundInput<'_>, text: &str) -> Result<Vec<Tex
     match row.prefix {
         None => words.push(Text::from_text(alloc, text)?)?,
         Some(prefix) if row.separate => {
-            words.push(text_copy(alloc, prefix)?)?;
+            words.push(prefix.copied(alloc)?)?;
             words.push(Text::from_text(alloc, text)?)?;
         }
         Some(prefix) => {

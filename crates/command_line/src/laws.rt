@@ -1,0 +1,26 @@
+//! What the definitions settle, each as the contract of a function that does nothing.
+ghost use Rattle.command_line.specs.Laws.{KeysDecide, LaunchExcludesRefusal, LaunchIsSettled, WordsAreSettled};
+
+/// A tool and its inputs have one list of words at most.
+pub fn words_are_settled()
+    ensures { WordsAreSettled }
+{
+}
+
+/// A tool, its inputs and what it runs in have one launch at most.
+pub fn launch_is_settled()
+    ensures { LaunchIsSettled }
+{
+}
+
+/// Where there is a launch, no cause of refusal holds.
+pub fn launch_excludes_refusal()
+    ensures { LaunchExcludesRefusal }
+{
+}
+
+/// Where no two inputs share an id, position and id alone order the words.
+pub fn keys_decide()
+    ensures { KeysDecide }
+{
+}
