@@ -1,5 +1,5 @@
 -- Where a tool has no id twice, position and id alone put its bindings in order.
-use Rattle.std.proofs.Common.{◌≡◌, ℕ, suc, ◌+◌, ◌<◌, ◌≤◌, Bool, true, false, List, [], ◌∷◌, ◌++◌, Option, Some, None, Contains, Ordering, Less, Equal, Greater, length, get_or, map, refl, sym, ap, subst, ◌∙◌, ◌⊎◌, inl, inr, arith}
+use Rattle.std.proofs.Common.{◌≡◌, ℕ, suc, ◌+◌, ◌<◌, Bool, true, false, List, [], ◌∷◌, ◌++◌, Some, None, Contains, Ordering, Less, Equal, Greater, length, get_or, map, refl, sym, ap, subst, ◌∙◌, inl, inr, arith}
 use Rattle.std.specs.Prelude.{bytes_eq}
 use Rattle.std.specs.Cmp.Lexicographic.{nat_list_eq_equiv}
 use Rattle.std.specs.List.{AllByRecursion, IsDistinct}
@@ -14,7 +14,7 @@ use Rattle.cwl_document.specs.declared.process.Binding.{Binding}
 use Rattle.cwl_document.specs.declared.process.Tool.{Tool}
 use Rattle.cwl_document.specs.declared.process.ToolInput.{ToolInput}
 use Rattle.command_line.specs.Laws.{position_then_id}
-use Rattle.command_line.specs.Order.{AreInOrder, Bound, bindings_of, bound_at, bound_from, key_cmp}
+use Rattle.command_line.specs.Order.{AreInOrder, Bound, bound_at, bound_from, key_cmp}
 use Rattle.command_line.proofs.Rising.{contains_cases, contains_first, contains_later}
 
 -- the binding is that of the i-th of these inputs, of which the first stands at the place

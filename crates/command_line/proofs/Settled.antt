@@ -1,6 +1,6 @@
 -- A tool, its inputs and what it runs in have one launch at most, and none where they are refused.
-use Rattle.std.proofs.Common.{◌≡◌, ◌≢◌, ℕ, ◌<◌, Bool, true, false, List, [], ◌∷◌, ◌++◌, Option, Some, None, IsSome, IfSome, All, Contains, length, get_or, unwrap_or, refl, sym, ap, subst, ◌∙◌, inl, inr, arith}
-use Rattle.std.specs.List.{AllPass, flat_map, list_all}
+use Rattle.std.proofs.Common.{◌≡◌, ℕ, Bool, true, false, List, [], ◌∷◌, ◌++◌, Option, Some, None, IsSome, IfSome, Contains, get_or, unwrap_or, sym, ap, subst, ◌∙◌, inl, inr, arith}
+use Rattle.std.specs.List.{AllPass, flat_map}
 use Rattle.std.proofs.lemmas.List.Elements.{All-contains, Contains-append_left, Contains-append_right, Contains-get_or}
 use Rattle.std.proofs.lemmas.List.Sums.{list_all-from_AllPass}
 use Rattle.cwl_value.specs.declared.value.Value.{Value}
@@ -9,7 +9,7 @@ use Rattle.command_line.specs.declared.fault.BuildFault.{BuildFault}
 use Rattle.command_line.specs.declared.launch.Launch.{Launch}
 use Rattle.command_line.specs.declared.launch.Variable.{Variable}
 use Rattle.command_line.specs.declared.runtime.Runtime.{Runtime}
-use Rattle.command_line.specs.Launch.{IsLaunch, IsRefused, are_plain_words, environment_of, is_file_name, stdout_of}
+use Rattle.command_line.specs.Launch.{IsLaunch, IsRefused, are_plain_words, is_file_name}
 use Rattle.command_line.specs.Order.{AreInOrder, Bound, bindings_of}
 use Rattle.command_line.specs.Words.{AreWords, is_plain, words_at, words_of}
 use Rattle.command_line.proofs.Bindings.{key_total}
