@@ -1,8 +1,9 @@
-ghost use Rattle.std.specs.Prelude.{◌≡◌, [], ◌∷◌, ◌++◌, ◌<◌, length, slice_get, ◌↔◌, IsTrue, MatchOption, OnOk, OnErr, OnSome};
+ghost use Rattle.std.specs.Prelude.{◌≡◌, [], ◌∷◌, ◌++◌, ◌<◌, length, slice_get, ◌↔◌, IsTrue, IfOk, MatchOption, OnOk, OnErr, OnSome};
 ghost use Rattle.std.specs.Option.{option_copied};
 ghost use Rattle.std.specs.Cmp.Lexicographic.{pointwise, lists_per};
 ghost use Rattle.std.specs.Fmt.{debug_list};
 
+use crate::Text;
 use std::alloc::{AllocError, Global};
 use std::fmt;
 use std::marker::Model;
@@ -91,6 +92,19 @@ impl<T: Drop> Items<T> {
     {
         self.held.push(item)?;
         Ok(())
+    }
+}
+
+impl Items<Text> {
+    /// The same texts in memory of their own.
+    pub fn copied(&self, alloc: Global) -> Result<Items<Text>, AllocError>
+        ensures { IfOk result (λ copy. copy ≡ self.now) }
+    {
+        let mut copies = Vec::new(alloc);
+        for text in self.as_slice() {
+            copies.push(text.copied(alloc)?)?;
+        }
+        Ok(Items { held: copies })
     }
 }
 
