@@ -1,2 +1,21 @@
-//! To be written.
+//! The cheapest plan of a job graph, and the charges that prove it.
+//!
+//! `plan` answers, for every graph, the one plan that is Least: no valid plan costs less, and what it computes, and what
+//! it doesn't prune, is so in every cheapest plan. With it come charges that make it a certificate, which
+//! `plan_checker::check` takes. It fails only for want of memory.
+//!
+//! The plan is read off a flow of greatest value. Each job is two nodes: one says that its outputs are there (`Kept`),
+//! the other that it is run (`Computed`). A unit of flow enters at a needed job's first node, goes through to its
+//! second, and there is paid by the compute cost or passed to the first node of a parent. The load cost bounds what goes
+//! through, the compute cost what is paid. `search` looks for a path along which more can flow, `augment` sends it.
 #![tactic(auto)]
+
+mod augment;
+mod begin;
+mod edit;
+mod error;
+mod planner;
+mod search;
+
+pub use error::OutOfMemory;
+pub use planner::plan;

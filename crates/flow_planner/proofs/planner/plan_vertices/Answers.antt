@@ -1,0 +1,60 @@
+use Rattle.std.proofs.Common.{ℕ, ◌+◌, get_or, sum, ap, arith}
+use Rattle.std.proofs.lemmas.List.Sums.{sum_by-set}
+use Rattle.flow_planner.specs.Flow.{nothing}
+use Rattle.flow_planner.proofs.Certify.{IsFinal, fair_from, certificate_from, least_from}
+use Rattle.flow_planner.proofs.Bounds.{pays-le}
+use Rattle.flow_planner.proofs.Fresh.{starts}
+use Rattle.flow_planner.proofs.planner.plan_vertices.Goals as goal
+
+pub run-requires : goal.run-requires
+run-requires c = record {
+  under_way = starts c.args.vertices.now c.loop-charges.charges c.in_ok-search.search c.requires c.loop-charges.invariant c.in_ok-search.ensures;
+}
+
+pub returns-in-None-clause-least : goal.returns-in-None-clause-least
+returns-in-None-clause-least c =
+    let graph = c.args.vertices.now in
+    let charges = c.loop-charges.charges in
+    let search = c.run.new.self in
+    let marks = c.in_ok-read_off-in-None.field-0.marks in
+    let marked = c.in_ok-read_off-in-None.ensures in
+    let final : IsFinal graph charges search marks = record {
+      good = c.requires;
+      fair = fair_from graph charges c.loop-charges.invariant;
+      settled = c.in-None.ensures.settled;
+      count = marked.count;
+      are = marked.are;
+    } in
+    least_from graph charges search marks final c.in-None.ensures.under_way.searching
+
+pub returns-in-None-clause-certified : goal.returns-in-None-clause-certified
+returns-in-None-clause-certified c =
+    let graph = c.args.vertices.now in
+    let charges = c.loop-charges.charges in
+    let search = c.run.new.self in
+    let marks = c.in_ok-read_off-in-None.field-0.marks in
+    let marked = c.in_ok-read_off-in-None.ensures in
+    let final : IsFinal graph charges search marks = record {
+      good = c.requires;
+      fair = fair_from graph charges c.loop-charges.invariant;
+      settled = c.in-None.ensures.settled;
+      count = marked.count;
+      are = marked.are;
+    } in
+    certificate_from graph charges search marks final
+
+pub loop-charges-smaller : goal.loop-charges-smaller
+loop-charges-smaller c =
+    let graph = c.args.vertices.now in
+    let old = c.loop-charges.charges in
+    let new = c.augment.new.charges in
+    let end = c.in-Some.end in
+    let path = c.in-Some.ensures.end in
+    let paid : ℕ = get_or old.pay end.job 0 + end.amount in
+    let count = c.loop-charges.invariant.counted.pays in
+    let in_graph = path.job in
+    let some = path.some in
+    let changed = sum_by-set (λ x. x) old.pay end.job paid 0 (omega arith) in
+    let now = ap sum c.augment.ensures.pay in
+    let most = pays-le graph new nothing nothing c.requires c.augment.ensures.fair in
+    omega arith

@@ -1,0 +1,18 @@
+use Rattle.std.proofs.Common.{arith, sym, ◌∙◌}
+use Rattle.flow_planner.specs.Search.{Advances, AreSettled}
+use Rattle.flow_planner.proofs.Reach.{reached-le}
+use Rattle.flow_planner.proofs.UnderWay.{IfNone_at}
+use Rattle.flow_planner.proofs.search.Search.run.Goals as goal
+
+pub loop-end-smaller : goal.loop-end-smaller
+loop-end-smaller c =
+    let graph = c.args.vertices.now in
+    let charges = c.args.charges.now in
+    let before = c.loop-end.self in
+    let after = c.sweep-end.new.self in
+    let none = sym c.is_some.ensures ∙ c.if-is_some.false in
+    let on = IfNone_at c.sweep-end.result (Advances before after (AreSettled graph charges after)) none c.sweep-end.ensures.settled in
+    let grows = on.grows in
+    let more = c.if-self-before.false in
+    let most = reached-le graph charges after.kept.items after.computed.items after.reached c.sweep-end.ensures.under_way.searching in
+    omega arith
