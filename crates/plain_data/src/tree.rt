@@ -123,6 +123,14 @@ mod tests {
         assert!(rt; short < long);
         assert!(rt; !short.equals(&long) && short == text(alloc, "Zz")?);
         assert_eq!(rt; format!(in alloc; "{short}{long}")?.as_str(), "Zza");
+        let mut texts = Items::new(alloc);
+        texts.push(short)?;
+        let copies = texts.copied(alloc)?;
+        assert_eq!(rt; copies, texts);
+        assert_eq!(rt;
+            texts.pop().map(Text::into_string),
+            Some(String::from_str(alloc, "Zz")?)
+        );
         Ok(())
     }
 }
