@@ -1,5 +1,9 @@
+pub mod AllRead
 pub mod Induction
+pub mod JsonDepths
 pub mod JsonOf
+pub mod JsonReads
 pub mod Listing
 pub mod NoFloat
 pub mod Periods
+pub mod ReadText

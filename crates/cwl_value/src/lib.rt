@@ -1,13 +1,24 @@
 //! The values of the Common Workflow Language, and their JSON.
 //!
 //! A `Value` is plain data to contracts: `≡` on two values compares everything in them, places included.
-//! `clone_in` gives an equal value, and `erased` one that has no places.
+//! - `read_value` and `from_json` give exactly the value that JSON stands for, or a refusal whose cause holds.
+//! - `to_json` gives exactly the JSON of a value, and `canonical_text` its text, without space and with sorted keys.
+//! - `clone_in` gives an equal value, and `erased` one without places.
+//! - `place_text` prints the place of a job.
+//!
+//! Each call that takes memory may also refuse for want of it.
 #![tactic(auto)]
 
+mod beside;
 mod copy;
+mod depth;
 mod erase;
+mod members;
 mod names;
 mod place;
+mod print;
+mod read;
+mod refusal;
 mod value;
 mod write;
 
@@ -15,5 +26,8 @@ pub use copy::{copy_fields, copy_items, copy_job};
 pub use erase::{erased, erased_fields, erased_items};
 pub use names::name_parts;
 pub use place::{JobPlace, Place, Segment};
+pub use print::place_text;
+pub use read::{from_json, read_value};
+pub use refusal::{FileField, ValueRefusal};
 pub use value::{DirVal, FileVal, Value};
 pub use write::{canonical_text, to_json};
