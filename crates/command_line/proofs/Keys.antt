@@ -28,19 +28,19 @@ later : (b : Bound) (place : ℕ) (input : ToolInput) (rest : List ToolInput) �
 later b place input rest s = record { i = suc s.i; within = omega (arith, s.within); here = omega (arith, s.here); named = s.named }
 
 first : (b : Bound) (place : ℕ) (input : ToolInput) (rest : List ToolInput) (binding : Binding) → bound_at place input.id binding ≡ b → Stands b place (input ∷ rest)
-first b place input rest binding is = 
+first b place input rest binding is =
     let there : place ≡ b.place = ap (λ (c : Bound). c.place) is in
     record { i = 0; within = omega arith; here = omega (arith, there); named = ap (λ (c : Bound). c.id) is }
 
 stands : (b : Bound) (place : ℕ) (inputs : List ToolInput) → Contains (bound_from place inputs) b → Stands b place inputs
 stands b place [] member = absurd (omega (arith, member.1))
 stands b place (input ∷ rest) member = elim input.binding as (λ o. Contains (option_to_list (option_map (bound_at place input.id) o) ++ bound_from (place + 1) rest) b → Stands b place (input ∷ rest)) [
-    | None ↦ λ m. later b place input rest (stands b (place + 1) rest m)
-    | Some binding ↦ λ m. elim (contains_cases (bound_at place input.id binding) b (bound_from (place + 1) rest) m) [
-        | inl is ↦ first b place input rest binding is
-        | inr rests ↦ later b place input rest (stands b (place + 1) rest rests)
-      ]
-  ] member
+  | None ↦ λ m. later b place input rest (stands b (place + 1) rest m)
+  | Some binding ↦ λ m. elim (contains_cases (bound_at place input.id binding) b (bound_from (place + 1) rest) m) [
+    | inl is ↦ first b place input rest binding is
+    | inr rests ↦ later b place input rest (stands b (place + 1) rest rests)
+  ]
+] member
 
 same_bytes : (xs ys : List ℕ) → xs ≡ ys → bytes_eq xs ys ≡ true
 same_bytes xs ys is = subst (λ (zs : List ℕ). bytes_eq xs zs ≡ true) is (nat_list_eq_equiv.refl xs)

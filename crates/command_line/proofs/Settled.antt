@@ -57,9 +57,9 @@ input_plain tool inputs words are plain b member =
     let here : Contains are.bound b = (are.in_order.members b).1 member in
     some_plain (words_of inputs b) (All-contains (λ c. IsSome (words_of inputs c)) are.bound b are.all_text here)
     (λ k d within. All-contains (λ w. is_plain w ≡ true) words (get_or (words_at inputs b) k d) plain
-      (subst (λ (ws : List (List ℕ)). Contains ws (get_or (words_at inputs b) k d)) (sym are.are)
-        (Contains-append_right tool.base_command (flat_map (words_at inputs) are.bound) (get_or (words_at inputs b) k d)
-          (Contains-flat_map (words_at inputs) are.bound b (get_or (words_at inputs b) k d) here (Contains-get_or (words_at inputs b) k d within)))))
+    (subst (λ (ws : List (List ℕ)). Contains ws (get_or (words_at inputs b) k d)) (sym are.are)
+    (Contains-append_right tool.base_command (flat_map (words_at inputs) are.bound) (get_or (words_at inputs b) k d)
+    (Contains-flat_map (words_at inputs) are.bound b (get_or (words_at inputs b) k d) here (Contains-get_or (words_at inputs b) k d within)))))
 
 base_plain : (tool : Tool) (inputs : List (List ℕ × Value)) (words : List (List ℕ)) → AreWords tool inputs words → AllPass is_plain words → (word : List ℕ) → Contains tool.base_command word → is_plain word ≡ true
 base_plain tool inputs words are plain word member =

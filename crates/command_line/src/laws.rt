@@ -4,23 +4,19 @@ ghost use Rattle.command_line.specs.Laws.{KeysDecide, LaunchExcludesRefusal, Lau
 /// A tool and its inputs have one list of words at most.
 pub fn words_are_settled()
     ensures { WordsAreSettled }
-{
-}
+{}
 
 /// A tool, its inputs and what it runs in have one launch at most.
 pub fn launch_is_settled()
     ensures { LaunchIsSettled }
-{
-}
+{}
 
 /// Where there is a launch, no cause of refusal holds.
 pub fn launch_excludes_refusal()
     ensures { LaunchExcludesRefusal }
-{
-}
+{}
 
 /// Where no two inputs share an id, position and id alone order the words.
 pub fn keys_decide()
     ensures { KeysDecide }
-{
-}
+{}

@@ -18,9 +18,6 @@ mod runtime;
 mod stream;
 mod words;
 
-#[cfg(test)]
-mod tests;
-
 pub use builder::build;
 pub use fault::{BuildError, BuildFault};
 pub use launch::{Launch, Variable};
