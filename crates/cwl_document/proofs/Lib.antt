@@ -6,3 +6,4 @@ pub mod Names
 pub mod ParameterLemmas
 pub mod Reading
 pub mod References
+mod Rows
