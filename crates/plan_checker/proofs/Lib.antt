@@ -4,3 +4,4 @@ pub mod OneLeast
 pub mod ChildLists
 pub mod ParentLists
 pub mod Settled
+pub mod Texts

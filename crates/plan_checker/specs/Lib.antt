@@ -8,3 +8,4 @@ pub mod Broken
 pub mod Laws
 pub mod Children
 pub mod Claim
+pub mod Format

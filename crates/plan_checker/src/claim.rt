@@ -43,7 +43,7 @@ pub enum Rule {
 impl Claim<'_> {
     ghost use Rattle.plan_checker.specs.Claim.{graph_of, marks_of, charges_of, IsBroken, IsSized, SettlesParents, IsFirstPruned};
 
-    fn vertex(&self, i: usize) -> &Vertex
+    pub fn vertex(&self, i: usize) -> &Vertex
         requires { i < length (graph_of self.now) }
         ensures value { result.now ≡ vertex (graph_of self.now) i }
         ensures fits { FitsAt (graph_of self.now) i }
@@ -51,28 +51,28 @@ impl Claim<'_> {
         &self.graph.vertices()[i]
     }
 
-    fn mark(&self, i: usize) -> Mark
+    pub fn mark(&self, i: usize) -> Mark
         requires { i < length (marks_of self.now) }
         ensures { result ≡ mark (marks_of self.now) i }
     {
         self.plan.marks.as_slice()[i]
     }
 
-    fn enter(&self, i: usize) -> u64
+    pub fn enter(&self, i: usize) -> u64
         requires { i < length (charges_of self.now).enter }
         ensures { result ≡ slice_index (charges_of self.now).enter i }
     {
         self.charges.enter.as_slice()[i]
     }
 
-    fn through(&self, i: usize) -> u64
+    pub fn through(&self, i: usize) -> u64
         requires { i < length (charges_of self.now).through }
         ensures { result ≡ slice_index (charges_of self.now).through i }
     {
         self.charges.through.as_slice()[i]
     }
 
-    fn pay(&self, i: usize) -> u64
+    pub fn pay(&self, i: usize) -> u64
         requires { i < length (charges_of self.now).pay }
         ensures { result ≡ slice_index (charges_of self.now).pay i }
     {

@@ -103,7 +103,7 @@ fn first_misfit(vertices: &[Vertex]) -> Option<usize>
 }
 
 /// Whether a vertex may stand at this place, behind vertices with this many parent entries.
-fn fits(number: usize, entries: usize, vertex: &Vertex) -> bool
+pub(crate) fn fits(number: usize, entries: usize, vertex: &Vertex) -> bool
     requires { entries ≤ MOST_ENTRIES }
     ensures { IsTrue result ↔ Fits number (entries + length vertex.now.parents) vertex.now }
 {

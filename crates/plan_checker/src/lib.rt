@@ -1,7 +1,15 @@
 //! Plans of a job graph, what they cost, and certificates that a plan is a cheapest one.
+//!
+//! A plan says of each job whether its outputs are loaded, computed or done without. Charges spread what must be paid
+//! over the jobs by five rules; what they are worth is a bound on every valid plan's cost. So a valid plan whose cost
+//! is the worth of its charges is a cheapest one, and anybody can check that in linear time, without a planner:
+//! `check` answers the cost exactly where plan and charges make a certificate, and else the first broken rule. The
+//! laws in `laws` are proved over all graphs. A certificate has a text, which `write_certificate` writes and
+//! `read_certificate` reads.
 #![tactic(auto)]
 
 mod broken;
+mod certificate_error;
 mod charges;
 mod checker;
 mod child;
@@ -10,9 +18,13 @@ mod graph;
 mod graph_error;
 mod laws;
 mod plan;
+mod reader;
+mod row;
 mod vertex;
+mod writer;
 
 pub use broken::Broken;
+pub use certificate_error::CertificateError;
 pub use charges::Charges;
 pub use checker::check;
 pub use graph::{Graph, MOST_COST, MOST_ENTRIES, MOST_VERTICES};
@@ -21,4 +33,6 @@ pub use laws::{
     certificates_are_cheapest, certificates_break_nothing, charges_bound_costs, least_is_one,
 };
 pub use plan::{Mark, Plan};
+pub use reader::read_certificate;
 pub use vertex::Vertex;
+pub use writer::write_certificate;

@@ -1,0 +1,7 @@
+use Rattle.std.proofs.Common.{arith}
+use Rattle.plan_checker.proofs.Texts.{pairs_step}
+use Rattle.plan_checker.proofs.writer.push_pairs.Goals as goal
+
+pub loop-i-preserved : goal.loop-i-preserved
+loop-i-preserved c =
+    pairs_step _ _ _ _ c.args.parents.now c.args.amounts.now c.loop-i.i c.loop-i-test.true (omega arith) c.loop-i.invariant c.in_ok-push_number.ensures c.in_ok-push_number-2.ensures

@@ -1,0 +1,89 @@
+use Rattle.std.specs.Prelude.{◌≡◌, ℕ, zero, suc, Bool, true, false, List, [], ◌∷◌, ◌++◌, length, Option, None, Some, codes, slice_index}
+use Rattle.std.specs.Fmt.{decimal}
+use Rattle.plan_checker.specs.declared.vertex.Vertex.{Vertex}
+use Rattle.plan_checker.specs.declared.plan.Mark.{Mark}
+use Rattle.plan_checker.specs.declared.plan.Mark.TheVariants.{Load, Compute, Prune}
+use Rattle.plan_checker.specs.declared.charges.Charges.{Charges}
+use Rattle.plan_checker.specs.Graph.{vertex, IsGraph}
+use Rattle.plan_checker.specs.Plan.{mark}
+use Rattle.plan_checker.specs.Charges.{passes, IsCounted}
+
+-- numbers, each behind a space, in decimal without leading zeros
+abbrev pub spaced : List ℕ → List ℕ
+spaced [] = []
+spaced (n ∷ ns) = 32 ∷ decimal n ++ spaced ns
+
+abbrev pub letter : Mark → ℕ
+letter Load = 76
+letter Compute = 67
+letter Prune = 80
+
+abbrev pub flag : Bool → ℕ
+flag true = 49
+flag false = 48
+
+-- a load cost behind a space, or a dash where there is none
+abbrev pub load_field : Option ℕ → List ℕ
+load_field (Some cost) = spaced (cost ∷ [])
+load_field None = 32 ∷ 45 ∷ []
+
+-- each parent and what is passed to it
+abbrev pub pairs : List ℕ → List ℕ → List ℕ
+pairs [] amounts = []
+pairs (parent ∷ parents) [] = []
+pairs (parent ∷ parents) (amount ∷ amounts) = parent ∷ amount ∷ pairs parents amounts
+
+-- what a certificate says of one vertex
+pub record Row : Type 0 where
+  pub job : Vertex
+  pub mark : Mark
+  pub enter : ℕ
+  pub through : ℕ
+  pub pay : ℕ
+  pub amounts : List ℕ
+
+abbrev pub row_numbers : Row → List ℕ
+row_numbers row =
+    row.job.compute ∷ row.enter ∷ row.through ∷ row.pay ∷ length row.job.parents ∷ pairs row.job.parents row.amounts
+
+-- a vertex's line
+abbrev pub line : Row → List ℕ
+line row =
+    letter row.mark ∷ 32 ∷ flag row.job.needed ∷ load_field row.job.load ++ spaced (row_numbers row) ++ 10 ∷ []
+
+-- the row of vertex i
+abbrev pub row : List Vertex → List Mark → Charges → ℕ → Row
+row graph marks charges i = record {
+  job = vertex graph i;
+  mark = mark marks i;
+  enter = slice_index charges.enter i;
+  through = slice_index charges.through i;
+  pay = slice_index charges.pay i;
+  amounts = passes charges i;
+}
+
+-- the lines of the vertices below n
+abbrev pub lines : List Vertex → List Mark → Charges → ℕ → List ℕ
+lines graph marks charges zero = []
+lines graph marks charges (suc n) = lines graph marks charges n ++ line (row graph marks charges n)
+
+-- the first line, and the second, which counts the vertices
+abbrev pub title : List ℕ
+title = codes "cwl-plan 1" ++ 10 ∷ []
+
+abbrev pub count_line : ℕ → List ℕ
+count_line n = codes "jobs" ++ spaced (n ∷ []) ++ 10 ∷ []
+
+abbrev pub last_line : List ℕ
+last_line = codes "end" ++ 10 ∷ []
+
+-- the text of a certificate
+abbrev pub certificate_text : List Vertex → List Mark → Charges → List ℕ
+certificate_text graph marks charges =
+    title ++ count_line (length graph) ++ lines graph marks charges (length graph) ++ last_line
+
+-- a graph with one mark and one entry of each kind for each vertex, and one pass for each parent
+pub record IsWhole (graph : List Vertex) (marks : List Mark) (charges : Charges) : Type 0 where
+  pub graph_fits : IsGraph graph
+  pub marks_counted : length marks ≡ length graph
+  pub charges_counted : IsCounted graph charges
