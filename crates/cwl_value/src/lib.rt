@@ -19,6 +19,8 @@ mod place;
 mod print;
 mod read;
 mod refusal;
+#[cfg(test)]
+mod tests;
 mod value;
 mod write;
 
