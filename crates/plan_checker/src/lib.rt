@@ -20,6 +20,8 @@ mod laws;
 mod plan;
 mod reader;
 mod row;
+#[cfg(test)]
+mod tests;
 mod vertex;
 mod writer;
 
