@@ -1,10 +1,10 @@
 -- From what the tool's object, its inputs or its outputs break to the cause in the document.
-use Rattle.std.proofs.Common.{◌≡◌, ◌⊎◌, List, [], ◌∷◌, Option, Some, None, IsSomeAnd, inl, inr, codes}
+use Rattle.std.proofs.Common.{◌⊎◌, List, [], ◌∷◌, Option, Some, None, IsSomeAnd, inl, inr, codes}
 use Rattle.serde_json.specs.Data.{Data}
 use Rattle.serde_json.specs.Find.{get}
 use Rattle.cwl_document.specs.Refusals.{Breaks, InputBreaks, OutputBreaks, SomeOf, ObjectBreaks, IsCause}
 use Rattle.cwl_document.specs.Values.{parameters}
-use Rattle.cwl_document.specs.declared.fields.ObjectKind.TheVariants.{ToolObject, InputObject, BindingObject, OutputObject}
+use Rattle.cwl_document.specs.declared.fields.ObjectKind.TheVariants.{ToolObject}
 use Rattle.cwl_document.specs.declared.refusal.DocumentRefusal.{DocumentRefusal}
 use Rattle.cwl_document.specs.declared.refusal.DocumentRefusal.TheVariants.{NotJson, WrongVersion, WrongClass, MissingField, UnknownField, WrongShape, RepeatedId, TooDeep, OutOfMemory}
 

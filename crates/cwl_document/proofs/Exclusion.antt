@@ -1,5 +1,5 @@
 -- No document is both accepted and refused.
-use Rattle.std.proofs.Common.{◌≡◌, ◌≢◌, ◌⊎◌, ℕ, ◌<◌, ◌≤◌, List, [], ◌∷◌, Bool, true, false, not, ◌&&◌, ◌||◌, Option, Some, None, is_some, IsSomeAnd, IsTrue, refl, sym, ap, ◌∙◌, subst, inl, inr, arith, codes, nat_le}
+use Rattle.std.proofs.Common.{◌≡◌, ◌≢◌, ℕ, ◌<◌, ◌≤◌, List, [], ◌∷◌, Bool, true, false, not, ◌&&◌, ◌||◌, Option, Some, None, is_some, IsSomeAnd, refl, sym, ap, ◌∙◌, subst, inl, inr, arith, codes}
 use Rattle.std.proofs.lemmas.Bool.{true≢false, false≢true, and_parts, and_cases, or_cases, or_parts, not-false, leb-true}
 use Rattle.std.proofs.lemmas.Slice.Eq.{bytes_eq-Decides}
 use Rattle.std.specs.List.{list_all, list_any, count_by}
@@ -7,12 +7,9 @@ use Rattle.std.specs.Option.{option_map_or}
 use Rattle.std.specs.Str.{bytes_eq}
 use Rattle.serde_json.specs.Data.{Data, depth}
 use Rattle.serde_json.specs.Find.{get}
-use Rattle.serde_json.specs.Read.{read}
-use Rattle.serde_json.specs.Written.{has_float}
 use Rattle.cwl_document.specs.Document.{IsJson, IsAccepted, IsDocumentOf, ids_in, input_follows, output_follows, is_once}
 use Rattle.cwl_document.specs.Fields.{Field, fields_of, follows, is_formed, is_known, is_there, names_of}
 use Rattle.cwl_document.specs.Forms.{is_named, is_object}
-use Rattle.cwl_document.specs.Kept.{kept}
 use Rattle.cwl_document.specs.Refusals.{Breaks, InputBreaks, OutputBreaks, SomeOf, ObjectBreaks, Repeats, IsCause, Refuses}
 use Rattle.cwl_document.specs.Values.{parameters}
 use Rattle.cwl_document.specs.declared.fields.ObjectKind.{ObjectKind}

@@ -3,8 +3,7 @@ use Rattle.std.proofs.Common.{◌≡◌, ℕ, List, true, false, Bool, Some, cod
 use Rattle.std.proofs.lemmas.Bool.{false≢true, true≢false}
 use Rattle.std.specs.List.{list_all}
 use Rattle.serde_json.specs.Data.{Data, null, boolean, number, string, array, object}
-use Rattle.serde_json.specs.Find.{get}
-use Rattle.cwl_document.specs.Fields.{fields_of, has_form, is_known, is_required, is_there, names_of}
+use Rattle.cwl_document.specs.Fields.{has_form, is_known, is_required, names_of}
 use Rattle.cwl_document.specs.Forms.{is_id, is_object}
 use Rattle.cwl_document.specs.Values.{parameter}
 use Rattle.cwl_document.specs.declared.fields.ObjectKind.{ObjectKind}

@@ -1,5 +1,5 @@
 -- Reading a list of values from its front.
-use Rattle.std.proofs.Common.{◌≡◌, ℕ, ◌+◌, ◌<◌, List, [], ◌∷◌, ◌++◌, length, map, get_or, drop, Bool, true, ◌&&◌, refl, sym, ap, ◌∙◌, subst, inl, inr, append_assoc, Some, string_bytes}
+use Rattle.std.proofs.Common.{◌≡◌, ℕ, ◌+◌, ◌<◌, List, [], ◌∷◌, ◌++◌, length, map, get_or, drop, Bool, true, sym, ap, ◌∙◌, subst, inl, inr, append_assoc, Some, string_bytes}
 use Rattle.std.proofs.lemmas.List.{drop_more}
 use Rattle.std.specs.List.{list_all}
 use Rattle.serde_json.specs.Data.{Data}

@@ -1,5 +1,5 @@
 -- A text read from the front, with whether a `$` stands right before.
-use Rattle.std.proofs.Common.{◌≡◌, ℕ, List, [], ◌∷◌, Bool, true, false, ◌&&◌, ◌||◌, ◌==◌, refl, sym, cond}
+use Rattle.std.proofs.Common.{◌≡◌, ℕ, List, [], ◌∷◌, Bool, false, ◌&&◌, ◌||◌, ◌==◌, refl}
 use Rattle.cwl_document.specs.Forms.{holds_reference}
 
 -- `(` or `{`

@@ -1,6 +1,6 @@
 -- The definitions, computed on a document.
-use Rattle.std.proofs.Common.{◌≡◌, ◌≤◌, List, [], ◌∷◌, true, false, Some, None, refl, codes, pos, lit≤}
-use Rattle.serde_json.specs.Data.{Data, number, unsigned, string, array, object, item, no_items, member, no_members}
+use Rattle.std.proofs.Common.{◌≡◌, [], ◌∷◌, true, Some, None, refl, codes, pos, lit≤}
+use Rattle.serde_json.specs.Data.{Data, number, unsigned, string, object, member, no_members}
 use Rattle.cwl_document.specs.Document.{IsAccepted}
 use Rattle.cwl_document.specs.Kept.{kept}
 use Rattle.cwl_document.specs.Values.{tool_in}

@@ -1,5 +1,5 @@
 -- What is wrong with a document, by the refusal that says so.
-use Rattle.std.specs.Prelude.{◌≡◌, ◌<◌, ◌≤◌, ◌⊎◌, ⊤, ℕ, List, [], ◌∷◌, map, Bool, true, false, Option, Some, None, IsSomeAnd, IsUtf8, count_by, codes}
+use Rattle.std.specs.Prelude.{◌≡◌, ◌<◌, ◌⊎◌, ⊤, ℕ, List, [], ◌∷◌, true, false, Option, None, IsSomeAnd, count_by, codes}
 use Rattle.std.specs.List.{list_any}
 use Rattle.std.specs.Str.{bytes_eq}
 use Rattle.serde_json.specs.Data.{Data, depth}
