@@ -1,5 +1,5 @@
 -- The definitions, computed.
-use Rattle.std.proofs.Common.{◌≡◌, ℕ, pos, negsuc, Some, None, [], ◌∷◌, refl}
+use Rattle.std.proofs.Common.{◌≡◌, pos, negsuc, Some, None, [], ◌∷◌, refl}
 use Rattle.proc_host.specs.declared.child.ExitClass.TheVariants.{Success, Temporary, Permanent}
 use Rattle.proc_host.specs.ExitClass.{class_of}
 use Rattle.proc_host.specs.Tickets.{without, IsFresh}

@@ -1,6 +1,5 @@
 -- What the script says next is what the answer tells.
-use Rattle.std.proofs.Common.{◌≡◌, ℕ, zero, suc, ◌+◌, ◌<◌, List, [], ◌∷◌, ◌++◌, cond, Option, Some, None, length, drop, IsTrue, slice_get, refl, ap, arith, true}
-use Rattle.std.specs.Prelude.{if◌then◌else◌}
+use Rattle.std.proofs.Common.{◌≡◌, ℕ, zero, suc, ◌+◌, ◌<◌, List, [], ◌∷◌, ◌++◌, cond, Option, Some, length, drop, slice_get, refl, arith, true}
 use Rattle.command_line.specs.declared.launch.Launch.{Launch}
 use Rattle.proc_host.specs.declared.call.HostAnswer.TheVariants as answers
 use Rattle.proc_host.specs.declared.call.HostRequest.TheVariants as requests

@@ -1,4 +1,3 @@
-use Rattle.std.proofs.Common.{rules}
 use Rattle.proc_host.proofs.Running.{up_to_without}
 use Rattle.proc_host.proofs.scripted.ScriptedHost.close.Goals as goal
 

@@ -1,4 +1,3 @@
-use Rattle.std.proofs.Common.{rules, arith}
 use Rattle.std.proofs.lemmas.List.{drop-drop}
 use Rattle.proc_host.proofs.Told.{end_told}
 use Rattle.proc_host.proofs.scripted.ScriptedHost.collect.Goals as goal

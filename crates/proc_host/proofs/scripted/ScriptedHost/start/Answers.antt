@@ -1,4 +1,4 @@
-use Rattle.std.proofs.Common.{rules, arith, sym, ap, ◌∙◌, refl, ◌≡◌, ◌+◌, drop, slice_get, Some}
+use Rattle.std.proofs.Common.{arith, sym, ap, ◌∙◌, refl, ◌≡◌, ◌+◌, drop, slice_get, Some}
 use Rattle.std.proofs.lemmas.List.{drop-drop}
 use Rattle.proc_host.specs.Script.{ScriptState}
 use Rattle.proc_host.specs.declared.reply.Reply.TheVariants as replies
