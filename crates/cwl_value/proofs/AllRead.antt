@@ -1,5 +1,5 @@
 -- Reading one after another, up to the first refusal.
-use Rattle.std.proofs.Common.{◌≡◌, List, [], ◌∷◌, ◌++◌, Ok, Err, refl, sym, ap, ◌∙◌}
+use Rattle.std.proofs.Common.{◌≡◌, List, [], ◌∷◌, ◌++◌, Ok, Err, refl, ap, ◌∙◌}
 use Rattle.cwl_value.specs.Reading.{Reads, and_then, and_map, all_read}
 use Rattle.cwl_value.specs.declared.refusal.ValueRefusal.{ValueRefusal}
 

@@ -1,5 +1,5 @@
 -- Structural induction over values: what holds at each form, where it holds of the values inside, holds of every value.
-use Rattle.std.proofs.Common.{◌≡◌, ℕ, ℤ, Bool, List, [], ◌∷◌, map, Option, Some, None, subst, sym}
+use Rattle.std.proofs.Common.{ℕ, ℤ, Bool, List, [], ◌∷◌, map, Option, Some, None, subst, sym}
 use Rattle.std.specs.List.{AllByRecursion}
 use Rattle.std.specs.Option.{IfSome}
 use Rattle.plain_data.specs.ByName.{map_values}

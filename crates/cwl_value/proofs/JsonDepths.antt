@@ -1,5 +1,5 @@
 -- How deep a list of JSON nests, item by item.
-use Rattle.std.proofs.Common.{◌≡◌, Bool, false, leb, ℕ, zero, suc, ◌+◌, ◌<◌, ◌≤◌, max, List, [], ◌∷◌, ◌++◌, length, get_or, take, map, refl, sym, ap, ◌∙◌, subst, arith}
+use Rattle.std.proofs.Common.{◌≡◌, false, leb, ℕ, zero, suc, ◌+◌, ◌<◌, ◌≤◌, List, [], ◌∷◌, ◌++◌, length, get_or, take, sym, subst, arith}
 use Rattle.std.proofs.lemmas.List as lists
 use Rattle.std.proofs.lemmas.Bool.{leb-false, lt-leb}
 use Rattle.serde_json.specs.Data.{depth, items_depth, members_depth}

@@ -1,6 +1,6 @@
 -- The JSON of a value, level by level.
-use Rattle.std.proofs.Common.{◌≡◌, ℕ, ℤ, Bool, List, Option, option_map, refl, rules}
-use Rattle.serde_json.specs.Data.{Data, null, boolean, number, string, array, object}
+use Rattle.std.proofs.Common.{◌≡◌, ℕ, ℤ, Bool, List, option_map, rules}
+use Rattle.serde_json.specs.Data.{null, boolean, number, string, array, object}
 use Rattle.serde_json.specs.Find.{of_integer}
 use Rattle.serde_json.specs.View.{items_of}
 use Rattle.cwl_value.specs.Json.{json_of, file_data, dir_data, file_json, dir_json, items_json, fields_json}

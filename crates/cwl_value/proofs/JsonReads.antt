@@ -1,5 +1,5 @@
 -- What serde_json's values read as, part by part.
-use Rattle.std.proofs.Common.{◌≡◌, ◌≢◌, ℕ, ◌+◌, ◌<◌, ◌≤◌, List, [], ◌∷◌, ◌++◌, Option, Some, None, Ok, Err, IfOk, IfErr, String, Global, string_bytes, bytes_eq, Bool, true, false, cond, is_eq, option_map, map, take, drop, drop-cons, suc, length, get_or, nat_cmp, string_cmp, Less, subst, refl, sym, ap, ◌∙◌, arith}
+use Rattle.std.proofs.Common.{◌≡◌, ◌≢◌, ℕ, ◌+◌, ◌<◌, List, [], ◌∷◌, ◌++◌, Option, Some, Ok, Err, IfOk, IfErr, String, Global, string_bytes, Bool, true, false, cond, is_eq, option_map, map, take, drop, drop-cons, suc, length, get_or, nat_cmp, string_cmp, Less, subst, refl, sym, ap, ◌∙◌}
 use Rattle.std.specs.Cmp.Lexicographic.{slice_cmp}
 use Rattle.std.specs.BTreeMap.{is_at}
 use Rattle.std.specs.List.{AllByRecursion}

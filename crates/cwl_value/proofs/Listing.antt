@@ -1,5 +1,5 @@
 -- Where an entry of a listing goes.
-use Rattle.std.proofs.Common.{◌≡◌, ℕ, ◌+◌, ◌-◌, ◌<◌, ◌≤◌, Bool, true, false, List, [], ◌∷◌, ◌++◌, length, get_or, take, drop, map, inl, inr, refl, sym, ap, ◌∙◌, subst, arith, rules}
+use Rattle.std.proofs.Common.{◌≡◌, ℕ, ◌-◌, ◌<◌, ◌≤◌, Bool, true, false, List, length, get_or, map, inl, inr, sym, ap, ◌∙◌, arith}
 use Rattle.std.specs.List.{insert, suffix_len}
 use Rattle.std.proofs.lemmas.List as lists
 use Rattle.std.proofs.lemmas.Bool.{cases_lt}

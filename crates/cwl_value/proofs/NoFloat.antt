@@ -1,21 +1,19 @@
 -- The JSON of a value has no float, so its text is determined.
-use Rattle.std.proofs.Common.{◌≡◌, ℤ, pos, negsuc, ℕ, zero, suc, Bool, true, false, true≢false, ◌||◌, List, [], ◌∷◌, ◌++◌, take, drop, map, Option, Some, None, option_map, Ordering, Less, Equal, Greater, codes, refl, sym, ap, ◌∙◌, subst}
+use Rattle.std.proofs.Common.{◌≡◌, ℤ, pos, negsuc, ℕ, zero, suc, Bool, true, false, true≢false, ◌||◌, List, [], ◌∷◌, ◌++◌, take, drop, Option, Some, None, option_map, Ordering, Less, Equal, Greater, refl, ap, ◌∙◌}
 use Rattle.std.specs.List.{AllByRecursion, fold}
 use Rattle.std.specs.Option.{IfSome}
 use Rattle.std.specs.Ordering.{match_ordering}
-use Rattle.serde_json.specs.Data.{Data, string, Members, no_members, member, put}
+use Rattle.serde_json.specs.Data.{Data, Members, no_members, member, put}
 use Rattle.serde_json.specs.Find.{of_integer, is_float}
 use Rattle.plain_data.specs.ByName.{map_values}
 use Rattle.serde_json.specs.View.{items_of}
 use Rattle.serde_json.specs.Written.{has_float, items_have_float, members_have_float}
 use Rattle.cwl_value.specs.NameParts.{nameext, nameroot}
-use Rattle.cwl_value.specs.Json.{json_of, file_data, dir_data, file_members, dir_members, file_json, dir_json, items_json, fields_json, with_member, text_json, location_json, size_json, listing_json, unless_empty, by_name, with_entry}
+use Rattle.cwl_value.specs.Json.{json_of, file_data, dir_data, file_members, dir_members, file_json, dir_json, items_json, with_member, text_json, location_json, size_json, listing_json, unless_empty, by_name, with_entry}
 use Rattle.cwl_value.specs.declared.place.Place.{Place}
 use Rattle.cwl_value.specs.declared.place.Place.TheVariants.{Nowhere, Url, Path, Made}
 use Rattle.cwl_value.specs.declared.value.Value.{Value}
 use Rattle.cwl_value.specs.declared.value.Value.TheOpen.{FileVal-F, DirVal-F}
-use Rattle.cwl_value.specs.declared.value.FileVal.{FileVal, roll-FileVal}
-use Rattle.cwl_value.specs.declared.value.DirVal.{DirVal, roll-DirVal}
 use Rattle.cwl_value.proofs.Induction.{Cases, induction}
 use Rattle.cwl_value.proofs.JsonOf.{json_of-Null, json_of-Bool, json_of-Whole, json_of-Text, json_of-FileVal, json_of-DirVal, json_of-List, json_of-Fields, file_data-roll, dir_data-roll}
 

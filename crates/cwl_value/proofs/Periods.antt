@@ -1,5 +1,5 @@
 -- Where a name's last period is.
-use Rattle.std.proofs.Common.{◌≡◌, ◌≢◌, ℕ, ◌+◌, ◌-◌, ◌<◌, ◌≤◌, Bool, true, false, not, eqb, List, [], length, get_or, take, drop, Option, Some, refl, lit<, sym, ap, ◌∙◌, arith, rules}
+use Rattle.std.proofs.Common.{◌≡◌, ◌≢◌, ℕ, ◌+◌, ◌-◌, ◌<◌, ◌≤◌, true, false, not, List, [], length, get_or, take, drop, refl, ap, ◌∙◌, arith, rules}
 use Rattle.std.specs.List.{before_last, suffix_len}
 use Rattle.std.proofs.lemmas.List.{length-take-le, drop_all}
 use Rattle.std.proofs.lemmas.List.Sums.{suffix_len_is}

@@ -4,7 +4,7 @@ use Rattle.plain_data.specs.ByName.{map_values}
 use Rattle.cwl_value.specs.declared.place.Place.TheVariants.{Nowhere}
 use Rattle.cwl_value.specs.declared.value.Value.{Value, roll-Value, fold-Value}
 use Rattle.cwl_value.specs.declared.value.FileVal.{FileVal, roll-FileVal, fold-FileVal}
-use Rattle.cwl_value.specs.declared.value.Value.TheOpen.{Value-F, FileVal-F, DirVal-F}
+use Rattle.cwl_value.specs.declared.value.Value.TheOpen.{FileVal-F, DirVal-F}
 use Rattle.cwl_value.specs.declared.value.DirVal.{DirVal, roll-DirVal, fold-DirVal}
 
 abbrev pub placeless_file : FileVal-F Value DirVal FileVal → FileVal

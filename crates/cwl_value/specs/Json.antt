@@ -1,5 +1,5 @@
 -- The JSON of a value (CWL v1.2, "Data concepts", "File" and "Directory").
-use Rattle.std.specs.Prelude.{ℕ, Bool, true, false, ◌-◌, if◌then◌else◌, List, [], ◌∷◌, length, fold, insert, map, Option, Some, None, option_map, option_and_then, unwrap_or, codes}
+use Rattle.std.specs.Prelude.{ℕ, Bool, ◌-◌, List, [], ◌∷◌, length, fold, insert, map, Option, Some, None, option_map, option_and_then, unwrap_or, codes}
 use Rattle.std.specs.Ordering.{is_lt}
 use Rattle.std.specs.List.{suffix_len}
 use Rattle.plain_data.specs.ByName.{name_cmp, map_values}

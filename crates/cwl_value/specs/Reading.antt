@@ -1,5 +1,5 @@
 -- The value that JSON stands for, or why it stands for none (CWL v1.2, "Data concepts", "File" and "Directory").
-use Rattle.std.specs.Prelude.{ℕ, ℤ, Bool, true, false, not, ◌||◌, ◌==◌, if◌then◌else◌, nat_le, List, [], ◌∷◌, map, Option, Some, None, Result, Ok, Err, option_map, unwrap_or, option_and_then, bytes_eq, codes}
+use Rattle.std.specs.Prelude.{ℕ, ℤ, Bool, true, false, not, ◌||◌, ◌==◌, if◌then◌else◌, nat_le, List, [], ◌∷◌, map, Option, Some, None, Result, Ok, Err, unwrap_or, option_and_then, bytes_eq, codes}
 use Rattle.std.specs.Option.{ok_or}
 use Rattle.std.specs.List.{list_any}
 use Rattle.plain_data.specs.ByName.{value_at}

@@ -1,4 +1,4 @@
-use Rattle.std.proofs.Common.{◌≡◌, ◌++◌, take, string_bytes}
+use Rattle.std.proofs.Common.{◌≡◌, take, string_bytes}
 use Rattle.cwl_value.specs.Places.{job_text}
 use Rattle.cwl_value.proofs.print.place_text.Given as goal
 
