@@ -1,0 +1,18 @@
+-- What decides a job's outputs, as one text: its tool, its inputs and its environment.
+use Rattle.std.specs.Prelude.{ℕ, List, ◌++◌, codes}
+use Rattle.cwl_value.specs.Erased.{erased}
+use Rattle.cwl_value.specs.Text.{canonical}
+use Rattle.cwl_value.specs.declared.value.Value.{Value, roll-Value}
+use Rattle.cwl_value.specs.declared.value.Value.TheOpen.{Value-F}
+use Rattle.cwl_document.specs.declared.process.Tool.{Tool}
+use Rattle.run_core.specs.Words.{Fields}
+
+abbrev pub Key : Type 0
+Key = List ℕ
+
+-- the compact JSON text, names in order, of an object with `env` (no variables of its own), `inputs` (without
+-- places) and `tool` (as it was written)
+abbrev pub key : Tool → Fields → Key
+key tool inputs =
+    codes "{\"env\":[],\"inputs\":" ++ canonical (erased (roll-Value (Value-F.Fields inputs)))
+        ++ codes ",\"tool\":" ++ tool.written ++ codes "}"

@@ -1,0 +1,144 @@
+-- What the machine waits for after each answer. That all this makes a run is a law above it.
+use Rattle.std.specs.Prelude.{◌≡◌, ◌⊎◌, ℕ, ℤ, cond, List, [], ◌∷◌, ◌++◌, Option, Some, None, Result, Ok, Err, map, find, codes}
+use Rattle.command_line.specs.declared.launch.Launch.{Launch}
+use Rattle.command_line.specs.declared.fault.BuildFault.{BuildFault}
+use Rattle.command_line.specs.Launch.{IsLaunch, IsRefused, stream_name}
+use Rattle.cwl_value.specs.declared.place.Place.{Place}
+use Rattle.cwl_value.specs.declared.value.Value.{Value, roll-Value}
+use Rattle.cwl_value.specs.declared.value.Value.TheOpen.{Value-F}
+use Rattle.cwl_document.specs.declared.process.Process.{Process}
+use Rattle.cwl_document.specs.declared.process.Tool.{Tool}
+use Rattle.cwl_document.specs.declared.process.ToolInput.{ToolInput}
+use Rattle.cwl_document.specs.declared.process.ToolOutput.{ToolOutput}
+use Rattle.proc_host.specs.declared.call.HostAnswer.{HostAnswer}
+use Rattle.proc_host.specs.declared.call.HostFault.{HostFault}
+use Rattle.proc_host.specs.declared.found.Found.{Found}
+use Rattle.proc_host.specs.declared.child.ExitClass.{ExitClass}
+use Rattle.proc_host.specs.ExitClass.{class_of}
+use Rattle.run_core.specs.declared.outcome.Cause.{Cause}
+use Rattle.run_core.specs.declared.outcome.CollectFault.{CollectFault}
+use Rattle.run_core.specs.declared.outcome.Outcome.{Outcome}
+use Rattle.run_core.specs.declared.outcome.Report.{Report}
+use Rattle.run_core.specs.declared.outcome.RunFault.{RunFault}
+use Rattle.run_core.specs.declared.request.Request.{Request}
+use Rattle.run_core.specs.declared.setting.Options.{Options}
+use Rattle.run_core.specs.declared.setting.Setting.{Setting}
+use Rattle.run_core.specs.declared.state.Phase.{Phase}
+use Rattle.run_core.specs.declared.state.State.{State}
+use Rattle.run_core.specs.Words.{Name, Fields, by_name}
+use Rattle.run_core.specs.Inputs.{is_misfit, named_inputs}
+use Rattle.run_core.specs.Collected.{file_at, found_under}
+use Rattle.run_core.specs.Folders.{out_folder, runtime_of}
+use Rattle.run_core.specs.Location.{location_of}
+use Rattle.run_core.specs.Delivered.{target_of}
+use Rattle.run_core.specs.Reports.{reported}
+
+abbrev pub tool_of : Process → Tool
+tool_of (Process.Tool tool) = tool
+
+abbrev pub waits : Request → Phase → State
+waits asks phase = record { asks = asks; phase = phase; flying = [] }
+
+abbrev pub ends : Result Report RunFault → State
+ends result = waits Request.Finished (Phase.Ended result)
+
+abbrev pub fails_for_good : Cause → State
+fails_for_good cause = ends (reported (Outcome.PermanentFail [] cause))
+
+abbrev pub host_fails : HostFault → List ℕ → State
+host_fails fault running = ends (Err (RunFault.Host fault running))
+
+abbrev pub stages : Fields → State
+stages inputs = waits (Request.Stage [] (record { moves = []; value = inputs }) 1) Phase.Staging
+
+abbrev pub start_with : Fields → Option ToolInput → State
+start_with inputs None = stages inputs
+start_with inputs (Some input) = fails_for_good (Cause.Kind input.id)
+
+-- before any answer
+abbrev pub at_start : Setting → State
+at_start setting =
+    start_with (named_inputs (tool_of setting.process).inputs setting.inputs)
+        (find (is_misfit setting.inputs) (tool_of setting.process).inputs)
+
+abbrev pub starts : Launch → State
+starts launch = waits (Request.Start [] launch) Phase.Starting
+
+-- the staged job has this launch, or none
+pub data Launches (setting : Setting) (inputs : Fields) : State → Type 0 where
+  has_launch : (launch : Launch) → IsLaunch (tool_of setting.process) inputs (runtime_of setting.options 1) launch →
+      Launches setting inputs (starts launch)
+  has_none : (fault : BuildFault) → IsRefused (tool_of setting.process) inputs (runtime_of setting.options 1) fault →
+      Launches setting inputs (fails_for_good (Cause.Build fault))
+
+abbrev pub after_ticket : ℕ → State
+after_ticket ticket = record { asks = Request.Collect; phase = Phase.Running; flying = ticket ∷ [] }
+
+abbrev pub after_class : Options → Option ℤ → ExitClass → State
+after_class options code ExitClass.Success = waits (Request.Scan [] (out_folder options.work 1)) Phase.Scanning
+after_class options code ExitClass.Temporary = ends (reported (Outcome.TemporaryFail []))
+after_class options code ExitClass.Permanent = fails_for_good (Cause.Exit code)
+
+abbrev pub after_exit : Options → Option ℤ → State
+after_exit options code = after_class options code (class_of code)
+
+-- each output is one file
+abbrev pub outputs_at : List ToolOutput → Place → Found → Fields
+outputs_at outputs place found = by_name (map (λ o. (o.id, file_at place found)) outputs)
+
+abbrev pub fields : Fields → Value
+fields named = roll-Value (Value-F.Fields named)
+
+abbrev pub delivers : Options → Tool → Found → State
+delivers options tool found =
+    let target : Name = target_of options.outdir found.name
+    in waits
+      (Request.Deliver (record {
+        moves = record { source = out_folder options.work 1 ++ codes "/" ++ found.name; target = target } ∷ [];
+        value = outputs_at tool.outputs (Place.Path target) found;
+      }))
+      (Phase.Delivering (fields (outputs_at tool.outputs (Place.Url (location_of target)) found)))
+
+abbrev pub after_file : Options → Tool → Name → Option Found → State
+after_file options tool id None = fails_for_good (Cause.Collect (CollectFault.NoMatch id))
+after_file options tool id (Some found) =
+    cond found.is_dir (fails_for_good (Cause.Collect (CollectFault.NotTyped id))) (delivers options tool found)
+
+abbrev pub after_listing : Options → Tool → List Found → List ToolOutput → State
+after_listing options tool found [] = ends (reported (Outcome.Success (fields [])))
+after_listing options tool found (o ∷ outputs) = after_file options tool o.id (found_under (stream_name tool) found)
+
+abbrev pub after_scan : Setting → List Found → State
+after_scan setting found =
+    after_listing setting.options (tool_of setting.process) found (tool_of setting.process).outputs
+
+abbrev pub staged_inputs : Request → Fields
+staged_inputs (Request.Stage place plan number) = plan.value
+staged_inputs request = []
+
+-- the state after an answer
+abbrev pub FollowsFrom : Setting → Request → List ℕ → Phase → HostAnswer → State → Type 0
+FollowsFrom setting asks flying Phase.Running (HostAnswer.Failed fault) next = next ≡ host_fails fault flying
+FollowsFrom setting asks flying phase (HostAnswer.Failed fault) next = next ≡ host_fails fault []
+FollowsFrom setting asks flying Phase.Staging HostAnswer.Done next = Launches setting (staged_inputs asks) next
+FollowsFrom setting asks flying Phase.Starting (HostAnswer.Started ticket) next = next ≡ after_ticket ticket
+FollowsFrom setting asks flying Phase.Running (HostAnswer.Ended ending) next = next ≡ after_exit setting.options ending.code
+FollowsFrom setting asks flying Phase.Scanning (HostAnswer.Listed found) next = next ≡ after_scan setting found
+FollowsFrom setting asks flying (Phase.Delivering value) HostAnswer.Done next = next ≡ ends (reported (Outcome.Success value))
+FollowsFrom setting asks flying phase answer next = ⊥
+
+abbrev pub Follows : Setting → State → HostAnswer → State → Type 0
+Follows setting state answer next = FollowsFrom setting state.asks state.flying state.phase answer next
+
+-- what a phase asks
+abbrev pub AsksIn : Request → Phase → Type 0
+AsksIn (Request.Stage place plan number) Phase.Staging = Unit {0}
+AsksIn (Request.Start place launch) Phase.Starting = Unit {0}
+AsksIn Request.Collect Phase.Running = Unit {0}
+AsksIn (Request.Scan place folder) Phase.Scanning = Unit {0}
+AsksIn (Request.Deliver plan) (Phase.Delivering value) = Unit {0}
+AsksIn Request.Finished (Phase.Ended result) = Unit {0}
+AsksIn asks phase = ⊥
+
+abbrev pub PhaseAsks : State → Type 0
+PhaseAsks state = AsksIn state.asks state.phase

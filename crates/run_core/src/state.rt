@@ -1,0 +1,69 @@
+ghost use Rattle.std.specs.Prelude.{◌≡◌, Err, []};
+ghost use Rattle.run_core.specs.Machine.{ends, fails_for_good, host_fails};
+ghost use Rattle.run_core.specs.Reports.{reported};
+
+use crate::{Cause, Outcome, Report, Request, RunFault};
+use cwl_value::Value;
+use plain_data::Items;
+use proc_host::HostFault;
+use std::alloc::Global;
+
+/// What the machine waits for.
+#[derive(Drop)]
+pub(crate) enum Phase {
+    /// The job's folders.
+    Staging,
+    /// Its child's ticket.
+    Starting,
+    /// Its child's end.
+    Running,
+    /// What stands in its output folder.
+    Scanning,
+    /// The result's files at their targets, which this output object names.
+    Delivering(Value),
+    /// Nothing: this is what `finish` answers.
+    Ended(Result<Report, RunFault>),
+}
+
+/// Where the machine stands.
+#[derive(Drop)]
+pub(crate) struct State {
+    pub asks: Request,
+    pub phase: Phase,
+    /// The tickets of the children in flight.
+    pub flying: Items<u64>,
+}
+
+pub(crate) fn reported(alloc: Global, outcome: Outcome) -> Result<Report, RunFault>
+    ensures { result ≡ reported outcome }
+{
+    Ok(Report {
+        outcome,
+        plans: Items::new(alloc),
+        notes: Items::new(alloc),
+    })
+}
+
+pub(crate) fn ended(alloc: Global, result_now: Result<Report, RunFault>) -> State
+    ensures { result ≡ ends result_now }
+{
+    State {
+        asks: Request::Finished,
+        phase: Phase::Ended(result_now),
+        flying: Items::new(alloc),
+    }
+}
+
+/// The lone job gives no outputs.
+pub(crate) fn failed_for_good(alloc: Global, cause: Cause) -> State
+    ensures { result ≡ fails_for_good cause }
+{
+    ended(alloc, reported(alloc, Outcome::PermanentFail(Items::new(alloc), cause)))
+}
+
+/// A call of the host's failed, and nobody waits for these children any more.
+pub(crate) fn host_failed(alloc: Global, fault: HostFault, running: Items<u64>) -> State
+    ensures { result ≡ host_fails fault running }
+{
+    ended(alloc, Err(RunFault::Host(fault, running)))
+}

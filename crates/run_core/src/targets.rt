@@ -1,0 +1,27 @@
+ghost use Rattle.std.specs.Prelude.{◌≡◌, ◌++◌, IfOk, codes};
+ghost use Rattle.std.specs.List.{list_all};
+ghost use Rattle.run_core.specs.Delivered.{is_reserved, target_of};
+ghost use Rattle.run_core.specs.Location.{is_between};
+
+use plain_data::Text;
+use std::alloc::{AllocError, Global};
+
+/// Whether a name is `_` and digits.
+fn is_reserved(name: &str) -> bool
+    ensures { result ≡ is_reserved name.now }
+{
+    match name.as_bytes() {
+        [b'_', digits @ ..] => !digits.is_empty() && digits.iter().all(|b| b.is_ascii_digit()),
+        _ => false,
+    }
+}
+
+/// The path that a file of this name is put at.
+pub(crate) fn target_of(alloc: Global, outdir: &Text, name: &Text) -> Result<Text, AllocError>
+    ensures { IfOk result (λ target. target ≡ target_of outdir.now name.now) }
+{
+    let between = if is_reserved(name.as_str()) { "/_1/" } else { "/" };
+    let outdir = outdir.as_str();
+    let name = name.as_str();
+    Ok(Text::from_string(format!(in alloc; "{outdir}{between}{name}")?))
+}
