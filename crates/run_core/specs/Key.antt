@@ -1,7 +1,8 @@
 -- What decides a job's outputs, as one text: its tool, its inputs and its environment.
 use Rattle.std.specs.Prelude.{ℕ, List, ◌++◌, codes}
 use Rattle.cwl_value.specs.Erased.{erased}
-use Rattle.cwl_value.specs.Text.{canonical}
+use Rattle.cwl_value.specs.Json.{json_of}
+use Rattle.serde_json.specs.Written.{compact_text}
 use Rattle.cwl_value.specs.declared.value.Value.{Value, roll-Value}
 use Rattle.cwl_value.specs.declared.value.Value.TheOpen.{Value-F}
 use Rattle.cwl_document.specs.declared.process.Tool.{Tool}
@@ -14,5 +15,5 @@ Key = List ℕ
 -- places) and `tool` (as it was written)
 abbrev pub key : Tool → Fields → Key
 key tool inputs =
-    codes "{\"env\":[],\"inputs\":" ++ canonical (erased (roll-Value (Value-F.Fields inputs)))
+    codes "{\"env\":[],\"inputs\":" ++ compact_text (json_of (erased (roll-Value (Value-F.Fields inputs))))
         ++ codes ",\"tool\":" ++ tool.written ++ codes "}"

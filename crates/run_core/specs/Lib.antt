@@ -19,3 +19,6 @@ pub mod Honest
 pub mod Reports
 pub mod Answers
 pub mod Machine
+pub mod Limits
+pub mod Standing
+pub mod Core

@@ -13,6 +13,7 @@ use Rattle.cwl_document.specs.declared.process.ToolOutput.{ToolOutput}
 use Rattle.proc_host.specs.declared.call.HostAnswer.{HostAnswer}
 use Rattle.proc_host.specs.declared.call.HostFault.{HostFault}
 use Rattle.proc_host.specs.declared.found.Found.{Found}
+use Rattle.proc_host.specs.declared.plan.StagePlan.{StagePlan}
 use Rattle.proc_host.specs.declared.child.ExitClass.{ExitClass}
 use Rattle.proc_host.specs.ExitClass.{class_of}
 use Rattle.run_core.specs.declared.outcome.Cause.{Cause}
@@ -89,20 +90,22 @@ outputs_at outputs place found = by_name (map (λ o. (o.id, file_at place found)
 abbrev pub fields : Fields → Value
 fields named = roll-Value (Value-F.Fields named)
 
-abbrev pub delivers : Options → Tool → Found → State
-delivers options tool found =
-    let target : Name = target_of options.outdir found.name
-    in waits
-      (Request.Deliver (record {
-        moves = record { source = out_folder options.work 1 ++ codes "/" ++ found.name; target = target } ∷ [];
-        value = outputs_at tool.outputs (Place.Path target) found;
-      }))
-      (Phase.Delivering (fields (outputs_at tool.outputs (Place.Url (location_of target)) found)))
+-- the copy of a file to its target, and the outputs there
+abbrev pub plan_to : Name → List ToolOutput → Found → Name → StagePlan
+plan_to work outputs found target = record {
+  moves = record { source = out_folder work 1 ++ codes "/" ++ found.name; target = target } ∷ [];
+  value = outputs_at outputs (Place.Path target) found;
+}
+
+abbrev pub delivers : Options → List ToolOutput → Found → State
+delivers options outputs found =
+    waits (Request.Deliver (plan_to options.work outputs found (target_of options.outdir found.name)))
+      (Phase.Delivering (fields (outputs_at outputs (Place.Url (location_of (target_of options.outdir found.name))) found)))
 
 abbrev pub after_file : Options → Tool → Name → Option Found → State
 after_file options tool id None = fails_for_good (Cause.Collect (CollectFault.NoMatch id))
 after_file options tool id (Some found) =
-    cond found.is_dir (fails_for_good (Cause.Collect (CollectFault.NotTyped id))) (delivers options tool found)
+    cond found.is_dir (fails_for_good (Cause.Collect (CollectFault.NotTyped id))) (delivers options tool.outputs found)
 
 abbrev pub after_listing : Options → Tool → List Found → List ToolOutput → State
 after_listing options tool found [] = ends (reported (Outcome.Success (fields [])))
@@ -127,9 +130,6 @@ FollowsFrom setting asks flying Phase.Scanning (HostAnswer.Listed found) next = 
 FollowsFrom setting asks flying (Phase.Delivering value) HostAnswer.Done next = next ≡ ends (reported (Outcome.Success value))
 FollowsFrom setting asks flying phase answer next = ⊥
 
-abbrev pub Follows : Setting → State → HostAnswer → State → Type 0
-Follows setting state answer next = FollowsFrom setting state.asks state.flying state.phase answer next
-
 -- what a phase asks
 abbrev pub AsksIn : Request → Phase → Type 0
 AsksIn (Request.Stage place plan number) Phase.Staging = Unit {0}
@@ -139,6 +139,3 @@ AsksIn (Request.Scan place folder) Phase.Scanning = Unit {0}
 AsksIn (Request.Deliver plan) (Phase.Delivering value) = Unit {0}
 AsksIn Request.Finished (Phase.Ended result) = Unit {0}
 AsksIn asks phase = ⊥
-
-abbrev pub PhaseAsks : State → Type 0
-PhaseAsks state = AsksIn state.asks state.phase

@@ -1,7 +1,6 @@
 -- Words that the definitions of runs share.
 use Rattle.std.specs.Prelude.{ℕ, List, Option, Some, None, ◌&&◌, Bool, true, false, [], ◌∷◌, bytes_eq, unwrap_or, fold}
-use Rattle.std.specs.BTreeMap.{insert_entry}
-use Rattle.plain_data.specs.ByName.{name_cmp, value_at}
+use Rattle.plain_data.specs.ByName.{value_at, with_value}
 use Rattle.cwl_value.specs.declared.place.Segment.{Segment}
 use Rattle.cwl_value.specs.declared.value.Value.{Value, roll-Value}
 use Rattle.cwl_value.specs.declared.value.Value.TheOpen.{Value-F}
@@ -27,7 +26,7 @@ value_under name fields = unwrap_or (value_at name fields) null
 
 -- the entries in the order of their names
 abbrev pub by_name : {X : Type 0} → List (Name × X) → List (Name × X)
-by_name entries = fold (λ sorted e. insert_entry name_cmp sorted e.0 e.1) [] entries
+by_name entries = fold (λ sorted e. with_value e.0 e.1 sorted) [] entries
 
 abbrev pub segment_eq : Segment → Segment → Bool
 segment_eq s t = bytes_eq s.step t.step && bytes_eq s.index t.index

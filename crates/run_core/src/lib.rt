@@ -11,6 +11,7 @@ mod location;
 mod outcome;
 mod outputs;
 mod request;
+mod runner;
 mod setting;
 mod state;
 mod steps;
@@ -18,4 +19,5 @@ mod targets;
 
 pub use outcome::{Cause, CollectFault, Note, Outcome, PlanNote, Report, RunFault};
 pub use request::{Pair, Request};
+pub use runner::RunCore;
 pub use setting::{Options, Setting};

@@ -10,11 +10,11 @@ use proc_host::Found;
 use std::alloc::{AllocError, Global};
 
 /// What was found under a name.
-pub(crate) fn found_under<'a>(name: &Text, found: &'a [Found]) -> Option<&'a Found>
+pub(crate) fn found_under<'a>(name: &str, found: &'a [Found]) -> Option<&'a Found>
     ensures { option_copied result ≡ found_under name.now found.now }
 {
     for entry in found {
-        if entry.name.equals(name) {
+        if entry.name.as_str() == name {
             return Some(entry);
         }
     }

@@ -1,5 +1,5 @@
 ghost use Rattle.std.specs.Prelude.{◌≡◌, Err, []};
-ghost use Rattle.run_core.specs.Machine.{ends, fails_for_good, host_fails};
+ghost use Rattle.run_core.specs.Machine.{waits, ends, fails_for_good, host_fails};
 ghost use Rattle.run_core.specs.Reports.{reported};
 
 use crate::{Cause, Outcome, Report, Request, RunFault};
@@ -42,6 +42,17 @@ pub(crate) fn reported(alloc: Global, outcome: Outcome) -> Result<Report, RunFau
         plans: Items::new(alloc),
         notes: Items::new(alloc),
     })
+}
+
+/// It asks this, while no child is in flight.
+pub(crate) fn waiting(alloc: Global, asks: Request, phase: Phase) -> State
+    ensures { result ≡ waits asks phase }
+{
+    State {
+        asks,
+        phase,
+        flying: Items::new(alloc),
+    }
 }
 
 pub(crate) fn ended(alloc: Global, result_now: Result<Report, RunFault>) -> State

@@ -1,19 +1,19 @@
 //! What the machine waits for after each answer, for a lone tool.
 ghost use Rattle.std.specs.Prelude.{◌≡◌, [], ◌∷◌, IfOk, length, ◌<◌};
-ghost use Rattle.run_core.specs.Machine.{Launches, Follows, PhaseAsks, after_ticket, after_exit, after_scan, delivers, at_start};
+ghost use Rattle.run_core.specs.Machine.{Launches, FollowsFrom, AsksIn, after_ticket, after_exit, after_scan, delivers, plan_to, starts, at_start};
 ghost use Rattle.run_core.specs.Answers.{MayAnswer};
 
 use crate::folders::{out_folder, path_in, runtime_of};
 use crate::inputs::{first_misfit, named_inputs};
 use crate::location::location_of;
 use crate::outputs::{found_under, outputs_at};
-use crate::state::{Phase, State, ended, failed_for_good, host_failed, reported};
+use crate::state::{Phase, State, ended, failed_for_good, host_failed, reported, waiting};
 use crate::targets::target_of;
-use crate::{Cause, CollectFault, Outcome, Request, Setting};
-use command_line::{BuildError, build, stdout_name};
-use cwl_document::{Process, Tool};
+use crate::{Cause, CollectFault, Options, Outcome, Request, Setting};
+use command_line::{BuildError, Launch, build, stdout_name};
+use cwl_document::{Process, ToolOutput};
 use cwl_value::{Place, Value};
-use plain_data::{Items, Keyed};
+use plain_data::{Items, Keyed, Text};
 use proc_host::{Ending, ExitClass, Found, HostAnswer, Move, StagePlan, exit_class};
 use std::alloc::{AllocError, Global};
 
@@ -49,11 +49,7 @@ fn launched(
     let Process::Tool(tool) = &setting.process;
     let runtime = runtime_of(alloc, &setting.options, 1)?;
     match build(alloc, tool, inputs, &runtime) {
-        Ok(launch) => Ok(State {
-            asks: Request::Start(Items::new(alloc), launch),
-            phase: Phase::Starting,
-            flying: Items::new(alloc),
-        }),
+        Ok(launch) => Ok(starting(alloc, launch)),
         Err(BuildError::Refused(fault)) => Ok(failed_for_good(alloc, Cause::Build(fault))),
         Err(BuildError::OutOfMemory) => Err(AllocError),
     }
@@ -99,8 +95,7 @@ fn gathered(alloc: Global, setting: &Setting, found: &[Found]) -> Result<State, 
         let outcome = Outcome::Success(Value::Fields(Keyed::new(alloc)));
         return Ok(ended(alloc, reported(alloc, outcome)));
     };
-    let name = stdout_name(alloc, tool)?;
-    let Some(file) = found_under(&name, found) else {
+    let Some(file) = found_under(stdout_name(tool), found) else {
         let fault = CollectFault::NoMatch(output.id.copied(alloc)?);
         return Ok(failed_for_good(alloc, Cause::Collect(fault)));
     };
@@ -108,65 +103,83 @@ fn gathered(alloc: Global, setting: &Setting, found: &[Found]) -> Result<State, 
         let fault = CollectFault::NotTyped(output.id.copied(alloc)?);
         return Ok(failed_for_good(alloc, Cause::Collect(fault)));
     }
-    delivered(alloc, setting, tool, file)
+    delivered(alloc, &setting.options, tool.outputs.as_slice(), file)
 }
 
 /// The file is to be copied to its target.
 fn delivered(
     alloc: Global,
-    setting: &Setting,
-    tool: &Tool,
+    options: &Options,
+    outputs: &[ToolOutput],
     file: &Found,
 ) -> Result<State, AllocError>
-    ensures { IfOk result (λ state. state ≡ delivers setting.now.options tool.now file.now) }
+    ensures { IfOk result (λ state. state ≡ delivers options.now outputs.now file.now) }
 {
-    let options = &setting.options;
-    let outputs = tool.outputs.as_slice();
     let target = target_of(alloc, &options.outdir, &file.name)?;
-    let location = Place::Url(location_of(alloc, target.as_str())?);
-    let place = Place::Path(target.copied(alloc)?);
-    let mut moves = Items::new(alloc);
-    moves.push(Move {
-        source: path_in(alloc, &out_folder(alloc, &options.work, 1)?, &file.name)?,
-        target,
-    })?;
-    let plan = StagePlan {
-        moves,
-        value: outputs_at(alloc, outputs, &place, file)?,
-    };
-    Ok(State {
-        asks: Request::Deliver(plan),
-        phase: Phase::Delivering(Value::Fields(outputs_at(alloc, outputs, &location, file)?)),
-        flying: Items::new(alloc),
-    })
+    let location = location_of(alloc, target.as_str())?;
+    let place = Place::Url(location);
+    let named = outputs_at(alloc, outputs, &place, file)?;
+    let plan = plan_to(alloc, &options.work, outputs, file, target)?;
+    Ok(waiting(
+        alloc,
+        Request::Deliver(plan),
+        Phase::Delivering(Value::Fields(named)),
+    ))
 }
 
-/// What the machine waits for after this answer.
+/// The copy of the file to its target, and the outputs there.
+fn plan_to(
+    alloc: Global,
+    work: &Text,
+    outputs: &[ToolOutput],
+    file: &Found,
+    target: Text,
+) -> Result<StagePlan, AllocError>
+    ensures { IfOk result (λ plan. plan ≡ plan_to work.now outputs.now file.now target) }
+{
+    let place = Place::Path(target.copied(alloc)?);
+    let value = outputs_at(alloc, outputs, &place, file)?;
+    let folder = out_folder(alloc, work, 1)?;
+    let source = path_in(alloc, &folder, &file.name)?;
+    let mut moves = Items::new(alloc);
+    moves.push(Move { source, target })?;
+    Ok(StagePlan { moves, value })
+}
+
+/// The child is to be started.
+fn starting(alloc: Global, launch: Launch) -> State
+    ensures { result ≡ starts launch }
+{
+    State {
+        asks: Request::Start(Items::new(alloc), launch),
+        phase: Phase::Starting,
+        flying: Items::new(alloc),
+    }
+}
+
+/// What the machine waits for after this answer to what it asks in this phase.
 pub(crate) fn follows(
     alloc: Global,
     setting: &Setting,
-    state: State,
+    asks: &Request,
+    phase: Phase,
+    flying: Items<u64>,
     answer: &HostAnswer,
 ) -> Result<State, AllocError>
-    requires answers { MayAnswer state.asks state.flying answer.now }
-    requires asks { PhaseAsks state }
-    ensures { IfOk result (λ next. Follows setting.now state answer.now next) }
+    requires answers { MayAnswer asks.now flying answer.now }
+    requires asks { AsksIn asks.now phase }
+    ensures { IfOk result (λ next. FollowsFrom setting.now asks.now flying phase answer.now next) }
 {
-    let State {
-        asks,
-        phase,
-        flying,
-    } = state;
     match (phase, answer) {
         (Phase::Running, HostAnswer::Failed(fault)) => Ok(host_failed(alloc, *fault, flying)),
         (_, HostAnswer::Failed(fault)) => Ok(host_failed(alloc, *fault, Items::new(alloc))),
-        (Phase::Staging, _) => match &asks {
+        (Phase::Staging, _) => match asks {
             Request::Stage(_, plan, _) => launched(alloc, setting, &plan.value),
             _ => unreachable!(),
         },
-        (_, HostAnswer::Started(ticket)) => running(alloc, *ticket),
-        (_, HostAnswer::Ended(ending)) => judged(alloc, setting, ending),
-        (_, HostAnswer::Listed(found)) => gathered(alloc, setting, found.as_slice()),
+        (Phase::Starting, HostAnswer::Started(ticket)) => running(alloc, *ticket),
+        (Phase::Running, HostAnswer::Ended(ending)) => judged(alloc, setting, ending),
+        (Phase::Scanning, HostAnswer::Listed(found)) => gathered(alloc, setting, found.as_slice()),
         (Phase::Delivering(value), HostAnswer::Done) => {
             Ok(ended(alloc, reported(alloc, Outcome::Success(value))))
         }

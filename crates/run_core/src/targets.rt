@@ -11,9 +11,20 @@ fn is_reserved(name: &str) -> bool
     ensures { result ≡ is_reserved name.now }
 {
     match name.as_bytes() {
-        [b'_', digits @ ..] => !digits.is_empty() && digits.iter().all(|b| b.is_ascii_digit()),
+        [b'_', digits @ ..] => !digits.is_empty() && are_digits(digits),
         _ => false,
     }
+}
+
+fn are_digits(bytes: &[u8]) -> bool
+    ensures { result ≡ list_all (is_between 48 57) bytes.now }
+{
+    for byte in bytes {
+        if !matches!(byte, b'0'..=b'9') {
+            return false;
+        }
+    }
+    true
 }
 
 /// The path that a file of this name is put at.

@@ -1,0 +1,91 @@
+-- A machine that stands in a run and follows an answer stands in the longer run.
+use Rattle.std.proofs.Common.{◌≡◌, ◌∙◌, List, [], ◌∷◌, ◌++◌, Some, None, sym, ap, subst}
+use Rattle.cwl_value.specs.Erased.{fields_erased}
+use Rattle.cwl_document.specs.declared.process.Tool.{Tool}
+use Rattle.run_core.specs.declared.outcome.Cause.{Cause}
+use Rattle.run_core.specs.declared.request.Request.{Request}
+use Rattle.run_core.specs.declared.request.Pair.{Pair}
+use Rattle.run_core.specs.declared.setting.Setting.{Setting}
+use Rattle.run_core.specs.declared.state.State.{State}
+use Rattle.run_core.specs.Words.{Fields, JobPlace}
+use Rattle.run_core.specs.Key.{key}
+use Rattle.run_core.specs.Eval.{World, eval_by, eval}
+use Rattle.run_core.specs.Scene.{Scene, scene_of}
+use Rattle.run_core.specs.Events.{Event, So_far, Idle, after, without_launch}
+use Rattle.run_core.specs.Ending.{End, Succeeds, Fails_for_good, Fails_for_now, Host_ends, end_of}
+use Rattle.run_core.specs.Plans.{Mark, Loads_what_is_held}
+use Rattle.run_core.specs.Allowed.{Allowed, HasNoLaunch}
+use Rattle.run_core.specs.Run.{IsRunSoFar, Replans, asks, breaks}
+use Rattle.run_core.specs.Honest.{AgreesFrom, IsHonest, Means}
+use Rattle.run_core.specs.Reports.{report_of}
+use Rattle.run_core.specs.Machine.{tool_of, ends}
+use Rattle.run_core.specs.Standing.{IsLone, IsAt, ended, HasEnded}
+use Rattle.command_line.specs.declared.fault.BuildFault.{BuildFault}
+use Rattle.run_core.proofs.Lone.{lone, scene_lone}
+
+pub record Advances (setting : Setting) (t : List Pair) (next : State) : Type 0 where
+  pub happened : So_far
+  pub marks : List Mark
+  pub goes : IsRunSoFar setting t happened marks
+  pub at : IsAt setting happened marks next
+
+-- an end's meaning, by how its process walks
+abbrev pub MeansBy : Scene → World → End → Type 0
+MeansBy s world (Succeeds outputs) = eval_by world s.walker ≡ Some (fields_erased outputs)
+MeansBy s world (Fails_for_good place cause) = eval_by world s.walker ≡ None
+MeansBy s world _ = Unit {0}
+
+means_of : (setting : Setting) (world : World) (end : End) → MeansBy (scene_of setting) world end → Means setting world end
+means_of setting world (Succeeds outputs) m = m
+means_of setting world (Fails_for_good place cause) m = m
+means_of setting world (Fails_for_now place) m = tt
+means_of setting world (Host_ends fault running) m = tt
+
+abbrev pub its_scene : (setting : Setting) → Fields → Scene
+its_scene setting inputs = lone (tool_of setting.process) inputs setting.options
+
+module _ (setting : Setting) (inputs : Fields) (l : IsLone setting inputs) where
+  abbrev pub same : scene_of setting ≡ its_scene setting inputs
+  same = scene_lone setting inputs l.fit
+
+  -- one pair more
+  pub step_at : (t : List Pair) (f : So_far) (marks : List Mark) (p : Pair) (g : So_far) (new : List Mark) →
+      IsRunSoFar setting t f marks → Allowed (its_scene setting inputs) f marks p.request →
+      after (its_scene setting inputs) f p ≡ g →
+      Replans (its_scene setting inputs) (Loads_what_is_held (its_scene setting inputs)) g marks new →
+      IsRunSoFar setting (t ++ p ∷ []) g new
+  step_at t f marks p g new goes allowed reaches replans =
+      let allows : Allowed (scene_of setting) f marks p.request =
+          subst (λ (x : Scene). Allowed x f marks p.request) (sym same) allowed in
+      let arrives : after (scene_of setting) f p ≡ g = ap (λ (x : Scene). after x f p) same ∙ reaches in
+      let plans : Replans (scene_of setting) (Loads_what_is_held (scene_of setting)) g marks new =
+          subst (λ (x : Scene). Replans x (Loads_what_is_held x) g marks new) (sym same) replans in
+      let plans_there : Replans (scene_of setting) (Loads_what_is_held (scene_of setting)) (after (scene_of setting) f p) marks new =
+          subst (λ (x : So_far). Replans (scene_of setting) (Loads_what_is_held (scene_of setting)) x marks new) (sym arrives) plans in
+      subst (λ (x : So_far). IsRunSoFar setting (t ++ p ∷ []) x new) arrives (asks t f marks p new goes allows plans_there)
+
+  -- a job without a launch
+  pub break_at : (t : List Pair) (f : So_far) (marks : List Mark) (place : JobPlace) (fault : BuildFault) →
+      IsRunSoFar setting t f marks → HasNoLaunch (its_scene setting inputs) f place fault →
+      Replans (its_scene setting inputs) (Loads_what_is_held (its_scene setting inputs)) (without_launch (its_scene setting inputs) f place fault) marks marks →
+      IsRunSoFar setting t (without_launch (its_scene setting inputs) f place fault) marks
+  break_at t f marks place fault goes none replans =
+      let no_launch : HasNoLaunch (scene_of setting) f place fault =
+          subst (λ (x : Scene). HasNoLaunch x f place fault) (sym same) none in
+      let plans : Replans (scene_of setting) (Loads_what_is_held (scene_of setting)) (without_launch (scene_of setting) f place fault) marks marks =
+          subst (λ (x : Scene). Replans x (Loads_what_is_held x) (without_launch x f place fault) marks marks) (sym same) replans in
+      breaks t f marks place fault marks goes no_launch plans
+
+  -- an end
+  pub end_at : (t : List Pair) (f : So_far) (marks : List Mark) (end : End) → IsRunSoFar setting t f marks →
+      f.work ≡ Idle → end_of (its_scene setting inputs) f.events ≡ Some end →
+      ((world : World) → AgreesFrom (its_scene setting inputs) world [] f.events → MeansBy (its_scene setting inputs) world end) →
+      Advances setting t (ends (report_of setting.options end))
+  end_at t f marks end goes idle ends_so right =
+      let ended_so : end_of (scene_of setting) f.events ≡ Some end =
+          subst (λ (x : Scene). end_of x f.events ≡ Some end) (sym same) ends_so in
+      let means : (world : World) → IsHonest setting world f.events → Means setting world end =
+          λ world honest. means_of setting world end
+            (subst (λ (x : Scene). MeansBy x world end) (sym same)
+              (right world (subst (λ (x : Scene). AgreesFrom x world [] f.events) same honest))) in
+      record { happened = f; marks = marks; goes = goes; at = ended f marks end (record { idle = idle; ended = ended_so; right = means }) }

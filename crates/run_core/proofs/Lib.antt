@@ -1,0 +1,10 @@
+pub mod Loops
+pub mod Lone
+pub mod Meaning
+pub mod Advance
+pub mod Answered
+pub mod Gathered
+pub mod Listed
+pub mod Next
+pub mod Taken
+pub mod Files

@@ -1,0 +1,288 @@
+-- What the machine's callers learn of its steps and of its end.
+use Rattle.std.proofs.Common.{◌≡◌, ◌≢◌, ◌∙◌, ℕ, ℤ, zero, suc, ◌<◌, ◌==◌, Bool, true, false, cond, not, List, [], ◌∷◌, ◌++◌, find, Vec, Global, vec_len, vec_capacity, Option, Some, None, Result, Ok, Err, refl, sym, ap, subst, absurd, arith, eq-eqb, lit<}
+use Rattle.cwl_document.specs.declared.process.Tool.{Tool}
+use Rattle.cwl_document.specs.declared.process.ToolOutput.{ToolOutput}
+use Rattle.command_line.specs.Launch.{stream_name}
+use Rattle.proc_host.specs.declared.call.HostAnswer.{HostAnswer}
+use Rattle.proc_host.specs.declared.call.HostFault.{HostFault}
+use Rattle.proc_host.specs.declared.child.Ending.{Ending}
+use Rattle.proc_host.specs.declared.child.ExitClass.{ExitClass}
+use Rattle.proc_host.specs.declared.found.Found.{Found}
+use Rattle.proc_host.specs.ExitClass.{class_of}
+use Rattle.proc_host.specs.Tickets.{without}
+use Rattle.run_core.specs.declared.outcome.Cause.{Cause}
+use Rattle.run_core.specs.declared.outcome.CollectFault.{CollectFault}
+use Rattle.run_core.specs.declared.outcome.Outcome.{Outcome}
+use Rattle.run_core.specs.declared.outcome.Report.{Report}
+use Rattle.run_core.specs.declared.outcome.RunFault.{RunFault}
+use Rattle.run_core.specs.declared.request.Request.{Request}
+use Rattle.run_core.specs.declared.request.Pair.{Pair}
+use Rattle.run_core.specs.declared.setting.Options.{Options}
+use Rattle.run_core.specs.declared.setting.Setting.{Setting}
+use Rattle.run_core.specs.declared.state.Phase.{Phase}
+use Rattle.run_core.specs.declared.state.State.{State}
+use Rattle.run_core.specs.Words.{Name, Fields}
+use Rattle.run_core.specs.Answers.{MayAnswer, flying_after}
+use Rattle.run_core.specs.Collected.{found_under}
+use Rattle.run_core.specs.Events.{So_far}
+use Rattle.run_core.specs.Plans.{Mark}
+use Rattle.run_core.specs.Run.{IsRunSoFar}
+use Rattle.run_core.specs.Reports.{Concludes, whole, lost as memory_lost, reported, report_of}
+use Rattle.run_core.specs.Machine.{tool_of, ends, fails_for_good, start_with, at_start, stages, starts, has_launch, has_none, after_class, after_file, after_listing, after_scan, delivers, AsksIn, FollowsFrom}
+use Rattle.run_core.specs.Standing.{IsAt, staging, starting, running, scanning, delivering, ended, lost}
+use Rattle.run_core.specs.Core.{steps_in, Stands, Begins}
+use Rattle.run_core.specs.declared.runner.RunCore.{RunCore}
+use Rattle.run_core.specs.Limits.{IsWithinLimits}
+use Rattle.cwl_document.specs.declared.process.ToolInput.{ToolInput}
+use Rattle.run_core.specs.Inputs.{is_misfit, named_inputs, inputs_for, unless_misfit}
+use Rattle.run_core.specs.Jobs.{walker, tool_walk}
+use Rattle.run_core.specs.Eval.{World, eval_by}
+use Rattle.run_core.specs.Scene.{Scene, scene_of}
+use Rattle.run_core.specs.Events.{at_first}
+use Rattle.run_core.specs.Ending.{Fails_for_good, end_of}
+use Rattle.run_core.specs.Plans.{Compute, Loads_what_is_held}
+use Rattle.run_core.specs.Run.{Replans, begins}
+use Rattle.run_core.proofs.Lone.{walker_tool}
+use Rattle.run_core.proofs.Advance.{Advances, same, its_scene}
+use Rattle.run_core.proofs.Answered.{pair}
+use Rattle.run_core.proofs.Next.{advance, reach}
+use Rattle.run_core.specs.Standing.{IsLone}
+use Rattle.run_core.proofs.Answered.{only_ticket}
+
+module _ (setting : Setting) where
+  pub asks_in : {f : So_far} {marks : List Mark} {state : State} → IsAt setting f marks state → AsksIn state.asks state.phase
+  asks_in (staging inputs l) = tt
+  asks_in (starting inputs launch l is) = tt
+  asks_in (running inputs ticket l) = tt
+  asks_in (scanning inputs ticket l) = tt
+  asks_in (delivering inputs ticket named outputs plan l result delivery) = tt
+  asks_in (ended f marks end has) = tt
+  asks_in (lost f marks) = tt
+
+  -- while it asks, a child is in flight where it waits for one
+  pub waits_for_one : {f : So_far} {marks : List Mark} {state : State} → IsAt setting f marks state → state.asks ≡ Request.Collect → state.flying ≢ []
+  waits_for_one (staging inputs l) asks = λ none. cc
+  waits_for_one (starting inputs launch l is) asks = λ none. cc
+  waits_for_one (running inputs ticket l) asks = λ none. cc
+  waits_for_one (scanning inputs ticket l) asks = λ none. cc
+  waits_for_one (delivering inputs ticket named outputs plan l result delivery) asks = λ none. cc
+  waits_for_one (ended f marks end has) asks = λ none. cc
+  waits_for_one (lost f marks) asks = λ none. cc
+
+  -- where it asks nothing more it has ended
+  pub has_ended : {f : So_far} {marks : List Mark} {state : State} → IsAt setting f marks state → state.asks ≡ Request.Finished →
+      (result : Result Report RunFault) × (state.phase ≡ Phase.Ended result)
+  has_ended (staging inputs l) asks = absurd cc
+  has_ended (starting inputs launch l is) asks = absurd cc
+  has_ended (running inputs ticket l) asks = absurd cc
+  has_ended (scanning inputs ticket l) asks = absurd cc
+  has_ended (delivering inputs ticket named outputs plan l result delivery) asks = absurd cc
+  has_ended (ended f marks end has) asks = (report_of setting.options end, refl)
+  has_ended (lost f marks) asks = (Err RunFault.OutOfMemory, refl)
+
+  -- what it reports is what its run is
+  pub concludes : (t : List Pair) {f : So_far} {marks : List Mark} {state : State} (result : Result Report RunFault) → IsAt setting f marks state →
+      IsRunSoFar setting t f marks → state.phase ≡ Phase.Ended result → Concludes setting t result
+  concludes t result (staging inputs l) goes is = absurd cc
+  concludes t result (starting inputs launch l is_launch) goes is = absurd cc
+  concludes t result (running inputs ticket l) goes is = absurd cc
+  concludes t result (scanning inputs ticket l) goes is = absurd cc
+  concludes t result (delivering inputs ticket named outputs plan l its_result delivery) goes is = absurd cc
+  concludes t result (ended f marks end has) goes is =
+      let same : report_of setting.options end ≡ result = cc in
+      subst (λ (r : Result Report RunFault). Concludes setting t r) same
+        (whole end (record { happened = f; marks = marks; goes = goes; idle = has.idle; ended = has.ended }) has.right)
+  concludes t result (lost f marks) goes is =
+      let same : Err RunFault.OutOfMemory ≡ result = cc in
+      subst (λ (r : Result Report RunFault). Concludes setting t r) same (memory_lost f marks goes)
+
+  -- an answer that may come finds the machine asking
+  pub still_asks : {f : So_far} {marks : List Mark} {state : State} (answer : HostAnswer) → IsAt setting f marks state →
+      MayAnswer state.asks state.flying answer → 0 < steps_in state.phase
+  still_asks answer (staging inputs l) may = lit< tt
+  still_asks answer (starting inputs launch l is) may = lit< tt
+  still_asks answer (running inputs ticket l) may = lit< tt
+  still_asks answer (scanning inputs ticket l) may = lit< tt
+  still_asks answer (delivering inputs ticket named outputs plan l result delivery) may = lit< tt
+  still_asks answer (ended f marks end has) may = absurd may
+  still_asks answer (lost f marks) may = absurd may
+
+-- what a step leaves: fewer steps, no want of memory, and the right children in flight
+pub record Leaves (steps : ℕ) (flying : List ℕ) (next : State) : Type 0 where
+  pub falls : steps_in next.phase < steps
+  pub not_lost : next.phase ≡ Phase.Ended (Err RunFault.OutOfMemory) → ⊥
+  pub flies : next.asks ≢ Request.Finished → next.flying ≡ flying
+
+leaves_outcome : (steps : ℕ) (flying : List ℕ) (outcome : Outcome) → 0 < steps → Leaves steps flying (ends (reported outcome))
+leaves_outcome steps flying outcome some = record { falls = some; not_lost = λ is. cc; flies = λ asks. absurd (asks refl) }
+
+leaves_fault : (steps : ℕ) (flying : List ℕ) (fault : HostFault) (running : List ℕ) → 0 < steps →
+    Leaves steps flying (ends (Err (RunFault.Host fault running)))
+leaves_fault steps flying fault running some = record { falls = some; not_lost = λ is. cc; flies = λ asks. absurd (asks refl) }
+
+leaves_class : (options : Options) (code : Option ℤ) (class : ExitClass) (flying : List ℕ) → flying ≡ [] → Leaves 3 flying (after_class options code class)
+leaves_class options code ExitClass.Success flying none = record { falls = lit< tt; not_lost = λ is. cc; flies = λ asks. sym none }
+leaves_class options code ExitClass.Temporary flying none = leaves_outcome 3 flying (Outcome.TemporaryFail []) (lit< tt)
+leaves_class options code ExitClass.Permanent flying none = leaves_outcome 3 flying (Outcome.PermanentFail [] (Cause.Exit code)) (lit< tt)
+
+leaves_kind : (options : Options) (tool : Tool) (id : Name) (file : Found) (b : Bool) →
+    Leaves 2 [] (cond b (fails_for_good (Cause.Collect (CollectFault.NotTyped id))) (delivers options tool.outputs file))
+leaves_kind options tool id file true = leaves_outcome 2 [] (Outcome.PermanentFail [] (Cause.Collect (CollectFault.NotTyped id))) (lit< tt)
+leaves_kind options tool id file false = record { falls = lit< tt; not_lost = λ is. cc; flies = λ asks. refl }
+
+leaves_file : (options : Options) (tool : Tool) (id : Name) (file : Option Found) → Leaves 2 [] (after_file options tool id file)
+leaves_file options tool id None = leaves_outcome 2 [] (Outcome.PermanentFail [] (Cause.Collect (CollectFault.NoMatch id))) (lit< tt)
+leaves_file options tool id (Some file) = leaves_kind options tool id file file.is_dir
+
+leaves_listing : (options : Options) (tool : Tool) (found : List Found) (outputs : List ToolOutput) → Leaves 2 [] (after_listing options tool found outputs)
+leaves_listing options tool found [] = record { falls = lit< tt; not_lost = λ is. cc; flies = λ asks. absurd (asks refl) }
+leaves_listing options tool found (o ∷ outputs) = leaves_file options tool o.id (found_under (stream_name tool) found)
+
+none_left : (ticket n : ℕ) → ticket ≡ n → without n (ticket ∷ []) ≡ []
+none_left ticket n is = subst (λ (m : ℕ). without m (ticket ∷ []) ≡ []) is (rw (eq-eqb ticket ticket refl) refl)
+
+module _ (setting : Setting) where
+  abbrev at_known : (steps : ℕ) (flying : List ℕ) (next known : State) → next ≡ known → Leaves steps flying known → Leaves steps flying next
+  at_known steps flying next known is leaves = subst (λ (n : State). Leaves steps flying n) (sym is) leaves
+
+  pub step_leaves : {f : So_far} {marks : List Mark} {state : State} (answer : HostAnswer) (next : State) → IsAt setting f marks state →
+      MayAnswer state.asks state.flying answer → FollowsFrom setting state.asks state.flying state.phase answer next →
+      Leaves (steps_in state.phase) (flying_after state.flying answer) next
+  step_leaves HostAnswer.Done next (staging inputs l) may (has_launch launch is) = record { falls = lit< tt; not_lost = λ is_lost. cc; flies = λ asks. refl }
+  step_leaves HostAnswer.Done next (staging inputs l) may (has_none fault is) = leaves_outcome 5 [] (Outcome.PermanentFail [] (Cause.Build fault)) (lit< tt)
+  step_leaves (HostAnswer.Failed fault) next (staging inputs l) may follows = at_known _ _ next _ follows (leaves_fault 5 [] fault [] (lit< tt))
+  step_leaves (HostAnswer.Started ticket) next (staging inputs l) may follows = absurd may
+  step_leaves (HostAnswer.Ended e) next (staging inputs l) may follows = absurd may
+  step_leaves (HostAnswer.Listed found) next (staging inputs l) may follows = absurd may
+  step_leaves (HostAnswer.Started ticket) next (starting inputs launch l is) may follows =
+      at_known _ _ next _ follows (record { falls = lit< tt; not_lost = λ is_lost. cc; flies = λ asks. refl })
+  step_leaves (HostAnswer.Failed fault) next (starting inputs launch l is) may follows = at_known _ _ next _ follows (leaves_fault 4 [] fault [] (lit< tt))
+  step_leaves HostAnswer.Done next (starting inputs launch l is) may follows = absurd may
+  step_leaves (HostAnswer.Ended e) next (starting inputs launch l is) may follows = absurd may
+  step_leaves (HostAnswer.Listed found) next (starting inputs launch l is) may follows = absurd may
+  step_leaves (HostAnswer.Ended e) next (running inputs ticket l) may follows =
+      at_known _ _ next _ follows (leaves_class setting.options e.code (class_of e.code) (without e.ticket (ticket ∷ []))
+        (none_left ticket e.ticket (only_ticket ticket e.ticket may)))
+  step_leaves (HostAnswer.Failed fault) next (running inputs ticket l) may follows = at_known _ _ next _ follows (leaves_fault 3 (ticket ∷ []) fault (ticket ∷ []) (lit< tt))
+  step_leaves HostAnswer.Done next (running inputs ticket l) may follows = absurd may
+  step_leaves (HostAnswer.Started n) next (running inputs ticket l) may follows = absurd may
+  step_leaves (HostAnswer.Listed found) next (running inputs ticket l) may follows = absurd may
+  step_leaves (HostAnswer.Listed found) next (scanning inputs ticket l) may follows =
+      at_known _ _ next _ follows (leaves_listing setting.options (tool_of setting.process) found (tool_of setting.process).outputs)
+  step_leaves (HostAnswer.Failed fault) next (scanning inputs ticket l) may follows = at_known _ _ next _ follows (leaves_fault 2 [] fault [] (lit< tt))
+  step_leaves HostAnswer.Done next (scanning inputs ticket l) may follows = absurd may
+  step_leaves (HostAnswer.Started n) next (scanning inputs ticket l) may follows = absurd may
+  step_leaves (HostAnswer.Ended e) next (scanning inputs ticket l) may follows = absurd may
+  step_leaves HostAnswer.Done next (delivering inputs ticket named outputs plan l result delivery) may follows =
+      at_known _ _ next _ follows (leaves_outcome 1 [] _ (lit< tt))
+  step_leaves (HostAnswer.Failed fault) next (delivering inputs ticket named outputs plan l result delivery) may follows =
+      at_known _ _ next _ follows (leaves_fault 1 [] fault [] (lit< tt))
+  step_leaves (HostAnswer.Started n) next (delivering inputs ticket named outputs plan l result delivery) may follows = absurd may
+  step_leaves (HostAnswer.Ended e) next (delivering inputs ticket named outputs plan l result delivery) may follows = absurd may
+  step_leaves (HostAnswer.Listed found) next (delivering inputs ticket named outputs plan l result delivery) may follows = absurd may
+  step_leaves answer next (ended f marks end has) may follows = absurd may
+  step_leaves answer next (lost f marks) may follows = absurd may
+
+-- The machine as a whole
+
+abbrev pub core_with : RunCore → Vec Pair Global → State → RunCore
+core_with core pairs state = record { alloc = core.alloc; setting = core.setting; pairs = pairs; state = state }
+
+module _ (core : RunCore) (answer : HostAnswer) (pairs : Vec Pair Global) (state : State) (stands : Stands core)
+    (may : MayAnswer core.state.asks core.state.flying answer) (longer : pairs.items ≡ core.pairs.items ++ pair core.state.asks answer ∷ []) where
+  pub stands_next : FollowsFrom core.setting core.state.asks core.state.flying core.state.phase answer state → vec_len pairs < vec_capacity pairs →
+      Stands (core_with core pairs state)
+  stands_next follows room =
+      let a : Advances core.setting (core.pairs.items ++ pair core.state.asks answer ∷ []) state =
+          advance core.setting core.pairs.items answer state stands.at stands.goes may follows in
+      record {
+        happened = a.happened;
+        marks = a.marks;
+        goes = subst (λ (t : List Pair). IsRunSoFar core.setting t a.happened a.marks) (sym longer) a.goes;
+        at = a.at;
+        room = λ some. room;
+      }
+
+  pub stands_lost : state ≡ ends (Err RunFault.OutOfMemory) → Stands (core_with core pairs state)
+  stands_lost is =
+      let r = reach core.setting core.pairs.items answer stands.at stands.goes may in
+      let none : (some : 0 < steps_in state.phase) → vec_len pairs < vec_capacity pairs =
+          λ some. let never : 0 < 0 = subst (λ (st : State). 0 < steps_in st.phase) is some in absurd (omega arith) in
+      record {
+        happened = r.happened;
+        marks = r.marks;
+        goes = subst (λ (t : List Pair). IsRunSoFar core.setting t r.happened r.marks) (sym longer) r.goes;
+        at = subst (λ (st : State). IsAt core.setting r.happened r.marks st) (sym is) (lost r.happened r.marks);
+        room = none;
+      }
+
+-- Before any answer
+
+abbrev refused_scene : Setting → ToolInput → Scene
+refused_scene setting input = record { walker = tool_walk (tool_of setting.process) [] (Err (Cause.Kind input.id)); options = setting.options }
+
+module _ (core : RunCore) (limits : IsWithinLimits core.setting.options) (empty : core.pairs.items ≡ [])
+    (room : vec_len core.pairs < vec_capacity core.pairs) where
+  abbrev misfit : Option ToolInput
+  misfit = find (is_misfit core.setting.inputs) (tool_of core.setting.process).inputs
+
+  abbrev its_inputs : Fields
+  its_inputs = named_inputs (tool_of core.setting.process).inputs core.setting.inputs
+
+  scene_is : (r : Result Fields Cause) → inputs_for (tool_of core.setting.process).inputs core.setting.inputs ≡ r →
+      walker core.setting.process core.setting.inputs ≡ tool_walk (tool_of core.setting.process) [] r
+  scene_is r is = walker_tool core.setting.process core.setting.inputs ∙ ap (λ (x : Result Fields Cause). tool_walk (tool_of core.setting.process) [] x) is
+
+  begins_well : misfit ≡ None → core.state ≡ stages its_inputs → Begins core.setting.process core.setting.inputs core.setting.options core
+  begins_well fits is =
+      let l : IsLone core.setting its_inputs = record { fit = ap (λ (r : Option ToolInput). unless_misfit r its_inputs) fits; limits = limits } in
+      let plans : Replans (scene_of core.setting) (Loads_what_is_held (scene_of core.setting)) at_first [] (Compute ∷ []) =
+          subst (λ (x : Scene). Replans x (Loads_what_is_held x) at_first [] (Compute ∷ [])) (sym (same core.setting its_inputs l)) refl in
+      record {
+        stands = record {
+          happened = at_first;
+          marks = Compute ∷ [];
+          goes = subst (λ (t : List Pair). IsRunSoFar core.setting t at_first (Compute ∷ [])) (sym empty) (begins (Compute ∷ []) plans);
+          at = subst (λ (st : State). IsAt core.setting at_first (Compute ∷ []) st) (sym is) (staging its_inputs l);
+          room = λ some. room;
+        };
+        setting = refl;
+        nothing_asked = empty;
+        none_in_flight = ap (λ (st : State). st.flying) is;
+        not_lost = λ gone. let phase : core.state.phase ≡ Phase.Staging = ap (λ (st : State). st.phase) is in cc;
+      }
+
+  begins_badly : (input : ToolInput) → misfit ≡ Some input → core.state ≡ fails_for_good (Cause.Kind input.id) →
+      Begins core.setting.process core.setting.inputs core.setting.options core
+  begins_badly input bad is =
+      let walks : walker core.setting.process core.setting.inputs ≡ tool_walk (tool_of core.setting.process) [] (Err (Cause.Kind input.id)) =
+          scene_is (Err (Cause.Kind input.id)) (ap (λ (r : Option ToolInput). unless_misfit r its_inputs) bad) in
+      let scene : scene_of core.setting ≡ refused_scene core.setting input =
+          ap (λ w. let s : Scene = record { walker = w; options = core.setting.options } in s) walks in
+      let plans : Replans (scene_of core.setting) (Loads_what_is_held (scene_of core.setting)) at_first [] [] =
+          subst (λ (x : Scene). Replans x (Loads_what_is_held x) at_first [] []) (sym scene) refl in
+      let ended_so : end_of (scene_of core.setting) [] ≡ Some (Fails_for_good [] (Cause.Kind input.id)) =
+          subst (λ (x : Scene). end_of x [] ≡ Some (Fails_for_good [] (Cause.Kind input.id))) (sym scene) refl in
+      record {
+        stands = record {
+          happened = at_first;
+          marks = [];
+          goes = subst (λ (t : List Pair). IsRunSoFar core.setting t at_first []) (sym empty) (begins [] plans);
+          at = subst (λ (st : State). IsAt core.setting at_first [] st) (sym is)
+              (ended at_first [] (Fails_for_good [] (Cause.Kind input.id))
+                (record { idle = refl; ended = ended_so; right = λ world honest. ap (λ w. eval_by world w) walks }));
+          room = λ some. room;
+        };
+        setting = refl;
+        nothing_asked = empty;
+        none_in_flight = ap (λ (st : State). st.flying) is;
+        not_lost = λ gone. let phase : core.state.phase ≡ Phase.Ended (reported (Outcome.PermanentFail [] (Cause.Kind input.id))) = ap (λ (st : State). st.phase) is in cc;
+      }
+
+  begins_by : (r : Option ToolInput) → misfit ≡ r → core.state ≡ start_with its_inputs r →
+      Begins core.setting.process core.setting.inputs core.setting.options core
+  begins_by None found is = begins_well found is
+  begins_by (Some input) found is = begins_badly input found is
+
+  pub begins_at : core.state ≡ at_start core.setting → Begins core.setting.process core.setting.inputs core.setting.options core
+  begins_at is = begins_by misfit refl is

@@ -1,0 +1,63 @@
+-- What callers see of the machine.
+use Rattle.std.specs.Prelude.{◌≡◌, ℕ, ◌<◌, ◌≢◌, List, [], Result, Ok, Err, vec_len, vec_capacity}
+use Rattle.cwl_document.specs.declared.process.Process.{Process}
+use Rattle.run_core.specs.declared.outcome.RunFault.{RunFault}
+use Rattle.run_core.specs.declared.request.Request.{Request}
+use Rattle.run_core.specs.declared.request.Pair.{Pair}
+use Rattle.run_core.specs.declared.setting.Options.{Options}
+use Rattle.run_core.specs.declared.setting.Setting.{Setting}
+use Rattle.run_core.specs.declared.state.Phase.{Phase}
+use Rattle.run_core.specs.declared.runner.RunCore.{RunCore}
+use Rattle.run_core.specs.Words.{Fields}
+use Rattle.run_core.specs.Events.{So_far}
+use Rattle.run_core.specs.Plans.{Mark}
+use Rattle.run_core.specs.Run.{IsRunSoFar}
+use Rattle.run_core.specs.Standing.{IsAt}
+
+abbrev pub setting_of : RunCore → Setting
+setting_of core = core.setting
+
+-- what it asked and was answered
+abbrev pub transcript : RunCore → List Pair
+transcript core = core.pairs.items
+
+-- what it asks now
+abbrev pub asked : RunCore → Request
+asked core = core.state.asks
+
+-- the tickets of the children in flight, while it asks something
+abbrev pub flying : RunCore → List ℕ
+flying core = core.state.flying
+
+abbrev pub steps_in : Phase → ℕ
+steps_in Phase.Staging = 5
+steps_in Phase.Starting = 4
+steps_in Phase.Running = 3
+steps_in Phase.Scanning = 2
+steps_in (Phase.Delivering value) = 1
+steps_in (Phase.Ended result) = 0
+
+-- how many answers it takes at most
+abbrev pub steps_left : RunCore → ℕ
+steps_left core = steps_in core.state.phase
+
+-- it gave up for want of memory
+abbrev pub IsLost : RunCore → Type 0
+IsLost core = core.state.phase ≡ Phase.Ended (Err RunFault.OutOfMemory)
+
+-- its transcript is a run so far, it asks what that run may ask, or has ended as that run does, and while it
+-- asks there is room for the answer
+pub record Stands (core : RunCore) : Type 0 where
+  pub happened : So_far
+  pub marks : List Mark
+  pub goes : IsRunSoFar core.setting core.pairs.items happened marks
+  pub at : IsAt core.setting happened marks core.state
+  pub room : 0 < steps_in core.state.phase → vec_len core.pairs < vec_capacity core.pairs
+
+-- a machine for this process, before any answer
+pub record Begins (process : Process) (inputs : Fields) (options : Options) (core : RunCore) : Type 0 where
+  pub stands : Stands core
+  pub setting : core.setting ≡ record { process = process; inputs = inputs; options = options }
+  pub nothing_asked : core.pairs.items ≡ []
+  pub none_in_flight : core.state.flying ≡ []
+  pub not_lost : IsLost core → ⊥

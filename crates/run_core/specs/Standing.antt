@@ -1,0 +1,65 @@
+-- Where the machine can stand, with what has happened and the plan in force there.
+use Rattle.std.specs.Prelude.{◌≡◌, ℕ, List, [], ◌∷◌, Some, Result, Ok, Err}
+use Rattle.command_line.specs.declared.launch.Launch.{Launch}
+use Rattle.command_line.specs.Launch.{IsLaunch}
+use Rattle.proc_host.specs.declared.plan.StagePlan.{StagePlan}
+use Rattle.run_core.specs.declared.outcome.RunFault.{RunFault}
+use Rattle.run_core.specs.declared.request.Request.{Request}
+use Rattle.run_core.specs.declared.setting.Setting.{Setting}
+use Rattle.run_core.specs.declared.state.Phase.{Phase}
+use Rattle.run_core.specs.declared.state.State.{State}
+use Rattle.run_core.specs.Words.{Fields}
+use Rattle.run_core.specs.Inputs.{inputs_for}
+use Rattle.run_core.specs.Delivered.{located}
+use Rattle.run_core.specs.Folders.{out_folder, runtime_of}
+use Rattle.run_core.specs.Events.{Staged, Began, Came_back, Succeeded, Idle, Starting, Scanning, So_far, at_first, unfolding_at}
+use Rattle.run_core.specs.Ending.{End, end_of, delivery_at}
+use Rattle.run_core.specs.Plans.{Mark, Load, Compute}
+use Rattle.run_core.specs.Scene.{scene_of}
+use Rattle.run_core.specs.Eval.{World}
+use Rattle.run_core.specs.Honest.{IsHonest, Means}
+use Rattle.run_core.specs.Reports.{report_of}
+use Rattle.run_core.specs.Machine.{tool_of, waits, ends, stages, starts, after_ticket}
+use Rattle.run_core.specs.Limits.{IsWithinLimits}
+
+-- a lone tool whose inputs are all of their types
+pub record IsLone (setting : Setting) (inputs : Fields) : Type 0 where
+  pub fit : inputs_for (tool_of setting.process).inputs setting.inputs ≡ Ok inputs
+  pub limits : IsWithinLimits setting.options
+
+abbrev pub when_staged : So_far
+when_staged = record { work = Starting []; events = Staged [] 1 ∷ [] }
+
+abbrev pub when_running : ℕ → So_far
+when_running ticket = record { work = Idle; events = Staged [] 1 ∷ Began [] ticket ∷ [] }
+
+abbrev pub when_back : ℕ → So_far
+when_back ticket = record { work = Scanning []; events = Staged [] 1 ∷ Began [] ticket ∷ Came_back ticket ∷ [] }
+
+abbrev pub when_gathered : ℕ → Fields → So_far
+when_gathered ticket named =
+    record { work = Idle; events = Staged [] 1 ∷ Began [] ticket ∷ Came_back ticket ∷ Succeeded [] named ∷ [] }
+
+-- the end, and that it is right in each world where what has happened is honest
+pub record HasEnded (setting : Setting) (f : So_far) (end : End) : Type 0 where
+  pub idle : f.work ≡ Idle
+  pub ended : end_of (scene_of setting) f.events ≡ Some end
+  pub right : (world : World) → IsHonest setting world f.events → Means setting world end
+
+pub data IsAt (setting : Setting) : So_far → List Mark → State → Type 0 where
+  staging : (inputs : Fields) → IsLone setting inputs → IsAt setting at_first (Compute ∷ []) (stages inputs)
+  starting : (inputs : Fields) (launch : Launch) → IsLone setting inputs →
+      IsLaunch (tool_of setting.process) inputs (runtime_of setting.options 1) launch →
+      IsAt setting when_staged (Compute ∷ []) (starts launch)
+  running : (inputs : Fields) (ticket : ℕ) → IsLone setting inputs →
+      IsAt setting (when_running ticket) (Load ∷ []) (after_ticket ticket)
+  scanning : (inputs : Fields) (ticket : ℕ) → IsLone setting inputs →
+      IsAt setting (when_back ticket) (Load ∷ []) (waits (Request.Scan [] (out_folder setting.options.work 1)) Phase.Scanning)
+  delivering : (inputs : Fields) (ticket : ℕ) (named outputs : Fields) (plan : StagePlan) → IsLone setting inputs →
+      (unfolding_at (scene_of setting) (when_gathered ticket named).events).result ≡ Some outputs →
+      delivery_at (scene_of setting) (when_gathered ticket named).events outputs ≡ Some plan →
+      IsAt setting (when_gathered ticket named) (Load ∷ [])
+        (waits (Request.Deliver plan) (Phase.Delivering (located setting.options.outdir outputs)))
+  ended : (f : So_far) (marks : List Mark) (end : End) → HasEnded setting f end →
+      IsAt setting f marks (ends (report_of setting.options end))
+  lost : (f : So_far) (marks : List Mark) → IsAt setting f marks (ends (Err RunFault.OutOfMemory))
