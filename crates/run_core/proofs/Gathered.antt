@@ -142,7 +142,7 @@ module _ (number : JobPlace → ℕ) (work outdir : Name) (file : Found) where
       ap (file_move number work outdir) (out-roll-Value (Value-F.FileVal (roll-FileVal (file_fields (Place.Made [] file.name) file))))
       ∙ ap (λ (f : FileVal-F Value DirVal FileVal). move_at number work outdir f.place) (out-roll-FileVal (file_fields (Place.Made [] file.name) file))
 
-  abbrev the_move : Move
+  abbrev pub the_move : Move
   the_move = record { source = out_folder work (number []) ++ codes "/" ++ file.name; target = target_of outdir file.name }
 
   pub moves_are : (o : ToolOutput) (outputs : List ToolOutput) →

@@ -90,7 +90,7 @@ module _ (setting : Setting) (inputs : Fields) (l : IsLone setting inputs) (t : 
           scan_breaks setting inputs l t ticket goes found (Cause.Collect (CollectFault.NotTyped x.id))
             (ap (outputs_from tool found) some_outputs ∙ folder_collected tool found file is x xs kind)
       by_kind false kind =
-          let whole : delivery_at (its_scene setting inputs) (when_gathered ticket named).events outputs ≡ Some plan = ap if_any plan_is in
+          let whole : delivery_at (its_scene setting inputs) (when_gathered ticket named).events outputs ≡ Some plan = ap (if_any (its_scene setting inputs)) plan_is in
           let delivering_it : Advances setting longer (waits (Request.Deliver plan) (Phase.Delivering (located o.outdir outputs))) =
               scan_delivers setting inputs l t ticket goes found named outputs plan
                 (file_collected tool found file is kind tool.outputs) result_is whole in

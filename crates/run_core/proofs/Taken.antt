@@ -1,5 +1,5 @@
 -- What the machine's callers learn of its steps and of its end.
-use Rattle.std.proofs.Common.{◌≡◌, ◌≢◌, ◌∙◌, ℕ, ℤ, zero, suc, ◌<◌, ◌==◌, Bool, true, false, cond, not, List, [], ◌∷◌, ◌++◌, find, Vec, Global, vec_len, vec_capacity, Option, Some, None, Result, Ok, Err, refl, sym, ap, subst, absurd, arith, eq-eqb, lit<}
+use Rattle.std.proofs.Common.{◌≡◌, ◌≢◌, ◌∙◌, ℕ, ℤ, zero, suc, ◌<◌, ◌==◌, Bool, true, false, cond, not, List, [], ◌∷◌, ◌++◌, find, Vec, Global, vec_len, vec_capacity, Option, Some, None, Result, Ok, Err, refl, sym, ap, subst, arith, eq-eqb, lit<}
 use Rattle.cwl_document.specs.declared.process.Tool.{Tool}
 use Rattle.cwl_document.specs.declared.process.ToolOutput.{ToolOutput}
 use Rattle.command_line.specs.Launch.{stream_name}
@@ -116,9 +116,9 @@ pub record Leaves (steps : ℕ) (flying : List ℕ) (next : State) : Type 0 wher
 leaves_outcome : (steps : ℕ) (flying : List ℕ) (outcome : Outcome) → 0 < steps → Leaves steps flying (ends (reported outcome))
 leaves_outcome steps flying outcome some = record { falls = some; not_lost = λ is. cc; flies = λ asks. absurd (asks refl) }
 
-leaves_fault : (steps : ℕ) (flying : List ℕ) (fault : HostFault) (running : List ℕ) → 0 < steps →
-    Leaves steps flying (ends (Err (RunFault.Host fault running)))
-leaves_fault steps flying fault running some = record { falls = some; not_lost = λ is. cc; flies = λ asks. absurd (asks refl) }
+leaves_fault : (steps : ℕ) (flying : List ℕ) (fault : HostFault) (left : List ℕ) → 0 < steps →
+    Leaves steps flying (ends (Err (RunFault.Host fault left)))
+leaves_fault steps flying fault left some = record { falls = some; not_lost = λ is. cc; flies = λ asks. absurd (asks refl) }
 
 leaves_class : (options : Options) (code : Option ℤ) (class : ExitClass) (flying : List ℕ) → flying ≡ [] → Leaves 3 flying (after_class options code class)
 leaves_class options code ExitClass.Success flying none = record { falls = lit< tt; not_lost = λ is. cc; flies = λ asks. sym none }

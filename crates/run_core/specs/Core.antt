@@ -41,6 +41,10 @@ steps_in (Phase.Ended result) = 0
 abbrev pub steps_left : RunCore → ℕ
 steps_left core = steps_in core.state.phase
 
+abbrev pub IsEnded : Phase → Type 0
+IsEnded (Phase.Ended result) = Unit {0}
+IsEnded phase = ⊥
+
 -- it gave up for want of memory
 abbrev pub IsLost : RunCore → Type 0
 IsLost core = core.state.phase ≡ Phase.Ended (Err RunFault.OutOfMemory)

@@ -1,7 +1,8 @@
 ghost use Rattle.std.specs.Prelude.{◌≡◌, ◌≢◌, ◌↔◌, ◌<◌, ◌∷◌, ◌++◌, [], Err, IfOk, IfErr, OnOk, OnErr, vec_len, vec_capacity};
 ghost use Rattle.run_core.specs.declared.outcome.RunFault.{RunFault};
 ghost use Rattle.run_core.specs.declared.request.Request.{Request};
-ghost use Rattle.run_core.specs.Core.{setting_of, transcript, asked, flying, steps_left, IsLost, Stands, Begins};
+ghost use Rattle.run_core.specs.declared.state.Phase.{Phase};
+ghost use Rattle.run_core.specs.Core.{setting_of, transcript, asked, flying, steps_left, IsLost, IsEnded, Stands, Begins};
 ghost use Rattle.run_core.specs.Answers.{MayAnswer, flying_after};
 ghost use Rattle.run_core.specs.Limits.{IsWithinLimits};
 ghost use Rattle.run_core.specs.Reports.{entries_of, Concludes};
@@ -123,10 +124,7 @@ impl RunCore {
             phase,
             flying: _,
         } = state;
-        match phase {
-            Phase::Ended(outcome) => outcome,
-            _ => unreachable!(),
-        }
+        outcome_of(phase)
     }
 
     /// Leaves the run where it stands, for want of memory somewhere else.
@@ -153,4 +151,15 @@ fn make_room(pairs: &mut Vec<Pair>) -> Result<(), AllocError>
     ensures room { OnOk result (vec_len pairs.new < vec_capacity pairs.new) }
 {
     pairs.reserve(1)
+}
+
+/// What `finish` answers, at the end.
+fn outcome_of(phase: Phase) -> Result<Report, RunFault>
+    requires { IsEnded phase }
+    ensures { phase ≡ Phase.Ended result }
+{
+    match phase {
+        Phase::Ended(outcome) => outcome,
+        _ => unreachable!(),
+    }
 }

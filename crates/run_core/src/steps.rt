@@ -1,6 +1,6 @@
 //! What the machine waits for after each answer, for a lone tool.
 ghost use Rattle.std.specs.Prelude.{◌≡◌, [], ◌∷◌, IfOk, length, ◌<◌};
-ghost use Rattle.run_core.specs.Machine.{Launches, FollowsFrom, AsksIn, after_ticket, after_exit, after_scan, delivers, plan_to, starts, at_start};
+ghost use Rattle.run_core.specs.Machine.{Launches, FollowsFrom, AsksIn, after_ticket, after_exit, after_scan, delivers, plan_to, starts, tool_of, at_start};
 ghost use Rattle.run_core.specs.Answers.{MayAnswer};
 
 use crate::folders::{out_folder, path_in, runtime_of};
@@ -11,17 +11,25 @@ use crate::state::{Phase, State, ended, failed_for_good, host_failed, reported, 
 use crate::targets::target_of;
 use crate::{Cause, CollectFault, Options, Outcome, Request, Setting};
 use command_line::{BuildError, Launch, build, stdout_name};
-use cwl_document::{Process, ToolOutput};
+use cwl_document::{Process, Tool, ToolOutput};
 use cwl_value::{Place, Value};
 use plain_data::{Items, Keyed, Text};
 use proc_host::{Ending, ExitClass, Found, HostAnswer, Move, StagePlan, exit_class};
 use std::alloc::{AllocError, Global};
 
+/// The one tool of a process.
+fn tool_of(process: &Process) -> &Tool
+    ensures { result.now ≡ tool_of process.now }
+{
+    let Process::Tool(tool) = process;
+    tool
+}
+
 /// Before any answer: the job is staged, unless an input is not of its type.
 pub(crate) fn begun(alloc: Global, setting: &Setting) -> Result<State, AllocError>
     ensures { IfOk result (λ state. state ≡ at_start setting.now) }
 {
-    let Process::Tool(tool) = &setting.process;
+    let tool = tool_of(&setting.process);
     let inputs = tool.inputs.as_slice();
     if let Some(input) = first_misfit(inputs, &setting.inputs) {
         let cause = Cause::Kind(input.id.copied(alloc)?);
@@ -46,7 +54,7 @@ fn launched(
 ) -> Result<State, AllocError>
     ensures { IfOk result (λ state. Launches setting.now inputs.now state) }
 {
-    let Process::Tool(tool) = &setting.process;
+    let tool = tool_of(&setting.process);
     let runtime = runtime_of(alloc, &setting.options, 1)?;
     match build(alloc, tool, inputs, &runtime) {
         Ok(launch) => Ok(starting(alloc, launch)),
@@ -90,7 +98,7 @@ fn judged(alloc: Global, setting: &Setting, ending: &Ending) -> Result<State, Al
 fn gathered(alloc: Global, setting: &Setting, found: &[Found]) -> Result<State, AllocError>
     ensures { IfOk result (λ state. state ≡ after_scan setting.now found.now) }
 {
-    let Process::Tool(tool) = &setting.process;
+    let tool = tool_of(&setting.process);
     let Some(output) = tool.outputs.as_slice().first() else {
         let outcome = Outcome::Success(Value::Fields(Keyed::new(alloc)));
         return Ok(ended(alloc, reported(alloc, outcome)));

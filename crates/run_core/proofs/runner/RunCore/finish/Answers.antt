@@ -1,6 +1,13 @@
-use Rattle.run_core.proofs.Taken.{concludes}
+use Rattle.std.proofs.Common.{sym, subst}
+use Rattle.run_core.specs.declared.state.Phase.{Phase}
+use Rattle.run_core.specs.Core.{IsEnded}
+use Rattle.run_core.proofs.Taken.{has_ended, concludes}
 use Rattle.run_core.proofs.runner.RunCore.finish.Goals as goal
 
-pub returns-in-Ended-clause-concluded : goal.returns-in-Ended-clause-concluded
-returns-in-Ended-clause-concluded c =
-    concludes c.args.self.setting c.args.self.pairs.items _ c.requires.stands.at c.requires.stands.goes c.in-Ended.is
+pub outcome_of-requires : goal.outcome_of-requires
+outcome_of-requires c =
+    subst (λ (p : Phase). IsEnded p) (sym (has_ended c.args.self.setting c.requires.stands.at c.requires.finished).1) tt
+
+pub returns-clause-concluded : goal.returns-clause-concluded
+returns-clause-concluded c =
+    concludes c.args.self.setting c.args.self.pairs.items c.outcome_of.result c.requires.stands.at c.requires.stands.goes c.outcome_of.ensures
