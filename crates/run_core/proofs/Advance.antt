@@ -56,12 +56,12 @@ module _ (setting : Setting) (inputs : Fields) (l : IsLone setting inputs) where
       IsRunSoFar setting (t ++ p ∷ []) g new
   step_at t f marks p g new goes allowed reaches replans =
       let allows : Allowed (scene_of setting) f marks p.request =
-          subst (λ (x : Scene). Allowed x f marks p.request) (sym same) allowed in
+      subst (λ (x : Scene). Allowed x f marks p.request) (sym same) allowed in
       let arrives : after (scene_of setting) f p ≡ g = ap (λ (x : Scene). after x f p) same ∙ reaches in
       let plans : Replans (scene_of setting) (Loads_what_is_held (scene_of setting)) g marks new =
-          subst (λ (x : Scene). Replans x (Loads_what_is_held x) g marks new) (sym same) replans in
+      subst (λ (x : Scene). Replans x (Loads_what_is_held x) g marks new) (sym same) replans in
       let plans_there : Replans (scene_of setting) (Loads_what_is_held (scene_of setting)) (after (scene_of setting) f p) marks new =
-          subst (λ (x : So_far). Replans (scene_of setting) (Loads_what_is_held (scene_of setting)) x marks new) (sym arrives) plans in
+      subst (λ (x : So_far). Replans (scene_of setting) (Loads_what_is_held (scene_of setting)) x marks new) (sym arrives) plans in
       subst (λ (x : So_far). IsRunSoFar setting (t ++ p ∷ []) x new) arrives (asks t f marks p new goes allows plans_there)
 
   -- a job without a launch
@@ -71,9 +71,9 @@ module _ (setting : Setting) (inputs : Fields) (l : IsLone setting inputs) where
       IsRunSoFar setting t (without_launch (its_scene setting inputs) f place fault) marks
   break_at t f marks place fault goes none replans =
       let no_launch : HasNoLaunch (scene_of setting) f place fault =
-          subst (λ (x : Scene). HasNoLaunch x f place fault) (sym same) none in
+      subst (λ (x : Scene). HasNoLaunch x f place fault) (sym same) none in
       let plans : Replans (scene_of setting) (Loads_what_is_held (scene_of setting)) (without_launch (scene_of setting) f place fault) marks marks =
-          subst (λ (x : Scene). Replans x (Loads_what_is_held x) (without_launch x f place fault) marks marks) (sym same) replans in
+      subst (λ (x : Scene). Replans x (Loads_what_is_held x) (without_launch x f place fault) marks marks) (sym same) replans in
       breaks t f marks place fault marks goes no_launch plans
 
   -- an end
@@ -83,9 +83,9 @@ module _ (setting : Setting) (inputs : Fields) (l : IsLone setting inputs) where
       Advances setting t (ends (report_of setting.options end))
   end_at t f marks end goes idle ends_so right =
       let ended_so : end_of (scene_of setting) f.events ≡ Some end =
-          subst (λ (x : Scene). end_of x f.events ≡ Some end) (sym same) ends_so in
+      subst (λ (x : Scene). end_of x f.events ≡ Some end) (sym same) ends_so in
       let means : (world : World) → IsHonest setting world f.events → Means setting world end =
-          λ world honest. means_of setting world end
-            (subst (λ (x : Scene). MeansBy x world end) (sym same)
-              (right world (subst (λ (x : Scene). AgreesFrom x world [] f.events) same honest))) in
+      λ world honest. means_of setting world end
+      (subst (λ (x : Scene). MeansBy x world end) (sym same)
+      (right world (subst (λ (x : Scene). AgreesFrom x world [] f.events) same honest))) in
       record { happened = f; marks = marks; goes = goes; at = ended f marks end (record { idle = idle; ended = ended_so; right = means }) }

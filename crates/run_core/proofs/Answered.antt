@@ -69,7 +69,7 @@ module _ (setting : Setting) (inputs : Fields) (l : IsLone setting inputs) (t : 
       IsRunSoFar setting (t ++ pair stage_request HostAnswer.Done ∷ []) when_staged (Compute ∷ [])
   staged goes =
       step_at setting inputs l t at_first (Compute ∷ []) (pair stage_request HostAnswer.Done) when_staged (Compute ∷ [])
-        goes (may_stage tool inputs o l.limits) refl refl
+      goes (may_stage tool inputs o l.limits) refl refl
 
   pub launches : (next : State) → IsRunSoFar setting t at_first (Compute ∷ []) → Launches setting inputs next →
       Advances setting (t ++ pair stage_request HostAnswer.Done ∷ []) next
@@ -81,20 +81,20 @@ module _ (setting : Setting) (inputs : Fields) (l : IsLone setting inputs) (t : 
   }
   launches next goes (has_none fault refused) =
       end_at setting inputs l (t ++ pair stage_request HostAnswer.Done ∷ [])
-        (record { work = Idle; events = Staged [] 1 ∷ Broke [] (Cause.Build fault) ∷ [] }) (Compute ∷ [])
-        (Fails_for_good [] (Cause.Build fault))
-        (break_at setting inputs l (t ++ pair stage_request HostAnswer.Done ∷ []) when_staged (Compute ∷ []) [] fault
-          (staged goes) (has_no_launch tool inputs o l.limits fault refused) refl)
-        refl refl (λ world honest. fails tool inputs world (honest.1.0 (job tool inputs o l.limits) refl))
+      (record { work = Idle; events = Staged [] 1 ∷ Broke [] (Cause.Build fault) ∷ [] }) (Compute ∷ [])
+      (Fails_for_good [] (Cause.Build fault))
+      (break_at setting inputs l (t ++ pair stage_request HostAnswer.Done ∷ []) when_staged (Compute ∷ []) [] fault
+      (staged goes) (has_no_launch tool inputs o l.limits fault refused) refl)
+      refl refl (λ world honest. fails tool inputs world (honest.1.0 (job tool inputs o l.limits) refl))
 
   pub stage_fails : (fault : HostFault) → IsRunSoFar setting t at_first (Compute ∷ []) →
       Advances setting (t ++ pair stage_request (HostAnswer.Failed fault) ∷ []) (host_fails fault [])
   stage_fails fault goes =
       let f : So_far = record { work = Idle; events = Host_failed fault ∷ [] } in
       end_at setting inputs l (t ++ pair stage_request (HostAnswer.Failed fault) ∷ []) f (Compute ∷ []) (Host_ends fault [])
-        (step_at setting inputs l t at_first (Compute ∷ []) (pair stage_request (HostAnswer.Failed fault)) f (Compute ∷ [])
-          goes (may_stage tool inputs o l.limits) refl refl)
-        refl refl (λ world honest. tt)
+      (step_at setting inputs l t at_first (Compute ∷ []) (pair stage_request (HostAnswer.Failed fault)) f (Compute ∷ [])
+      goes (may_stage tool inputs o l.limits) refl refl)
+      refl refl (λ world honest. tt)
 
   -- Starting
 
@@ -115,9 +115,9 @@ module _ (setting : Setting) (inputs : Fields) (l : IsLone setting inputs) (t : 
   start_fails launch fault is goes =
       let f : So_far = record { work = Idle; events = Staged [] 1 ∷ Host_failed fault ∷ [] } in
       end_at setting inputs l (t ++ pair (Request.Start [] launch) (HostAnswer.Failed fault) ∷ []) f (Compute ∷ []) (Host_ends fault [])
-        (step_at setting inputs l t when_staged (Compute ∷ []) (pair (Request.Start [] launch) (HostAnswer.Failed fault)) f (Compute ∷ [])
-          goes (may_start tool inputs o l.limits launch is) refl refl)
-        refl refl (λ world honest. tt)
+      (step_at setting inputs l t when_staged (Compute ∷ []) (pair (Request.Start [] launch) (HostAnswer.Failed fault)) f (Compute ∷ [])
+      goes (may_start tool inputs o l.limits launch is) refl refl)
+      refl refl (λ world honest. tt)
 
   -- Running
 
@@ -126,10 +126,10 @@ module _ (setting : Setting) (inputs : Fields) (l : IsLone setting inputs) (t : 
   collect_fails ticket goes =
       let f : So_far = record { work = Idle; events = Staged [] 1 ∷ Began [] ticket ∷ Collect_failed ∷ [] } in
       end_at setting inputs l (t ++ pair Request.Collect (HostAnswer.Failed HostFault.Collect) ∷ []) f (Load ∷ [])
-        (Host_ends HostFault.Collect (ticket ∷ []))
-        (step_at setting inputs l t (when_running ticket) (Load ∷ []) (pair Request.Collect (HostAnswer.Failed HostFault.Collect)) f (Load ∷ [])
-          goes (may_collect tool inputs o l.limits ticket) refl refl)
-        refl refl (λ world honest. tt)
+      (Host_ends HostFault.Collect (ticket ∷ []))
+      (step_at setting inputs l t (when_running ticket) (Load ∷ []) (pair Request.Collect (HostAnswer.Failed HostFault.Collect)) f (Load ∷ [])
+      goes (may_collect tool inputs o l.limits ticket) refl refl)
+      refl refl (λ world honest. tt)
 
   module _ (e : Ending) (goes : IsRunSoFar setting t (when_running e.ticket) (Load ∷ [])) where
     abbrev pub back : Pair
@@ -161,21 +161,21 @@ module _ (setting : Setting) (inputs : Fields) (l : IsLone setting inputs) (t : 
     comes_back ExitClass.Temporary is =
         let never : o.retries ≡ 0 = l.limits.retries in
         end_at setting inputs l (t ++ back ∷ []) gave_up (Load ∷ []) (Fails_for_now [])
-          (step_at setting inputs l t (when_running e.ticket) (Load ∷ []) back gave_up (Load ∷ [])
-            goes (may_collect tool inputs o l.limits e.ticket) (came_now is) (rw never refl))
-          refl (rw (eq-eqb e.ticket e.ticket refl, never) refl) (λ world honest. tt)
+        (step_at setting inputs l t (when_running e.ticket) (Load ∷ []) back gave_up (Load ∷ [])
+        goes (may_collect tool inputs o l.limits e.ticket) (came_now is) (rw never refl))
+        refl (rw (eq-eqb e.ticket e.ticket refl, never) refl) (λ world honest. tt)
     comes_back ExitClass.Permanent is =
         end_at setting inputs l (t ++ back ∷ []) broke (Load ∷ []) (Fails_for_good [] (Cause.Exit e.code))
-          (step_at setting inputs l t (when_running e.ticket) (Load ∷ []) back broke (Load ∷ [])
-            goes (may_collect tool inputs o l.limits e.ticket) (came_bad is) refl)
-          refl (rw (eq-eqb e.ticket e.ticket refl) refl)
-          (λ world honest. fails tool inputs world (honest.1.1.1.0 (job tool inputs o l.limits) refl))
+        (step_at setting inputs l t (when_running e.ticket) (Load ∷ []) back broke (Load ∷ [])
+        goes (may_collect tool inputs o l.limits e.ticket) (came_bad is) refl)
+        refl (rw (eq-eqb e.ticket e.ticket refl) refl)
+        (λ world honest. fails tool inputs world (honest.1.1.1.0 (job tool inputs o l.limits) refl))
 
   pub collected_one : (ticket : ℕ) (e : Ending) → Contains (ticket ∷ []) e.ticket → IsRunSoFar setting t (when_running ticket) (Load ∷ []) →
       Advances setting (t ++ pair Request.Collect (HostAnswer.Ended e) ∷ []) (after_exit o e.code)
   collected_one ticket e flying goes =
       let there : IsRunSoFar setting t (when_running e.ticket) (Load ∷ []) =
-          subst (λ (n : ℕ). IsRunSoFar setting t (when_running n) (Load ∷ [])) (only_ticket ticket e.ticket flying) goes
+      subst (λ (n : ℕ). IsRunSoFar setting t (when_running n) (Load ∷ [])) (only_ticket ticket e.ticket flying) goes
       in comes_back e there (class_of e.code) refl
 
   -- Scanning
@@ -188,9 +188,9 @@ module _ (setting : Setting) (inputs : Fields) (l : IsLone setting inputs) (t : 
     scan_fails fault =
         let f : So_far = record { work = Idle; events = Staged [] 1 ∷ Began [] ticket ∷ Came_back ticket ∷ Host_failed fault ∷ [] } in
         end_at setting inputs l (t ++ pair scan_request (HostAnswer.Failed fault) ∷ []) f (Load ∷ []) (Host_ends fault [])
-          (step_at setting inputs l t (when_back ticket) (Load ∷ []) (pair scan_request (HostAnswer.Failed fault)) f (Load ∷ [])
-            goes (may_scan tool inputs o l.limits ticket) refl refl)
-          refl (rw (eq-eqb ticket ticket refl) refl) (λ world honest. tt)
+        (step_at setting inputs l t (when_back ticket) (Load ∷ []) (pair scan_request (HostAnswer.Failed fault)) f (Load ∷ [])
+        goes (may_scan tool inputs o l.limits ticket) refl refl)
+        refl (rw (eq-eqb ticket ticket refl) refl) (λ world honest. tt)
 
     module _ (found : List Found) where
       abbrev pub scan : Pair
@@ -200,15 +200,15 @@ module _ (setting : Setting) (inputs : Fields) (l : IsLone setting inputs) (t : 
       scan_breaks cause is =
           let f : So_far = record { work = Idle; events = Staged [] 1 ∷ Began [] ticket ∷ Came_back ticket ∷ Broke [] cause ∷ [] } in
           end_at setting inputs l (t ++ scan ∷ []) f (Load ∷ []) (Fails_for_good [] cause)
-            (step_at setting inputs l t (when_back ticket) (Load ∷ []) scan f (Load ∷ [])
-              goes (may_scan tool inputs o l.limits ticket) (rw is refl) refl)
-            refl (rw (eq-eqb ticket ticket refl) refl)
-            (λ world honest. fails tool inputs world (honest.1.1.1.0 (job tool inputs o l.limits) refl))
+          (step_at setting inputs l t (when_back ticket) (Load ∷ []) scan f (Load ∷ [])
+          goes (may_scan tool inputs o l.limits ticket) (rw is refl) refl)
+          refl (rw (eq-eqb ticket ticket refl) refl)
+          (λ world honest. fails tool inputs world (honest.1.1.1.0 (job tool inputs o l.limits) refl))
 
       scanned : (named : Fields) → collected tool found ≡ Ok named → IsRunSoFar setting (t ++ scan ∷ []) (when_gathered ticket named) (Load ∷ [])
       scanned named is =
           step_at setting inputs l t (when_back ticket) (Load ∷ []) scan (when_gathered ticket named) (Load ∷ [])
-            goes (may_scan tool inputs o l.limits ticket) (rw is refl) refl
+          goes (may_scan tool inputs o l.limits ticket) (rw is refl) refl
 
       -- with files to deliver
       pub scan_delivers : (named outputs : Fields) (plan : StagePlan) → collected tool found ≡ Ok named →
@@ -232,10 +232,10 @@ module _ (setting : Setting) (inputs : Fields) (l : IsLone setting inputs) (t : 
       scan_ends named outputs is result none =
           let f : So_far = when_gathered ticket named in
           end_at setting inputs l (t ++ scan ∷ []) f (Load ∷ []) (Succeeds outputs) (scanned named is) refl
-            (ends_when (length (in_flight f.events) == 0) (settled (its_scene setting inputs) f.events) _ _
-              (rw (eq-eqb ticket ticket refl) refl) refl
-              (ap (result_end (its_scene setting inputs) f.events) result ∙ ap (delivered_end (its_scene setting inputs) f.events outputs) none))
-            (λ world honest. gives tool inputs world named outputs (honest.1.1.1.0 (job tool inputs o l.limits) refl) result)
+          (ends_when (length (in_flight f.events) == 0) (settled (its_scene setting inputs) f.events) _ _
+          (rw (eq-eqb ticket ticket refl) refl) refl
+          (ap (result_end (its_scene setting inputs) f.events) result ∙ ap (delivered_end (its_scene setting inputs) f.events outputs) none))
+          (λ world honest. gives tool inputs world named outputs (honest.1.1.1.0 (job tool inputs o l.limits) refl) result)
 
   -- Delivering
 
@@ -247,18 +247,18 @@ module _ (setting : Setting) (inputs : Fields) (l : IsLone setting inputs) (t : 
     delivers_well =
         let f : So_far = record { work = Idle; events = Staged [] 1 ∷ Began [] ticket ∷ Came_back ticket ∷ Succeeded [] named ∷ Delivered ∷ [] } in
         end_at setting inputs l (t ++ pair (Request.Deliver plan) HostAnswer.Done ∷ []) f (Load ∷ []) (Succeeds outputs)
-          (step_at setting inputs l t (when_gathered ticket named) (Load ∷ []) (pair (Request.Deliver plan) HostAnswer.Done) f (Load ∷ [])
-            goes (may_deliver tool inputs o l.limits ticket named outputs plan result delivery) refl refl)
-          refl
-          (ends_when (length (in_flight f.events) == 0) (settled (its_scene setting inputs) f.events) _ _
-            (rw (eq-eqb ticket ticket refl) refl) refl
-            (ap (result_end (its_scene setting inputs) f.events) result ∙ ap (delivered_end (its_scene setting inputs) f.events outputs) delivery))
-          (λ world honest. gives tool inputs world named outputs (honest.1.1.1.0 (job tool inputs o l.limits) refl) result)
+        (step_at setting inputs l t (when_gathered ticket named) (Load ∷ []) (pair (Request.Deliver plan) HostAnswer.Done) f (Load ∷ [])
+        goes (may_deliver tool inputs o l.limits ticket named outputs plan result delivery) refl refl)
+        refl
+        (ends_when (length (in_flight f.events) == 0) (settled (its_scene setting inputs) f.events) _ _
+        (rw (eq-eqb ticket ticket refl) refl) refl
+        (ap (result_end (its_scene setting inputs) f.events) result ∙ ap (delivered_end (its_scene setting inputs) f.events outputs) delivery))
+        (λ world honest. gives tool inputs world named outputs (honest.1.1.1.0 (job tool inputs o l.limits) refl) result)
 
     pub deliver_fails : (fault : HostFault) → Advances setting (t ++ pair (Request.Deliver plan) (HostAnswer.Failed fault) ∷ []) (host_fails fault [])
     deliver_fails fault =
         let f : So_far = record { work = Idle; events = Staged [] 1 ∷ Began [] ticket ∷ Came_back ticket ∷ Succeeded [] named ∷ Host_failed fault ∷ [] } in
         end_at setting inputs l (t ++ pair (Request.Deliver plan) (HostAnswer.Failed fault) ∷ []) f (Load ∷ []) (Host_ends fault [])
-          (step_at setting inputs l t (when_gathered ticket named) (Load ∷ []) (pair (Request.Deliver plan) (HostAnswer.Failed fault)) f (Load ∷ [])
-            goes (may_deliver tool inputs o l.limits ticket named outputs plan result delivery) refl refl)
-          refl (rw (eq-eqb ticket ticket refl) refl) (λ world honest. tt)
+        (step_at setting inputs l t (when_gathered ticket named) (Load ∷ []) (pair (Request.Deliver plan) (HostAnswer.Failed fault)) f (Load ∷ [])
+        goes (may_deliver tool inputs o l.limits ticket named outputs plan result delivery) refl refl)
+        refl (rw (eq-eqb ticket ticket refl) refl) (λ world honest. tt)

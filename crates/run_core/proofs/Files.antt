@@ -21,7 +21,7 @@ use Rattle.run_core.specs.Machine.{waits, fields, outputs_at, plan_to, delivers}
 pub file_is : (place at : Place) (found : Found) (name checksum : List ℕ) (secondary : List Value) → at ≡ place → name ≡ found.name →
     checksum ≡ codes "sha1$" ++ found.sum → secondary ≡ [] →
     value.FileVal (roll-FileVal (record { place = at; basename = Some name; checksum = Some checksum; size = Some found.size; contents = None; secondary = secondary }))
-      ≡ file_at place found
+    ≡ file_at place found
 file_is place at found name checksum secondary p n c s =
     sym (rolls-FileVal (roll-FileVal (record { place = at; basename = Some name; checksum = Some checksum; size = Some found.size; contents = None; secondary = secondary })))
     ∙ ap (λ (x : Place). roll-Value (Value-F.FileVal (roll-FileVal (record { place = x; basename = Some name; checksum = Some checksum; size = Some found.size; contents = None; secondary = secondary })))) p
@@ -37,6 +37,6 @@ delivers_is options outputs file target text location named plan t x l n p =
     let url : location ≡ location_of (target_of options.outdir file.name) = l ∙ ap location_of (x ∙ t) in
     ap (λ (v : Value). waits (Request.Deliver plan) (Phase.Delivering v)) (sym (rolls-Fields named))
     ∙ ap (λ (f : Fields). waits (Request.Deliver plan) (Phase.Delivering (fields f)))
-      (n ∙ ap (λ (u : Name). outputs_at outputs (Place.Url u) file) url)
+    (n ∙ ap (λ (u : Name). outputs_at outputs (Place.Url u) file) url)
     ∙ ap (λ (q : StagePlan). waits (Request.Deliver q) (Phase.Delivering (fields (outputs_at outputs (Place.Url (location_of (target_of options.outdir file.name))) file))))
-      (p ∙ ap (λ (u : Name). plan_to options.work outputs file u) t)
+    (p ∙ ap (λ (u : Name). plan_to options.work outputs file u) t)

@@ -40,7 +40,7 @@ pub file_moves : (move : Place → Place) (place : Place) (found : Found) → va
 file_moves move place found =
     fold-roll-Value Value DirVal FileVal roll-Value (dir_moved move) (file_moved move) (Value-F.FileVal (roll-FileVal (file_fields place found)))
     ∙ ap (λ f. roll-Value (Value-F.FileVal f))
-      (fold-roll-FileVal Value DirVal FileVal roll-Value (dir_moved move) (file_moved move) (file_fields place found))
+    (fold-roll-FileVal Value DirVal FileVal roll-Value (dir_moved move) (file_moved move) (file_fields place found))
 
 -- an output of each id, all with one value
 abbrev pub each_is : Value → List ToolOutput → Fields
@@ -68,7 +68,7 @@ value_among : (value : Value) (name : Name) (outputs : List ToolOutput) → has_
 value_among value name [] has = let never : false ≡ true = has in cc
 value_among value name (o ∷ outputs) has =
     pick (bytes_eq name o.id) (has_id name outputs) value (value_at name (each_is value outputs)) has
-      (λ later. value_among value name outputs later)
+    (λ later. value_among value name outputs later)
 
 abbrev AllIn : List ToolOutput → List ToolOutput → Type 0
 AllIn [] outputs = Unit {0}

@@ -63,7 +63,7 @@ module _ (setting : Setting) (inputs : Fields) (l : IsLone setting inputs) (t : 
       result_is : all_named (outs_of (map (λ output. output.id) tool.outputs) (Some (fields_made [] named))) ≡ Some outputs
       result_is =
           ap (λ (made : Fields). all_named (outs_of (map (λ output. output.id) tool.outputs) (Some made)))
-            (files_move (made_place []) (Place.Url file.name) file tool.outputs)
+          (files_move (made_place []) (Place.Url file.name) file tool.outputs)
           ∙ all_are (file_at (Place.Made [] file.name) file) tool.outputs
 
       abbrev plan_with : List Move → Fields → StagePlan
@@ -73,39 +73,39 @@ module _ (setting : Setting) (inputs : Fields) (l : IsLone setting inputs) (t : 
       plan_is =
           ap (λ (outs : List ToolOutput). delivery (number_at (when_gathered ticket named).events) o.work o.outdir (each_is (file_at (Place.Made [] file.name) file) outs)) some_outputs
           ∙ ap (λ (m : List Move). plan_with m (by_name (fields_moved (target_place o.outdir) (each_is (file_at (Place.Made [] file.name) file) (x ∷ xs)))))
-            (moves_are (number_at (when_gathered ticket named).events) o.work o.outdir file x xs)
+          (moves_are (number_at (when_gathered ticket named).events) o.work o.outdir file x xs)
           ∙ ap (λ (f : Fields). plan_with (the_move (number_at (when_gathered ticket named).events) o.work o.outdir file ∷ []) (by_name f))
-            (files_move (target_place o.outdir) (Place.Made [] file.name) file (x ∷ xs))
+          (files_move (target_place o.outdir) (Place.Made [] file.name) file (x ∷ xs))
           ∙ ap (λ (outs : List ToolOutput). plan_with (the_move (number_at (when_gathered ticket named).events) o.work o.outdir file ∷ []) (outputs_at outs (Place.Path target) file))
-            (sym some_outputs)
+          (sym some_outputs)
 
       value_is : located o.outdir outputs ≡ fields (outputs_at tool.outputs (Place.Url (location_of target)) file)
       value_is =
           ap (λ (f : Fields). roll-Value (Value-F.Fields (by_name f)))
-            (files_move (location_place o.outdir) (Place.Made [] file.name) file tool.outputs)
+          (files_move (location_place o.outdir) (Place.Made [] file.name) file tool.outputs)
 
       by_kind : (b : Bool) → file.is_dir ≡ b →
           Advances setting longer (cond b (fails_for_good (Cause.Collect (CollectFault.NotTyped x.id))) (delivers o tool.outputs file))
       by_kind true kind =
           scan_breaks setting inputs l t ticket goes found (Cause.Collect (CollectFault.NotTyped x.id))
-            (ap (outputs_from tool found) some_outputs ∙ folder_collected tool found file is x xs kind)
+          (ap (outputs_from tool found) some_outputs ∙ folder_collected tool found file is x xs kind)
       by_kind false kind =
           let whole : delivery_at (its_scene setting inputs) (when_gathered ticket named).events outputs ≡ Some plan = ap (if_any (its_scene setting inputs)) plan_is in
           let delivering_it : Advances setting longer (waits (Request.Deliver plan) (Phase.Delivering (located o.outdir outputs))) =
-              scan_delivers setting inputs l t ticket goes found named outputs plan
-                (file_collected tool found file is kind tool.outputs) result_is whole in
+          scan_delivers setting inputs l t ticket goes found named outputs plan
+          (file_collected tool found file is kind tool.outputs) result_is whole in
           subst (λ (v : Value). Advances setting longer (waits (Request.Deliver plan) (Phase.Delivering v))) value_is delivering_it
 
     by_found : (r : Option Found) → found_under (stream_name tool) found ≡ r → Advances setting longer (after_file o tool x.id r)
     by_found None is =
         scan_breaks setting inputs l t ticket goes found (Cause.Collect (CollectFault.NoMatch x.id))
-          (ap (outputs_from tool found) some_outputs ∙ none_collected tool found x xs is)
+        (ap (outputs_from tool found) some_outputs ∙ none_collected tool found x xs is)
     by_found (Some file) is = by_kind file is file.is_dir refl
 
   by_outputs : (outs : List ToolOutput) → tool.outputs ≡ outs → Advances setting longer (after_listing o tool found outs)
   by_outputs [] none =
       scan_ends setting inputs l t ticket goes found [] [] (ap (outputs_from tool found) none)
-        (ap (λ (outs : List ToolOutput). all_named (outs_of (map (λ output. output.id) outs) (Some []))) none) refl
+      (ap (λ (outs : List ToolOutput). all_named (outs_of (map (λ output. output.id) outs) (Some []))) none) refl
   by_outputs (x ∷ xs) some_outputs = by_found x xs some_outputs (found_under (stream_name tool) found) refl
 
   pub listed : Advances setting longer (after_scan setting found)

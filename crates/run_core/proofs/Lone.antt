@@ -31,7 +31,7 @@ pub scene_lone : (setting : Setting) (inputs : Fields) → inputs_for (tool_of s
     scene_of setting ≡ lone (tool_of setting.process) inputs setting.options
 scene_lone setting inputs fit =
     let walks : walker setting.process setting.inputs ≡ tool_walk (tool_of setting.process) [] (Ok inputs) =
-        walker_tool setting.process setting.inputs ∙ ap (λ r. tool_walk (tool_of setting.process) [] r) fit
+    walker_tool setting.process setting.inputs ∙ ap (λ r. tool_walk (tool_of setting.process) [] r) fit
     in ap (λ w. let scene : Scene = record { walker = w; options = setting.options } in scene) walks
 
 -- the only child has landed

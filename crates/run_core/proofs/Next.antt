@@ -46,7 +46,7 @@ module _ (setting : Setting) (t : List Pair) where
       Advances setting (with_pair Request.Collect (HostAnswer.Failed fault)) (host_fails fault (ticket ∷ []))
   lost_collect inputs l ticket fault is goes =
       subst (λ (h : HostFault). Advances setting (with_pair Request.Collect (HostAnswer.Failed h)) (host_fails h (ticket ∷ [])))
-        (sym is) (collect_fails setting inputs l t ticket goes)
+      (sym is) (collect_fails setting inputs l t ticket goes)
 
   pub advance : {f : So_far} {marks : List Mark} {state : State} (answer : HostAnswer) (next : State) → IsAt setting f marks state →
       IsRunSoFar setting t f marks → MayAnswer state.asks state.flying answer →
@@ -80,12 +80,12 @@ module _ (setting : Setting) (t : List Pair) where
   advance (HostAnswer.Ended e) next (scanning inputs ticket l) goes may follows = absurd may
   advance HostAnswer.Done next (delivering inputs ticket named outputs plan l result delivery) goes may follows =
       at_next _ _ next _ follows (delivers_well setting inputs l t ticket named outputs plan goes
-        (subst (λ (s : Scene). (unfolding_at s (when_gathered ticket named).events).result ≡ Some outputs) (same setting inputs l) result)
-        (subst (λ (s : Scene). delivery_at s (when_gathered ticket named).events outputs ≡ Some plan) (same setting inputs l) delivery))
+      (subst (λ (s : Scene). (unfolding_at s (when_gathered ticket named).events).result ≡ Some outputs) (same setting inputs l) result)
+      (subst (λ (s : Scene). delivery_at s (when_gathered ticket named).events outputs ≡ Some plan) (same setting inputs l) delivery))
   advance (HostAnswer.Failed fault) next (delivering inputs ticket named outputs plan l result delivery) goes may follows =
       at_next _ _ next _ follows (deliver_fails setting inputs l t ticket named outputs plan goes
-        (subst (λ (s : Scene). (unfolding_at s (when_gathered ticket named).events).result ≡ Some outputs) (same setting inputs l) result)
-        (subst (λ (s : Scene). delivery_at s (when_gathered ticket named).events outputs ≡ Some plan) (same setting inputs l) delivery) fault)
+      (subst (λ (s : Scene). (unfolding_at s (when_gathered ticket named).events).result ≡ Some outputs) (same setting inputs l) result)
+      (subst (λ (s : Scene). delivery_at s (when_gathered ticket named).events outputs ≡ Some plan) (same setting inputs l) delivery) fault)
   advance (HostAnswer.Started n) next (delivering inputs ticket named outputs plan l result delivery) goes may follows = absurd may
   advance (HostAnswer.Ended e) next (delivering inputs ticket named outputs plan l result delivery) goes may follows = absurd may
   advance (HostAnswer.Listed found) next (delivering inputs ticket named outputs plan l result delivery) goes may follows = absurd may
@@ -118,12 +118,12 @@ module _ (setting : Setting) (t : List Pair) where
   reach (HostAnswer.Ended e) (scanning inputs ticket l) goes may = absurd may
   reach HostAnswer.Done (delivering inputs ticket named outputs plan l result delivery) goes may =
       reaches setting _ _ (delivers_well setting inputs l t ticket named outputs plan goes
-        (subst (λ (s : Scene). (unfolding_at s (when_gathered ticket named).events).result ≡ Some outputs) (same setting inputs l) result)
-        (subst (λ (s : Scene). delivery_at s (when_gathered ticket named).events outputs ≡ Some plan) (same setting inputs l) delivery))
+      (subst (λ (s : Scene). (unfolding_at s (when_gathered ticket named).events).result ≡ Some outputs) (same setting inputs l) result)
+      (subst (λ (s : Scene). delivery_at s (when_gathered ticket named).events outputs ≡ Some plan) (same setting inputs l) delivery))
   reach (HostAnswer.Failed fault) (delivering inputs ticket named outputs plan l result delivery) goes may =
       reaches setting _ _ (deliver_fails setting inputs l t ticket named outputs plan goes
-        (subst (λ (s : Scene). (unfolding_at s (when_gathered ticket named).events).result ≡ Some outputs) (same setting inputs l) result)
-        (subst (λ (s : Scene). delivery_at s (when_gathered ticket named).events outputs ≡ Some plan) (same setting inputs l) delivery) fault)
+      (subst (λ (s : Scene). (unfolding_at s (when_gathered ticket named).events).result ≡ Some outputs) (same setting inputs l) result)
+      (subst (λ (s : Scene). delivery_at s (when_gathered ticket named).events outputs ≡ Some plan) (same setting inputs l) delivery) fault)
   reach (HostAnswer.Started n) (delivering inputs ticket named outputs plan l result delivery) goes may = absurd may
   reach (HostAnswer.Ended e) (delivering inputs ticket named outputs plan l result delivery) goes may = absurd may
   reach (HostAnswer.Listed found) (delivering inputs ticket named outputs plan l result delivery) goes may = absurd may

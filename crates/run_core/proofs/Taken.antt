@@ -91,7 +91,7 @@ module _ (setting : Setting) where
   concludes t result (ended f marks end has) goes is =
       let same : report_of setting.options end ≡ result = cc in
       subst (λ (r : Result Report RunFault). Concludes setting t r) same
-        (whole end (record { happened = f; marks = marks; goes = goes; idle = has.idle; ended = has.ended }) has.right)
+      (whole end (record { happened = f; marks = marks; goes = goes; idle = has.idle; ended = has.ended }) has.right)
   concludes t result (lost f marks) goes is =
       let same : Err RunFault.OutOfMemory ≡ result = cc in
       subst (λ (r : Result Report RunFault). Concludes setting t r) same (memory_lost f marks goes)
@@ -162,7 +162,7 @@ module _ (setting : Setting) where
   step_leaves (HostAnswer.Listed found) next (starting inputs launch l is) may follows = absurd may
   step_leaves (HostAnswer.Ended e) next (running inputs ticket l) may follows =
       at_known _ _ next _ follows (leaves_class setting.options e.code (class_of e.code) (without e.ticket (ticket ∷ []))
-        (none_left ticket e.ticket (only_ticket ticket e.ticket may)))
+      (none_left ticket e.ticket (only_ticket ticket e.ticket may)))
   step_leaves (HostAnswer.Failed fault) next (running inputs ticket l) may follows = at_known _ _ next _ follows (leaves_fault 3 (ticket ∷ []) fault (ticket ∷ []) (lit< tt))
   step_leaves HostAnswer.Done next (running inputs ticket l) may follows = absurd may
   step_leaves (HostAnswer.Started n) next (running inputs ticket l) may follows = absurd may
@@ -194,7 +194,7 @@ module _ (core : RunCore) (answer : HostAnswer) (pairs : Vec Pair Global) (state
       Stands (core_with core pairs state)
   stands_next follows room =
       let a : Advances core.setting (core.pairs.items ++ pair core.state.asks answer ∷ []) state =
-          advance core.setting core.pairs.items answer state stands.at stands.goes may follows in
+      advance core.setting core.pairs.items answer state stands.at stands.goes may follows in
       record {
         happened = a.happened;
         marks = a.marks;
@@ -207,7 +207,7 @@ module _ (core : RunCore) (answer : HostAnswer) (pairs : Vec Pair Global) (state
   stands_lost is =
       let r = reach core.setting core.pairs.items answer stands.at stands.goes may in
       let none : (some : 0 < steps_in state.phase) → vec_len pairs < vec_capacity pairs =
-          λ some. let never : 0 < 0 = subst (λ (st : State). 0 < steps_in st.phase) is some in absurd (omega arith) in
+      λ some. let never : 0 < 0 = subst (λ (st : State). 0 < steps_in st.phase) is some in absurd (omega arith) in
       record {
         happened = r.happened;
         marks = r.marks;
@@ -237,7 +237,7 @@ module _ (core : RunCore) (limits : IsWithinLimits core.setting.options) (empty 
   begins_well fits is =
       let l : IsLone core.setting its_inputs = record { fit = ap (λ (r : Option ToolInput). unless_misfit r its_inputs) fits; limits = limits } in
       let plans : Replans (scene_of core.setting) (Loads_what_is_held (scene_of core.setting)) at_first [] (Compute ∷ []) =
-          subst (λ (x : Scene). Replans x (Loads_what_is_held x) at_first [] (Compute ∷ [])) (sym (same core.setting its_inputs l)) refl in
+      subst (λ (x : Scene). Replans x (Loads_what_is_held x) at_first [] (Compute ∷ [])) (sym (same core.setting its_inputs l)) refl in
       record {
         stands = record {
           happened = at_first;
@@ -256,13 +256,13 @@ module _ (core : RunCore) (limits : IsWithinLimits core.setting.options) (empty 
       Begins core.setting.process core.setting.inputs core.setting.options core
   begins_badly input bad is =
       let walks : walker core.setting.process core.setting.inputs ≡ tool_walk (tool_of core.setting.process) [] (Err (Cause.Kind input.id)) =
-          scene_is (Err (Cause.Kind input.id)) (ap (λ (r : Option ToolInput). unless_misfit r its_inputs) bad) in
+      scene_is (Err (Cause.Kind input.id)) (ap (λ (r : Option ToolInput). unless_misfit r its_inputs) bad) in
       let scene : scene_of core.setting ≡ refused_scene core.setting input =
-          ap (λ w. let s : Scene = record { walker = w; options = core.setting.options } in s) walks in
+      ap (λ w. let s : Scene = record { walker = w; options = core.setting.options } in s) walks in
       let plans : Replans (scene_of core.setting) (Loads_what_is_held (scene_of core.setting)) at_first [] [] =
-          subst (λ (x : Scene). Replans x (Loads_what_is_held x) at_first [] []) (sym scene) refl in
+      subst (λ (x : Scene). Replans x (Loads_what_is_held x) at_first [] []) (sym scene) refl in
       let ended_so : end_of (scene_of core.setting) [] ≡ Some (Fails_for_good [] (Cause.Kind input.id)) =
-          subst (λ (x : Scene). end_of x [] ≡ Some (Fails_for_good [] (Cause.Kind input.id))) (sym scene) refl in
+      subst (λ (x : Scene). end_of x [] ≡ Some (Fails_for_good [] (Cause.Kind input.id))) (sym scene) refl in
       record {
         stands = record {
           happened = at_first;
@@ -270,7 +270,7 @@ module _ (core : RunCore) (limits : IsWithinLimits core.setting.options) (empty 
           goes = subst (λ (t : List Pair). IsRunSoFar core.setting t at_first []) (sym empty) (begins [] plans);
           at = subst (λ (st : State). IsAt core.setting at_first [] st) (sym is)
               (ended at_first [] (Fails_for_good [] (Cause.Kind input.id))
-                (record { idle = refl; ended = ended_so; right = λ world honest. ap (λ w. eval_by world w) walks }));
+              (record { idle = refl; ended = ended_so; right = λ world honest. ap (λ w. eval_by world w) walks }));
           room = λ some. room;
         };
         setting = refl;

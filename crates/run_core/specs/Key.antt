@@ -16,4 +16,4 @@ Key = List ℕ
 abbrev pub key : Tool → Fields → Key
 key tool inputs =
     codes "{\"env\":[],\"inputs\":" ++ compact_text (json_of (erased (roll-Value (Value-F.Fields inputs))))
-        ++ codes ",\"tool\":" ++ tool.written ++ codes "}"
+    ++ codes ",\"tool\":" ++ tool.written ++ codes "}"

@@ -22,3 +22,4 @@ pub mod Machine
 pub mod Limits
 pub mod Standing
 pub mod Core
+pub mod Codes

@@ -60,7 +60,7 @@ start_with inputs (Some input) = fails_for_good (Cause.Kind input.id)
 abbrev pub at_start : Setting → State
 at_start setting =
     start_with (named_inputs (tool_of setting.process).inputs setting.inputs)
-        (find (is_misfit setting.inputs) (tool_of setting.process).inputs)
+    (find (is_misfit setting.inputs) (tool_of setting.process).inputs)
 
 abbrev pub starts : Launch → State
 starts launch = waits (Request.Start [] launch) Phase.Starting
@@ -100,7 +100,7 @@ plan_to work outputs found target = record {
 abbrev pub delivers : Options → List ToolOutput → Found → State
 delivers options outputs found =
     waits (Request.Deliver (plan_to options.work outputs found (target_of options.outdir found.name)))
-      (Phase.Delivering (fields (outputs_at outputs (Place.Url (location_of (target_of options.outdir found.name))) found)))
+    (Phase.Delivering (fields (outputs_at outputs (Place.Url (location_of (target_of options.outdir found.name))) found)))
 
 abbrev pub after_file : Options → Tool → Name → Option Found → State
 after_file options tool id None = fails_for_good (Cause.Collect (CollectFault.NoMatch id))

@@ -59,7 +59,7 @@ pub data IsAt (setting : Setting) : So_far → List Mark → State → Type 0 wh
       (unfolding_at (scene_of setting) (when_gathered ticket named).events).result ≡ Some outputs →
       delivery_at (scene_of setting) (when_gathered ticket named).events outputs ≡ Some plan →
       IsAt setting (when_gathered ticket named) (Load ∷ [])
-        (waits (Request.Deliver plan) (Phase.Delivering (located setting.options.outdir outputs)))
+      (waits (Request.Deliver plan) (Phase.Delivering (located setting.options.outdir outputs)))
   ended : (f : So_far) (marks : List Mark) (end : End) → HasEnded setting f end →
       IsAt setting f marks (ends (report_of setting.options end))
   lost : (f : So_far) (marks : List Mark) → IsAt setting f marks (ends (Err RunFault.OutOfMemory))

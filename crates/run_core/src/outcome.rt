@@ -1,3 +1,6 @@
+ghost use Rattle.std.specs.Prelude.{◌≡◌};
+ghost use Rattle.run_core.specs.Codes.{code_of};
+
 use command_line::BuildFault;
 use cwl_value::{JobPlace, Value};
 use plain_data::{Items, Text};
@@ -27,7 +30,9 @@ pub enum CollectFault {
 
 impl CollectFault {
     /// The refusal's short name, which no other refusal has.
-    pub fn code(&self) -> &'static str {
+    pub fn code(&self) -> &'static str
+        ensures { result.now ≡ code_of self.now }
+    {
         match self {
             CollectFault::NoMatch(_) => "G2",
             CollectFault::NotTyped(_) => "G5",
@@ -78,6 +83,7 @@ pub enum RunFault {
 impl From<std::alloc::AllocError> for RunFault {
     ghost use Rattle.run_core.specs.declared.outcome.RunFault.TheVariants.{OutOfMemory};
     ghost use Rattle.std.specs.Prelude.{◌≡◌};
+
     ghost from_gives = { λ _ fault. fault ≡ OutOfMemory };
 
     fn from(_error: std::alloc::AllocError) -> RunFault {

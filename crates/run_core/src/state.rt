@@ -69,7 +69,10 @@ pub(crate) fn ended(alloc: Global, result_now: Result<Report, RunFault>) -> Stat
 pub(crate) fn failed_for_good(alloc: Global, cause: Cause) -> State
     ensures { result ≡ fails_for_good cause }
 {
-    ended(alloc, reported(alloc, Outcome::PermanentFail(Items::new(alloc), cause)))
+    ended(
+        alloc,
+        reported(alloc, Outcome::PermanentFail(Items::new(alloc), cause)),
+    )
 }
 
 /// A call of the host's failed, and nobody waits for these children any more.

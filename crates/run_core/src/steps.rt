@@ -47,11 +47,7 @@ pub(crate) fn begun(alloc: Global, setting: &Setting) -> Result<State, AllocErro
 }
 
 /// The job's folders stand: it is started, unless it has no launch.
-fn launched(
-    alloc: Global,
-    setting: &Setting,
-    inputs: &Keyed<Value>,
-) -> Result<State, AllocError>
+fn launched(alloc: Global, setting: &Setting, inputs: &Keyed<Value>) -> Result<State, AllocError>
     ensures { IfOk result (λ state. Launches setting.now inputs.now state) }
 {
     let tool = tool_of(&setting.process);
@@ -82,7 +78,10 @@ fn judged(alloc: Global, setting: &Setting, ending: &Ending) -> Result<State, Al
 {
     match exit_class(ending.code) {
         ExitClass::Success => Ok(State {
-            asks: Request::Scan(Items::new(alloc), out_folder(alloc, &setting.options.work, 1)?),
+            asks: Request::Scan(
+                Items::new(alloc),
+                out_folder(alloc, &setting.options.work, 1)?,
+            ),
             phase: Phase::Scanning,
             flying: Items::new(alloc),
         }),

@@ -31,7 +31,11 @@ fn are_digits(bytes: &[u8]) -> bool
 pub(crate) fn target_of(alloc: Global, outdir: &Text, name: &Text) -> Result<Text, AllocError>
     ensures { IfOk result (λ target. target ≡ target_of outdir.now name.now) }
 {
-    let between = if is_reserved(name.as_str()) { "/_1/" } else { "/" };
+    let between = if is_reserved(name.as_str()) {
+        "/_1/"
+    } else {
+        "/"
+    };
     let outdir = outdir.as_str();
     let name = name.as_str();
     Ok(Text::from_string(format!(in alloc; "{outdir}{between}{name}")?))

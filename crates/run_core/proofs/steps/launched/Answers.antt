@@ -11,14 +11,14 @@ use Rattle.run_core.proofs.steps.launched.Goals as goal
 pub returns-in-Ok : goal.returns-in-Ok
 returns-in-Ok c =
     subst (λ (s : State). Launches c.args.setting.now c.args.inputs.now s) (sym c.starting.ensures)
-      (has_launch c.in-Ok.launch
-        (subst (λ (t : Tool). IsLaunch t c.args.inputs.now (runtime_of c.args.setting.now.options 1) c.in-Ok.launch) c.tool_of-tool.ensures
-          (subst (λ (r : Runtime). IsLaunch c.tool_of-tool.result.now c.args.inputs.now r c.in-Ok.launch) c.in_ok-runtime.ensures c.in-Ok.ensures.launch)))
+    (has_launch c.in-Ok.launch
+    (subst (λ (t : Tool). IsLaunch t c.args.inputs.now (runtime_of c.args.setting.now.options 1) c.in-Ok.launch) c.tool_of-tool.ensures
+    (subst (λ (r : Runtime). IsLaunch c.tool_of-tool.result.now c.args.inputs.now r c.in-Ok.launch) c.in_ok-runtime.ensures c.in-Ok.ensures.launch)))
 
 pub returns-in-Err-Refused : goal.returns-in-Err-Refused
 returns-in-Err-Refused c =
     subst (λ (s : State). Launches c.args.setting.now c.args.inputs.now s) (sym c.failed_for_good.ensures)
-      (has_none c.in-Err-Refused.fault
-        (subst (λ (t : Tool). IsRefused t c.args.inputs.now (runtime_of c.args.setting.now.options 1) c.in-Err-Refused.fault) c.tool_of-tool.ensures
-          (subst (λ (r : Runtime). IsRefused c.tool_of-tool.result.now c.args.inputs.now r c.in-Err-Refused.fault) c.in_ok-runtime.ensures
-            (subst (λ (e : BuildError). IsError c.tool_of-tool.result.now c.args.inputs.now c.in_ok-runtime.runtime e) c.in-Err-Refused.field-0-is c.in-Err-Refused.ensures.refused))))
+    (has_none c.in-Err-Refused.fault
+    (subst (λ (t : Tool). IsRefused t c.args.inputs.now (runtime_of c.args.setting.now.options 1) c.in-Err-Refused.fault) c.tool_of-tool.ensures
+    (subst (λ (r : Runtime). IsRefused c.tool_of-tool.result.now c.args.inputs.now r c.in-Err-Refused.fault) c.in_ok-runtime.ensures
+    (subst (λ (e : BuildError). IsError c.tool_of-tool.result.now c.args.inputs.now c.in_ok-runtime.runtime e) c.in-Err-Refused.field-0-is c.in-Err-Refused.ensures.refused))))

@@ -18,8 +18,8 @@ add-requires c = c.requires.stands.room (still_asks c.args.self.now.setting c.ar
 pub returns-in_err-next-clause-stands : goal.returns-in_err-next-clause-stands
 returns-in_err-next-clause-stands c =
     stands_lost c.args.self.now c.args.answer c.add.new.pairs c.replace-state.new.dest c.requires.stands c.requires.answers
-      (c.add.ensures ∙ ap (λ (s : State). c.args.self.now.pairs.items ++ pair s.asks c.args.answer ∷ []) c.replace-state.ensures.value)
-      (c.replace-state.ensures.after ∙ c.ended-lost.ensures)
+    (c.add.ensures ∙ ap (λ (s : State). c.args.self.now.pairs.items ++ pair s.asks c.args.answer ∷ []) c.replace-state.ensures.value)
+    (c.replace-state.ensures.after ∙ c.ended-lost.ensures)
 
 pub returns-in_err-next-clause-entries : goal.returns-in_err-next-clause-entries
 returns-in_err-next-clause-entries c =
@@ -29,13 +29,13 @@ returns-in_err-next-clause-entries c =
 pub returns-in_err-next-clause-steps : goal.returns-in_err-next-clause-steps
 returns-in_err-next-clause-steps c =
     subst (λ (s : State). steps_in s.phase < steps_in c.args.self.now.state.phase) (sym (c.replace-state.ensures.after ∙ c.ended-lost.ensures))
-      (still_asks c.args.self.now.setting c.args.answer c.requires.stands.at c.requires.answers)
+    (still_asks c.args.self.now.setting c.args.answer c.requires.stands.at c.requires.answers)
 
 pub returns-in_err-make_room-clause-stands : goal.returns-in_err-make_room-clause-stands
 returns-in_err-make_room-clause-stands c =
     stands_lost c.args.self.now c.args.answer c.make_room.new.pairs c.replace-state.new.dest c.requires.stands c.requires.answers
-      (c.make_room.ensures.items ∙ c.add.ensures ∙ ap (λ (s : State). c.args.self.now.pairs.items ++ pair s.asks c.args.answer ∷ []) c.replace-state.ensures.value)
-      (c.replace-state.ensures.after ∙ c.ended-lost.ensures)
+    (c.make_room.ensures.items ∙ c.add.ensures ∙ ap (λ (s : State). c.args.self.now.pairs.items ++ pair s.asks c.args.answer ∷ []) c.replace-state.ensures.value)
+    (c.replace-state.ensures.after ∙ c.ended-lost.ensures)
 
 pub returns-in_err-make_room-clause-entries : goal.returns-in_err-make_room-clause-entries
 returns-in_err-make_room-clause-entries c =
@@ -45,14 +45,14 @@ returns-in_err-make_room-clause-entries c =
 pub returns-in_err-make_room-clause-steps : goal.returns-in_err-make_room-clause-steps
 returns-in_err-make_room-clause-steps c =
     subst (λ (s : State). steps_in s.phase < steps_in c.args.self.now.state.phase) (sym (c.replace-state.ensures.after ∙ c.ended-lost.ensures))
-      (still_asks c.args.self.now.setting c.args.answer c.requires.stands.at c.requires.answers)
+    (still_asks c.args.self.now.setting c.args.answer c.requires.stands.at c.requires.answers)
 
 pub returns-clause-stands : goal.returns-clause-stands
 returns-clause-stands c =
     stands_next c.args.self.now c.args.answer c.make_room.new.pairs c.in_ok-next.next c.requires.stands c.requires.answers
-      (c.make_room.ensures.items ∙ c.add.ensures ∙ ap (λ (s : State). c.args.self.now.pairs.items ++ pair s.asks c.args.answer ∷ []) c.replace-state.ensures.value)
-      (subst (λ (s : State). FollowsFrom c.args.self.now.setting s.asks s.flying s.phase c.args.answer c.in_ok-next.next) c.replace-state.ensures.value c.in_ok-next.ensures)
-      c.in_ok-make_room.ensures.room
+    (c.make_room.ensures.items ∙ c.add.ensures ∙ ap (λ (s : State). c.args.self.now.pairs.items ++ pair s.asks c.args.answer ∷ []) c.replace-state.ensures.value)
+    (subst (λ (s : State). FollowsFrom c.args.self.now.setting s.asks s.flying s.phase c.args.answer c.in_ok-next.next) c.replace-state.ensures.value c.in_ok-next.ensures)
+    c.in_ok-make_room.ensures.room
 
 pub returns-clause-entries : goal.returns-clause-entries
 returns-clause-entries c =
@@ -62,14 +62,14 @@ returns-clause-entries c =
 pub returns-clause-flying : goal.returns-clause-flying
 returns-clause-flying c =
     (step_leaves c.args.self.now.setting c.args.answer c.in_ok-next.next c.requires.stands.at c.requires.answers
-      (subst (λ (s : State). FollowsFrom c.args.self.now.setting s.asks s.flying s.phase c.args.answer c.in_ok-next.next) c.replace-state.ensures.value c.in_ok-next.ensures)).flies
+    (subst (λ (s : State). FollowsFrom c.args.self.now.setting s.asks s.flying s.phase c.args.answer c.in_ok-next.next) c.replace-state.ensures.value c.in_ok-next.ensures)).flies
 
 pub returns-clause-steps : goal.returns-clause-steps
 returns-clause-steps c =
     (step_leaves c.args.self.now.setting c.args.answer c.in_ok-next.next c.requires.stands.at c.requires.answers
-      (subst (λ (s : State). FollowsFrom c.args.self.now.setting s.asks s.flying s.phase c.args.answer c.in_ok-next.next) c.replace-state.ensures.value c.in_ok-next.ensures)).falls
+    (subst (λ (s : State). FollowsFrom c.args.self.now.setting s.asks s.flying s.phase c.args.answer c.in_ok-next.next) c.replace-state.ensures.value c.in_ok-next.ensures)).falls
 
 pub returns-clause-ok : goal.returns-clause-ok
 returns-clause-ok c =
     (step_leaves c.args.self.now.setting c.args.answer c.in_ok-next.next c.requires.stands.at c.requires.answers
-      (subst (λ (s : State). FollowsFrom c.args.self.now.setting s.asks s.flying s.phase c.args.answer c.in_ok-next.next) c.replace-state.ensures.value c.in_ok-next.ensures)).not_lost
+    (subst (λ (s : State). FollowsFrom c.args.self.now.setting s.asks s.flying s.phase c.args.answer c.in_ok-next.next) c.replace-state.ensures.value c.in_ok-next.ensures)).not_lost
