@@ -1,2 +1,13 @@
-//! To be written.
+//! Runs a process on a host: the one loop between the machine that asks and the world that answers.
+//!
+//! `run` asks the host what a `RunCore` asks, until it asks nothing more. So what the host's log gained is a run
+//! of the process, without the places of its jobs, and what is answered is what that run comes to
+//! (`run_core`'s `GainsRun`): its end, and where the run is honest in a world, the value of the process there.
+//! Whatever is answered, no child runs on under a ticket of the run.
 #![tactic(auto)]
+
+mod ask;
+mod drive;
+mod tickets;
+
+pub use drive::run;

@@ -1,0 +1,40 @@
+use clap::{Arg, ArgAction, ArgMatches, Command, Error};
+use std::alloc::Global;
+
+/// What the words ask for.
+pub enum Choice<'a> {
+    /// Run the worked example over a scripted host.
+    Demo,
+    /// Check the certificate in this file.
+    Check(&'a str),
+}
+
+fn command<'a>(alloc: Global) -> Result<Command<'a>, Error> {
+    let demo = Command::new(alloc, "demo").about("Runs a small tool over a scripted host");
+    let file = Arg::new(alloc, "CERTIFICATE")
+        .required(true)
+        .action(ArgAction::Set)
+        .help("The certificate's file");
+    let check = Command::new(alloc, "check")
+        .about("Says whether a certificate shows its plan to be a cheapest one")
+        .arg(file)?;
+    let whole = Command::new(alloc, "cwl_main")
+        .about("Runs documents of the Common Workflow Language")
+        .subcommand_required(true)
+        .subcommand(demo)?
+        .subcommand(check)?;
+    Ok(whole)
+}
+
+/// Reads the command line. An `Err` has the text for the user: help, or what is wrong.
+pub fn choice_of<'a>(alloc: Global, words: &'a [String]) -> Result<Choice<'a>, Error> {
+    let matches = command(alloc)?.try_get_matches_from(words)?;
+    Ok(chosen(&matches))
+}
+
+fn chosen<'a>(matches: &ArgMatches<'a>) -> Choice<'a> {
+    match matches.subcommand() {
+        Some(("check", words)) => Choice::Check(words.get_str("CERTIFICATE").unwrap_or("")),
+        _ => Choice::Demo,
+    }
+}

@@ -1,0 +1,188 @@
+ghost use Rattle.std.specs.Prelude.{◌≡◌, [], IfOk};
+ghost use Rattle.run_core.specs.Limits.{IsWithinLimits};
+
+use cwl_document::{Process, read_process};
+use cwl_value::{Value, canonical_text, read_value};
+use plain_data::{Items, Text};
+use proc_host::{Ending, Found, HostAnswer, HostFault, HostRequest, Reply, Scripted};
+use run_core::{Cause, Options, Outcome, Report, RunFault};
+use std::alloc::{AllocError, Global};
+use std::test::Fail;
+use workflow_engine::run;
+
+const HELLO: &str =
+    "{\"cwlVersion\":\"v1.2\",\"class\":\"CommandLineTool\",\"baseCommand\":\"printf\",\"stdout\":\"out.txt\",\"inputs\":{\"t\":{\"type\":\"string\",\"inputBinding\":{\"position\":1}}},\"outputs\":{\"out\":\"stdout\"}}";
+
+// What `hello` prints, by the standard's rules for a File.
+const HELLO_OUTPUT: &str =
+    "{\"out\":{\"basename\":\"out.txt\",\"checksum\":\"sha1$a9993e364706816aba3e25717850c26c9cd0d89d\",\"class\":\"File\",\"location\":\"file:///out/out.txt\",\"nameext\":\".txt\",\"nameroot\":\"out\",\"size\":3}}";
+
+fn process(alloc: Global) -> Result<Process, Fail> {
+    match read_process(alloc, HELLO.as_bytes()) {
+        Ok(process) => Ok(process),
+        Err(refusal) => Err(Fail::from(refusal.code())),
+    }
+}
+
+fn options(alloc: Global) -> Result<Options, AllocError>
+    ensures { IfOk result IsWithinLimits }
+{
+    Ok(Options {
+        work: Text::from_text(alloc, "w")?,
+        outdir: Text::from_text(alloc, "/out")?,
+        path_env: Text::from_text(alloc, "/bin")?,
+        slots: 1,
+        retries: 0,
+        base: 1,
+        rate: 100_000,
+        keep: false,
+    })
+}
+
+// The stream's file with the three bytes `abc` (its sum: FIPS 180-4).
+fn found(alloc: Global) -> Result<Items<Found>, AllocError> {
+    let mut found = Items::new(alloc);
+    found.push(Found {
+        name: Text::from_text(alloc, "out.txt")?,
+        is_dir: false,
+        size: 3,
+        sum: Text::from_text(alloc, "a9993e364706816aba3e25717850c26c9cd0d89d")?,
+    })?;
+    Ok(found)
+}
+
+fn ended(code: Option<i32>) -> Reply {
+    Reply::Collect(Ending {
+        ticket: 1,
+        code,
+        millis: 1000,
+    })
+}
+
+// The first of these replies: stage, start, an end with this code, scan, deliver.
+fn replies(alloc: Global, code: Option<i32>, count: usize) -> Result<Items<Reply>, AllocError> {
+    let mut script = Items::new(alloc);
+    if count > 0 {
+        script.push(Reply::Stage)?;
+    }
+    if count > 1 {
+        script.push(Reply::Start)?;
+    }
+    if count > 2 {
+        script.push(ended(code))?;
+    }
+    if count > 3 {
+        script.push(Reply::Scan(found(alloc)?))?;
+    }
+    if count > 4 {
+        script.push(Reply::Deliver)?;
+    }
+    Ok(script)
+}
+
+// `hello` on these inputs over this script.
+fn hello(alloc: Global, inputs: &str, host: &mut Scripted) -> Result<Result<Report, RunFault>, Fail>
+    requires { host.old.running ≡ [] }
+{
+    let Ok(Value::Fields(inputs)) = read_value(alloc, inputs.as_bytes()) else {
+        return Err(Fail::from("inputs"));
+    };
+    Ok(run(alloc, host, process(alloc)?, inputs, options(alloc)?))
+}
+
+#[test]
+fn hello_succeeds(rt: HostRuntime) -> Result<(), Fail> {
+    let alloc = rt.alloc();
+    let mut host = Scripted::new(alloc, replies(alloc, Some(0), 5)?, 0);
+    let Ok(report) = hello(alloc, "{\"t\":\"abc\"}", &mut host)? else {
+        return Err(Fail::from("no report"));
+    };
+    let Outcome::Success(outputs) = &report.outcome else {
+        return Err(Fail::from("no success"));
+    };
+    assert_eq!(rt; canonical_text(alloc, outputs)?.as_str(), HELLO_OUTPUT);
+    assert!(rt; report.plans.is_empty());
+    assert!(rt; report.notes.is_empty());
+    assert_eq!(rt; host.log().len(), 5);
+    assert!(rt; host.running().is_empty());
+    let second = host.log().get(1).ok_or("no second entry")?;
+    let HostRequest::Start(launch) = &second.request else {
+        return Err(Fail::from("no start"));
+    };
+    assert_eq!(rt; launch.words.len(), 2);
+    assert_eq!(rt; launch.words.get(0).ok_or("no word")?.as_str(), "printf");
+    assert_eq!(rt; launch.words.get(1).ok_or("no word")?.as_str(), "abc");
+    assert!(rt; matches!(second.answer, HostAnswer::Started(1)));
+    Ok(())
+}
+
+#[test]
+fn an_input_left_out_fails_with_nothing_asked(rt: HostRuntime) -> Result<(), Fail> {
+    let alloc = rt.alloc();
+    let mut host = Scripted::new(alloc, replies(alloc, Some(0), 5)?, 0);
+    let Ok(report) = hello(alloc, "{}", &mut host)? else {
+        return Err(Fail::from("no report"));
+    };
+    let Outcome::PermanentFail(place, Cause::Kind(input)) = &report.outcome else {
+        return Err(Fail::from("another outcome"));
+    };
+    assert!(rt; place.is_empty());
+    assert_eq!(rt; input.as_str(), "t");
+    assert!(rt; host.log().is_empty());
+    Ok(())
+}
+
+#[test]
+fn a_collect_that_fails_leaves_its_ticket(rt: HostRuntime) -> Result<(), Fail> {
+    let alloc = rt.alloc();
+    let mut host = Scripted::new(alloc, replies(alloc, Some(0), 2)?, 0);
+    let Err(RunFault::Host(fault, running)) = hello(alloc, "{\"t\":\"abc\"}", &mut host)? else {
+        return Err(Fail::from("no host fault"));
+    };
+    assert_eq!(rt; fault, HostFault::Collect);
+    assert_eq!(rt; running.as_slice(), [1].as_slice());
+    assert!(rt; host.running().is_empty());
+    Ok(())
+}
+
+#[test]
+fn a_start_that_fails_is_the_hosts_fault(rt: HostRuntime) -> Result<(), Fail> {
+    let alloc = rt.alloc();
+    let mut host = Scripted::new(alloc, replies(alloc, Some(0), 1)?, 0);
+    let Err(RunFault::Host(fault, running)) = hello(alloc, "{\"t\":\"abc\"}", &mut host)? else {
+        return Err(Fail::from("no host fault"));
+    };
+    assert_eq!(rt; fault, HostFault::Start);
+    assert!(rt; running.is_empty());
+    Ok(())
+}
+
+#[test]
+fn a_child_that_exits_with_one_fails_for_good(rt: HostRuntime) -> Result<(), Fail> {
+    let alloc = rt.alloc();
+    let mut host = Scripted::new(alloc, replies(alloc, Some(1), 5)?, 0);
+    let Ok(report) = hello(alloc, "{\"t\":\"abc\"}", &mut host)? else {
+        return Err(Fail::from("no report"));
+    };
+    let Outcome::PermanentFail(place, Cause::Exit(code)) = &report.outcome else {
+        return Err(Fail::from("another outcome"));
+    };
+    assert!(rt; place.is_empty());
+    assert_eq!(rt; *code, Some(1));
+    assert_eq!(rt; host.log().len(), 3);
+    Ok(())
+}
+
+#[test]
+fn a_child_that_a_signal_ended_fails_for_now(rt: HostRuntime) -> Result<(), Fail> {
+    let alloc = rt.alloc();
+    let mut host = Scripted::new(alloc, replies(alloc, None, 5)?, 0);
+    let Ok(report) = hello(alloc, "{\"t\":\"abc\"}", &mut host)? else {
+        return Err(Fail::from("no report"));
+    };
+    let Outcome::TemporaryFail(place) = &report.outcome else {
+        return Err(Fail::from("another outcome"));
+    };
+    assert!(rt; place.is_empty());
+    Ok(())
+}

@@ -1,0 +1,15 @@
+use Rattle.std.proofs.Common.{◌≡◌, [], ◌++◌, Err, sym, append-nil, subst, Result, ◌∙◌}
+use Rattle.run_core.specs.declared.outcome.Report.{Report}
+use Rattle.run_core.specs.declared.outcome.RunFault.{RunFault}
+use Rattle.workflow_engine.specs.Gains.{RunsOn}
+use Rattle.workflow_engine.proofs.Nothing.{nothing_asked, err_is}
+use Rattle.workflow_engine.proofs.drive.run.Goals as goal
+
+pub returns-in_err-core-clause-run : goal.returns-in_err-core-clause-run
+returns-in_err-core-clause-run g c =
+    let none : c.from_residual.result ≡ Err RunFault.OutOfMemory = err_is c.from_residual.result _ RunFault.OutOfMemory c.from_residual.ensures.1 (λ e same. same ∙ c.in_err-core.ensures.err) in
+    rw none (record {
+      gained = [];
+      logged = sym (append-nil (g.H.Host.log c.args.host.now));
+      run = nothing_asked c.args.process c.args.inputs c.args.options;
+    })

@@ -1,0 +1,63 @@
+//! A whole run on a host.
+ghost use Rattle.std.specs.Prelude.{◌≡◌, ◌≢◌, ◌++◌, [], OnOk};
+ghost use Rattle.run_core.specs.Core.{setting_of, transcript, asked, flying, Stands};
+ghost use Rattle.run_core.specs.Limits.{IsWithinLimits};
+ghost use Rattle.run_core.specs.Reports.{entries_of};
+ghost use Rattle.workflow_engine.specs.Held.{Covers};
+ghost use Rattle.workflow_engine.specs.Gains.{RunsOn};
+
+use crate::ask::ask;
+use crate::tickets::close_all;
+use cwl_document::Process;
+use cwl_value::Value;
+use plain_data::Keyed;
+use proc_host::{Host, Ticket};
+use run_core::{Options, Report, Request, RunCore, RunFault};
+use std::alloc::Global;
+
+/// Runs a process on an input object.
+///
+/// What the host's log gains is a run of the process, and the report is what that run comes to: the delivered output
+/// object, a failure for good with its place and cause, a failure for now, or the host's fault with the tickets that
+/// nobody waits for any more. An `Err` of `OutOfMemory` tells nothing but that memory was wanting; what was asked
+/// until then is a run as far as it goes.
+pub fn run<H: Host>(
+    alloc: Global,
+    host: &mut H,
+    process: Process,
+    inputs: Keyed<Value>,
+    options: Options,
+) -> Result<Report, RunFault>
+    requires idle { H.running host.old ≡ [] }
+    requires limits { IsWithinLimits options }
+    ensures run { RunsOn (H.log host.old) (H.log host.new) process inputs options result }
+    ensures closed { H.running host.new ≡ [] }
+{
+    let mut core = RunCore::new(alloc, process, inputs, options)?;
+    let mut held = Vec::new(alloc);
+    let driven = drive(host, &mut core, &mut held);
+    close_all(host, held);
+    match driven {
+        Ok(()) => core.finish(),
+        Err(_) => core.abandon(),
+    }
+}
+
+/// Asks the host what the machine asks, until it asks nothing more or memory is wanting.
+fn drive<H: Host>(host: &mut H, core: &mut RunCore, held: &mut Vec<Ticket>) -> Result<(), RunFault>
+    requires stands { Stands core.old }
+    requires first { transcript core.old ≡ [] }
+    requires flying { flying core.old ≡ H.running host.old }
+    requires covered { Covers held.old.items (H.running host.old) }
+    ensures stands { Stands core.new }
+    ensures setting { setting_of core.new ≡ setting_of core.old }
+    ensures logged { H.log host.new ≡ H.log host.old ++ entries_of (transcript core.new) }
+    ensures finished { OnOk result (asked core.new ≡ Request.Finished) }
+    ensures covered { Covers held.new.items (H.running host.new) }
+{
+    while !matches!(core.next(), Request::Finished) {
+        let answer = ask(host, core.next(), held)?;
+        core.take(answer)?;
+    }
+    Ok(())
+}
