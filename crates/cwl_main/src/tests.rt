@@ -1,5 +1,5 @@
 use crate::program::main_run;
-use std::alloc::{AllocError, Global};
+use std::alloc::AllocError;
 use std::test::Fail;
 use std::{env, fs, process, str};
 
@@ -59,6 +59,10 @@ fn words_that_mean_nothing_are_refused(rt: HostRuntime) -> Result<(), Fail> {
 const CHAIN: &str =
     "cwl-plan 1\njobs 3\nL 0 3 10 0 3 3 0\nC 0 50 5 0 8 5 1 0 3\nC 1 100 5 13 13 5 1 1 8\nend\n";
 
+// The same with another payment at its first job.
+const BROKEN: &str =
+    "cwl-plan 1\njobs 3\nL 0 3 10 0 3 4 0\nC 0 50 5 0 8 5 1 0 3\nC 1 100 5 13 13 5 1 1 8\nend\n";
+
 // What `check` says of a file with this text.
 fn checked(rt: &HostRuntime, name: &str, text: &str) -> Result<Told, Fail> {
     let folder = env::temp_dir(rt)?;
@@ -71,23 +75,34 @@ fn checked(rt: &HostRuntime, name: &str, text: &str) -> Result<Told, Fail> {
 }
 
 #[test]
-fn certificates_are_checked(rt: HostRuntime) -> Result<(), Fail> {
+fn a_certificate_holds(rt: HostRuntime) -> Result<(), Fail> {
     let good = checked(&rt, "good", CHAIN)?;
     assert_eq!(rt; good.status, 0);
     assert_eq!(rt; str::from_utf8(good.out.as_slice())?, "ok 13\n");
-    let broken = checked(
-        &rt,
-        "broken",
-        "cwl-plan 1\njobs 3\nL 0 3 10 0 3 4 0\nC 0 50 5 0 8 5 1 0 3\nC 1 100 5 13 13 5 1 1 8\nend\n",
-    )?;
+    Ok(())
+}
+
+#[test]
+fn a_certificate_breaks_a_rule(rt: HostRuntime) -> Result<(), Fail> {
+    let broken = checked(&rt, "broken", BROKEN)?;
     assert_eq!(rt; broken.status, 1);
     assert_eq!(rt;
         str::from_utf8(broken.out.as_slice())?,
         "broken ThroughNotOut\n"
     );
+    Ok(())
+}
+
+#[test]
+fn half_a_certificate_is_none(rt: HostRuntime) -> Result<(), Fail> {
     let half = checked(&rt, "half", "cwl-plan 1\njobs 3\nL 0 3 10 0 3 3 0\n")?;
     assert_eq!(rt; half.status, 33);
     assert_eq!(rt; str::from_utf8(half.err.as_slice())?, "refused: X1\n");
+    Ok(())
+}
+
+#[test]
+fn an_absent_file_is_a_fault_of_the_input(rt: HostRuntime) -> Result<(), Fail> {
     let absent = call(&rt, ["cwl_main", "check", "/nowhere/at/all"].as_slice())?;
     assert_eq!(rt; absent.status, 3);
     assert_eq!(rt; str::from_utf8(absent.err.as_slice())?, "fault: input\n");
