@@ -24,3 +24,6 @@ pub use launch::{Launch, Variable};
 pub use laws::{keys_decide, launch_excludes_refusal, launch_is_settled, words_are_settled};
 pub use runtime::Runtime;
 pub use stream::stdout_name;
+
+#[cfg(test)]
+mod tests;
