@@ -1,6 +1,7 @@
 use crate::{
-    FileField, FileVal, JobPlace, Place, Segment, Value, ValueRefusal, canonical_text, erased,
-    from_json, name_parts, place_text, read_value, to_json,
+    DirVal, FileField, FileVal, JobPlace, Place, Segment, Value, ValueRefusal, canonical_text,
+    copy_fields, copy_items, copy_job, erased, erased_fields, erased_items, from_json, name_parts,
+    place_text, read_value, to_json,
 };
 use plain_data::{Items, Keyed, Text};
 use std::alloc::{AllocError, Global};
@@ -24,46 +25,195 @@ fn nested_list(alloc: Global, levels: usize) -> Result<String, AllocError> {
     Ok(text)
 }
 
+fn list(alloc: Global, text: &str) -> Result<Items<Value>, Fail> {
+    match read_value(alloc, text.as_bytes())? {
+        Value::List(items) => Ok(items),
+        _ => Err(Fail::from("no list")),
+    }
+}
+
+fn fields(alloc: Global, text: &str) -> Result<Keyed<Value>, Fail> {
+    match read_value(alloc, text.as_bytes())? {
+        Value::Fields(fields) => Ok(fields),
+        _ => Err(Fail::from("no fields")),
+    }
+}
+
+fn file(alloc: Global, text: &str) -> Result<FileVal, Fail> {
+    match read_value(alloc, text.as_bytes())? {
+        Value::FileVal(file) => Ok(file),
+        _ => Err(Fail::from("no File")),
+    }
+}
+
+fn dir(alloc: Global, text: &str) -> Result<DirVal, Fail> {
+    match read_value(alloc, text.as_bytes())? {
+        Value::DirVal(dir) => Ok(dir),
+        _ => Err(Fail::from("no Directory")),
+    }
+}
+
+// The place `main/s[0,2]`.
+fn job(alloc: Global) -> Result<JobPlace, AllocError> {
+    let mut index = Items::new(alloc);
+    index.push(0)?;
+    index.push(2)?;
+    let step = Text::from_text(alloc, "s")?;
+    let mut job: JobPlace = Items::new(alloc);
+    job.push(Segment { step, index })?;
+    Ok(job)
+}
+
 #[test]
-fn refuses(rt: HostRuntime) -> Result<(), Fail> {
+fn json_values_refused(rt: HostRuntime) {
     let alloc = rt.alloc();
-    assert_eq!(rt; refusal(alloc, "1.5"), Some(ValueRefusal::NotWhole));
-    assert_eq!(rt;
-        refusal(alloc, "9223372036854775808"),
-        Some(ValueRefusal::OutOfRange)
-    );
-    assert_eq!(rt;
-        refusal(alloc, r#"{"class":"File"}"#),
-        Some(ValueRefusal::BadFile(FileField::Location))
-    );
-    assert_eq!(rt; refusal(alloc, "{"), Some(ValueRefusal::NotJson));
-    assert_eq!(rt;
-        refusal(alloc, nested_list(alloc, 127)?.as_str()),
-        Some(ValueRefusal::TooDeep)
-    );
-    assert_eq!(rt;
-        refusal(alloc, nested_list(alloc, 128)?.as_str()),
-        Some(ValueRefusal::NotJson)
-    );
+    for (text, refused) in [
+        ("1.5", ValueRefusal::NotWhole),
+        ("9223372036854775808", ValueRefusal::OutOfRange),
+        (
+            r#"{"class":"File"}"#,
+            ValueRefusal::BadFile(FileField::Location),
+        ),
+        ("{", ValueRefusal::NotJson),
+    ] {
+        assert_eq!(rt; refusal(alloc, text), Some(refused), "{text}");
+    }
     assert_eq!(rt; ValueRefusal::TooDeep.code(), "V6");
+}
+
+#[test]
+fn files_refused(rt: HostRuntime) {
+    let alloc = rt.alloc();
+    for (text, field) in [
+        (r#"{"class":"File","path":1}"#, FileField::Path),
+        (
+            r#"{"class":"File","path":"p","basename":"a/b"}"#,
+            FileField::Basename,
+        ),
+        (r#"{"class":"File","path":"p","size":-1}"#, FileField::Size),
+        (
+            r#"{"class":"File","path":"p","secondaryFiles":[1]}"#,
+            FileField::SecondaryFiles,
+        ),
+        (
+            r#"{"class":"Directory","path":"p","listing":[{"class":"File","path":"p","basename":"a"},{"class":"File","path":"q","basename":"a"}]}"#,
+            FileField::Listing,
+        ),
+    ] {
+        assert_eq!(rt;
+            refusal(alloc, text),
+            Some(ValueRefusal::BadFile(field)),
+            "{text}"
+        );
+    }
+}
+
+#[test]
+fn nested_lists(rt: HostRuntime) -> Result<(), Fail> {
+    let alloc = rt.alloc();
+    for (levels, refused) in [
+        (100, None),
+        (101, Some(ValueRefusal::TooDeep)),
+        (127, Some(ValueRefusal::TooDeep)),
+        (128, Some(ValueRefusal::NotJson)),
+    ] {
+        let text = nested_list(alloc, levels)?;
+        assert_eq!(rt; refusal(alloc, text.as_str()), refused, "{levels}");
+    }
     Ok(())
 }
 
 #[test]
-fn keeps_a_list(rt: HostRuntime) -> Result<(), Fail> {
+fn json_values_kept(rt: HostRuntime) -> Result<(), Fail> {
     let alloc = rt.alloc();
-    let list = read_value(alloc, b"[1]")?;
-    assert_eq!(rt; canonical_text(alloc, &list)?.as_str(), "[1]");
-    let again = from_json(alloc, &to_json(alloc, &list)?)?;
+    let value = read_value(alloc, b"[1]")?;
+    let again = from_json(alloc, &to_json(alloc, &value)?)?;
     assert_eq!(rt; canonical_text(alloc, &again)?.as_str(), "[1]");
+    let copy = value.clone_in(alloc)?;
+    assert_eq!(rt; canonical_text(alloc, &copy)?.as_str(), "[1]");
+    let bare = erased(alloc, &value)?;
+    assert_eq!(rt; canonical_text(alloc, &bare)?.as_str(), "[1]");
+    Ok(())
+}
+
+#[test]
+fn copies_a_list(rt: HostRuntime) -> Result<(), Fail> {
+    let alloc = rt.alloc();
+    let copy = copy_items(alloc, &list(alloc, r#"[1,"a",null]"#)?)?;
+    let text = canonical_text(alloc, &Value::List(copy))?;
+    assert_eq!(rt; text.as_str(), r#"[1,"a",null]"#);
+    Ok(())
+}
+
+#[test]
+fn copies_fields(rt: HostRuntime) -> Result<(), Fail> {
+    let alloc = rt.alloc();
+    let copy = copy_fields(alloc, &fields(alloc, r#"{"b":true,"a":{}}"#)?)?;
+    let text = canonical_text(alloc, &Value::Fields(copy))?;
+    assert_eq!(rt; text.as_str(), r#"{"a":{},"b":true}"#);
+    Ok(())
+}
+
+#[test]
+fn copies_a_file(rt: HostRuntime) -> Result<(), Fail> {
+    let alloc = rt.alloc();
+    let copy = file(alloc, r#"{"class":"File","location":"l","size":3}"#)?.clone_in(alloc)?;
+    let text = canonical_text(alloc, &Value::FileVal(copy))?;
     assert_eq!(rt;
-        canonical_text(alloc, &list.clone_in(alloc)?)?.as_str(),
-        "[1]"
+        text.as_str(),
+        r#"{"class":"File","location":"l","size":3}"#
     );
+    Ok(())
+}
+
+#[test]
+fn copies_a_directory(rt: HostRuntime) -> Result<(), Fail> {
+    let alloc = rt.alloc();
+    let copy = dir(
+        alloc,
+        r#"{"class":"Directory","location":"l","listing":[]}"#,
+    )?
+    .clone_in(alloc)?;
+    let text = canonical_text(alloc, &Value::DirVal(copy))?;
     assert_eq!(rt;
-        canonical_text(alloc, &erased(alloc, &list)?)?.as_str(),
-        "[1]"
+        text.as_str(),
+        r#"{"class":"Directory","listing":[],"location":"l"}"#
     );
+    Ok(())
+}
+
+#[test]
+fn copies_a_job(rt: HostRuntime) -> Result<(), Fail> {
+    let alloc = rt.alloc();
+    let mut copy = copy_job(alloc, &job(alloc)?)?;
+    let last = copy.get(0).ok_or("no segment")?.clone_in(alloc)?;
+    copy.push(last)?;
+    assert_eq!(rt; place_text(alloc, &copy)?.as_str(), "main/s[0,2]/s[0,2]");
+    Ok(())
+}
+
+#[test]
+fn copies_a_place(rt: HostRuntime) -> Result<(), Fail> {
+    let alloc = rt.alloc();
+    let place = Place::Made(job(alloc)?, Text::from_text(alloc, "out.txt")?);
+    let Place::Made(job, name) = place.clone_in(alloc)? else {
+        return Err(Fail::from("another place"));
+    };
+    assert_eq!(rt; place_text(alloc, &job)?.as_str(), "main/s[0,2]");
+    assert_eq!(rt; name.as_str(), "out.txt");
+    Ok(())
+}
+
+#[test]
+fn erases_places(rt: HostRuntime) -> Result<(), Fail> {
+    let alloc = rt.alloc();
+    let bare = erased_items(alloc, &list(alloc, r#"[{"class":"File","location":"l"}]"#)?)?;
+    let text = canonical_text(alloc, &Value::List(bare))?;
+    assert_eq!(rt; text.as_str(), r#"[{"class":"File"}]"#);
+    let inner = fields(alloc, r#"{"d":{"class":"Directory","location":"l"}}"#)?;
+    let bare = erased_fields(alloc, &inner)?;
+    let text = canonical_text(alloc, &Value::Fields(bare))?;
+    assert_eq!(rt; text.as_str(), r#"{"d":{"class":"Directory"}}"#);
     Ok(())
 }
 
@@ -88,19 +238,27 @@ fn writes_a_file(rt: HostRuntime) -> Result<(), Fail> {
 }
 
 #[test]
-fn prints_places_and_names(rt: HostRuntime) -> Result<(), Fail> {
+fn writes_a_listing_by_its_names(rt: HostRuntime) -> Result<(), Fail> {
     let alloc = rt.alloc();
-    let mut job: JobPlace = Items::new(alloc);
-    assert_eq!(rt; place_text(alloc, &job)?.as_str(), "main");
-    let mut index = Items::new(alloc);
-    index.push(0)?;
-    index.push(2)?;
-    job.push(Segment {
-        step: Text::from_text(alloc, "step")?,
-        index,
-    })?;
-    assert_eq!(rt; place_text(alloc, &job)?.as_str(), "main/step[0,2]");
+    let listed =
+        r#"{"class":"Directory","path":"p","listing":[{"class":"Directory","path":"x","basename":"b"},{"class":"Directory","path":"y","basename":"B"}]}"#;
+    let text = canonical_text(alloc, &read_value(alloc, listed.as_bytes())?)?;
+    let expected =
+        r#"{"class":"Directory","listing":[{"basename":"B","class":"Directory"},{"basename":"b","class":"Directory"}]}"#;
+    assert_eq!(rt; text.as_str(), expected);
+    Ok(())
+}
+
+#[test]
+fn prints_places(rt: HostRuntime) -> Result<(), Fail> {
+    let alloc = rt.alloc();
+    assert_eq!(rt; place_text(alloc, &Items::new(alloc))?.as_str(), "main");
+    assert_eq!(rt; place_text(alloc, &job(alloc)?)?.as_str(), "main/s[0,2]");
+    Ok(())
+}
+
+#[test]
+fn parts_of_names(rt: HostRuntime) {
     assert_eq!(rt; name_parts("a.tar.gz"), ("a.tar", ".gz"));
     assert_eq!(rt; name_parts(".cshrc"), (".cshrc", ""));
-    Ok(())
 }

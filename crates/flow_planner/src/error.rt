@@ -1,9 +1,11 @@
 //! Why there is no plan.
 
 use std::alloc::AllocError;
+use thiserror::Error;
 
 /// Memory was wanting.
-#[derive(Clone, Copy, Debug, PartialEq, Eq)]
+#[derive(Clone, Copy, Debug, PartialEq, Eq, Error)]
+#[error("out of memory")]
 pub struct OutOfMemory;
 
 impl From<AllocError> for OutOfMemory {

@@ -16,6 +16,8 @@ mod edit;
 mod error;
 mod planner;
 mod search;
+#[cfg(test)]
+mod tests;
 
 pub use error::OutOfMemory;
 pub use planner::plan;

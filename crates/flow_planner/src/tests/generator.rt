@@ -1,0 +1,70 @@
+//! Small graphs, the same ones each time.
+
+ghost use Rattle.std.specs.Prelude.{◌<◌};
+
+use plain_data::Items;
+use plan_checker::{Graph, Vertex};
+use std::alloc::{AllocError, Global};
+use std::test::Fail;
+
+/// A row of numbers, each a linear function of the one before, without what is over 64 bits.
+#[derive(Drop)]
+struct Numbers {
+    state: u64,
+}
+
+impl Numbers {
+    /// The next number, below a limit.
+    fn below(&mut self, limit: u64) -> u64
+        requires { 0 < limit }
+    {
+        self.state = self
+            .state
+            .wrapping_mul(6_364_136_223_846_793_005)
+            .wrapping_add(1_442_695_040_888_963_407);
+        (self.state >> 33) % limit
+    }
+
+    /// True once in so many.
+    fn once_in(&mut self, many: u64) -> bool
+        requires { 0 < many }
+    {
+        self.below(many) == 0
+    }
+}
+
+/// A graph of up to nine jobs. The costs of every other ten are so low that many plans cost the same.
+pub fn generated(alloc: Global, seed: u64) -> Result<Graph, Fail> {
+    let mut numbers = Numbers { state: seed };
+    let most = if seed / 10 % 2 == 0 { 3 } else { 1_000_000 };
+    let mut vertices = Vec::new(alloc);
+    for number in 0..seed % 10 {
+        vertices.push(generated_job(alloc, &mut numbers, number as usize, most)?)?;
+    }
+    Ok(Graph::new(alloc, vertices)?)
+}
+
+/// A job with costs up to so much, and with some of the jobs below it as parents.
+fn generated_job(
+    alloc: Global,
+    numbers: &mut Numbers,
+    number: usize,
+    most: u64,
+) -> Result<Vertex, AllocError>
+    requires { 0 < most }
+{
+    let mut parents = Items::new(alloc);
+    for parent in 0..number {
+        if numbers.once_in(3) {
+            parents.push(parent)?;
+        }
+    }
+    let load = numbers.below(most);
+    let has_load = !numbers.once_in(4);
+    Ok(Vertex {
+        load: has_load.then_some(load),
+        compute: numbers.below(most).max(1),
+        parents,
+        needed: numbers.once_in(3),
+    })
+}
