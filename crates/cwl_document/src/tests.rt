@@ -1,6 +1,6 @@
 use crate::{CwlType, Process, Tool, read_process};
 use plain_data::Text;
-use std::alloc::Global;
+use std::alloc::{AllocError, Global};
 use std::test::Fail;
 
 const HELLO: &str =
@@ -30,16 +30,37 @@ fn text_or_none(text: &Option<Text>) -> &str {
     }
 }
 
+fn read(alloc: Global, document: &str) -> Result<Tool, Fail> {
+    Ok(tool(alloc, document).ok_or("refused")?)
+}
+
+// Lists inside one another, so many levels deep.
+fn nested_list(alloc: Global, levels: usize) -> Result<String, AllocError> {
+    let mut text = String::new(alloc);
+    for _ in 0..levels {
+        text.push('[')?;
+    }
+    for _ in 0..levels {
+        text.push(']')?;
+    }
+    Ok(text)
+}
+
 #[test]
-fn a_tool_by_maps(rt: HostRuntime) -> Result<(), Fail> {
-    let tool = tool(rt.alloc(), HELLO).ok_or("refused")?;
+fn a_command_and_its_stream(rt: HostRuntime) -> Result<(), Fail> {
+    let tool = read(rt.alloc(), HELLO)?;
     assert_eq!(rt; tool.base_command.len(), 1);
     assert_eq!(rt;
         tool.base_command.get(0).ok_or("no word")?.as_str(),
         "printf"
     );
     assert_eq!(rt; text_or_none(&tool.stdout), "out.txt");
-    assert_eq!(rt; tool.inputs.len(), 1);
+    Ok(())
+}
+
+#[test]
+fn an_input_in_a_map(rt: HostRuntime) -> Result<(), Fail> {
+    let tool = read(rt.alloc(), HELLO)?;
     let input = tool.inputs.get(0).ok_or("no input")?;
     assert_eq!(rt; input.id.as_str(), "t");
     assert!(rt; matches!(input.kind, CwlType::Text));
@@ -49,8 +70,21 @@ fn a_tool_by_maps(rt: HostRuntime) -> Result<(), Fail> {
     assert_eq!(rt; binding.position, 1);
     assert_eq!(rt; text_or_none(&binding.prefix), "none");
     assert!(rt; binding.separate);
+    Ok(())
+}
+
+#[test]
+fn an_output_in_a_map(rt: HostRuntime) -> Result<(), Fail> {
+    let tool = read(rt.alloc(), HELLO)?;
+    assert_eq!(rt; tool.inputs.len(), 1);
     assert_eq!(rt; tool.outputs.len(), 1);
     assert_eq!(rt; tool.outputs.get(0).ok_or("no output")?.id.as_str(), "out");
+    Ok(())
+}
+
+#[test]
+fn a_tool_of_maps_as_written(rt: HostRuntime) -> Result<(), Fail> {
+    let tool = read(rt.alloc(), HELLO)?;
     assert_eq!(rt;
         tool.written.as_str(),
         "{\"baseCommand\":\"printf\",\"class\":\"CommandLineTool\",\"cwlVersion\":\"v1.2\",\"inputs\":{\"t\":{\"inputBinding\":{\"position\":1},\"type\":\"string\"}},\"outputs\":{\"out\":\"stdout\"},\"stdout\":\"out.txt\"}"
@@ -59,24 +93,43 @@ fn a_tool_by_maps(rt: HostRuntime) -> Result<(), Fail> {
 }
 
 #[test]
-fn a_tool_by_lists(rt: HostRuntime) -> Result<(), Fail> {
-    let tool = tool(rt.alloc(), LISTED).ok_or("refused")?;
+fn a_tool_of_lists(rt: HostRuntime) -> Result<(), Fail> {
+    let tool = read(rt.alloc(), LISTED)?;
     assert_eq!(rt; tool.base_command.len(), 2);
     assert_eq!(rt; text_or_none(&tool.stdout), "none");
     assert_eq!(rt; tool.inputs.len(), 2);
-    let first = tool.inputs.get(0).ok_or("no input")?;
-    assert_eq!(rt; first.id.as_str(), "n");
-    assert!(rt; matches!(first.kind, CwlType::Int));
-    let Some(binding) = &first.binding else {
+    assert_eq!(rt; tool.outputs.len(), 0);
+    Ok(())
+}
+
+#[test]
+fn an_input_in_a_list(rt: HostRuntime) -> Result<(), Fail> {
+    let tool = read(rt.alloc(), LISTED)?;
+    let input = tool.inputs.get(0).ok_or("no input")?;
+    assert_eq!(rt; input.id.as_str(), "n");
+    assert!(rt; matches!(input.kind, CwlType::Int));
+    let Some(binding) = &input.binding else {
         return Err(Fail::from("no binding"));
     };
     assert_eq!(rt; binding.position, 0);
     assert_eq!(rt; text_or_none(&binding.prefix), "-n");
     assert!(rt; !binding.separate);
-    let second = tool.inputs.get(1).ok_or("one input")?;
-    assert_eq!(rt; second.id.as_str(), "doc");
-    assert!(rt; matches!(second.kind, CwlType::Long));
-    assert!(rt; second.binding.is_none());
+    Ok(())
+}
+
+#[test]
+fn an_input_without_a_binding(rt: HostRuntime) -> Result<(), Fail> {
+    let tool = read(rt.alloc(), LISTED)?;
+    let input = tool.inputs.get(1).ok_or("one input")?;
+    assert_eq!(rt; input.id.as_str(), "doc");
+    assert!(rt; matches!(input.kind, CwlType::Long));
+    assert!(rt; input.binding.is_none());
+    Ok(())
+}
+
+#[test]
+fn a_tool_of_lists_as_written(rt: HostRuntime) -> Result<(), Fail> {
+    let tool = read(rt.alloc(), LISTED)?;
     assert_eq!(rt;
         tool.written.as_str(),
         "{\"baseCommand\":[\"echo\",\"-e\"],\"class\":\"CommandLineTool\",\"cwlVersion\":\"v1.2\",\"inputs\":[{\"id\":\"n\",\"inputBinding\":{\"prefix\":\"-n\",\"separate\":false},\"type\":\"int\"},{\"id\":\"doc\",\"type\":\"long\"}],\"outputs\":{}}"
@@ -87,35 +140,40 @@ fn a_tool_by_lists(rt: HostRuntime) -> Result<(), Fail> {
 #[test]
 fn refused_documents(rt: HostRuntime) {
     let alloc = rt.alloc();
-    assert_eq!(rt; code(alloc, ""), "C1");
-    assert_eq!(rt;
-        code(
-            alloc,
-            "{\"cwlVersion\":\"v1.1\",\"class\":\"CommandLineTool\",\"inputs\":{},\"outputs\":{}}"
+    for (document, refused) in [
+        ("", "C1"),
+        (
+            "{\"cwlVersion\":\"v1.1\",\"class\":\"CommandLineTool\",\"inputs\":{},\"outputs\":{}}",
+            "C2",
         ),
-        "C2"
-    );
-    assert_eq!(rt;
-        code(
-            alloc,
-            "{\"cwlVersion\":\"v1.2\",\"class\":\"Operation\",\"inputs\":{},\"outputs\":{}}"
+        (
+            "{\"cwlVersion\":\"v1.2\",\"class\":\"Operation\",\"inputs\":{},\"outputs\":{}}",
+            "C3",
         ),
-        "C3"
-    );
-    assert_eq!(rt;
-        code(
-            alloc,
-            "{\"cwlVersion\":\"v1.2\",\"class\":\"CommandLineTool\",\"inputs\":{}}"
+        (
+            "{\"cwlVersion\":\"v1.2\",\"class\":\"CommandLineTool\",\"inputs\":{}}",
+            "C4",
         ),
-        "C4"
-    );
-    assert_eq!(rt;
-        code(
-            alloc,
-            "{\"cwlVersion\":\"v1.2\",\"class\":\"CommandLineTool\",\"inputs\":{},\"outputs\":{},\"foo\":1}"
+        (
+            "{\"cwlVersion\":\"v1.2\",\"class\":\"CommandLineTool\",\"inputs\":{},\"outputs\":{},\"foo\":1}",
+            "C5",
         ),
-        "C5"
-    );
+        (
+            "{\"cwlVersion\":\"v1.2\",\"class\":\"CommandLineTool\",\"inputs\":{\"n\":\"float\"},\"outputs\":{}}",
+            "C6",
+        ),
+        (
+            "{\"cwlVersion\":\"v1.2\",\"class\":\"CommandLineTool\",\"inputs\":[{\"id\":\"a\",\"type\":\"int\"},{\"id\":\"a\",\"type\":\"long\"}],\"outputs\":{}}",
+            "C8",
+        ),
+    ] {
+        assert_eq!(rt; code(alloc, document), refused, "{document}");
+    }
+}
+
+#[test]
+fn names_that_are_read_over(rt: HostRuntime) {
+    let alloc = rt.alloc();
     assert_eq!(rt;
         code(
             alloc,
@@ -126,29 +184,30 @@ fn refused_documents(rt: HostRuntime) {
     assert_eq!(rt;
         code(
             alloc,
-            "{\"cwlVersion\":\"v1.2\",\"class\":\"CommandLineTool\",\"inputs\":{\"doc\":\"float\"},\"outputs\":{}}"
-        ),
-        "C6"
-    );
-    assert_eq!(rt;
-        code(
-            alloc,
             "{\"cwlVersion\":\"v1.2\",\"class\":\"CommandLineTool\",\"inputs\":{\"doc\":\"int\"},\"outputs\":{}}"
         ),
         "read"
     );
+}
+
+#[test]
+fn a_stream_named_by_a_reference(rt: HostRuntime) {
     assert_eq!(rt;
         code(
-            alloc,
-            "{\"cwlVersion\":\"v1.2\",\"class\":\"CommandLineTool\",\"inputs\":[{\"id\":\"a\",\"type\":\"int\"},{\"id\":\"a\",\"type\":\"long\"}],\"outputs\":{}}"
-        ),
-        "C8"
-    );
-    assert_eq!(rt;
-        code(
-            alloc,
+            rt.alloc(),
             "{\"cwlVersion\":\"v1.2\",\"class\":\"CommandLineTool\",\"stdout\":\"$(inputs.t)\",\"inputs\":{},\"outputs\":{}}"
         ),
         "C6"
     );
+}
+
+// A document is at most 100 levels deep, and a JSON reader goes to 127.
+#[test]
+fn nested_documents(rt: HostRuntime) -> Result<(), Fail> {
+    let alloc = rt.alloc();
+    for (levels, refused) in [(100, "C6"), (101, "C9"), (127, "C9"), (128, "C1")] {
+        let text = nested_list(alloc, levels)?;
+        assert_eq!(rt; code(alloc, text.as_str()), refused, "{levels}");
+    }
+    Ok(())
 }

@@ -49,12 +49,13 @@ fn plan_vertices(alloc: Global, vertices: &[Vertex]) -> Result<(Plan, Charges), 
     ensures certified { IfOk result (λ made. IsCertificate vertices.now made.0.marks made.1) }
 {
     let mut charges = no_charges(alloc, vertices)?;
+    let mut search = Search::new(alloc, vertices.len())?;
     loop {
-        let mut search = Search::new(alloc, vertices.len())?;
         match search.run(vertices, &charges) {
             Some(end) => augment(alloc, &mut charges, vertices, &search, end),
             None => return Ok((read_off(alloc, &search, vertices.len())?, charges)),
         }
+        search.clear();
     }
 }
 

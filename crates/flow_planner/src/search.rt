@@ -1,11 +1,11 @@
 //! The search for a path along which more can flow.
 
-ghost use Rattle.std.specs.Prelude.{◌≡◌, ◌≢◌, ℕ, ◌+◌, ◌*◌, ◌^◌, ◌<◌, ◌≤◌, MatchBool, IfOk, length, slice_set, slice_index, MatchOption, IfSome, IfNone, vec_len};
+ghost use Rattle.std.specs.Prelude.{◌≡◌, ◌≢◌, ℕ, ◌+◌, ◌*◌, ◌^◌, ◌<◌, ◌≤◌, MatchBool, IfOk, length, slice_set, slice_index, replicate, MatchOption, IfSome, IfNone, vec_len};
 ghost use Rattle.plan_checker.specs.Graph.{vertex, IsGraph};
 ghost use Rattle.flow_planner.specs.Flow.{AreFairBut, nothing, parent_of, passed};
 ghost use Rattle.flow_planner.specs.declared.search.Kept.{Kept};
 ghost use Rattle.flow_planner.specs.declared.search.Computed.{Computed};
-ghost use Rattle.flow_planner.specs.Search.{kept_at, computed_at, IsUntouched, IsUnderWay, IsSettled, AreSettled, Advances, Enters, GoesThrough, IsPassedBack, GoesBack, ArePassed, IsLeft, IsPathEnd, HasKept, HasComputed};
+ghost use Rattle.flow_planner.specs.Search.{not_kept, not_computed, kept_at, computed_at, IsUntouched, IsUnderWay, IsSettled, AreSettled, Advances, Enters, GoesThrough, IsPassedBack, GoesBack, ArePassed, IsLeft, IsPathEnd, HasKept, HasComputed};
 
 use crate::edit::pass_at;
 use plan_checker::{Charges, MOST_COST, Vertex};
@@ -51,6 +51,20 @@ pub struct Computed {
     pub by: ComputedBy,
 }
 
+/// A first node that isn't reached.
+const NOT_KEPT: Kept = Kept {
+    rank: 0,
+    amount: 0,
+    by: KeptBy::Enter,
+};
+
+/// A second node that isn't reached.
+const NOT_COMPUTED: Computed = Computed {
+    rank: 0,
+    amount: 0,
+    by: ComputedBy::Through,
+};
+
 /// What a search has reached.
 #[derive(Debug, Drop)]
 pub struct Search {
@@ -75,22 +89,25 @@ impl Search {
         let mut kept = Vec::with_capacity(alloc, jobs)?;
         let mut computed = Vec::with_capacity(alloc, jobs)?;
         for _ in 0..jobs {
-            kept.push(Kept {
-                rank: 0,
-                amount: 0,
-                by: KeptBy::Enter,
-            })?;
-            computed.push(Computed {
-                rank: 0,
-                amount: 0,
-                by: ComputedBy::Through,
-            })?;
+            kept.push(NOT_KEPT)?;
+            computed.push(NOT_COMPUTED)?;
         }
         Ok(Search {
             kept,
             computed,
             reached: 0,
         })
+    }
+
+    /// Forgets all that was reached, and keeps the memory.
+    pub fn clear(&mut self)
+        ensures kept { self.new.kept.items ≡ replicate (vec_len self.old.kept) not_kept }
+        ensures computed { self.new.computed.items ≡ replicate (vec_len self.old.computed) not_computed }
+        ensures reached { self.new.reached ≡ 0 }
+    {
+        self.kept.fill(NOT_KEPT);
+        self.computed.fill(NOT_COMPUTED);
+        self.reached = 0;
     }
 
     fn is_kept(&self, job: usize) -> bool

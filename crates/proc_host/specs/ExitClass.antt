@@ -1,6 +1,6 @@
 -- What an exit code means, for a tool that lists no codes of its own (CWL v1.2, CommandLineTool: successCodes,
 -- temporaryFailCodes and permanentFailCodes). That an end by a signal is temporary is this project's choice.
-use Rattle.std.specs.Prelude.{ℕ, zero, suc, ℤ, pos, negsuc, Option, Some, None}
+use Rattle.std.specs.Prelude.{zero, suc, ℤ, pos, negsuc, Option, Some, None}
 use Rattle.proc_host.specs.declared.child.ExitClass.{ExitClass}
 use Rattle.proc_host.specs.declared.child.ExitClass.TheVariants.{Success, Temporary, Permanent}
 

@@ -1,5 +1,5 @@
 -- The tickets of the children that run.
-use Rattle.std.specs.Prelude.{◌≡◌, ◌≤◌, ℕ, ◌==◌, Bool, not, List, [], ◌∷◌, ◌++◌, filter, Result, Ok, Err}
+use Rattle.std.specs.Prelude.{◌≡◌, ◌≤◌, ℕ, ◌==◌, not, List, [], ◌∷◌, ◌++◌, filter, Result, Ok, Err}
 use Rattle.proc_host.specs.declared.call.HostError.{HostError}
 
 -- the others

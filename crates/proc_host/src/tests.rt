@@ -1,5 +1,6 @@
 use crate::{
-    Ending, Found, Host, HostAnswer, HostError, HostFault, HostRequest, Reply, Scripted, StagePlan,
+    Ending, ExitClass, Found, Host, HostAnswer, HostError, HostFault, HostRequest, Move, Reply,
+    Scripted, StagePlan, exit_class, listing_in,
 };
 use command_line::Launch;
 use plain_data::{Items, Keyed, Text};
@@ -57,11 +58,10 @@ fn script(alloc: Global, with_collect: bool) -> Result<Items<Reply>, AllocError>
 }
 
 #[test]
-fn a_script_runs_through(rt: HostRuntime) -> Result<(), Fail> {
+fn a_child_is_started_and_ends(rt: HostRuntime) -> Result<(), Fail> {
     let alloc = rt.alloc();
     let mut host = Scripted::new(alloc, script(alloc, true)?, 1);
-    let plan = no_moves(alloc);
-    host.stage(&plan, 1)?;
+    host.stage(&no_moves(alloc), 1)?;
     let ticket = host.start(&echo(alloc)?)?;
     assert_eq!(rt; ticket.number(), 1);
     assert_eq!(rt; host.running(), [1].as_slice());
@@ -69,11 +69,37 @@ fn a_script_runs_through(rt: HostRuntime) -> Result<(), Fail> {
     host.close(ticket);
     assert_eq!(rt; ending?.millis, 1000);
     assert!(rt; host.running().is_empty());
+    assert_eq!(rt; host.log().len(), 3);
+    Ok(())
+}
+
+// A host whose next answers are a scan and a deliver.
+fn after_the_end(alloc: Global) -> Result<Scripted, AllocError> {
+    let mut script = Items::new(alloc);
+    script.push(Reply::Scan(one_file(alloc)?))?;
+    script.push(Reply::Deliver)?;
+    Ok(Scripted::new(alloc, script, 0))
+}
+
+#[test]
+fn a_folder_is_scanned(rt: HostRuntime) -> Result<(), Fail> {
+    let alloc = rt.alloc();
+    let mut host = after_the_end(alloc)?;
     let found = host.scan(&Text::from_text(alloc, "w/j1/out")?)?;
     assert_eq!(rt; found.len(), 1);
-    host.deliver(&plan)?;
+    assert_eq!(rt; found.get(0).ok_or("nothing found")?.size, 3);
+    assert_eq!(rt; host.script_left().len(), 1);
+    Ok(())
+}
+
+#[test]
+fn outputs_are_delivered(rt: HostRuntime) -> Result<(), Fail> {
+    let alloc = rt.alloc();
+    let mut host = after_the_end(alloc)?;
+    let _found = host.scan(&Text::from_text(alloc, "w/j1/out")?)?;
+    assert_eq!(rt; host.deliver(&no_moves(alloc)), Ok(()));
     assert!(rt; host.script_left().is_empty());
-    assert_eq!(rt; host.log().len(), 5);
+    assert_eq!(rt; host.log().len(), 2);
     Ok(())
 }
 
@@ -88,9 +114,58 @@ fn a_missing_collect_is_h4(rt: HostRuntime) -> Result<(), Fail> {
     assert_eq!(rt; ending.err(), Some(HostError::Fault(HostFault::Collect)));
     assert_eq!(rt; HostFault::Collect.code(), "H4");
     assert_eq!(rt; host.script_left().len(), 2);
-    assert_eq!(rt; host.log().len(), 3);
-    let last = host.log().last().ok_or("no entry")?;
-    assert!(rt; matches!(last.request, HostRequest::Collect));
-    assert!(rt; matches!(last.answer, HostAnswer::Failed(HostFault::Collect)));
     Ok(())
+}
+
+#[test]
+fn a_fault_stands_in_the_log(rt: HostRuntime) -> Result<(), Fail> {
+    let alloc = rt.alloc();
+    let mut host = after_the_end(alloc)?;
+    assert_eq!(rt;
+        host.stage(&no_moves(alloc), 1),
+        Err(HostError::Fault(HostFault::Stage))
+    );
+    assert_eq!(rt; host.script_left().len(), 2);
+    let last = host.log().last().ok_or("no entry")?;
+    assert!(rt; matches!(last.request, HostRequest::Stage(_, 1)));
+    assert!(rt; matches!(last.answer, HostAnswer::Failed(HostFault::Stage)));
+    Ok(())
+}
+
+#[test]
+fn a_listing_is_copied(rt: HostRuntime) -> Result<(), Fail> {
+    let alloc = rt.alloc();
+    let copy = listing_in(alloc, &one_file(alloc)?)?;
+    assert_eq!(rt; copy.len(), 1);
+    let found = copy.get(0).ok_or("nothing found")?;
+    assert_eq!(rt; found.name.as_str(), "out.txt");
+    assert_eq!(rt;
+        found.sum.as_str(),
+        "55ca6286e3e4f4fba5d0448333fa99fc5a404a73"
+    );
+    Ok(())
+}
+
+#[test]
+fn a_plan_is_copied(rt: HostRuntime) -> Result<(), Fail> {
+    let alloc = rt.alloc();
+    let mut plan = no_moves(alloc);
+    plan.moves.push(Move {
+        source: Text::from_text(alloc, "/d/a.txt")?,
+        target: Text::from_text(alloc, "w/j1/in/0/a.txt")?,
+    })?;
+    let copy = plan.clone_in(alloc)?;
+    assert_eq!(rt; copy.moves.len(), 1);
+    let planned = copy.moves.get(0).ok_or("no move")?;
+    assert_eq!(rt; planned.source.as_str(), "/d/a.txt");
+    assert_eq!(rt; planned.target.as_str(), "w/j1/in/0/a.txt");
+    Ok(())
+}
+
+#[test]
+fn exit_codes(rt: HostRuntime) {
+    assert_eq!(rt; exit_class(Some(0)), ExitClass::Success);
+    assert_eq!(rt; exit_class(Some(1)), ExitClass::Permanent);
+    assert_eq!(rt; exit_class(Some(-1)), ExitClass::Permanent);
+    assert_eq!(rt; exit_class(None), ExitClass::Temporary);
 }

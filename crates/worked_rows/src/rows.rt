@@ -51,33 +51,34 @@ fn found(alloc: Global) -> Result<Items<Found>, AllocError> {
     Ok(found)
 }
 
-fn ended(code: Option<i32>) -> Reply {
-    Reply::Collect(Ending {
+// How the one child ends.
+fn ended(code: Option<i32>) -> Option<Reply> {
+    Some(Reply::Collect(Ending {
         ticket: 1,
         code,
         millis: 1000,
-    })
+    }))
 }
 
-// The first of these replies: stage, start, an end with this code, scan, deliver.
-fn replies(alloc: Global, code: Option<i32>, count: usize) -> Result<Items<Reply>, AllocError> {
+// Stage, then a start unless it is to fail, then this end if any, scan, deliver.
+fn replies(alloc: Global, starts: bool, end: Option<Reply>) -> Result<Items<Reply>, AllocError> {
     let mut script = Items::new(alloc);
-    if count > 0 {
-        script.push(Reply::Stage)?;
-    }
-    if count > 1 {
+    script.push(Reply::Stage)?;
+    if starts {
         script.push(Reply::Start)?;
     }
-    if count > 2 {
-        script.push(ended(code))?;
+    if let Some(end) = end {
+        script.push(end)?;
     }
-    if count > 3 {
-        script.push(Reply::Scan(found(alloc)?))?;
-    }
-    if count > 4 {
-        script.push(Reply::Deliver)?;
-    }
+    script.push(Reply::Scan(found(alloc)?))?;
+    script.push(Reply::Deliver)?;
     Ok(script)
+}
+
+fn host(alloc: Global, starts: bool, end: Option<Reply>) -> Result<Scripted, AllocError>
+    ensures { IfOk result (λ host. host.running ≡ []) }
+{
+    Ok(Scripted::new(alloc, replies(alloc, starts, end)?, 0))
 }
 
 // `hello` on these inputs over this script.
@@ -93,7 +94,7 @@ fn hello(alloc: Global, inputs: &str, host: &mut Scripted) -> Result<Result<Repo
 #[test]
 fn hello_gives_the_delivered_file(rt: HostRuntime) -> Result<(), Fail> {
     let alloc = rt.alloc();
-    let mut host = Scripted::new(alloc, replies(alloc, Some(0), 5)?, 0);
+    let mut host = host(alloc, true, ended(Some(0)))?;
     let Ok(report) = hello(alloc, "{\"t\":\"abc\"}", &mut host)? else {
         return Err(Fail::from("no report"));
     };
@@ -107,7 +108,7 @@ fn hello_gives_the_delivered_file(rt: HostRuntime) -> Result<(), Fail> {
 #[test]
 fn hello_asks_five_times(rt: HostRuntime) -> Result<(), Fail> {
     let alloc = rt.alloc();
-    let mut host = Scripted::new(alloc, replies(alloc, Some(0), 5)?, 0);
+    let mut host = host(alloc, true, ended(Some(0)))?;
     let _report = hello(alloc, "{\"t\":\"abc\"}", &mut host)?;
     assert_eq!(rt; host.log().len(), 5);
     assert!(rt; host.running().is_empty());
@@ -117,7 +118,7 @@ fn hello_asks_five_times(rt: HostRuntime) -> Result<(), Fail> {
 #[test]
 fn an_input_left_out_fails_with_nothing_asked(rt: HostRuntime) -> Result<(), Fail> {
     let alloc = rt.alloc();
-    let mut host = Scripted::new(alloc, replies(alloc, Some(0), 5)?, 0);
+    let mut host = host(alloc, true, ended(Some(0)))?;
     let Ok(report) = hello(alloc, "{}", &mut host)? else {
         return Err(Fail::from("no report"));
     };
@@ -131,9 +132,9 @@ fn an_input_left_out_fails_with_nothing_asked(rt: HostRuntime) -> Result<(), Fai
 }
 
 #[test]
-fn a_collect_that_fails_leaves_its_ticket(rt: HostRuntime) -> Result<(), Fail> {
+fn a_script_without_the_collect_leaves_its_ticket(rt: HostRuntime) -> Result<(), Fail> {
     let alloc = rt.alloc();
-    let mut host = Scripted::new(alloc, replies(alloc, Some(0), 2)?, 0);
+    let mut host = host(alloc, true, None)?;
     let Err(RunFault::Host(fault, running)) = hello(alloc, "{\"t\":\"abc\"}", &mut host)? else {
         return Err(Fail::from("no host fault"));
     };
@@ -146,7 +147,7 @@ fn a_collect_that_fails_leaves_its_ticket(rt: HostRuntime) -> Result<(), Fail> {
 #[test]
 fn a_start_that_fails_is_the_hosts_fault(rt: HostRuntime) -> Result<(), Fail> {
     let alloc = rt.alloc();
-    let mut host = Scripted::new(alloc, replies(alloc, Some(0), 1)?, 0);
+    let mut host = host(alloc, false, None)?;
     let Err(RunFault::Host(fault, running)) = hello(alloc, "{\"t\":\"abc\"}", &mut host)? else {
         return Err(Fail::from("no host fault"));
     };
@@ -158,7 +159,7 @@ fn a_start_that_fails_is_the_hosts_fault(rt: HostRuntime) -> Result<(), Fail> {
 #[test]
 fn a_child_that_exits_with_one_fails_for_good(rt: HostRuntime) -> Result<(), Fail> {
     let alloc = rt.alloc();
-    let mut host = Scripted::new(alloc, replies(alloc, Some(1), 5)?, 0);
+    let mut host = host(alloc, true, ended(Some(1)))?;
     let Ok(report) = hello(alloc, "{\"t\":\"abc\"}", &mut host)? else {
         return Err(Fail::from("no report"));
     };
@@ -174,7 +175,7 @@ fn a_child_that_exits_with_one_fails_for_good(rt: HostRuntime) -> Result<(), Fai
 #[test]
 fn a_child_that_a_signal_ended_fails_for_now(rt: HostRuntime) -> Result<(), Fail> {
     let alloc = rt.alloc();
-    let mut host = Scripted::new(alloc, replies(alloc, None, 5)?, 0);
+    let mut host = host(alloc, true, ended(None))?;
     let Ok(report) = hello(alloc, "{\"t\":\"abc\"}", &mut host)? else {
         return Err(Fail::from("no report"));
     };

@@ -8,19 +8,19 @@ use Rattle.flow_planner.proofs.planner.plan_vertices.Goals as goal
 
 pub run-requires : goal.run-requires
 run-requires c = record {
-  under_way = starts c.args.vertices.now c.loop-charges.charges c.in_ok-search.search c.requires c.loop-charges.invariant c.in_ok-search.ensures;
+  under_way = starts c.args.vertices.now c.loop-end.charges c.loop-end.search c.requires c.loop-end.invariant.0 c.loop-end.invariant.1;
 }
 
 pub returns-in-None-clause-least : goal.returns-in-None-clause-least
 returns-in-None-clause-least c =
     let graph = c.args.vertices.now in
-    let charges = c.loop-charges.charges in
+    let charges = c.loop-end.charges in
     let search = c.run.new.self in
     let marks = c.in_ok-read_off-in-None.field-0.marks in
     let marked = c.in_ok-read_off-in-None.ensures in
     let final : IsFinal graph charges search marks = record {
       good = c.requires;
-      fair = fair_from graph charges c.loop-charges.invariant;
+      fair = fair_from graph charges c.loop-end.invariant.0;
       settled = c.in-None.ensures.settled;
       count = marked.count;
       are = marked.are;
@@ -30,28 +30,28 @@ returns-in-None-clause-least c =
 pub returns-in-None-clause-certified : goal.returns-in-None-clause-certified
 returns-in-None-clause-certified c =
     let graph = c.args.vertices.now in
-    let charges = c.loop-charges.charges in
+    let charges = c.loop-end.charges in
     let search = c.run.new.self in
     let marks = c.in_ok-read_off-in-None.field-0.marks in
     let marked = c.in_ok-read_off-in-None.ensures in
     let final : IsFinal graph charges search marks = record {
       good = c.requires;
-      fair = fair_from graph charges c.loop-charges.invariant;
+      fair = fair_from graph charges c.loop-end.invariant.0;
       settled = c.in-None.ensures.settled;
       count = marked.count;
       are = marked.are;
     } in
     certificate_from graph charges search marks final
 
-pub loop-charges-smaller : goal.loop-charges-smaller
-loop-charges-smaller c =
+pub loop-end-smaller : goal.loop-end-smaller
+loop-end-smaller c =
     let graph = c.args.vertices.now in
-    let old = c.loop-charges.charges in
+    let old = c.loop-end.charges in
     let new = c.augment.new.charges in
     let end = c.in-Some.end in
     let path = c.in-Some.ensures.end in
     let paid : ℕ = get_or old.pay end.job 0 + end.amount in
-    let count = c.loop-charges.invariant.counted.pays in
+    let count = c.loop-end.invariant.0.counted.pays in
     let in_graph = path.job in
     let some = path.some in
     let changed = sum_by-set (λ x. x) old.pay end.job paid 0 (omega arith) in

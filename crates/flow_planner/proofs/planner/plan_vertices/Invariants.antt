@@ -1,9 +1,10 @@
 use Rattle.std.proofs.Common.{◌*◌, ◌-◌, length, sum}
 use Rattle.flow_planner.specs.Flow.{AreFairBut, nothing}
+use Rattle.flow_planner.specs.Search.{IsUntouched}
 use Rattle.flow_planner.proofs.planner.plan_vertices.Given as goal
 
-abbrev pub invariant-loop-charges : goal.invariant-loop-charges
-invariant-loop-charges l = AreFairBut l.vertices l.charges nothing nothing
+abbrev pub invariant-loop-end : goal.invariant-loop-end
+invariant-loop-end l = AreFairBut l.vertices l.charges nothing nothing × IsUntouched (length l.vertices) l.search
 
-abbrev pub decreases-loop-charges : goal.decreases-loop-charges
-decreases-loop-charges l = length l.vertices * 1000000000000 - sum l.charges.pay
+abbrev pub decreases-loop-end : goal.decreases-loop-end
+decreases-loop-end l = length l.vertices * 1000000000000 - sum l.charges.pay

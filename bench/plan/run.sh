@@ -1,0 +1,56 @@
+#!/usr/bin/env bash
+# Measures `plan` and `check` beside a plain maximum flow (dinic.cpp) on generated graphs, and prints a table.
+#
+# usage: bench/plan/run.sh [VERTICES..]      64, 256, 1024 and 4096 where none is given
+#
+# Both programs read the same graph in the same run; where their costs differ, it stops with status 1. Times are
+# milliseconds without reading; memory is the peak of a whole process in MiB, with reading. It needs rt, g++, python3
+# and GNU time.
+set -euo pipefail
+
+here=$(cd "$(dirname "$0")" && pwd)
+crate=$here/../../crates/plan_bench
+work=$(mktemp -d)
+trap 'rm -rf "$work"' EXIT
+
+(cd "$crate" && rt run < stdin > "$work/built" 2>&1) || { cat "$work/built" >&2; exit 1; }
+g++ -O2 -std=c++17 "$here/dinic.cpp" -o "$work/dinic"
+
+# measure NAME COMMAND..: runs it on the graph, and keeps what it prints and its peak memory
+measure() {
+    local name=$1
+    shift
+    /usr/bin/time -f 'peak %M' -o "$work/$name.peak" "$@" < "$work/graph" > "$work/$name.said"
+    cat "$work/$name.peak" >> "$work/$name.said"
+}
+
+# value NAME WORD: what stands behind a word
+value() {
+    awk -v word="$2" '$1 == word { print $2 }' "$work/$1.said"
+}
+
+row='%-7s %-7s %8s %8s %10s %9s %9s %7s %8s %8s\n'
+printf "$row" shape costs vertices entries plan check dinic ratio "plan MiB" dinic
+for vertices in "${@:-64 256 1024 4096}"; do
+    for count in $vertices; do
+        for shape in chain tree layers; do
+            for costs in even decades; do
+                python3 "$here/generate.py" "$shape" "$costs" "$count" > "$work/graph"
+                measure ours "$crate/out/plan_bench" times
+                measure dinic "$work/dinic"
+                if [ "$(value ours cost)" != "$(value dinic cost)" ]; then
+                    echo "costs differ at $shape $costs $count: $(value ours cost), $(value dinic cost)" >&2
+                    exit 1
+                fi
+                awk -v row="$row" -v shape="$shape" -v costs="$costs" -v count="$count" \
+                    -v entries="$(awk 'NF > 8 { n += $8 } END { print n + 0 }' "$work/graph")" \
+                    -v plan="$(value ours plan)" -v check="$(value ours check)" -v dinic="$(value dinic plan)" \
+                    -v ours_peak="$(value ours peak)" -v dinic_peak="$(value dinic peak)" \
+                    'BEGIN { printf row, shape, costs, count, entries, sprintf("%.2f", plan / 1000),
+                        sprintf("%.2f", check / 1000), sprintf("%.2f", dinic / 1000),
+                        sprintf("%.1f", plan / (dinic > 0 ? dinic : 1)), sprintf("%.1f", ours_peak / 1024),
+                        sprintf("%.1f", dinic_peak / 1024) }'
+            done
+        done
+    done
+done

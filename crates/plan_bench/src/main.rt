@@ -1,0 +1,34 @@
+//! Plans the graph of a certificate: the program that `bench/plan` measures.
+//!
+//! It reads a certificate from the standard input, leaves its plan and charges aside, plans its graph, checks what was
+//! planned, and prints the cost. With the argument `times` it also prints the microseconds that planning and
+//! checking took.
+#![tactic(auto)]
+
+use anyhow::{Result, anyhow};
+use flow_planner::plan;
+use plan_checker::{check, read_certificate};
+use std::env;
+use std::io::Read;
+use std::time::Instant;
+
+fn main(rt: HostRuntime) -> Result<()> {
+    let mut text = Vec::new(rt.alloc());
+    rt.stdin().read_to_end(&mut text)?;
+    let (graph, _, _) = read_certificate(rt.alloc(), text.as_slice())?;
+
+    let start = Instant::now(&rt)?;
+    let (plan, charges) = plan(rt.alloc(), &graph)?;
+    let planned = start.elapsed(&rt)?;
+
+    let start = Instant::now(&rt)?;
+    let cost = check(&graph, &plan, &charges).map_err(|broken| anyhow!("{broken:?}"))?;
+    let checked = start.elapsed(&rt)?;
+
+    println!(rt; "cost {cost}")?;
+    if env::args(&rt)?.any(|word| word.as_str() == "times") {
+        let (plan, check) = (planned.as_micros(), checked.as_micros());
+        println!(rt; "plan {plan}\ncheck {check}")?;
+    }
+    Ok(())
+}
