@@ -48,7 +48,7 @@ fn built(alloc: Global, document: &str, object: &str) -> Result<Result<Launch, B
 fn launched(alloc: Global, document: &str, object: &str) -> Result<Launch, Fail> {
     match built(alloc, document, object)? {
         Ok(launch) => Ok(launch),
-        Err(_) => Err(Fail::from("no launch")),
+        Err(error) => Err(Fail::from(error_code(&error))),
     }
 }
 
@@ -82,11 +82,17 @@ fn text_or_none(text: &Option<Text>) -> &str {
     }
 }
 
-fn code_of(outcome: &Result<Launch, BuildError>) -> &str {
+fn error_code(error: &BuildError) -> &'static str {
+    match error {
+        BuildError::OutOfMemory => "memory",
+        BuildError::Refused(fault) => fault.code(),
+    }
+}
+
+fn code_of(outcome: &Result<Launch, BuildError>) -> &'static str {
     match outcome {
         Ok(_) => "launch",
-        Err(BuildError::OutOfMemory) => "memory",
-        Err(BuildError::Refused(fault)) => fault.code(),
+        Err(error) => error_code(error),
     }
 }
 

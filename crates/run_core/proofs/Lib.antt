@@ -6,5 +6,10 @@ pub mod Answered
 pub mod Gathered
 pub mod Listed
 pub mod Next
+pub mod Blamed
 pub mod Taken
 pub mod Files
+pub mod Knows
+pub mod Succeeded
+pub mod Over
+pub mod Rows

@@ -47,7 +47,7 @@ module _ (tool : Tool) (inputs : Fields) (options : Options) (limits : IsWithinL
 
   pub may_stage : MayStage s at_first (Compute ∷ []) [] (record { moves = []; value = inputs }) 1
   may_stage = record {
-    free = record { idle = refl; unsettled = refl };
+    free = record { idle = refl; collects = refl; unsettled = refl };
     job = job;
     known = refl;
     computed = refl;
@@ -72,8 +72,9 @@ module _ (tool : Tool) (inputs : Fields) (options : Options) (limits : IsWithinL
   pub may_collect : (ticket : ℕ) → MayCollect s (when_running ticket) (Load ∷ [])
   may_collect ticket = record {
     idle = refl;
+    collects = refl;
     flying = ((ticket, []), (0, lit< tt, refl));
-    busy = λ unsettled. record { free = record { idle = refl; unsettled = refl }; no_stage = no_slot ticket };
+    busy = λ unsettled. record { free = record { idle = refl; collects = refl; unsettled = refl }; no_stage = no_slot ticket };
   }
 
   pub may_scan : (ticket : ℕ) → MayScan s (when_back ticket) [] (out_folder options.work 1)
@@ -91,7 +92,7 @@ module _ (tool : Tool) (inputs : Fields) (options : Options) (limits : IsWithinL
       delivery_at s (when_gathered ticket named).events outputs ≡ Some plan →
       MayDeliver s (when_gathered ticket named) (Load ∷ []) plan
   may_deliver ticket named outputs plan result delivered = record {
-    busy = record { free = record { idle = refl; unsettled = refl }; no_stage = all_at_hand ticket named };
+    busy = record { free = record { idle = refl; collects = refl; unsettled = refl }; no_stage = all_at_hand ticket named };
     landed = landed ticket;
     outputs = outputs;
     result = result;

@@ -27,9 +27,9 @@ use Rattle.run_core.specs.Collected.{found_under}
 use Rattle.run_core.specs.Events.{So_far}
 use Rattle.run_core.specs.Plans.{Mark}
 use Rattle.run_core.specs.Run.{IsRunSoFar}
-use Rattle.run_core.specs.Reports.{Concludes, whole, lost as memory_lost, reported, report_of}
+use Rattle.run_core.specs.Reports.{Concludes, whole, lost as memory_lost, reported, report_of, entries_of}
 use Rattle.run_core.specs.Machine.{tool_of, ends, fails_for_good, start_with, at_start, stages, starts, has_launch, has_none, after_class, after_file, after_listing, after_scan, delivers, AsksIn, FollowsFrom}
-use Rattle.run_core.specs.Standing.{IsAt, staging, starting, running, scanning, delivering, ended, lost}
+use Rattle.run_core.specs.Standing.{IsAt, Blames, staging, starting, running, scanning, delivering, ended, lost}
 use Rattle.run_core.specs.Core.{steps_in, Stands, Begins}
 use Rattle.run_core.specs.declared.runner.RunCore.{RunCore}
 use Rattle.run_core.specs.Limits.{IsWithinLimits}
@@ -46,6 +46,7 @@ use Rattle.run_core.proofs.Lone.{walker_tool}
 use Rattle.run_core.proofs.Advance.{Advances, same, its_scene}
 use Rattle.run_core.proofs.Answered.{pair}
 use Rattle.run_core.proofs.Next.{advance, reach}
+use Rattle.run_core.proofs.Blamed.{blames_after, none_started}
 use Rattle.run_core.specs.Standing.{IsLone}
 use Rattle.run_core.proofs.Answered.{only_ticket}
 
@@ -200,6 +201,8 @@ module _ (core : RunCore) (answer : HostAnswer) (pairs : Vec Pair Global) (state
         marks = a.marks;
         goes = subst (λ (t : List Pair). IsRunSoFar core.setting t a.happened a.marks) (sym longer) a.goes;
         at = a.at;
+        blames = subst (λ (t : List Pair). Blames (entries_of t) state) (sym longer)
+            (blames_after core.setting core.pairs.items core.state.asks core.state.flying core.state.phase answer state may stands.blames.flying follows);
         room = λ some. room;
       }
 
@@ -213,6 +216,7 @@ module _ (core : RunCore) (answer : HostAnswer) (pairs : Vec Pair Global) (state
         marks = r.marks;
         goes = subst (λ (t : List Pair). IsRunSoFar core.setting t r.happened r.marks) (sym longer) r.goes;
         at = subst (λ (st : State). IsAt core.setting r.happened r.marks st) (sym is) (lost r.happened r.marks);
+        blames = subst (λ (st : State). Blames (entries_of pairs.items) st) (sym is) (record { flying = none_started (entries_of pairs.items); rightly = tt });
         room = none;
       }
 
@@ -244,6 +248,7 @@ module _ (core : RunCore) (limits : IsWithinLimits core.setting.options) (empty 
           marks = Compute ∷ [];
           goes = subst (λ (t : List Pair). IsRunSoFar core.setting t at_first (Compute ∷ [])) (sym empty) (begins (Compute ∷ []) plans);
           at = subst (λ (st : State). IsAt core.setting at_first (Compute ∷ []) st) (sym is) (staging its_inputs l);
+          blames = subst (λ (st : State). Blames (entries_of core.pairs.items) st) (sym is) (record { flying = none_started (entries_of core.pairs.items); rightly = tt });
           room = λ some. room;
         };
         setting = refl;
@@ -271,6 +276,7 @@ module _ (core : RunCore) (limits : IsWithinLimits core.setting.options) (empty 
           at = subst (λ (st : State). IsAt core.setting at_first [] st) (sym is)
               (ended at_first [] (Fails_for_good [] (Cause.Kind input.id))
               (record { idle = refl; ended = ended_so; right = λ world honest. ap (λ w. eval_by world w) walks }));
+          blames = subst (λ (st : State). Blames (entries_of core.pairs.items) st) (sym is) (record { flying = none_started (entries_of core.pairs.items); rightly = tt });
           room = λ some. room;
         };
         setting = refl;

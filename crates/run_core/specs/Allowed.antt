@@ -10,14 +10,15 @@ use Rattle.run_core.specs.Words.{Name, Fields, JobPlace}
 use Rattle.run_core.specs.Folders.{out_folder, runtime_of}
 use Rattle.run_core.specs.Jobs.{Job}
 use Rattle.run_core.specs.Events.{Event, Work, Idle, Starting, Scanning, So_far, in_flight, is_held, is_staging, number_at, unfolding_at, job_at}
-use Rattle.run_core.specs.Ending.{settled, delivery_at, is_delivery}
+use Rattle.run_core.specs.Ending.{settled, delivery_at, is_delivery, is_lost_collect}
 use Rattle.run_core.specs.Plans.{Mark, Compute, mark_at}
 use Rattle.run_core.specs.Scene.{Scene}
 
 module _ (s : Scene) where
-  -- nothing follows at once, and the end is not settled
+  -- nothing follows at once, no collect has failed, and the end is not settled
   pub record IsFree (f : So_far) : Type 0 where
     pub idle : f.work ≡ Idle
+    pub collects : list_any is_lost_collect f.events ≡ false
     pub unsettled : settled s f.events ≡ None
 
   -- a job is staged that the plan computes and that is not held, where a slot is free; there is nothing to copy yet
@@ -55,9 +56,10 @@ module _ (s : Scene) where
     pub free : IsFree f
     pub no_stage : (place : JobPlace) (plan : StagePlan) (number : ℕ) → MayStage f marks place plan number → ⊥
 
-  -- a child is waited for where one is in flight, and, unless the end is settled, nothing more can be staged
+  -- a child is waited for where one is in flight, no collect has failed, and, unless the end is settled, nothing more can be staged
   pub record MayCollect (f : So_far) (marks : List Mark) : Type 0 where
     pub idle : f.work ≡ Idle
+    pub collects : list_any is_lost_collect f.events ≡ false
     pub flying : (flight : ℕ × JobPlace) × Contains (in_flight f.events) flight
     pub busy : settled s f.events ≡ None → IsBusy f marks
 

@@ -12,7 +12,8 @@ use Rattle.run_core.specs.Words.{Fields}
 use Rattle.run_core.specs.Events.{So_far}
 use Rattle.run_core.specs.Plans.{Mark}
 use Rattle.run_core.specs.Run.{IsRunSoFar}
-use Rattle.run_core.specs.Standing.{IsAt}
+use Rattle.run_core.specs.Reports.{entries_of}
+use Rattle.run_core.specs.Standing.{IsAt, Blames}
 
 abbrev pub setting_of : RunCore → Setting
 setting_of core = core.setting
@@ -49,13 +50,14 @@ IsEnded phase = ⊥
 abbrev pub IsLost : RunCore → Type 0
 IsLost core = core.state.phase ≡ Phase.Ended (Err RunFault.OutOfMemory)
 
--- its transcript is a run so far, it asks what that run may ask, or has ended as that run does, and while it
--- asks there is room for the answer
+-- its transcript is a run so far, it asks what that run may ask, or has ended as that run does, what it blames on
+-- the host is so, and while it asks there is room for the answer
 pub record Stands (core : RunCore) : Type 0 where
   pub happened : So_far
   pub marks : List Mark
   pub goes : IsRunSoFar core.setting core.pairs.items happened marks
   pub at : IsAt core.setting happened marks core.state
+  pub blames : Blames (entries_of core.pairs.items) core.state
   pub room : 0 < steps_in core.state.phase → vec_len core.pairs < vec_capacity core.pairs
 
 -- a machine for this process, before any answer

@@ -17,7 +17,9 @@ pub mod Allowed
 pub mod Run
 pub mod Honest
 pub mod Reports
+pub mod Told
 pub mod Answers
+pub mod Blame
 pub mod Machine
 pub mod Limits
 pub mod Standing

@@ -1,8 +1,9 @@
 -- Where the machine can stand, with what has happened and the plan in force there.
-use Rattle.std.specs.Prelude.{◌≡◌, ℕ, List, [], ◌∷◌, Some, Result, Ok, Err}
+use Rattle.std.specs.Prelude.{◌≡◌, ℕ, List, [], ◌∷◌, Some, Result, Ok, Err, IfErr}
 use Rattle.command_line.specs.declared.launch.Launch.{Launch}
 use Rattle.command_line.specs.Launch.{IsLaunch}
 use Rattle.proc_host.specs.declared.plan.StagePlan.{StagePlan}
+use Rattle.proc_host.specs.declared.call.Entry.{Entry}
 use Rattle.run_core.specs.declared.outcome.RunFault.{RunFault}
 use Rattle.run_core.specs.declared.request.Request.{Request}
 use Rattle.run_core.specs.declared.setting.Setting.{Setting}
@@ -21,6 +22,7 @@ use Rattle.run_core.specs.Honest.{IsHonest, Means}
 use Rattle.run_core.specs.Reports.{report_of}
 use Rattle.run_core.specs.Machine.{tool_of, waits, ends, stages, starts, after_ticket}
 use Rattle.run_core.specs.Limits.{IsWithinLimits}
+use Rattle.run_core.specs.Blame.{WereStarted, BlamesRightly}
 
 -- a lone tool whose inputs are all of their types
 pub record IsLone (setting : Setting) (inputs : Fields) : Type 0 where
@@ -63,3 +65,13 @@ pub data IsAt (setting : Setting) : So_far → List Mark → State → Type 0 wh
   ended : (f : So_far) (marks : List Mark) (end : End) → HasEnded setting f end →
       IsAt setting f marks (ends (report_of setting.options end))
   lost : (f : So_far) (marks : List Mark) → IsAt setting f marks (ends (Err RunFault.OutOfMemory))
+
+-- an end by the host's fault blames it rightly
+abbrev pub EndsRightly : List Entry → Phase → Type 0
+EndsRightly entries (Phase.Ended result) = IfErr result (BlamesRightly entries)
+EndsRightly entries phase = Unit {0}
+
+-- what it knows of its host: the children in flight were started, and what it blames on the host is so
+pub record Blames (entries : List Entry) (state : State) : Type 0 where
+  pub flying : WereStarted entries state.flying
+  pub rightly : EndsRightly entries state.phase

@@ -1,12 +1,17 @@
 //! What a run of a process is, and the machine that makes one.
 //!
 //! `RunCore` asks one request at a time and takes one answer; it touches nothing itself. Whatever the answers are,
-//! what it asked and was told is a run (`specs/Run.antt`), it ends as that run does (`specs/Ending.antt`), and where
-//! the tools' outputs are those of some world, a success is the value of the process there (`specs/Eval.antt`).
+//! what it asked and was told is a run (`specs/Run.antt`), it ends as that run does (`specs/Ending.antt`), it blames its
+//! host only where a call failed by that very fault (`specs/Blame.antt`), and where the tools' outputs are those of some
+//! world, a success is the value of the process there (`specs/Eval.antt`). `laws.rt` says what follows for any run.
+//!
+//! `specs/Machine.antt` and `specs/Standing.antt` say what the machine does and where it stands. Only its private
+//! contracts rest on them, so a reader may skip them; `proofs/Rows.antt` computes the definitions on a worked example.
 #![tactic(auto)]
 
 mod folders;
 mod inputs;
+mod laws;
 mod location;
 mod outcome;
 mod outputs;
@@ -17,6 +22,7 @@ mod state;
 mod steps;
 mod targets;
 
+pub use laws::{nothing_follows_the_end, success_ran_a_child};
 pub use outcome::{Cause, CollectFault, Note, Outcome, PlanNote, Report, RunFault};
 pub use request::{Pair, Request};
 pub use runner::RunCore;

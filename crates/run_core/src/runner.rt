@@ -4,6 +4,7 @@ ghost use Rattle.run_core.specs.declared.request.Request.{Request};
 ghost use Rattle.run_core.specs.declared.state.Phase.{Phase};
 ghost use Rattle.run_core.specs.Core.{setting_of, transcript, asked, flying, steps_left, IsLost, IsEnded, Stands, Begins};
 ghost use Rattle.run_core.specs.Answers.{MayAnswer, flying_after};
+ghost use Rattle.run_core.specs.Blame.{BlamesRightly};
 ghost use Rattle.run_core.specs.Limits.{IsWithinLimits};
 ghost use Rattle.run_core.specs.Reports.{entries_of, Concludes};
 
@@ -111,6 +112,7 @@ impl RunCore {
         requires stands { Stands self }
         requires finished { asked self ≡ Request.Finished }
         ensures concluded { Concludes (setting_of self) (transcript self) result }
+        ensures faults { IfErr result (BlamesRightly (entries_of (transcript self))) }
         ensures lost { (result ≡ Err RunFault.OutOfMemory) ↔ IsLost self }
     {
         let RunCore {

@@ -1,6 +1,8 @@
 use Rattle.std.proofs.Common.{sym, subst}
 use Rattle.run_core.specs.declared.state.Phase.{Phase}
 use Rattle.run_core.specs.Core.{IsEnded}
+use Rattle.run_core.specs.Reports.{entries_of}
+use Rattle.run_core.specs.Standing.{EndsRightly}
 use Rattle.run_core.proofs.Taken.{has_ended, concludes}
 use Rattle.run_core.proofs.runner.RunCore.finish.Goals as goal
 
@@ -11,3 +13,7 @@ outcome_of-requires c =
 pub returns-clause-concluded : goal.returns-clause-concluded
 returns-clause-concluded c =
     concludes c.args.self.setting c.args.self.pairs.items c.outcome_of.result c.requires.stands.at c.requires.stands.goes c.outcome_of.ensures
+
+pub returns-clause-faults : goal.returns-clause-faults
+returns-clause-faults c =
+    subst (λ (p : Phase). EndsRightly (entries_of c.args.self.pairs.items) p) c.outcome_of.ensures c.requires.stands.blames.rightly

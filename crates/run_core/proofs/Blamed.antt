@@ -1,0 +1,115 @@
+-- What the machine blames on its host stands in its transcript.
+use Rattle.std.specs.Prelude.{Contains}
+use Rattle.std.proofs.Common.{◌≡◌, ◌∙◌, ℕ, ℤ, Bool, true, false, cond, List, [], ◌∷◌, ◌++◌, Option, Some, None, refl, sym, ap, subst, arith}
+use Rattle.std.proofs.lemmas.List.{map-append}
+use Rattle.std.proofs.lemmas.List.Elements.{filter_map-append, Contains-append_left, Contains-push}
+use Rattle.cwl_document.specs.declared.process.Tool.{Tool}
+use Rattle.cwl_document.specs.declared.process.ToolOutput.{ToolOutput}
+use Rattle.command_line.specs.Launch.{stream_name}
+use Rattle.proc_host.specs.declared.call.Entry.{Entry}
+use Rattle.proc_host.specs.declared.call.HostAnswer.{HostAnswer}
+use Rattle.proc_host.specs.declared.child.ExitClass.{ExitClass}
+use Rattle.proc_host.specs.declared.found.Found.{Found}
+use Rattle.proc_host.specs.ExitClass.{class_of}
+use Rattle.run_core.specs.declared.outcome.Cause.{Cause}
+use Rattle.run_core.specs.declared.outcome.CollectFault.{CollectFault}
+use Rattle.run_core.specs.declared.request.Request.{Request}
+use Rattle.run_core.specs.declared.request.Pair.{Pair}
+use Rattle.run_core.specs.declared.setting.Options.{Options}
+use Rattle.run_core.specs.declared.setting.Setting.{Setting}
+use Rattle.run_core.specs.declared.state.Phase.{Phase}
+use Rattle.run_core.specs.declared.state.State.{State}
+use Rattle.run_core.specs.Words.{Name}
+use Rattle.run_core.specs.Answers.{MayAnswer}
+use Rattle.run_core.specs.Blame.{answers, WereStarted}
+use Rattle.run_core.specs.Collected.{found_under}
+use Rattle.run_core.specs.Reports.{entries_of, entry_of}
+use Rattle.run_core.specs.Machine.{tool_of, fails_for_good, has_launch, has_none, after_class, after_file, after_listing, delivers, FollowsFrom}
+use Rattle.run_core.specs.Standing.{Blames}
+use Rattle.run_core.proofs.Answered.{pair, only_ticket}
+
+one_answer : (asks : Request) (flying : List ℕ) (answer : HostAnswer) → MayAnswer asks flying answer →
+    answers (entries_of (pair asks answer ∷ [])) ≡ answer ∷ []
+one_answer (Request.Stage place plan number) flying answer may = refl
+one_answer (Request.Start place launch) flying answer may = refl
+one_answer Request.Collect flying answer may = refl
+one_answer (Request.Scan place folder) flying answer may = refl
+one_answer (Request.Deliver plan) flying answer may = refl
+one_answer Request.Finished flying answer may = absurd may
+
+answers_more : (t : List Pair) (asks : Request) (flying : List ℕ) (answer : HostAnswer) → MayAnswer asks flying answer →
+    answers (entries_of (t ++ pair asks answer ∷ [])) ≡ answers (entries_of t) ++ answer ∷ []
+answers_more t asks flying answer may =
+    ap answers (filter_map-append entry_of t (pair asks answer ∷ []))
+    ∙ map-append (λ (entry : Entry). entry.answer) (entries_of t) (entries_of (pair asks answer ∷ []))
+    ∙ ap (λ (more : List HostAnswer). answers (entries_of t) ++ more) (one_answer asks flying answer may)
+
+no_ticket : (n : ℕ) → Contains [] n → ⊥
+no_ticket n (k, within, is) = omega arith
+
+pub none_started : (entries : List Entry) → WereStarted entries []
+none_started entries = record { each = λ ticket there. absurd (no_ticket ticket there) }
+
+module _ (entries : List Entry) where
+  one_started : (ticket : ℕ) → Contains (answers entries) (HostAnswer.Started ticket) → WereStarted entries (ticket ∷ [])
+  one_started ticket told = record {
+    each = λ n there.
+        subst (λ (m : ℕ). Contains (answers entries) (HostAnswer.Started m)) (only_ticket ticket n there) told;
+  }
+
+  by_class : (options : Options) (code : Option ℤ) (class : ExitClass) → Blames entries (after_class options code class)
+  by_class options code ExitClass.Success = record { flying = none_started entries; rightly = tt }
+  by_class options code ExitClass.Temporary = record { flying = none_started entries; rightly = tt }
+  by_class options code ExitClass.Permanent = record { flying = none_started entries; rightly = tt }
+
+  by_kind : (options : Options) (tool : Tool) (id : Name) (file : Found) (b : Bool) →
+      Blames entries (cond b (fails_for_good (Cause.Collect (CollectFault.NotTyped id))) (delivers options tool.outputs file))
+  by_kind options tool id file true = record { flying = none_started entries; rightly = tt }
+  by_kind options tool id file false = record { flying = none_started entries; rightly = tt }
+
+  by_file : (options : Options) (tool : Tool) (id : Name) (file : Option Found) → Blames entries (after_file options tool id file)
+  by_file options tool id None = record { flying = none_started entries; rightly = tt }
+  by_file options tool id (Some file) = by_kind options tool id file file.is_dir
+
+  by_listing : (options : Options) (tool : Tool) (found : List Found) (outputs : List ToolOutput) →
+      Blames entries (after_listing options tool found outputs)
+  by_listing options tool found [] = record { flying = none_started entries; rightly = tt }
+  by_listing options tool found (o ∷ outputs) = by_file options tool o.id (found_under (stream_name tool) found)
+
+  at_known : (next known : State) → next ≡ known → Blames entries known → Blames entries next
+  at_known next known is blames = subst (λ (n : State). Blames entries n) (sym is) blames
+
+  blames_next : (setting : Setting) (asks : Request) (flying : List ℕ) (phase : Phase) (answer : HostAnswer) (next : State) →
+      Contains (answers entries) answer → WereStarted entries flying → FollowsFrom setting asks flying phase answer next → Blames entries next
+  blames_next setting asks flying Phase.Running (HostAnswer.Failed fault) next told began is =
+      at_known next _ is (record { flying = none_started entries; rightly = record { failed = told; started = began } })
+  blames_next setting asks flying phase (HostAnswer.Failed fault) next told began is =
+      at_known next _ is (record { flying = none_started entries; rightly = record { failed = told; started = none_started entries } })
+  blames_next setting asks flying Phase.Staging HostAnswer.Done next told began (has_launch launch is) =
+      record { flying = none_started entries; rightly = tt }
+  blames_next setting asks flying Phase.Staging HostAnswer.Done next told began (has_none fault is) =
+      record { flying = none_started entries; rightly = tt }
+  blames_next setting asks flying Phase.Starting (HostAnswer.Started ticket) next told began is =
+      at_known next _ is (record { flying = one_started ticket told; rightly = tt })
+  blames_next setting asks flying Phase.Running (HostAnswer.Ended e) next told began is =
+      at_known next _ is (by_class setting.options e.code (class_of e.code))
+  blames_next setting asks flying Phase.Scanning (HostAnswer.Listed found) next told began is =
+      at_known next _ is (by_listing setting.options (tool_of setting.process) found (tool_of setting.process).outputs)
+  blames_next setting asks flying (Phase.Delivering value) HostAnswer.Done next told began is =
+      at_known next _ is (record { flying = none_started entries; rightly = tt })
+  blames_next setting asks flying phase answer next told began is = absurd is
+
+-- with one answer more
+pub blames_after : (setting : Setting) (t : List Pair) (asks : Request) (flying : List ℕ) (phase : Phase) (answer : HostAnswer) (next : State) →
+    MayAnswer asks flying answer → WereStarted (entries_of t) flying → FollowsFrom setting asks flying phase answer next →
+    Blames (entries_of (t ++ pair asks answer ∷ [])) next
+blames_after setting t asks flying phase answer next may began follows =
+    let more : answers (entries_of (t ++ pair asks answer ∷ [])) ≡ answers (entries_of t) ++ answer ∷ [] = answers_more t asks flying answer may in
+    let told : Contains (answers (entries_of (t ++ pair asks answer ∷ []))) answer =
+    subst (λ (all : List HostAnswer). Contains all answer) (sym more) (Contains-push (answers (entries_of t)) answer) in
+    let still : WereStarted (entries_of (t ++ pair asks answer ∷ [])) flying = record {
+      each = λ ticket there.
+          subst (λ (all : List HostAnswer). Contains all (HostAnswer.Started ticket)) (sym more)
+          (Contains-append_left (answers (entries_of t)) (answer ∷ []) (HostAnswer.Started ticket) (began.each ticket there));
+    } in
+    blames_next (entries_of (t ++ pair asks answer ∷ [])) setting asks flying phase answer next told still follows

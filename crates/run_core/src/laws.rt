@@ -1,0 +1,27 @@
+//! What follows from the definitions alone, for any run, whoever made it: each law is the contract of a function that
+//! does nothing.
+ghost use Rattle.std.specs.Prelude.{◌≡◌, List, Some};
+ghost use Rattle.run_core.specs.declared.request.Pair.{Pair};
+ghost use Rattle.run_core.specs.declared.request.Request.{Request};
+ghost use Rattle.run_core.specs.declared.setting.Setting.{Setting};
+ghost use Rattle.run_core.specs.Words.{Fields};
+ghost use Rattle.run_core.specs.Allowed.{Allowed};
+ghost use Rattle.run_core.specs.Ending.{End, Succeeds, end_of};
+ghost use Rattle.run_core.specs.Events.{So_far, Idle};
+ghost use Rattle.run_core.specs.Plans.{Mark};
+ghost use Rattle.run_core.specs.Run.{IsRun};
+ghost use Rattle.run_core.specs.Scene.{scene_of};
+ghost use Rattle.run_core.specs.Told.{RanWell};
+
+/// A run that ends in success has started a child that ended well.
+pub fn success_ran_a_child()
+    ensures { (setting : Setting) (t : List Pair) (outputs : Fields) → IsRun setting t (Succeeds outputs) → RanWell t }
+{}
+
+/// Where a run has come to its end, nothing may be asked any more: no second delivery, and no collect after one that
+/// failed.
+pub fn nothing_follows_the_end()
+    ensures { (setting : Setting) (f : So_far) (marks : List Mark) (end : End) (request : Request)
+        → f.work ≡ Idle → end_of (scene_of setting) f.events ≡ Some end
+        → Allowed (scene_of setting) f marks request → ⊥ }
+{}

@@ -1,0 +1,4 @@
+pub mod Lengths
+pub mod Tuples
+pub mod Gathered
+pub mod Laws
