@@ -1,0 +1,4 @@
+pub mod Cuts
+pub mod Escapes
+pub mod FileUrl
+pub mod Summing
