@@ -1,5 +1,5 @@
 -- What escaping does to a path and to its components.
-use Rattle.std.proofs.Common.{◌≡◌, ◌≢◌, ℕ, ◌+◌, ◌/◌, ◌%◌, ◌<◌, ◌≤◌, true, false, not, ◌&&◌, ◌||◌, ◌==◌, ◌⊎◌, List, [], ◌∷◌, ◌++◌, length, get_or, drop, map, codes, All, inl, inr, ⊎_elim, refl, sym, ap, subst, ◌∙◌, arith, length-append}
+use Rattle.std.proofs.Common.{◌≡◌, ◌≢◌, ℕ, ◌+◌, ◌/◌, ◌%◌, ◌<◌, ◌≤◌, true, false, cond, not, ◌&&◌, ◌||◌, ◌==◌, ◌⊎◌, List, [], ◌∷◌, ◌++◌, length, get_or, drop, map, codes, All, inl, inr, ⊎_elim, refl, sym, ap, subst, ◌∙◌, arith, length-append}
 use Rattle.std.specs.Fmt.{digit_glyph}
 use Rattle.std.specs.List.{slice_split, onto_first}
 use Rattle.std.proofs.lemmas.Bool.{cond-true, cond-false, cases_Bool, cases_eq, eq-eqb, ne_eqb, true≢false}
@@ -92,7 +92,7 @@ whole_parts (b ∷ bs) =
 pub escaped-join : (parts : List (List ℕ)) → escaped (join_segments parts) ≡ join_segments (map escaped parts)
 escaped-join [] = refl
 escaped-join (p ∷ ps) =
-    flat_map-append _ (47 ∷ p) (join_segments ps) ∙ ap (λ x. (47 ∷ escaped p) ++ x) (escaped-join ps)
+    flat_map-append (λ b. cond (stays b) (b ∷ []) (percent_encode_byte b)) (47 ∷ p) (join_segments ps) ∙ ap (λ x. (47 ∷ escaped p) ++ x) (escaped-join ps)
 
 -- ---- dots
 
@@ -131,7 +131,8 @@ two c cs byte more =
     ⊎_elim
     (λ is.
     let long : 0 < length (escaped cs) = long_from cs (more is) in
-    ap (λ x. dot_len (escaped (x ∷ cs)) == length (escaped (x ∷ cs))) is ∙ ne_eqb 1 (1 + length (escaped cs)) (λ e. absurd (omega arith)))
+    let same : ℕ → Type 0 = λ x. (dot_len (escaped (x ∷ cs)) == length (escaped (x ∷ cs))) ≡ false in
+    subst same (sym is) (ne_eqb 1 (length (46 ∷ escaped cs)) (λ e. absurd (omega arith))))
     (λ other.
     let none = no_dot c cs byte other in
     ne_eqb _ _ (λ e. absurd (omega arith)))

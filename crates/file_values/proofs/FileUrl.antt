@@ -3,7 +3,7 @@ use Rattle.std.proofs.Common.{◌≡◌, ◌≢◌, ℕ, ◌+◌, ◌<◌, ◌�
 use Rattle.std.specs.Prelude.{is_some}
 use Rattle.std.specs.Str.{is_utf8}
 use Rattle.std.specs.List.{slice_split}
-use Rattle.std.proofs.lemmas.Bool.{cond-true, cond-false, cases_Bool, true≢false, both_ways}
+use Rattle.std.proofs.lemmas.Bool.{eq-eqb, cond-true, cond-false, cases_Bool, true≢false, both_ways}
 use Rattle.std.proofs.lemmas.Bool.Decides.{nat_tests}
 use Rattle.std.proofs.lemmas.List.Elements.{All-nil, All-cons, All-head, All-tail, All-map, All-take, All-drop}
 use Rattle.std.proofs.lemmas.Str.{is_utf8-from_IsUtf8}
@@ -49,7 +49,7 @@ kept b byte passes =
     kept_from_passes stays PATH refl b ascii passes
 
 kept_escape : (b : ℕ) → IsEscapeByte b → IsKept PATH b
-kept_escape b (inl is) = subst (IsKept PATH) (sym is) refl
+kept_escape b (inl is) = kept_from_passes (λ x. x == 37) PATH refl b (omega arith) (eq-eqb b 37 is)
 kept_escape b (inr (inl digit)) = kept b (omega arith) (grind (arith, nat_tests))
 kept_escape b (inr (inr letter)) = kept b (omega arith) (grind (arith, nat_tests))
 

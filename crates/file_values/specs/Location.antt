@@ -66,9 +66,13 @@ located base location = and_then (joined base location) path_of
 abbrev pub folder_of : Parts → Finds (List ℕ)
 folder_of base = located base (codes ".")
 
+-- the path begins with a slash
+abbrev pub is_absolute : List ℕ → Bool
+is_absolute path = slice_index path 0 == 47
+
 -- a path as it stands, joined to the base's folder unless it is absolute
 abbrev pub placed : Parts → List ℕ → Finds (List ℕ)
-placed base path = if slice_index path 0 == 47 then Ok path else and_map (λ folder. folder ++ path) (folder_of base)
+placed base path = if is_absolute path then Ok path else and_map (λ folder. folder ++ path) (folder_of base)
 
 -- A location may be too long for `url`, which takes no URL of 4 GB: that is F2 too, but only from 2^24 bytes on, the base's among them.
 abbrev pub is_long : Parts → List ℕ → Bool

@@ -9,9 +9,9 @@ use Rattle.file_values.specs.declared.refusal.FileRefusal.{FileRefusal}
 use Rattle.file_values.specs.declared.refusal.FileRefusal.TheVariants.{Read, OutOfMemory}
 
 -- SHA-1 in lower case digits, and the number of bytes
-pub record IsSumOf (bytes : List ℕ) (sum : FileSum) : Type 0 where
-  pub sum : sum.sum ≡ encode_lower (sha1 bytes)
-  pub size : sum.size ≡ length bytes
+pub record IsSumOf (bytes : List ℕ) (found : FileSum) : Type 0 where
+  pub sum : found.sum ≡ encode_lower (sha1 bytes)
+  pub size : found.size ≡ length bytes
 
 -- What was left to read before and after: everything was read, and this is its sum
 abbrev pub SumsAll : Option (List ℕ) → Option (List ℕ) → FileSum → Type 0

@@ -1,7 +1,9 @@
 //! Paths and their locations.
-ghost use Rattle.std.specs.Prelude.{◌≡◌, ◌≢◌, ◌⊎◌, true, Ok, Err, IfOk, IfErr, string_bytes, codes};
+ghost use Rattle.std.specs.Prelude.{◌≡◌, false, Ok, IfOk, IfErr, string_bytes, codes, is_some};
+ghost use Rattle.percent_encoding.specs.Percent.{percent_decode};
+ghost use Rattle.url.specs.Parts.{kind_of};
+ghost use Rattle.url.specs.Scheme.{is_file};
 ghost use Rattle.file_values.specs.Location as spec;
-ghost use Rattle.file_values.specs.declared.refusal.FileRefusal.TheVariants.{NotAFileUrl, OutOfMemory};
 
 use crate::refusal::FileRefusal;
 use percent_encoding::{DecodeError, percent_decode_str, percent_encode_byte};
@@ -72,22 +74,49 @@ fn is_long(location: &str, base: &Url) -> bool
 // The path that a URL names.
 fn path_of(alloc: Global, url: &Url) -> Result<String, FileRefusal>
     ensures ok { IfOk result (λ path. spec.path_of url.now ≡ Ok (string_bytes path)) }
-    ensures err { IfErr result (λ e. e ≢ OutOfMemory → spec.path_of url.now ≡ Err e) }
+    ensures err { IfErr result (spec.Refuses (spec.path_of url.now) false) }
 {
-    if !names_a_file(url) {
-        return Err(FileRefusal::NotAFileUrl);
-    }
-    match percent_decode_str(url.path()).decode_utf8(alloc) {
-        Ok(path) => Ok(path.into_owned(alloc)?),
-        Err(DecodeError::OutOfMemory) => Err(FileRefusal::OutOfMemory),
-        Err(DecodeError::Utf8(_)) => Err(FileRefusal::NotUtf8),
+    if names_a_file(url) {
+        decoded(alloc, url.path())
+    } else {
+        Err(FileRefusal::NotAFileUrl)
     }
 }
 
 fn names_a_file(url: &Url) -> bool
     ensures { result ≡ spec.names_a_file url.now }
 {
-    url.scheme() == "file" && !url.has_host() && url.query().is_none() && url.fragment().is_none()
+    is_of_files(url) && !url.has_host() && !has_query(url) && !has_fragment(url)
+}
+
+fn is_of_files(url: &Url) -> bool
+    ensures { result ≡ is_file (kind_of url.now) }
+{
+    url.scheme() == "file"
+}
+
+fn has_query(url: &Url) -> bool
+    ensures { result ≡ is_some url.now.query }
+{
+    url.query().is_some()
+}
+
+fn has_fragment(url: &Url) -> bool
+    ensures { result ≡ is_some url.now.fragment }
+{
+    url.fragment().is_some()
+}
+
+// The text that an escaped path stands for.
+fn decoded(alloc: Global, path: &str) -> Result<String, FileRefusal>
+    ensures ok { IfOk result (λ text. spec.text_of (percent_decode path.now) ≡ Ok (string_bytes text)) }
+    ensures err { IfErr result (spec.Refuses (spec.text_of (percent_decode path.now)) false) }
+{
+    match percent_decode_str(path).decode_utf8(alloc) {
+        Ok(text) => Ok(text.into_owned(alloc)?),
+        Err(DecodeError::OutOfMemory) => Err(FileRefusal::OutOfMemory),
+        Err(DecodeError::Utf8(_)) => Err(FileRefusal::NotUtf8),
+    }
 }
 
 /// A path as it stands, joined to the folder of the base unless it is absolute.
@@ -95,10 +124,16 @@ pub(crate) fn path_on(alloc: Global, path: &str, base: &Url) -> Result<String, F
     ensures ok { IfOk result (λ whole. spec.placed base.now path.now ≡ Ok (string_bytes whole)) }
     ensures err { IfErr result (spec.Refuses (spec.placed base.now path.now) (spec.is_long base.now (codes "."))) }
 {
-    if path.starts_with('/') {
+    if is_absolute(path) {
         return Ok(String::from_str(alloc, path)?);
     }
     let mut whole = location_to_path(alloc, ".", base)?;
     whole.push_str(path)?;
     Ok(whole)
+}
+
+fn is_absolute(path: &str) -> bool
+    ensures { result ≡ spec.is_absolute path.now }
+{
+    matches!(path.as_bytes(), [b'/', ..])
 }
