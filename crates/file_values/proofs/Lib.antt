@@ -1,0 +1,7 @@
+pub mod Cuts
+pub mod Escapes
+pub mod FileUrl
+pub mod Finding
+pub mod Levels
+pub mod Summing
+pub mod Urls

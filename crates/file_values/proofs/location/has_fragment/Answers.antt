@@ -1,0 +1,7 @@
+use Rattle.std.proofs.Common.{ap, ◌∙◌}
+use Rattle.std.specs.Prelude.{is_some}
+use Rattle.file_values.proofs.Urls.{copied}
+use Rattle.file_values.proofs.location.has_fragment.Goals as goal
+
+pub returns : goal.returns
+returns c = c.is_some.ensures ∙ copied c.fragment.result ∙ ap is_some c.fragment.ensures.value
