@@ -81,14 +81,17 @@ fn host(alloc: Global, starts: bool, end: Option<Reply>) -> Result<Scripted, All
     Ok(Scripted::new(alloc, replies(alloc, starts, end)?, 0))
 }
 
-// `hello` on these inputs over this script.
+// `hello` on these inputs over this script. Want of memory is a failure of the test.
 fn hello(alloc: Global, inputs: &str, host: &mut Scripted) -> Result<Result<Report, RunFault>, Fail>
     requires { host.old.running ≡ [] }
 {
     let Ok(Value::Fields(inputs)) = read_value(alloc, inputs.as_bytes()) else {
         return Err(Fail::from("inputs"));
     };
-    Ok(run(alloc, host, process(alloc)?, inputs, options(alloc)?))
+    match run(alloc, host, process(alloc)?, inputs, options(alloc)?) {
+        Err(RunFault::OutOfMemory) => Err(Fail::from("memory")),
+        outcome => Ok(outcome),
+    }
 }
 
 #[test]
