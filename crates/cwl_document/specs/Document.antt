@@ -37,6 +37,7 @@ is_once ids id = nat_le (count_by (bytes_eq id) ids) 1
 abbrev pub are_distinct : List (List ℕ) → Bool
 are_distinct ids = list_all (is_once ids) ids
 
+-- The JSON is a tool's document: it says so itself, each object in it keeps to its table, and no id repeats.
 pub record IsAccepted (d : Data) : Type 0 where
   pub shallow : depth d ≤ 100
   pub version : option_map_or (is_named (codes "v1.2")) (get (codes "cwlVersion") d) false ≡ true

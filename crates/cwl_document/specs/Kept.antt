@@ -30,6 +30,7 @@ level_within ParameterLevel = PlainLevel
 level_within BindingLevel = PlainLevel
 level_within PlainLevel = PlainLevel
 
+-- the value without the names that are left out, there and below
 abbrev mutual
   pub kept : Level → Data → Data
   kept level null = null

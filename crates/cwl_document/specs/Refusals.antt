@@ -58,6 +58,7 @@ InputBreaks e d = Breaks e InputObject d ⊎ IsSomeAnd (get (codes "inputBinding
 abbrev pub OutputBreaks : DocumentRefusal → Data → Type 0
 OutputBreaks e d = Breaks e OutputObject d
 
+-- it holds of one of them
 abbrev pub SomeOf : (Data → Type 0) → List Data → Type 0
 SomeOf P [] = ⊥
 SomeOf P (d ∷ ds) = P d ⊎ SomeOf P ds
@@ -76,6 +77,7 @@ Repeats id ids = (list_any (bytes_eq id) ids ≡ true) × (1 < count_by (bytes_e
 abbrev pub IsOther : List ℕ → Option Data → Type 0
 IsOther text o = IsSomeAnd o (λ v. is_named text v ≡ false)
 
+-- what the refusal says is so of the JSON
 abbrev pub IsCause : DocumentRefusal → Data → Type 0
 IsCause NotJson d = ⊥
 IsCause WrongVersion d = IsOther (codes "v1.2") (get (codes "cwlVersion") d)

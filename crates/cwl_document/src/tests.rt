@@ -83,16 +83,6 @@ fn an_output_in_a_map(rt: HostRuntime) -> Result<(), Fail> {
 }
 
 #[test]
-fn a_tool_of_maps_as_written(rt: HostRuntime) -> Result<(), Fail> {
-    let tool = read(rt.alloc(), HELLO)?;
-    assert_eq!(rt;
-        tool.written.as_str(),
-        "{\"baseCommand\":\"printf\",\"class\":\"CommandLineTool\",\"cwlVersion\":\"v1.2\",\"inputs\":{\"t\":{\"inputBinding\":{\"position\":1},\"type\":\"string\"}},\"outputs\":{\"out\":\"stdout\"},\"stdout\":\"out.txt\"}"
-    );
-    Ok(())
-}
-
-#[test]
 fn a_tool_of_lists(rt: HostRuntime) -> Result<(), Fail> {
     let tool = read(rt.alloc(), LISTED)?;
     assert_eq!(rt; tool.base_command.len(), 2);
@@ -128,12 +118,19 @@ fn an_input_without_a_binding(rt: HostRuntime) -> Result<(), Fail> {
 }
 
 #[test]
-fn a_tool_of_lists_as_written(rt: HostRuntime) -> Result<(), Fail> {
-    let tool = read(rt.alloc(), LISTED)?;
-    assert_eq!(rt;
-        tool.written.as_str(),
-        "{\"baseCommand\":[\"echo\",\"-e\"],\"class\":\"CommandLineTool\",\"cwlVersion\":\"v1.2\",\"inputs\":[{\"id\":\"n\",\"inputBinding\":{\"prefix\":\"-n\",\"separate\":false},\"type\":\"int\"},{\"id\":\"doc\",\"type\":\"long\"}],\"outputs\":{}}"
-    );
+fn tools_as_written(rt: HostRuntime) -> Result<(), Fail> {
+    for (document, written) in [
+        (
+            HELLO,
+            "{\"baseCommand\":\"printf\",\"class\":\"CommandLineTool\",\"cwlVersion\":\"v1.2\",\"inputs\":{\"t\":{\"inputBinding\":{\"position\":1},\"type\":\"string\"}},\"outputs\":{\"out\":\"stdout\"},\"stdout\":\"out.txt\"}",
+        ),
+        (
+            LISTED,
+            "{\"baseCommand\":[\"echo\",\"-e\"],\"class\":\"CommandLineTool\",\"cwlVersion\":\"v1.2\",\"inputs\":[{\"id\":\"n\",\"inputBinding\":{\"prefix\":\"-n\",\"separate\":false},\"type\":\"int\"},{\"id\":\"doc\",\"type\":\"long\"}],\"outputs\":{}}",
+        ),
+    ] {
+        assert_eq!(rt; read(rt.alloc(), document)?.written.as_str(), written);
+    }
     Ok(())
 }
 
@@ -166,39 +163,21 @@ fn refused_documents(rt: HostRuntime) {
             "{\"cwlVersion\":\"v1.2\",\"class\":\"CommandLineTool\",\"inputs\":[{\"id\":\"a\",\"type\":\"int\"},{\"id\":\"a\",\"type\":\"long\"}],\"outputs\":{}}",
             "C8",
         ),
+        (
+            "{\"cwlVersion\":\"v1.2\",\"class\":\"CommandLineTool\",\"stdout\":\"$(inputs.t)\",\"inputs\":{},\"outputs\":{}}",
+            "C6",
+        ),
+        (
+            "{\"cwlVersion\":\"v1.2\",\"class\":\"CommandLineTool\",\"inputs\":{},\"outputs\":{},\"x:foo\":1}",
+            "read",
+        ),
+        (
+            "{\"cwlVersion\":\"v1.2\",\"class\":\"CommandLineTool\",\"inputs\":{\"doc\":\"int\"},\"outputs\":{}}",
+            "read",
+        ),
     ] {
         assert_eq!(rt; code(alloc, document), refused, "{document}");
     }
-}
-
-#[test]
-fn names_that_are_read_over(rt: HostRuntime) {
-    let alloc = rt.alloc();
-    assert_eq!(rt;
-        code(
-            alloc,
-            "{\"cwlVersion\":\"v1.2\",\"class\":\"CommandLineTool\",\"inputs\":{},\"outputs\":{},\"x:foo\":1}"
-        ),
-        "read"
-    );
-    assert_eq!(rt;
-        code(
-            alloc,
-            "{\"cwlVersion\":\"v1.2\",\"class\":\"CommandLineTool\",\"inputs\":{\"doc\":\"int\"},\"outputs\":{}}"
-        ),
-        "read"
-    );
-}
-
-#[test]
-fn a_stream_named_by_a_reference(rt: HostRuntime) {
-    assert_eq!(rt;
-        code(
-            rt.alloc(),
-            "{\"cwlVersion\":\"v1.2\",\"class\":\"CommandLineTool\",\"stdout\":\"$(inputs.t)\",\"inputs\":{},\"outputs\":{}}"
-        ),
-        "C6"
-    );
 }
 
 // A document is at most 100 levels deep, and a JSON reader goes to 127.

@@ -7,3 +7,4 @@ pub mod Listing
 pub mod NoFloat
 pub mod Periods
 pub mod ReadText
+pub mod Sorting

@@ -29,12 +29,14 @@ members_of = fold (λ members m. with_member m.0 m.1 members) no_members
 abbrev pub text_json : Option (List ℕ) → Option Data
 text_json = option_map string
 
+-- a path, or a place in a job's output, is not written
 abbrev pub location_json : Place → Option Data
 location_json Nowhere = None
 location_json (Url location) = Some (string location)
 location_json (Path path) = None
 location_json (Made job name) = None
 
+-- an array, where it has items
 abbrev pub unless_empty : List Data → Option Data
 unless_empty [] = None
 unless_empty (d ∷ ds) = Some (array (items_of (d ∷ ds)))
@@ -42,6 +44,7 @@ unless_empty (d ∷ ds) = Some (array (items_of (d ∷ ds)))
 abbrev pub size_json : Option ℕ → Option Data
 size_json = option_map (λ n. number (unsigned n))
 
+-- the fields of a File
 abbrev pub file_members : FileVal-F Data Data Data → List (List ℕ × Option Data)
 file_members f = (codes "basename", text_json f.basename)
     ∷ (codes "checksum", text_json f.checksum)
@@ -58,10 +61,13 @@ abbrev pub file_json : FileVal-F Data Data Data → Data
 file_json f = object (members_of (file_members f))
 
 -- A listing is in the order of its names: each entry goes before the last ones whose names are all above its own.
+-- That this keeps the entries and sorts them is `ListingsAreInOrder` of Laws.antt.
 
+-- the basename of an entry; empty where it has none
 abbrev pub name_in : Data → List ℕ
 name_in d = unwrap_or (option_and_then as_str (get (codes "basename") d)) []
 
+-- the second's name is above the first's
 abbrev pub is_above : Data → Data → Bool
 is_above d e = is_lt (name_cmp (name_in d) (name_in e))
 
@@ -74,6 +80,7 @@ by_name = fold with_entry []
 abbrev pub listing_json : Option (List Data) → Option Data
 listing_json = option_map (λ ds. array (items_of (by_name ds)))
 
+-- the fields of a Directory
 abbrev pub dir_members : DirVal-F Data Data Data → List (List ℕ × Option Data)
 dir_members d = (codes "basename", text_json d.basename)
     ∷ (codes "class", Some (string (codes "Directory")))
@@ -84,6 +91,7 @@ dir_members d = (codes "basename", text_json d.basename)
 abbrev pub dir_json : DirVal-F Data Data Data → Data
 dir_json d = object (members_of (dir_members d))
 
+-- one level of a value, what it holds being JSON already
 abbrev pub value_json : Value-F Data Data Data → Data
 value_json Value-F.Null = null
 value_json (Value-F.Bool b) = boolean b
@@ -94,6 +102,7 @@ value_json (Value-F.DirVal d) = d
 value_json (Value-F.List ds) = array (items_of ds)
 value_json (Value-F.Fields ds) = object (object_of ds)
 
+-- the JSON of a value
 abbrev pub json_of : Value → Data
 json_of = fold-Value Data Data Data value_json dir_json file_json
 

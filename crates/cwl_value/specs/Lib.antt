@@ -1,6 +1,7 @@
 pub mod Codes
 pub mod Erased
 pub mod Json
+pub mod Laws
 pub mod NameParts
 pub mod Places
 pub mod Reading

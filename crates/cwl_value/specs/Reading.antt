@@ -35,6 +35,7 @@ abbrev pub all_read : {T : Type 0} → List (Reads T) → Reads (List T)
 all_read [] = Ok []
 all_read (r ∷ rs) = and_then r (λ x. and_map (λ xs. x ∷ xs) (all_read rs))
 
+-- A number that is a whole one of 64 bits with a sign is a value. One with a fraction or an exponent, or past every 64 bits, is V1; what is left, from 2^63 on, V2.
 abbrev pub whole_form : Option ℤ → Bool → Reads Value
 whole_form (Some z) is_fraction = Ok (value.Whole z)
 whole_form None true = Err NotWhole
@@ -45,6 +46,7 @@ whole_read n = whole_form (as_i64 n) (is_float n)
 
 -- The fields of a File or Directory. What is not named here is read over.
 
+-- a text, or V3 for the field
 abbrev pub text_form : FileField → Data → Reads (List ℕ)
 text_form field d = ok_or (as_str d) (BadFile field)
 
@@ -81,23 +83,27 @@ abbrev pub size_read : Option Data → Reads (Option ℕ)
 size_read None = Ok None
 size_read (Some d) = and_map Some (size_form d)
 
+-- the values of a list, or V3 for the field
 abbrev pub list_form : FileField → Value-F Value DirVal FileVal → Reads (Option (List Value))
 list_form field (Value-F.List vs) = Ok (Some vs)
 list_form field _ = Err (BadFile field)
 
--- the values of a list, where the field is there
+-- the same, where the field is there
 abbrev pub list_read : FileField → Option (Reads Value) → Reads (Option (List Value))
 list_read field None = Ok None
 list_read field (Some r) = and_then r (λ v. list_form field (out-Value v))
 
+-- the secondary files, which have to fit beside the File
 abbrev pub secondary_read : Option (List ℕ) → Option (List Value) → Reads (List Value)
 secondary_read name None = Ok []
 secondary_read name (Some vs) = if fit_beside name vs then Ok vs else Err (BadFile SecondaryFiles)
 
+-- the listing, whose entries have to fit in a Directory
 abbrev pub listing_read : Option (List Value) → Reads (Option (List Value))
 listing_read None = Ok None
 listing_read (Some vs) = if fit_inside vs then Ok (Some vs) else Err (BadFile Listing)
 
+-- the member of that name
 abbrev pub field : List ℕ → Members → Option Data
 field name ms = get_member name ms
 
@@ -112,6 +118,7 @@ file_read ms reads =
     and_map (λ secondary. roll-FileVal (record { place = place; basename = basename; checksum = checksum; size = size; contents = None; secondary = secondary }))
     (secondary_read basename listed))))))
 
+-- a Directory, likewise
 abbrev pub dir_read : Members → List (List ℕ × Reads Value) → Reads DirVal
 dir_read ms reads =
     and_then (place_read (field (codes "location") ms) (field (codes "path") ms)) (λ place.
@@ -119,6 +126,7 @@ dir_read ms reads =
     and_then (list_read Listing (value_at (codes "listing") reads)) (λ listed.
     and_map (λ listing. roll-DirVal (record { place = place; basename = basename; listing = listing })) (listing_read listed))))
 
+-- each member under its name
 abbrev pub fields_read : List (List ℕ × Reads Value) → Reads (List (List ℕ × Value))
 fields_read reads = all_read (map (λ e. and_map (λ v. (e.0, v)) e.1) reads)
 
@@ -126,12 +134,14 @@ fields_read reads = all_read (map (λ e. and_map (λ v. (e.0, v)) e.1) reads)
 abbrev pub class_in : Members → List ℕ
 class_in ms = unwrap_or (option_and_then as_str (field (codes "class") ms)) []
 
+-- an object is what its class says, and else fields
 abbrev pub object_read : Members → List (List ℕ × Reads Value) → Reads Value
 object_read ms reads =
     if bytes_eq (class_in ms) (codes "File") then and_map value.FileVal (file_read ms reads)
     else (if bytes_eq (class_in ms) (codes "Directory") then and_map value.DirVal (dir_read ms reads)
     else and_map value.Fields (fields_read reads))
 
+-- each form of JSON as the value that it stands for
 abbrev mutual
   pub value_read : Data → Reads Value
   value_read null = Ok value.Null
@@ -149,9 +159,10 @@ abbrev mutual
   members_read no_members = []
   members_read (member k d ms) = (k, value_read d) ∷ members_read ms
 
+-- how deep arrays and objects may nest: a bound of this project, below the 127 levels of serde_json
 abbrev pub greatest_depth : ℕ
 greatest_depth = 100
 
--- the value that JSON stands for
+-- the value that JSON stands for, unless it nests too deep
 abbrev pub reading : Data → Reads Value
 reading d = if nat_le (depth d) greatest_depth then value_read d else Err TooDeep

@@ -5,6 +5,7 @@
 //! - `to_json` gives exactly the JSON of a value, and `canonical_text` its text, without space and with sorted keys.
 //! - `clone_in` gives an equal value, and `erased` one without places.
 //! - `place_text` prints the place of a job.
+//! - `listings_are_in_order` is a law: a listing is written in the order of its names.
 //!
 //! Each call that takes memory may also refuse for want of it.
 #![tactic(auto)]
@@ -13,6 +14,7 @@ mod beside;
 mod copy;
 mod depth;
 mod erase;
+mod laws;
 mod members;
 mod names;
 mod place;
@@ -26,6 +28,7 @@ mod write;
 
 pub use copy::{copy_fields, copy_items, copy_job};
 pub use erase::{erased, erased_fields, erased_items};
+pub use laws::listings_are_in_order;
 pub use names::name_parts;
 pub use place::{JobPlace, Place, Segment};
 pub use print::place_text;

@@ -1,7 +1,6 @@
 use crate::{
-    DirVal, FileField, FileVal, JobPlace, Place, Segment, Value, ValueRefusal, canonical_text,
-    copy_fields, copy_items, copy_job, erased, erased_fields, erased_items, from_json, name_parts,
-    place_text, read_value, to_json,
+    FileField, FileVal, JobPlace, Place, Segment, Value, ValueRefusal, canonical_text, erased,
+    from_json, name_parts, place_text, read_value, to_json,
 };
 use plain_data::{Items, Keyed, Text};
 use std::alloc::{AllocError, Global};
@@ -23,34 +22,6 @@ fn nested_list(alloc: Global, levels: usize) -> Result<String, AllocError> {
         text.push(']')?;
     }
     Ok(text)
-}
-
-fn list(alloc: Global, text: &str) -> Result<Items<Value>, Fail> {
-    match read_value(alloc, text.as_bytes())? {
-        Value::List(items) => Ok(items),
-        _ => Err(Fail::from("no list")),
-    }
-}
-
-fn fields(alloc: Global, text: &str) -> Result<Keyed<Value>, Fail> {
-    match read_value(alloc, text.as_bytes())? {
-        Value::Fields(fields) => Ok(fields),
-        _ => Err(Fail::from("no fields")),
-    }
-}
-
-fn file(alloc: Global, text: &str) -> Result<FileVal, Fail> {
-    match read_value(alloc, text.as_bytes())? {
-        Value::FileVal(file) => Ok(file),
-        _ => Err(Fail::from("no File")),
-    }
-}
-
-fn dir(alloc: Global, text: &str) -> Result<DirVal, Fail> {
-    match read_value(alloc, text.as_bytes())? {
-        Value::DirVal(dir) => Ok(dir),
-        _ => Err(Fail::from("no Directory")),
-    }
 }
 
 // The place `main/s[0,2]`.
@@ -137,62 +108,6 @@ fn json_values_kept(rt: HostRuntime) -> Result<(), Fail> {
 }
 
 #[test]
-fn copies_a_list(rt: HostRuntime) -> Result<(), Fail> {
-    let alloc = rt.alloc();
-    let copy = copy_items(alloc, &list(alloc, r#"[1,"a",null]"#)?)?;
-    let text = canonical_text(alloc, &Value::List(copy))?;
-    assert_eq!(rt; text.as_str(), r#"[1,"a",null]"#);
-    Ok(())
-}
-
-#[test]
-fn copies_fields(rt: HostRuntime) -> Result<(), Fail> {
-    let alloc = rt.alloc();
-    let copy = copy_fields(alloc, &fields(alloc, r#"{"b":true,"a":{}}"#)?)?;
-    let text = canonical_text(alloc, &Value::Fields(copy))?;
-    assert_eq!(rt; text.as_str(), r#"{"a":{},"b":true}"#);
-    Ok(())
-}
-
-#[test]
-fn copies_a_file(rt: HostRuntime) -> Result<(), Fail> {
-    let alloc = rt.alloc();
-    let copy = file(alloc, r#"{"class":"File","location":"l","size":3}"#)?.clone_in(alloc)?;
-    let text = canonical_text(alloc, &Value::FileVal(copy))?;
-    assert_eq!(rt;
-        text.as_str(),
-        r#"{"class":"File","location":"l","size":3}"#
-    );
-    Ok(())
-}
-
-#[test]
-fn copies_a_directory(rt: HostRuntime) -> Result<(), Fail> {
-    let alloc = rt.alloc();
-    let copy = dir(
-        alloc,
-        r#"{"class":"Directory","location":"l","listing":[]}"#,
-    )?
-    .clone_in(alloc)?;
-    let text = canonical_text(alloc, &Value::DirVal(copy))?;
-    assert_eq!(rt;
-        text.as_str(),
-        r#"{"class":"Directory","listing":[],"location":"l"}"#
-    );
-    Ok(())
-}
-
-#[test]
-fn copies_a_job(rt: HostRuntime) -> Result<(), Fail> {
-    let alloc = rt.alloc();
-    let mut copy = copy_job(alloc, &job(alloc)?)?;
-    let last = copy.get(0).ok_or("no segment")?.clone_in(alloc)?;
-    copy.push(last)?;
-    assert_eq!(rt; place_text(alloc, &copy)?.as_str(), "main/s[0,2]/s[0,2]");
-    Ok(())
-}
-
-#[test]
 fn copies_a_place(rt: HostRuntime) -> Result<(), Fail> {
     let alloc = rt.alloc();
     let place = Place::Made(job(alloc)?, Text::from_text(alloc, "out.txt")?);
@@ -205,15 +120,36 @@ fn copies_a_place(rt: HostRuntime) -> Result<(), Fail> {
 }
 
 #[test]
-fn erases_places(rt: HostRuntime) -> Result<(), Fail> {
+fn copies_are_equal(rt: HostRuntime) -> Result<(), Fail> {
     let alloc = rt.alloc();
-    let bare = erased_items(alloc, &list(alloc, r#"[{"class":"File","location":"l"}]"#)?)?;
-    let text = canonical_text(alloc, &Value::List(bare))?;
-    assert_eq!(rt; text.as_str(), r#"[{"class":"File"}]"#);
-    let inner = fields(alloc, r#"{"d":{"class":"Directory","location":"l"}}"#)?;
-    let bare = erased_fields(alloc, &inner)?;
-    let text = canonical_text(alloc, &Value::Fields(bare))?;
-    assert_eq!(rt; text.as_str(), r#"{"d":{"class":"Directory"}}"#);
+    for text in [
+        r#"[-1,"a",null]"#,
+        r#"{"a":{},"b":true}"#,
+        r#"{"class":"File","location":"l","secondaryFiles":[{"class":"File","location":"m"}],"size":3}"#,
+        r#"{"class":"Directory","listing":[{"class":"File","location":"l"}],"location":"m"}"#,
+    ] {
+        let copy = read_value(alloc, text.as_bytes())?.clone_in(alloc)?;
+        assert_eq!(rt; canonical_text(alloc, &copy)?.as_str(), text);
+    }
+    Ok(())
+}
+
+#[test]
+fn erased_values_have_no_places(rt: HostRuntime) -> Result<(), Fail> {
+    let alloc = rt.alloc();
+    for (text, bare) in [
+        (
+            r#"[{"class":"File","location":"l","size":3}]"#,
+            r#"[{"class":"File","size":3}]"#,
+        ),
+        (
+            r#"{"d":{"class":"Directory","listing":[{"class":"File","location":"l"}],"location":"m"}}"#,
+            r#"{"d":{"class":"Directory","listing":[{"class":"File"}]}}"#,
+        ),
+    ] {
+        let value = erased(alloc, &read_value(alloc, text.as_bytes())?)?;
+        assert_eq!(rt; canonical_text(alloc, &value)?.as_str(), bare);
+    }
     Ok(())
 }
 
