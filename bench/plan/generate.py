@@ -6,10 +6,11 @@ usage: generate.py SHAPE COSTS JOBS
 SHAPE   chain: each job reads the one before it
         tree: each job but the first reads one job, drawn from all that come before it
         layers: 32 jobs a layer, each of which reads eight of the layer before
+        stairs: a graph made to be hard, with paths that go up and down among half of the jobs (COSTS is not looked at)
 COSTS   even: drawn from the whole range, each cost as likely as another
         decades: each number of digits as likely as another
-A job in eight has no load cost. Needed are the last job, or the last layer, or the leaves of a tree, and one job in
-sixteen besides. No plan is given: each job is marked P, and each charge is 0.
+But in stairs, a job in eight has no load cost, and needed are the last job, or the last layer, or the leaves of a tree,
+and one job in sixteen besides. No plan is given: each job is marked P, and each charge is 0.
 """
 
 import sys
@@ -58,17 +59,43 @@ def is_needed(shape, job, jobs, read):
     return job >= jobs - (WIDTH if shape == "layers" else 1)
 
 
-def main(shape, costs, jobs):
+def drawn(shape, costs, jobs):
+    """The jobs of a graph with drawn costs: (needed, load, compute, parents) each."""
     numbers = Numbers(jobs)
     parents = [parents_of(shape, job, numbers) for job in range(jobs)]
     read = {parent for row in parents for parent in row}
-    print(f"cwl-plan 1\njobs {jobs}")
     for job, row in enumerate(parents):
-        load = "-" if numbers.below(8) == 0 else cost_of(costs, 0, numbers)
+        load = None if numbers.below(8) == 0 else cost_of(costs, 0, numbers)
         compute = cost_of(costs, 1, numbers)
-        needed = int(numbers.below(16) == 0 or is_needed(shape, job, jobs, read))
-        passes = "".join(f" {parent} 0" for parent in row)
-        print(f"P {needed} {load} {compute} 0 0 0 {len(row)}{passes}")
+        yield numbers.below(16) == 0 or is_needed(shape, job, jobs, read), load, compute, row
+
+
+def stairs(jobs):
+    """A quarter of the jobs are steps, from the top down; the next quarter but one job are landings, each of which
+    reads two steps and fills the higher one. What the other jobs send to the topmost step has to go by each landing
+    to the last step. The landings' numbers turn at each step."""
+    steps = jobs // 4
+    first_landing = jobs - steps + 1
+    middle = first_landing + (steps - 1) // 2
+    reads = {}
+    for i in range(steps - 1):
+        landing = middle - i // 2 if i % 2 == 0 else middle + 1 + i // 2
+        reads[landing] = [steps - 2 - i, steps - 1 - i]
+    much = 10**6
+    for job in range(jobs):
+        if job < steps:
+            yield False, None, much if job == 0 else much - 1, []
+        elif job < first_landing:
+            yield True, 2, 1, [steps - 1]
+        else:
+            yield True, much, 1, reads[job]
+
+
+def main(shape, costs, jobs):
+    print(f"cwl-plan 1\njobs {jobs}")
+    for needed, load, compute, parents in stairs(jobs) if shape == "stairs" else drawn(shape, costs, jobs):
+        passes = "".join(f" {parent} 0" for parent in parents)
+        print(f"P {int(needed)} {'-' if load is None else load} {compute} 0 0 0 {len(parents)}{passes}")
     print("end")
 
 

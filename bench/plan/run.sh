@@ -1,7 +1,7 @@
 #!/usr/bin/env bash
 # Measures `plan` and `check` beside a plain maximum flow (dinic.cpp) on generated graphs, and prints a table.
 #
-# usage: bench/plan/run.sh [VERTICES..]      64, 256, 1024 and 4096 where none is given
+# usage: bench/plan/run.sh [VERTICES..]      64 256 1024 4096 where none is given
 #
 # Both programs read the same graph in the same run; where their costs differ, it stops with status 1. Times are
 # milliseconds without reading; memory is the peak of a whole process in MiB, with reading. It needs rt, g++, python3
@@ -29,28 +29,37 @@ value() {
     awk -v word="$2" '$1 == word { print $2 }' "$work/$1.said"
 }
 
-row='%-7s %-7s %8s %8s %10s %9s %9s %7s %8s %8s\n'
-printf "$row" shape costs vertices entries plan check dinic ratio "plan MiB" dinic
-for vertices in "${@:-64 256 1024 4096}"; do
-    for count in $vertices; do
-        for shape in chain tree layers; do
-            for costs in even decades; do
-                python3 "$here/generate.py" "$shape" "$costs" "$count" > "$work/graph"
-                measure ours "$crate/out/plan_bench" times
-                measure dinic "$work/dinic"
-                if [ "$(value ours cost)" != "$(value dinic cost)" ]; then
-                    echo "costs differ at $shape $costs $count: $(value ours cost), $(value dinic cost)" >&2
-                    exit 1
-                fi
-                awk -v row="$row" -v shape="$shape" -v costs="$costs" -v count="$count" \
-                    -v entries="$(awk 'NF > 8 { n += $8 } END { print n + 0 }' "$work/graph")" \
-                    -v plan="$(value ours plan)" -v check="$(value ours check)" -v dinic="$(value dinic plan)" \
-                    -v ours_peak="$(value ours peak)" -v dinic_peak="$(value dinic peak)" \
-                    'BEGIN { printf row, shape, costs, count, entries, sprintf("%.2f", plan / 1000),
-                        sprintf("%.2f", check / 1000), sprintf("%.2f", dinic / 1000),
-                        sprintf("%.1f", plan / (dinic > 0 ? dinic : 1)), sprintf("%.1f", ours_peak / 1024),
-                        sprintf("%.1f", dinic_peak / 1024) }'
-            done
-        done
+row='%-7s %-7s %8s %8s %10s %9s %9s %7s %9s %9s\n'
+
+# compare SHAPE COSTS VERTICES: prints a row of the table
+compare() {
+    python3 "$here/generate.py" "$@" > "$work/graph"
+    measure ours "$crate/out/plan_bench" times
+    measure dinic "$work/dinic"
+    if [ "$(value ours cost)" != "$(value dinic cost)" ]; then
+        echo "costs differ at $*: $(value ours cost), $(value dinic cost)" >&2
+        exit 1
+    fi
+    entries=$(awk 'NF > 8 { entries += $8 } END { print entries + 0 }' "$work/graph")
+    awk -v row="$row" -v shape="$1" -v costs="$2" -v vertices="$3" -v entries="$entries" \
+        -v plan="$(value ours plan)" -v check="$(value ours check)" -v dinic="$(value dinic plan)" \
+        -v ours_peak="$(value ours peak)" -v dinic_peak="$(value dinic peak)" \
+        'function to(amount, unit, digits) { return sprintf("%.*f", digits, amount / unit) }
+        BEGIN {
+            ratio = to(plan, dinic > 0 ? dinic : 1, 1)
+            printf row, shape, costs, vertices, entries, to(plan, 1000, 2), to(check, 1000, 2), to(dinic, 1000, 2),
+                ratio, to(ours_peak, 1024, 1), to(dinic_peak, 1024, 1)
+        }'
+}
+
+if [ $# -eq 0 ]; then
+    set -- 64 256 1024 4096
+fi
+printf "$row" shape costs vertices entries 'plan ms' 'check ms' 'dinic ms' ratio 'plan MiB' 'dinic MiB'
+for vertices in "$@"; do
+    for shape in chain tree layers; do
+        compare "$shape" even "$vertices"
+        compare "$shape" decades "$vertices"
     done
+    compare stairs - "$vertices"
 done

@@ -7,11 +7,13 @@
 //! The plan is read off a flow of greatest value. Each job is two nodes: one says that its outputs are there (`Kept`),
 //! the other that it is run (`Computed`). A unit of flow enters at a needed job's first node, goes through to its
 //! second, and there is paid by the compute cost or passed to the first node of a parent. The load cost bounds what goes
-//! through, the compute cost what is paid. `search` looks for a path along which more can flow, `augment` sends it.
+//! through, the compute cost what is paid. `search` and `chase` look for a path along which more can flow, `augment`
+//! sends it.
 #![tactic(auto)]
 
 mod augment;
 mod begin;
+mod chase;
 mod edit;
 mod error;
 mod planner;

@@ -8,6 +8,7 @@ ghost use Rattle.flow_planner.specs.Search.{marked, AreMarked};
 
 use crate::augment::augment;
 use crate::begin::no_charges;
+use crate::chase::{Chase, find_path};
 use crate::error::OutOfMemory;
 use crate::search::Search;
 use plain_data::Items;
@@ -50,8 +51,9 @@ fn plan_vertices(alloc: Global, vertices: &[Vertex]) -> Result<(Plan, Charges), 
 {
     let mut charges = no_charges(alloc, vertices)?;
     let mut search = Search::new(alloc, vertices.len())?;
+    let mut chase = Chase::new(alloc, vertices)?;
     loop {
-        match search.run(vertices, &charges) {
+        match find_path(&mut search, &mut chase, vertices, &charges) {
             Some(end) => augment(alloc, &mut charges, vertices, &search, end),
             None => return Ok((read_off(alloc, &search, vertices.len())?, charges)),
         }

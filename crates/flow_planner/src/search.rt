@@ -258,7 +258,7 @@ impl Search {
     }
 
     /// Follows each arc at a job's nodes.
-    fn visit(&mut self, vertices: &[Vertex], charges: &Charges, job: usize) -> Option<PathEnd>
+    pub fn visit(&mut self, vertices: &[Vertex], charges: &Charges, job: usize) -> Option<PathEnd>
         requires job { job < length vertices.now }
         requires under_way { IsUnderWay vertices.now charges.now self.old }
         ensures under_way { IsUnderWay vertices.now charges.now self.new }
@@ -272,7 +272,7 @@ impl Search {
     }
 
     /// Visits each job twice, down and up.
-    fn sweep(&mut self, vertices: &[Vertex], charges: &Charges) -> Option<PathEnd>
+    pub fn sweep(&mut self, vertices: &[Vertex], charges: &Charges) -> Option<PathEnd>
         requires under_way { IsUnderWay vertices.now charges.now self.old }
         ensures under_way { IsUnderWay vertices.now charges.now self.new }
         ensures end { IfSome result (IsPathEnd vertices.now charges.now self.new) }
@@ -291,22 +291,6 @@ impl Search {
             }
         }
         None
-    }
-
-    /// Sweeps until a path is found, or nothing more is reached.
-    pub fn run(&mut self, vertices: &[Vertex], charges: &Charges) -> Option<PathEnd>
-        requires under_way { IsUnderWay vertices.now charges.now self.old }
-        ensures under_way { IsUnderWay vertices.now charges.now self.new }
-        ensures end { IfSome result (IsPathEnd vertices.now charges.now self.new) }
-        ensures settled { IfNone result (AreSettled vertices.now charges.now self.new) }
-    {
-        loop {
-            let before = self.reached;
-            let end = self.sweep(vertices, charges);
-            if end.is_some() || self.reached == before {
-                return end;
-            }
-        }
     }
 }
 

@@ -6,8 +6,8 @@ use Rattle.flow_planner.proofs.Bounds.{pays-le}
 use Rattle.flow_planner.proofs.Fresh.{starts}
 use Rattle.flow_planner.proofs.planner.plan_vertices.Goals as goal
 
-pub run-requires : goal.run-requires
-run-requires c = record {
+pub find_path-requires : goal.find_path-requires
+find_path-requires c = record {
   under_way = starts c.args.vertices.now c.loop-end.charges c.loop-end.search c.requires c.loop-end.invariant.0 c.loop-end.invariant.1;
 }
 
@@ -15,7 +15,7 @@ pub returns-in-None-clause-least : goal.returns-in-None-clause-least
 returns-in-None-clause-least c =
     let graph = c.args.vertices.now in
     let charges = c.loop-end.charges in
-    let search = c.run.new.self in
+    let search = c.find_path.new.search in
     let marks = c.in_ok-read_off-in-None.field-0.marks in
     let marked = c.in_ok-read_off-in-None.ensures in
     let final : IsFinal graph charges search marks = record {
@@ -31,7 +31,7 @@ pub returns-in-None-clause-certified : goal.returns-in-None-clause-certified
 returns-in-None-clause-certified c =
     let graph = c.args.vertices.now in
     let charges = c.loop-end.charges in
-    let search = c.run.new.self in
+    let search = c.find_path.new.search in
     let marks = c.in_ok-read_off-in-None.field-0.marks in
     let marked = c.in_ok-read_off-in-None.ensures in
     let final : IsFinal graph charges search marks = record {
