@@ -1,11 +1,10 @@
 -- A sum in the making.
-use Rattle.std.proofs.Common.{◌≡◌, ℕ, ◌+◌, ◌-◌, ◌^◌, ◌<◌, ◌≤◌, Bool, true, List, [], ◌++◌, length, Option, inl, inr, refl, sym, ap, ◌∙◌, length-append, arith}
+use Rattle.std.proofs.Common.{◌≡◌, ℕ, ◌+◌, ◌-◌, ◌^◌, ◌≤◌, min, Bool, List, [], ◌++◌, length, Option, Result, Ok, Err, IfOk, IfErr, OnOk, inl, inr, refl, ap, ◌∙◌, length-append, arith}
 use Rattle.std.specs.Io.KnownBytes.{Consumes}
-use Rattle.hex.specs.Hex.{encode_lower}
 use Rattle.std.proofs.KnownBytes.{Consumes-nil, Consumes-trans}
-use Rattle.sha1.specs.Sha1.{sha1, Holds}
+use Rattle.sha1.specs.Sha1.{Holds}
 use Rattle.sha1.specs.declared.Sha1.{Sha1}
-use Rattle.file_values.specs.Sum.{AddsPiece, SumsAll, SumRefuses, most_bytes}
+use Rattle.file_values.specs.Sum.{AddsPiece, SumsAll, SumsHeld, SumRefuses, most_bytes}
 use Rattle.file_values.specs.declared.sum.FileSum.{FileSum}
 use Rattle.file_values.specs.declared.refusal.FileRefusal.{FileRefusal}
 use Rattle.file_values.specs.declared.refusal.FileRefusal.TheVariants.{Read, OutOfMemory}
@@ -29,17 +28,28 @@ so_far_more a b c hasher hashed size room count s p = record {
 }
 
 -- the piece that was nothing ends it
-pub finished : (a b c : Option (List ℕ)) (hasher hashed : Sha1) (size room count : ℕ) (digest : List ℕ) (found : FileSum) → IsSoFar a b hasher size → AddsPiece b c hasher hashed room count → count ≡ 0 → 0 < room
-    → ((message : List ℕ) → Holds hashed message → digest ≡ sha1 message) → found.sum ≡ encode_lower digest → found.size ≡ size → SumsAll a c found
-finished a b c hasher hashed size room count digest found s p none some digests sum counted =
+pub sums_all : (a b c : Option (List ℕ)) (hasher hashed : Sha1) (size room count : ℕ) (r : Result FileSum FileRefusal) → IsSoFar a b hasher size → AddsPiece b c hasher hashed room count → count ≡ 0
+    → IfOk r (SumsHeld hashed size) → IfOk r (SumsAll a c)
+sums_all a b c hasher hashed size room count (Ok found) s p none sums =
     let all = so_far_more a b c hasher hashed size room count s p in
-    let same : size ≡ size + count = omega arith in
-    (all.bytes, all.consumed, p.ends none some, record { sum = sum ∙ ap encode_lower (digests all.bytes all.held); size = counted ∙ same ∙ sym all.counted })
+    let same : size + count ≡ size = omega arith in
+    (all.bytes, all.consumed, p.ends none, sums all.bytes all.held (all.counted ∙ same))
+sums_all a b c hasher hashed size room count (Err e) s p none sums = tt
+
+pub memory_wanting : (a c : Option (List ℕ)) (failed : Bool) (r : Result FileSum FileRefusal) → IfErr r (λ e. e ≡ OutOfMemory) → IfErr r (SumRefuses a c failed)
+memory_wanting a c failed (Ok found) h = tt
+memory_wanting a c failed (Err e) h = inl h
+
+pub on_ok : (r : Result FileSum FileRefusal) (P : Type 0) → P → OnOk r P
+on_ok (Ok found) P h = h
+on_ok (Err e) P h = tt
+
+-- a piece that there is room for keeps to the bound
+pub fits_more : (size count len : ℕ) → count ≤ min len (2 ^ 61 - 1 - size) → size ≤ 2 ^ 61 - 1 → size + count ≤ 2 ^ 61 - 1
+fits_more size count len fits within = omega arith
 
 -- the reader gave as much as SHA-1 takes
-pub bound_met : (a b : Option (List ℕ)) (hasher : Sha1) (size : ℕ) (failed : Bool) → IsSoFar a b hasher size → size ≡ most_bytes → SumRefuses a b failed Read
-bound_met a b hasher size failed s is = inr (refl, inr (s.bytes, s.consumed, s.counted ∙ is))
-
--- a read failed
-pub read_failed : (a b : Option (List ℕ)) (failed : Bool) (e : FileRefusal) → e ≡ Read → failed ≡ true → SumRefuses a b failed e
-read_failed a b failed e is was = inr (is, inl was)
+pub bound_met : (a b : Option (List ℕ)) (hasher : Sha1) (size : ℕ) (failed : Bool) → IsSoFar a b hasher size → size ≤ 2 ^ 61 - 1 → 2 ^ 61 - 1 ≤ size → SumRefuses a b failed Read
+bound_met a b hasher size failed s low high =
+    let is : size ≡ most_bytes = omega arith in
+    inr (refl, inr (s.bytes, s.consumed, s.counted ∙ is))

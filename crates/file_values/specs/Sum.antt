@@ -1,5 +1,5 @@
 -- The sum of what a reader gives (CWL v1.2, "File": checksum, size; FIPS 180-4).
-use Rattle.std.specs.Prelude.{◌≡◌, ℕ, ◌-◌, ◌^◌, ◌<◌, ◌≤◌, ◌++◌, Bool, true, false, ◌⊎◌, List, length, Option}
+use Rattle.std.specs.Prelude.{◌≡◌, ℕ, ◌-◌, ◌^◌, ◌≤◌, ◌++◌, Bool, true, false, ◌⊎◌, List, length, Option}
 use Rattle.std.specs.Io.KnownBytes.{Consumes, IsAtEnd}
 use Rattle.sha1.specs.Sha1.{sha1, Holds}
 use Rattle.sha1.specs.declared.Sha1.{Sha1}
@@ -12,6 +12,10 @@ use Rattle.file_values.specs.declared.refusal.FileRefusal.TheVariants.{Read, Out
 pub record IsSumOf (bytes : List ℕ) (found : FileSum) : Type 0 where
   pub sum : found.sum ≡ encode_lower (sha1 bytes)
   pub size : found.size ≡ length bytes
+
+-- the sum of what a hasher holds, where that are so many bytes
+abbrev pub SumsHeld : Sha1 → ℕ → FileSum → Type 0
+SumsHeld hasher size found = (bytes : List ℕ) → Holds hasher bytes → length bytes ≡ size → IsSumOf bytes found
 
 -- What was left to read before and after: everything was read, and this is its sum
 abbrev pub SumsAll : Option (List ℕ) → Option (List ℕ) → FileSum → Type 0
@@ -36,4 +40,4 @@ pub record AddsPiece (before after : Option (List ℕ)) (hasher hashed : Sha1) (
   pub fits : count ≤ room
   pub consumed : Consumes before after piece
   pub hashes : (message : List ℕ) → Holds hasher message → Holds hashed (message ++ piece)
-  pub ends : count ≡ 0 → 0 < room → IsAtEnd after
+  pub ends : count ≡ 0 → IsAtEnd after

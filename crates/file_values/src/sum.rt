@@ -1,7 +1,7 @@
 //! Sums of what readers give.
-ghost use Rattle.std.specs.Prelude.{◌≡◌, true, false, min, length, IfOk, IfErr, OnOk};
-ghost use Rattle.file_values.specs.Sum.{SumsAll, SumRefuses, AddsPiece};
-ghost use Rattle.file_values.specs.declared.refusal.FileRefusal.TheVariants.{Read as ReadRefused};
+ghost use Rattle.std.specs.Prelude.{◌≡◌, ◌<◌, true, false, min, length, IfOk, IfErr, OnOk};
+ghost use Rattle.file_values.specs.Sum.{SumsAll, SumsHeld, SumRefuses, AddsPiece};
+ghost use Rattle.file_values.specs.declared.refusal.FileRefusal.TheVariants.{Read as ReadRefused, OutOfMemory};
 
 use crate::reader::Watched;
 use crate::refusal::FileRefusal;
@@ -43,15 +43,23 @@ pub fn sum_of<R: Read>(alloc: Global, reader: &mut Watched<R>) -> Result<FileSum
     while size < MOST_BYTES {
         let count = add_piece(reader, &mut hasher, &mut block, MOST_BYTES - size)?;
         if count == 0 {
-            let sum = hex::encode(alloc, hasher.finalize())?;
-            return Ok(FileSum {
-                sum: Text::from_string(sum),
-                size,
-            });
+            return finished(alloc, hasher, size);
         }
         size += count as u64;
     }
     Err(FileRefusal::Read)
+}
+
+// The sum of what the hasher holds, which are so many bytes.
+fn finished(alloc: Global, hasher: Sha1, size: u64) -> Result<FileSum, FileRefusal>
+    ensures ok { IfOk result (SumsHeld hasher size) }
+    ensures err { IfErr result (λ e. e ≡ OutOfMemory) }
+{
+    let sum = hex::encode(alloc, hasher.finalize())?;
+    Ok(FileSum {
+        sum: Text::from_string(sum),
+        size,
+    })
 }
 
 // Reads into the block once, at most so many bytes, and puts what was read behind what the hasher holds.
@@ -61,6 +69,8 @@ fn add_piece<R: Read>(
     block: &mut [u8],
     most: u64,
 ) -> Result<usize, FileRefusal>
+    requires block { 0 < length block.old }
+    requires most { 0 < most }
     ensures ok { IfOk result (AddsPiece (R.remaining reader.old.reader) (R.remaining reader.new.reader) hasher.old hasher.new (min (length block.old) most)) }
     ensures whole { OnOk result (reader.new.failed ≡ false) }
     ensures err { IfErr result (λ e. (e ≡ ReadRefused) × (reader.new.failed ≡ true)) }
