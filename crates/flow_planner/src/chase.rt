@@ -1,7 +1,8 @@
 //! The chase after what a search has reached, from job to job.
 //!
 //! Sweeps alone find every path, but one that goes up and down many times takes a sweep for each turn. A chase goes along
-//! the arcs in place of the order of jobs, so that after it one more sweep mostly finds nothing.
+//! the arcs in place of the order of jobs, so that after it one more sweep mostly finds nothing. No contract rests on
+//! what a chase comes to: it saves time alone.
 
 ghost use Rattle.std.specs.Prelude.{◌≡◌, ◌<◌, ◌≤◌, length, IfSome, IfNone};
 ghost use Rattle.flow_planner.specs.Search.{IsUnderWay, IsPathEnd, AreSettled};
