@@ -5,13 +5,14 @@ use crate::ending::Ending;
 use plain_data::Text;
 use plan_checker::{Broken, CertificateError, check, read_certificate};
 use std::alloc::AllocError;
-use std::fs;
 use std::rt::Files;
+use std::{fs, io};
 
 /// Says whether the certificate in a file shows its plan to be a cheapest one.
 pub fn ending<R: AllocGlobal + Files>(rt: &R, file: &str) -> Ending {
-    let Ok(bytes) = fs::read(rt, file) else {
-        return Ending::Fault("input");
+    let bytes = match fs::read(rt, file) {
+        Ok(bytes) => bytes,
+        Err(error) => return unread(&error),
     };
     match read_certificate(rt.alloc(), bytes.as_slice()) {
         Ok((graph, plan, charges)) => match check(&graph, &plan, &charges) {
@@ -20,6 +21,14 @@ pub fn ending<R: AllocGlobal + Files>(rt: &R, file: &str) -> Ending {
         },
         Err(CertificateError::NotACertificate(_)) => Ending::Refused("X1"),
         Err(CertificateError::OutOfMemory) => Ending::Fault("OutOfMemory"),
+    }
+}
+
+/// A file that can't be read is a fault of the input, but for want of memory.
+fn unread(error: &io::Error) -> Ending {
+    match error.kind() {
+        io::ErrorKind::OutOfMemory => Ending::Fault("OutOfMemory"),
+        _ => Ending::Fault("input"),
     }
 }
 

@@ -2,6 +2,7 @@ use crate::command::{Choice, choice_of};
 use crate::ending::Ending;
 use crate::{certificate, demo};
 use clap::Error;
+use clap::error::ErrorKind;
 use std::io::Write;
 use std::rt::Files;
 
@@ -21,6 +22,9 @@ pub fn main_run<R: AllocGlobal + Files, O: Write, E: Write>(
     let ending = match choice_of(rt.alloc(), words) {
         Ok(Choice::Demo) => demo::ending(rt.alloc(), path),
         Ok(Choice::Check(file)) => certificate::ending(rt, file),
+        Err(error) if matches!(error.kind(), ErrorKind::OutOfMemory) => {
+            Ending::Fault("OutOfMemory")
+        }
         Err(error) => return explain(&error, out, err),
     };
     match ending.print(out, err) {
