@@ -1,3 +1,4 @@
+pub mod Blamed
 pub mod Covers
 pub mod Nothing
 pub mod Starts

@@ -1,8 +1,9 @@
 //! A whole run on a host.
-ghost use Rattle.std.specs.Prelude.{◌≡◌, ◌≢◌, ◌++◌, [], OnOk};
+ghost use Rattle.std.specs.Prelude.{◌≡◌, ◌≢◌, ◌++◌, [], OnOk, IfErr};
 ghost use Rattle.run_core.specs.Core.{setting_of, transcript, asked, flying, Stands};
 ghost use Rattle.run_core.specs.Limits.{IsWithinLimits};
 ghost use Rattle.run_core.specs.Reports.{entries_of};
+ghost use Rattle.workflow_engine.specs.Blame.{IsHostsFault};
 ghost use Rattle.workflow_engine.specs.Held.{Covers};
 ghost use Rattle.workflow_engine.specs.Gains.{RunsOn};
 
@@ -31,6 +32,8 @@ pub fn run<H: Host>(
     requires idle { H.running host.old ≡ [] }
     requires limits { IsWithinLimits options }
     ensures run { RunsOn (H.log host.old) (H.log host.new) process inputs options result }
+    // A fault is the host's only where its failures rose, by this very fault.
+    ensures fault { IfErr result (IsHostsFault (H.log host.old) (H.log host.new)) }
     ensures closed { H.running host.new ≡ [] }
 {
     let mut core = RunCore::new(alloc, process, inputs, options)?;

@@ -3,7 +3,9 @@ use Rattle.run_core.specs.declared.outcome.Report.{Report}
 use Rattle.run_core.specs.declared.outcome.RunFault.{RunFault}
 use Rattle.workflow_engine.specs.Gains.{RunsOn}
 use Rattle.workflow_engine.proofs.Nothing.{nothing_asked, err_is}
+use Rattle.workflow_engine.proofs.Blamed.{hosts_fault}
 use Rattle.workflow_engine.proofs.drive.run.Goals as goal
+use Rattle.workflow_engine.proofs.drive.run.Goals.{in-Ok, in-Err}
 
 pub returns-in_err-core-clause-run : goal.returns-in_err-core-clause-run
 returns-in_err-core-clause-run g c =
@@ -13,3 +15,15 @@ returns-in_err-core-clause-run g c =
       logged = sym (append-nil (g.H.Host.log c.args.host.now));
       run = nothing_asked c.args.process c.args.inputs c.args.options;
     })
+
+pub returns-in_err-core-clause-fault : goal.returns-in_err-core-clause-fault
+returns-in_err-core-clause-fault g c =
+    let none : c.from_residual.result ≡ Err RunFault.OutOfMemory = err_is c.from_residual.result _ RunFault.OutOfMemory c.from_residual.ensures.1 (λ e same. same ∙ c.in_err-core.ensures.err) in
+    rw none tt
+
+pub returns-clause-fault : goal.returns-clause-fault
+returns-clause-fault g c = elim c.match-driven.branch [
+  | in-Ok w ↦
+      rw w.result-is (hosts_fault _ _ _ _ (c.close_all.ensures.logged ∙ c.drive-driven.ensures.logged) w.finish.ensures.faults)
+  | in-Err w ↦ rw (w.result-is, w.abandon.ensures.memory) tt
+]
