@@ -198,3 +198,14 @@ fn parts_of_names(rt: HostRuntime) {
     assert_eq!(rt; name_parts("a.tar.gz"), ("a.tar", ".gz"));
     assert_eq!(rt; name_parts(".cshrc"), (".cshrc", ""));
 }
+
+#[test]
+fn prints_a_refusal(rt: HostRuntime) -> Result<(), Fail> {
+    let alloc = rt.alloc();
+    let refusal = ValueRefusal::BadFile(FileField::SecondaryFiles);
+    assert_eq!(rt;
+        format!(in alloc; "{refusal}")?.as_str(),
+        "V3: a File or Directory has a bad secondaryFiles"
+    );
+    Ok(())
+}
