@@ -1,12 +1,12 @@
 -- Exactly the tuples below the lengths stand in a crossproduct.
-use Rattle.std.proofs.Common.{◌≡◌, ℕ, zero, suc, ◌+◌, ◌<◌, ◌≤◌, List, [], ◌∷◌, ◌++◌, length, map, get_or, ◌⊎◌, inl, inr, refl, sym, ap, ◌∙◌, arith, ⊎_elim, subst}
+use Rattle.std.proofs.Common.{◌≡◌, ℕ, zero, suc, ◌+◌, ◌<◌, ◌≤◌, List, [], ◌∷◌, ◌++◌, map, refl, sym, ap, ◌∙◌, arith, ⊎_elim, subst}
 use Rattle.std.specs.Prelude.{Contains}
 use Rattle.std.specs.List.{AllByRecursion}
 use Rattle.std.proofs.lemmas.Bool.{cases_eq}
 use Rattle.std.proofs.lemmas.List.{get_or-map, length-map}
 use Rattle.std.proofs.lemmas.List.Elements.{All-from_recursion, All-contains, Contains-append_left, Contains-append_right}
 use Rattle.scatter_shape.specs.Tuples.{below, cross}
-use Rattle.scatter_shape.specs.Laws.{IsBelow, AreAllBelow, TuplesAreAllBelow}
+use Rattle.scatter_shape.specs.Laws.{IsBelow, TuplesAreAllBelow}
 use Rattle.scatter_shape.proofs.Crosses.{blocks}
 use Rattle.scatter_shape.proofs.Rising.{cross_rises, pairs_from_rises}
 

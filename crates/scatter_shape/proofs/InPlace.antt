@@ -1,15 +1,14 @@
 -- Values in the order of the tuples are gathered with each at its own tuple.
-use Rattle.std.proofs.Common.{◌≡◌, ℕ, zero, suc, ◌+◌, ◌-◌, ◌<◌, ◌≤◌, Bool, true, false, cond, List, [], ◌∷◌, ◌++◌, length, map, get_or, take, drop, refl, sym, ap, ◌∙◌, arith, append_assoc}
+use Rattle.std.proofs.Common.{◌≡◌, ℕ, zero, suc, ◌+◌, ◌-◌, ◌<◌, true, cond, List, [], ◌∷◌, ◌++◌, length, map, get_or, take, drop, refl, sym, ap, ◌∙◌, arith, append_assoc}
 use Rattle.std.specs.Prelude.{bytes_eq}
-use Rattle.std.specs.List.{flat_map, range_with_len, AllByRecursion}
+use Rattle.std.specs.List.{range_with_len, AllByRecursion}
 use Rattle.std.proofs.lemmas.Bool.{cond-true, cond-false}
 use Rattle.std.proofs.lemmas.Slice.Eq.{bytes_eq-Decides}
 use Rattle.std.proofs.lemmas.List.{length-map, map-append, take_at, drop_at}
 use Rattle.cwl_value.specs.declared.value.Value.{Value}
-use Rattle.scatter_shape.specs.declared.shape.Method.{Method}
 use Rattle.scatter_shape.specs.declared.shape.Method.TheVariants.{Dotproduct, NestedCrossproduct, FlatCrossproduct}
 use Rattle.scatter_shape.specs.Tuples.{below, cross, tuples_of}
-use Rattle.scatter_shape.specs.Gathered.{list_of, nested, filled, value_beside, gathered}
+use Rattle.scatter_shape.specs.Gathered.{list_of, nested, value_beside}
 use Rattle.scatter_shape.specs.Laws.{IsBefore, EachValueAtItsTuple}
 use Rattle.scatter_shape.proofs.Crosses.{blocks}
 use Rattle.scatter_shape.proofs.Rising.{Rises, differ, tuples_rise}

@@ -1,4 +1,4 @@
-use Rattle.std.specs.Prelude.{◌≡◌, ◌<◌, ℕ, List, [], ◌∷◌, ◌⊎◌, ◌↔◌, length, map, fold, replicate, All, AllPairs, Contains, Option, Some, None, slice_set}
+use Rattle.std.specs.Prelude.{◌≡◌, ◌<◌, ℕ, List, [], ◌∷◌, ◌⊎◌, ◌↔◌, map, fold, replicate, All, AllPairs, Contains, Option, Some, None, slice_set}
 use Rattle.cwl_value.specs.declared.value.Value.{Value}
 use Rattle.scatter_shape.specs.declared.shape.Method.{Method}
 use Rattle.scatter_shape.specs.Tuples.{below, cross, tuples_of}

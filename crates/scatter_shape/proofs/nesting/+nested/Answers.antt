@@ -1,4 +1,4 @@
-use Rattle.std.proofs.Common.{◌≡◌, ◌<◌, ◌≤◌, ◌-◌, length, take, drop, get_or, sym, ◌∙◌, arith, rules}
+use Rattle.std.proofs.Common.{◌≡◌, ◌<◌, ◌-◌, length, take, drop, get_or, sym, ◌∙◌, arith, rules}
 use Rattle.std.specs.Vec.Iter.{into_iter_items}
 use Rattle.scatter_shape.proofs.Nested.{one_is_there, one_value, row_has_all, shorter, so_far_all, so_far_more}
 use Rattle.scatter_shape.proofs.nesting.+nested.Goals as goal

@@ -1,4 +1,3 @@
-use Rattle.std.proofs.Common.{◌≡◌}
 use Rattle.std.specs.Vec.Iter.{into_iter_items}
 use Rattle.scatter_shape.proofs.Nested.{flat_gathered, has_all, nested_gathered}
 use Rattle.scatter_shape.proofs.nesting.gather.Goals as goal

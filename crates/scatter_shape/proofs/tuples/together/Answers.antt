@@ -1,4 +1,4 @@
-use Rattle.std.proofs.Common.{◌≡◌, ◌++◌, [], ◌∷◌, sym, ◌∙◌, length, slice_index}
+use Rattle.std.proofs.Common.{[], sym, ◌∙◌, length, slice_index}
 use Rattle.std.specs.Prelude.{replicate}
 use Rattle.scatter_shape.proofs.Crosses.{length-map-below, none_below, one_more}
 use Rattle.scatter_shape.proofs.tuples.together.Goals as goal
