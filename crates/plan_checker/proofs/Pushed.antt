@@ -36,10 +36,10 @@ rows_same v w m n e f t u p q ws bs a b c d x y =
     ∙ ap (λ z. row_of w n f u z ws) x
     ∙ ap (λ z. row_of w n f u q z) y
 
-vertex_before : (g : List Vertex) (v : Vertex) (i : ℕ) → i < length g → vertex (g ++ v ∷ []) i ≡ vertex g i
+pub vertex_before : (g : List Vertex) (v : Vertex) (i : ℕ) → i < length g → vertex (g ++ v ∷ []) i ≡ vertex g i
 vertex_before g v i h = get_or_append_left g (v ∷ []) no_vertex i h
 
-vertex_at : (g : List Vertex) (v : Vertex) → vertex (g ++ v ∷ []) (length g) ≡ v
+pub vertex_at : (g : List Vertex) (v : Vertex) → vertex (g ++ v ∷ []) (length g) ≡ v
 vertex_at g v = get_or_push g v no_vertex (length g) refl
 
 -- one row more leaves the rows before it

@@ -1,4 +1,4 @@
-use Rattle.std.proofs.Common.{◌≡◌, ◌≢◌, ℕ, zero, suc, ◌+◌, ◌*◌, ◌<◌, ◌≤◌, ◌^◌, ◌⊎◌, inl, inr, Bool, true, false, List, [], ◌∷◌, ◌++◌, length, get_or, All, Option, Some, None, sym, refl, ap, ◌∙◌, subst, arith}
+use Rattle.std.proofs.Common.{◌≡◌, ◌≢◌, ℕ, zero, suc, ◌+◌, ◌*◌, ◌<◌, ◌≤◌, ◌^◌, ◌⊎◌, inl, inr, Bool, true, false, List, [], ◌∷◌, ◌++◌, length, get_or, drop, All, Option, Some, None, sym, refl, ap, ◌∙◌, subst, arith}
 use Rattle.std.specs.Option.{ForSome}
 use Rattle.std.specs.Fmt.{decimal}
 use Rattle.std.proofs.lemmas.List.{append_assoc, append-nil, length-append}
@@ -8,13 +8,13 @@ use Rattle.plan_checker.specs.declared.charges.Charges.{Charges}
 use Rattle.plan_checker.specs.declared.row.Row.{Row}
 use Rattle.plan_checker.specs.declared.row.Start.{Start}
 use Rattle.plan_checker.specs.declared.graph.TheConstants.{MOST_VERTICES}
-use Rattle.plan_checker.specs.Graph.{entries_below, Fits}
+use Rattle.plan_checker.specs.Graph.{vertex, entries_below, Fits}
 use Rattle.plan_checker.specs.Format.{IsSmall, spaced, letter, flag, load_field, pairs, row_numbers, line, lines, count_line, IsWhole}
 use Rattle.plan_checker.specs.Reading.{EndsNumber, BeginsWithNumber, NoNumber, BeginsWithNumbers, NoNumbers, BeginsWithCount, NoCount, BeginsWithLoad, NoLoadField, start_text, start_of, BeginsWithStart, NoStart, ArePairs, NoPairs, AreNumbersOf, NoRowOf, IsRow, BeginsWithRow, NoRow, FitsNext, BeginsWithLines, StopsAt, more_charges}
 use Rattle.plan_checker.proofs.Numbers.{numbers_once, numbers_end, pairs_once, feed_ends, number_once}
 use Rattle.plan_checker.proofs.Texts.{pairs-append}
 use Rattle.plan_checker.proofs.Rows.{start_once, line_is, line_once}
-use Rattle.plan_checker.proofs.Pushed.{whole_pushed, lines_pushed}
+use Rattle.plan_checker.proofs.Pushed.{whole_pushed, lines_pushed, entries_same, entries_more, vertex_before, vertex_at}
 
 length-pairs : (ps ws : List ℕ) → length ws ≡ length ps → length (pairs ps ws) ≡ 2 * length ps
 length-pairs [] [] h = refl
@@ -218,3 +218,36 @@ unfit text n count number g m c rest row after read fewer next bad at =
       no_next = no_fit g rest row after next (subst fits (sym read.counted) bad);
       numbered = omega (arith, read.counted, at);
     }
+
+pub no_row_given : (text : List ℕ) (start : Start) (rest numbers after given : List ℕ) → BeginsWithStart text start rest → BeginsWithNumbers rest numbers after → given ≡ numbers → NoRowOf given → NoRow text
+no_row_given text start rest numbers after given read more same none = no_row_of text start rest numbers after read more (subst NoRowOf same none)
+
+pub row_given : (text : List ℕ) (start : Start) (rest numbers after given : List ℕ) (row : Row) → BeginsWithStart text start rest → BeginsWithNumbers rest numbers after → given ≡ numbers → (start_of row ≡ start) × AreNumbersOf given row → BeginsWithRow text row after
+row_given text start rest numbers after given row read more same are =
+    let of : List ℕ → Type 0 = λ ns. AreNumbersOf ns row in
+    row_read text start rest numbers after row read more are.0 (subst of same are.1)
+
+pub no_count_in : (numbers ps parents amounts : List ℕ) → 5 ≤ length numbers → ArePairs ps parents amounts → ps ≡ drop 5 numbers → length parents ≢ get_or numbers 4 0 → NoRowOf numbers
+no_count_in (a ∷ b ∷ c ∷ d ∷ e ∷ rest) ps parents amounts five read is ne =
+    let of : List ℕ → Type 0 = λ x. ArePairs x parents amounts in
+    no_count_row a b c d e rest parents amounts (subst of is read) ne
+no_count_in [] ps parents amounts five read is ne = absurd (omega arith)
+no_count_in (a ∷ []) ps parents amounts five read is ne = absurd (omega arith)
+no_count_in (a ∷ b ∷ []) ps parents amounts five read is ne = absurd (omega arith)
+no_count_in (a ∷ b ∷ c ∷ []) ps parents amounts five read is ne = absurd (omega arith)
+no_count_in (a ∷ b ∷ c ∷ d ∷ []) ps parents amounts five read is ne = absurd (omega arith)
+
+pub rows_fit : (text : List ℕ) (n : ℕ) (g new : List Vertex) (m marks : List Mark) (c charges : Charges) (rest : List ℕ) (row : Row) (after : List ℕ) → BeginsWithLines text n g m c rest → BeginsWithRow rest row after → Fits n (entries_below g n + length row.job.parents) row.job → new ≡ g ++ row.job ∷ [] → marks ≡ m ++ row.mark ∷ [] → charges ≡ more_charges c row → BeginsWithLines text (n + 1) new marks charges after
+rows_fit text n g new m marks c charges rest row after read next fits vs ms cs =
+    let at : ℕ → Type 0 = λ k. Fits k (entries_below g k + length row.job.parents) row.job in
+    rows_more text n g new m marks c charges rest row after read next (subst at (sym read.counted) fits) vs ms cs
+
+pub entries_pushed : (text : List ℕ) (n entries : ℕ) (g new : List Vertex) (m : List Mark) (c : Charges) (rest : List ℕ) (job : Vertex) → BeginsWithLines text n g m c rest → entries ≡ entries_below g n → new ≡ g ++ job ∷ [] → entries + length job.parents ≡ entries_below new (n + 1)
+entries_pushed text n entries g new m c rest job read is more =
+    let pushed : List Vertex = g ++ job ∷ [] in
+    let same : entries_below g n ≡ entries_below pushed n = entries_same g pushed n (λ i l. sym (vertex_before g job i (omega (arith, read.counted)))) in
+    let last : vertex pushed n ≡ job = ap (λ k. vertex pushed k) (sym read.counted) ∙ vertex_at g job in
+    ap (λ e. e + length job.parents) (is ∙ same)
+    ∙ ap (λ (v : Vertex). entries_below pushed n + length v.parents) (sym last)
+    ∙ sym (entries_more pushed n)
+    ∙ ap (λ t. entries_below t (n + 1)) (sym more)

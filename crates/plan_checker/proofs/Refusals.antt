@@ -1,6 +1,7 @@
 use Rattle.std.proofs.Common.{◌≡◌, ◌≢◌, ℕ, zero, suc, ◌+◌, ◌<◌, ◌≤◌, List, [], ◌∷◌, ◌++◌, length, Bool, true, false, sym, refl, ap, ◌∙◌, subst, arith}
 use Rattle.plan_checker.specs.declared.vertex.Vertex.{Vertex}
 use Rattle.plan_checker.specs.declared.plan.Mark.{Mark}
+use Rattle.plan_checker.specs.declared.plan.Plan.{Plan}
 use Rattle.plan_checker.specs.declared.charges.Charges.{Charges}
 use Rattle.plan_checker.specs.declared.certificate_error.CertificateError.{CertificateError}
 use Rattle.plan_checker.specs.declared.certificate_error.CertificateError.TheVariants.{NotACertificate, OutOfMemory}
@@ -70,3 +71,11 @@ all_of_it bytes text rest start tail count g m c head read s ends none =
     let all = last_read text rest start tail count g m c read s ends in
     let with : List ℕ → Type 0 = λ x. BeginsWithLines text count g m c (last_line ++ x) in
     all_read bytes text count g m c head (subst with (empty_from_length tail none) all)
+
+-- and what is given out is what was read
+pub all_given : (bytes text rest start tail : List ℕ) (count : ℕ) (g graph : List Vertex) (p plan : Plan) (c charges : Charges) → BeginsWithHead bytes count text → BeginsWithLines text count g p.marks c rest → start ≡ last_line → rest ≡ start ++ tail → length tail ≡ 0 → graph ≡ g → plan ≡ p → charges ≡ c → IsTextOf bytes graph plan.marks charges
+all_given bytes text rest start tail count g graph p plan c charges head read s ends none gs ps cs =
+    let one : List Vertex → Type 0 = λ x. IsTextOf bytes x p.marks c in
+    let two : Plan → Type 0 = λ x. IsTextOf bytes graph x.marks c in
+    let three : Charges → Type 0 = λ x. IsTextOf bytes graph plan.marks x in
+    subst three (sym cs) (subst two (sym ps) (subst one (sym gs) (all_of_it bytes text rest start tail count g p.marks c head read s ends none)))

@@ -30,7 +30,8 @@ pub fn read_certificate(
     if !rest.is_empty() {
         return Err(CertificateError::NotACertificate(count + 4));
     }
-    Ok(draft.certificate(alloc)?)
+    let (graph, plan, charges) = draft.certificate(alloc)?;
+    Ok((graph, plan, charges))
 }
 
 /// Reads the first two lines: how many vertices there are, and what follows.
