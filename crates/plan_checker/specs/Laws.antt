@@ -1,4 +1,4 @@
-use Rattle.std.specs.Prelude.{◌≡◌, ◌≤◌, List}
+use Rattle.std.specs.Prelude.{◌≡◌, ℕ, ◌≤◌, List}
 use Rattle.plan_checker.specs.declared.vertex.Vertex.{Vertex}
 use Rattle.plan_checker.specs.declared.plan.Mark.{Mark}
 use Rattle.plan_checker.specs.declared.charges.Charges.{Charges}
@@ -9,6 +9,7 @@ use Rattle.plan_checker.specs.Least.{IsCheapest, IsLeast}
 use Rattle.plan_checker.specs.Charges.{value, AreFair}
 use Rattle.plan_checker.specs.Certificate.{IsCertificate}
 use Rattle.plan_checker.specs.Broken.{Breaks}
+use Rattle.plan_checker.specs.Format.{IsTextOf, IsFirstBad}
 
 -- weak duality: fair charges are worth no more than any valid plan costs
 abbrev pub ChargesBoundCosts : Type 0
@@ -32,3 +33,17 @@ abbrev pub CertificatesBreakNothing : Type 0
 CertificatesBreakNothing =
     (graph : List Vertex) (marks : List Mark) (charges : Charges) →
     IsCertificate graph marks charges → (broken : Broken) → ¬ Breaks graph marks charges broken
+
+-- a text is that of one certificate alone, and then it has no bad line: what is written is read back
+pub record TextsTellCertificates : Type 0 where
+  pub one :
+      (text : List ℕ) (graph other : List Vertex) (marks others : List Mark) (charges more : Charges) →
+      IsTextOf text graph marks charges → IsTextOf text other others more →
+      (graph ≡ other) × (marks ≡ others) × (charges ≡ more)
+  pub good :
+      (text : List ℕ) (graph : List Vertex) (marks : List Mark) (charges : Charges) →
+      IsTextOf text graph marks charges → (number : ℕ) → ¬ IsFirstBad text number
+
+-- a text has at most one first bad line
+abbrev pub OneBadLineIsFirst : Type 0
+OneBadLineIsFirst = (text : List ℕ) (number other : ℕ) → IsFirstBad text number → IsFirstBad text other → number ≡ other

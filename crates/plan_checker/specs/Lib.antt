@@ -9,3 +9,4 @@ pub mod Laws
 pub mod Children
 pub mod Claim
 pub mod Format
+pub mod Reading

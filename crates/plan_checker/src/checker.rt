@@ -51,18 +51,6 @@ fn count(claim: &Claim) -> Result<(), Broken>
     Ok(())
 }
 
-/// Whether a plan and charges have the sizes that the graph asks for.
-pub fn is_counted(graph: &Graph, plan: &Plan, charges: &Charges) -> bool
-    ensures { IsTrue result ↔ ((length plan.now.marks ≡ length graph.now) × IsCounted graph.now charges.now) }
-{
-    let claim = Claim {
-        graph,
-        plan,
-        charges,
-    };
-    plan.marks.len() == graph.vertices().len() && has_entries(&claim)
-}
-
 /// Whether there is one entry of each kind for each vertex, and one pass for each of its parents.
 fn has_entries(claim: &Claim) -> bool
     ensures { IsTrue result ↔ IsCounted (graph_of claim.now) (charges_of claim.now) }

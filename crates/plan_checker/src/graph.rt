@@ -51,8 +51,15 @@ impl Graph {
         if let Some(vertex) = first_misfit(&vertices) {
             return Err(GraphError::BadGraph(vertex));
         }
-        let children = children_of(alloc, &vertices)?;
-        let vertices = Items::from_vec(vertices);
+        Ok(Graph::of(alloc, Items::from_vec(vertices))?)
+    }
+
+    /// The graph of these vertices.
+    pub(crate) fn of(alloc: Global, vertices: Items<Vertex>) -> Result<Graph, AllocError>
+        requires { IsGraph vertices }
+        ensures { IfOk result (λ graph. graph ≡ vertices) }
+    {
+        let children = children_of(alloc, vertices.as_slice())?;
         Ok(Graph { vertices, children })
     }
 

@@ -1,6 +1,6 @@
 //! What certificates show, over all graphs: each law is the contract of a function that does nothing.
 
-ghost use Rattle.plan_checker.specs.Laws.{CertificatesAreCheapest, CertificatesBreakNothing, ChargesBoundCosts, LeastIsOne};
+ghost use Rattle.plan_checker.specs.Laws.{CertificatesAreCheapest, CertificatesBreakNothing, ChargesBoundCosts, LeastIsOne, OneBadLineIsFirst, TextsTellCertificates};
 
 /// Fair charges are worth no more than any valid plan costs.
 pub fn charges_bound_costs()
@@ -20,4 +20,14 @@ pub fn least_is_one()
 /// No rule is broken by a certificate.
 pub fn certificates_break_nothing()
     ensures { CertificatesBreakNothing }
+{}
+
+/// A text is that of at most one certificate, and the text of one has no bad line: what was written is read back.
+pub fn texts_tell_certificates()
+    ensures { TextsTellCertificates }
+{}
+
+/// A text has at most one first bad line.
+pub fn one_bad_line_is_first()
+    ensures { OneBadLineIsFirst }
 {}

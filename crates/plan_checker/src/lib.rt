@@ -14,9 +14,11 @@ mod charges;
 mod checker;
 mod child;
 mod claim;
+mod draft;
 mod graph;
 mod graph_error;
 mod laws;
+mod number;
 mod plan;
 mod reader;
 mod row;
@@ -33,6 +35,7 @@ pub use graph::{Graph, MOST_COST, MOST_ENTRIES, MOST_VERTICES};
 pub use graph_error::GraphError;
 pub use laws::{
     certificates_are_cheapest, certificates_break_nothing, charges_bound_costs, least_is_one,
+    one_bad_line_is_first, texts_tell_certificates,
 };
 pub use plan::{Mark, Plan};
 pub use reader::read_certificate;

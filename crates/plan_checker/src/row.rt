@@ -1,5 +1,11 @@
 //! One line of a certificate, read.
 
+ghost use Rattle.std.specs.Prelude.{◌≡◌, ◌≢◌, ◌<◌, ◌∷◌, length, MatchOption, IfOk, Bool};
+ghost use Rattle.plan_checker.specs.declared.plan.Mark.{Mark};
+ghost use Rattle.plan_checker.specs.Format.{flag, letter};
+ghost use Rattle.plan_checker.specs.Reading.{start_of, AreNumbersOf, ArePairs, BeginsWithLoad, BeginsWithRow, BeginsWithStart, NoLoadField, NoPairs, NoRow, NoRowOf, NoStart};
+
+use crate::number::{read_number, read_numbers};
 use crate::plan::Mark;
 use crate::vertex::Vertex;
 use plain_data::Items;
@@ -8,7 +14,7 @@ use std::alloc::{AllocError, Global};
 /// What a line says of a vertex: the vertex, its mark and its charges.
 #[derive(Drop)]
 pub struct Row {
-    pub vertex: Vertex,
+    pub job: Vertex,
     pub mark: Mark,
     pub enter: u64,
     pub through: u64,
@@ -16,58 +22,54 @@ pub struct Row {
     pub amounts: Items<u64>,
 }
 
+/// The first three fields of a line.
+#[derive(Drop, Clone, Copy)]
+pub struct Start {
+    pub mark: Mark,
+    pub needed: bool,
+    pub load: Option<u64>,
+}
+
 impl Row {
-    /// Reads a line, without its line feed: `MARK NEEDED LOAD COMPUTE ENTER THROUGH PAY K`, and K times `PARENT PASS`.
-    pub fn read(alloc: Global, line: &[u8]) -> Result<Option<Row>, AllocError> {
-        let Some((mark, rest)) = field(line) else {
+    /// Reads a line with its line feed, `MARK NEEDED LOAD COMPUTE ENTER THROUGH PAY K` and K times `PARENT PASS`, and
+    /// gives what follows it.
+    pub fn read(alloc: Global, text: &[u8]) -> Result<Option<(Row, &[u8])>, AllocError>
+        ensures { IfOk result (λ read. MatchOption read (NoRow text.now) (λ read. BeginsWithRow text.now read.0 read.1.now)) }
+    {
+        let Some((start, rest)) = read_start(text) else {
             return Ok(None);
         };
-        let Some((needed, rest)) = field(rest) else {
+        let Some((numbers, rest)) = read_numbers(alloc, rest)? else {
             return Ok(None);
         };
-        let Some((load, rest)) = field(rest) else {
+        let Some(row) = Row::from_numbers(alloc, start, &numbers)? else {
             return Ok(None);
         };
-        let (Some(mark), Some(needed), Some(load)) = (mark_of(mark), flag_of(needed), load_of(load))
-        else {
-            return Ok(None);
-        };
-        let Some(numbers) = numbers_of(alloc, rest)? else {
-            return Ok(None);
-        };
-        Row::from_numbers(alloc, mark, needed, load, &numbers)
+        Ok(Some((row, rest)))
     }
 
     /// A row of these numbers, from the compute cost on.
-    fn from_numbers(
-        alloc: Global,
-        mark: Mark,
-        needed: bool,
-        load: Option<u64>,
-        numbers: &[u64],
-    ) -> Result<Option<Row>, AllocError> {
+    fn from_numbers(alloc: Global, start: Start, numbers: &[u64]) -> Result<Option<Row>, AllocError>
+        ensures { IfOk result (λ row. MatchOption row (NoRowOf numbers.now) (λ row. (start_of row ≡ start) × AreNumbersOf numbers.now row)) }
+    {
         let [compute, enter, through, pay, count, pairs @ ..] = numbers else {
             return Ok(None);
         };
-        let half = pairs.len() / 2;
-        if pairs.len() % 2 != 0 || *count != half as u64 {
+        let Some((parents, amounts)) = unpaired(alloc, pairs)? else {
+            return Ok(None);
+        };
+        if parents.len() as u64 != *count {
             return Ok(None);
         }
-        let mut parents = Items::new(alloc);
-        let mut amounts = Items::new(alloc);
-        for i in 0..half {
-            parents.push(pairs[2 * i] as usize)?;
-            amounts.push(pairs[2 * i + 1])?;
-        }
-        let vertex = Vertex {
-            load,
+        let job = Vertex {
+            load: start.load,
             compute: *compute,
             parents,
-            needed,
+            needed: start.needed,
         };
         Ok(Some(Row {
-            vertex,
-            mark,
+            job,
+            mark: start.mark,
             enter: *enter,
             through: *through,
             pay: *pay,
@@ -76,62 +78,78 @@ impl Row {
     }
 }
 
-/// The text up to the first space, and what follows it.
-fn field(text: &[u8]) -> Option<(&[u8], &[u8])> {
-    let end = text.iter().position(|byte| *byte == b' ')?;
-    Some((&text[..end], &text[end + 1..]))
-}
-
-fn mark_of(text: &[u8]) -> Option<Mark> {
-    match text {
-        [b'L'] => Some(Mark::Load),
-        [b'C'] => Some(Mark::Compute),
-        [b'P'] => Some(Mark::Prune),
-        _ => None,
-    }
-}
-
-fn flag_of(text: &[u8]) -> Option<bool> {
-    match text {
-        [b'1'] => Some(true),
-        [b'0'] => Some(false),
-        _ => None,
-    }
-}
-
-/// A load cost: a number, or a dash where there is none.
-fn load_of(text: &[u8]) -> Option<Option<u64>> {
-    match text {
-        [b'-'] => Some(None),
-        _ => number_of(text).map(Some),
-    }
-}
-
-/// Numbers, parted by one space.
-fn numbers_of(alloc: Global, text: &[u8]) -> Result<Option<Vec<u64>>, AllocError> {
-    let mut numbers = Vec::new(alloc);
-    for field in text.split(|byte| *byte == b' ') {
-        let Some(number) = number_of(field) else {
-            return Ok(None);
-        };
-        numbers.push(number)?;
-    }
-    Ok(Some(numbers))
-}
-
-/// A number below 2^64, in decimal without leading zeros.
-pub fn number_of(digits: &[u8]) -> Option<u64> {
-    if digits.is_empty() || (digits.len() > 1 && digits[0] == b'0') {
+/// Reads the mark, whether the vertex is needed, and its load cost.
+fn read_start(text: &[u8]) -> Option<(Start, &[u8])>
+    ensures { MatchOption result (NoStart text.now) (λ read. BeginsWithStart text.now read.0 read.1.now) }
+{
+    let [mark, b' ', needed, rest @ ..] = text else {
         return None;
+    };
+    let mark = mark_of(*mark)?;
+    let needed = flag_of(*needed)?;
+    let (load, rest) = read_load(rest)?;
+    Some((Start { mark, needed, load }, rest))
+}
+
+fn mark_of(byte: u8) -> Option<Mark>
+    ensures { MatchOption result ((mark : Mark) → byte ≢ letter mark) (λ mark. byte ≡ letter mark) }
+{
+    match byte {
+        b'L' => Some(Mark::Load),
+        b'C' => Some(Mark::Compute),
+        b'P' => Some(Mark::Prune),
+        _ => None,
     }
-    let mut number = 0u64;
-    for digit in digits {
-        if !digit.is_ascii_digit() {
-            return None;
-        }
-        number = number
-            .checked_mul(10)?
-            .checked_add(u64::from(*digit - b'0'))?;
+}
+
+fn flag_of(byte: u8) -> Option<bool>
+    ensures { MatchOption result ((needed : Bool) → byte ≢ flag needed) (λ needed. byte ≡ flag needed) }
+{
+    match byte {
+        b'1' => Some(true),
+        b'0' => Some(false),
+        _ => None,
     }
-    Some(number)
+}
+
+/// Reads a load cost behind a space, or a dash where there is none.
+fn read_load(text: &[u8]) -> Option<(Option<u64>, &[u8])>
+    ensures { MatchOption result (NoLoadField text.now) (λ read. BeginsWithLoad text.now read.0 read.1.now) }
+{
+    if let [b' ', b'-', rest @ ..] = text {
+        return Some((None, rest));
+    }
+    let (load, rest) = read_number(text)?;
+    Some((Some(load), rest))
+}
+
+/// Numbers as pairs of a parent and what is passed to it.
+fn unpaired(
+    alloc: Global,
+    numbers: &[u64],
+) -> Result<Option<(Items<usize>, Items<u64>)>, AllocError>
+    ensures { IfOk result (λ read. MatchOption read (NoPairs numbers.now) (λ read. ArePairs numbers.now read.0 read.1)) }
+{
+    let mut parents = Items::new(alloc);
+    let mut amounts = Items::new(alloc);
+    let mut rest = numbers;
+    while let Some((parent, amount, others)) = split_pair(rest) {
+        parents.push(parent as usize)?;
+        amounts.push(amount)?;
+        rest = others;
+    }
+    if !rest.is_empty() {
+        return Ok(None);
+    }
+    Ok(Some((parents, amounts)))
+}
+
+/// The first two numbers, and those behind them.
+fn split_pair(numbers: &[u64]) -> Option<(u64, u64, &[u64])>
+    ensures { MatchOption result (length numbers.now < 2) (λ split. numbers.now ≡ split.0 ∷ split.1 ∷ split.2.now) }
+{
+    let [first, second, others @ ..] = numbers else {
+        return None;
+    };
+    Some((*first, *second, others))
 }

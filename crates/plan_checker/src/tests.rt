@@ -108,6 +108,43 @@ fn bad_lines_are_named(rt: HostRuntime) -> Result<(), Fail> {
 }
 
 #[test]
+fn strict_prefixes_are_refused(rt: HostRuntime) -> Result<(), Fail> {
+    for end in 0..CHAIN.len() {
+        let prefix = &CHAIN.as_bytes()[..end];
+        let feeds = prefix.iter().filter(|byte| **byte == b'\n').count();
+        let refused = read_certificate(rt.alloc(), prefix).err();
+        assert_eq!(rt; refused, Some(CertificateError::NotACertificate(feeds + 1)));
+    }
+    Ok(())
+}
+
+#[test]
+fn nothing_follows_the_last_line(rt: HostRuntime) -> Result<(), Fail> {
+    for tail in [" ", "\n", "end\n"] {
+        let text = format!(in rt.alloc(); "{CHAIN}{tail}")?;
+        let refused = read_certificate(rt.alloc(), text.as_bytes()).err();
+        assert_eq!(rt; refused, Some(CertificateError::NotACertificate(7)));
+    }
+    Ok(())
+}
+
+#[test]
+fn parents_rise_below_their_vertex(rt: HostRuntime) -> Result<(), Fail> {
+    let (a, b) = ("L 0 3 10 0 3 3 0", "C 0 50 5 0 8 5 1 0 3");
+    let third = [
+        "C 1 100 5 13 13 5 2 1 8 0 0",
+        "C 1 100 5 13 13 5 2 1 8 1 0",
+        "C 1 100 5 13 13 5 1 2 8",
+    ];
+    for c in third {
+        let text = chain(rt.alloc(), a, b, c)?;
+        let refused = read_certificate(rt.alloc(), text.as_bytes()).err();
+        assert_eq!(rt; refused, Some(CertificateError::NotACertificate(5)));
+    }
+    Ok(())
+}
+
+#[test]
 fn limits_are_kept(rt: HostRuntime) -> Result<(), Fail> {
     let one = "cwl-plan 1\njobs 1\nL 1 5 5 5 5 5 0\nend\n";
     let (graph, plan, charges) = read_certificate(rt.alloc(), one.as_bytes())?;

@@ -1,0 +1,157 @@
+use Rattle.std.proofs.Common.{◌≡◌, ◌≢◌, ℕ, suc, ◌+◌, ◌<◌, ◌≤◌, ◌^◌, List, [], ◌∷◌, ◌++◌, length, get_or, All, Option, Some, None, sym, refl, ap, ◌∙◌, subst, arith}
+use Rattle.std.specs.Fmt.{decimal}
+use Rattle.std.specs.Char.{IsAsciiDigit}
+use Rattle.std.specs.Option.{ForSome}
+use Rattle.std.specs.Str.Parse.{AllDigits}
+use Rattle.std.proofs.lemmas.Fmt.{decimal_is_IsNumeral, decimal_injective}
+use Rattle.std.proofs.lemmas.Str.Parse.{digit_from_value}
+use Rattle.std.proofs.lemmas.List.{append_assoc, append-nil}
+use Rattle.std.proofs.lemmas.List.Elements.{All-head, All-tail, All-push}
+use Rattle.plan_checker.specs.Format.{IsSmall, spaced, load_field, pairs}
+use Rattle.plan_checker.proofs.Texts.{spaced-append}
+use Rattle.plan_checker.specs.Reading.{EndsNumber, NoNumber, NoNumbers, BeginsWithNumber, BeginsWithNumbers}
+
+-- digits are read in one way, up to what ends them
+pub digits_once : (xs ys a b : List ℕ) → AllDigits 10 xs → AllDigits 10 ys → EndsNumber a → EndsNumber b → xs ++ a ≡ ys ++ b → (xs ≡ ys) × (a ≡ b)
+digits_once [] [] a b p q ea eb e = (refl, e)
+digits_once [] (y ∷ ys) a b p q ea eb e =
+    let starts : List ℕ → Type 0 = λ t. IsAsciiDigit (get_or t 0 0) in
+    absurd (ea (subst starts (sym e) (digit_from_value y q.0)))
+digits_once (x ∷ xs) [] a b p q ea eb e =
+    let starts : List ℕ → Type 0 = λ t. IsAsciiDigit (get_or t 0 0) in
+    absurd (eb (subst starts e (digit_from_value x p.0)))
+digits_once (x ∷ xs) (y ∷ ys) a b p q ea eb e =
+    let tail : xs ++ a ≡ ys ++ b = cc in
+    let head : x ≡ y = cc in
+    let rest : (xs ≡ ys) × (a ≡ b) = digits_once xs ys a b p.1 q.1 ea eb tail in
+    let front : xs ≡ ys = rest.0 in
+    ((cc), rest.1)
+
+-- a number is read in one way, up to what ends it
+pub number_once : (m n : ℕ) (a b : List ℕ) → IsSmall m → IsSmall n → EndsNumber a → EndsNumber b → decimal m ++ a ≡ decimal n ++ b → (m ≡ n) × (a ≡ b)
+number_once m n a b small_m small_n ea eb e =
+    let both : (decimal m ≡ decimal n) × (a ≡ b) = digits_once (decimal m) (decimal n) a b (decimal_is_IsNumeral m small_m).0.1 (decimal_is_IsNumeral n small_n).0.1 ea eb e in
+    (decimal_injective m n small_m small_n both.0, both.1)
+
+pub space_ends : (x : List ℕ) → EndsNumber (32 ∷ x)
+space_ends x = λ d. absurd (omega arith)
+
+pub feed_ends : (x : List ℕ) → EndsNumber (10 ∷ x)
+feed_ends x = λ d. absurd (omega arith)
+
+pub dash_ends : (x : List ℕ) → EndsNumber (45 ∷ x)
+dash_ends x = λ d. absurd (omega arith)
+
+abbrev first_of : List ℕ → ℕ
+first_of t = get_or t 0 0
+
+-- numbers begin with a space, or there are none
+pub numbers_end : (ns x : List ℕ) → EndsNumber (spaced ns ++ 10 ∷ x)
+numbers_end [] x = feed_ends x
+numbers_end (n ∷ ns) x = space_ends ((decimal n ++ spaced ns) ++ 10 ∷ x)
+
+-- numbers are read in one way, up to the line feed behind them
+pub numbers_once : (ns ms x y : List ℕ) → All IsSmall ns → All IsSmall ms → spaced ns ++ 10 ∷ x ≡ spaced ms ++ 10 ∷ y → (ns ≡ ms) × (x ≡ y)
+numbers_once [] [] x y p q e = (refl, (cc))
+numbers_once [] (m ∷ ms) x y p q e = absurd (let h : 10 ≡ 32 = ap first_of e in omega (arith, h))
+numbers_once (n ∷ ns) [] x y p q e = absurd (let h : 32 ≡ 10 = ap first_of e in omega (arith, h))
+numbers_once (n ∷ ns) (m ∷ ms) x y p q e =
+    let tail : (decimal n ++ spaced ns) ++ 10 ∷ x ≡ (decimal m ++ spaced ms) ++ 10 ∷ y = cc in
+    let grouped : decimal n ++ (spaced ns ++ 10 ∷ x) ≡ decimal m ++ (spaced ms ++ 10 ∷ y) =
+    sym (append_assoc (decimal n) (spaced ns) (10 ∷ x)) ∙ tail ∙ append_assoc (decimal m) (spaced ms) (10 ∷ y)
+    in
+    let one : (n ≡ m) × (spaced ns ++ 10 ∷ x ≡ spaced ms ++ 10 ∷ y) =
+    number_once n m _ _ (All-head IsSmall n ns p) (All-head IsSmall m ms q) (numbers_end ns x) (numbers_end ms y) grouped
+    in
+    let more : (ns ≡ ms) × (x ≡ y) = numbers_once ns ms x y (All-tail IsSmall n ns p) (All-tail IsSmall m ms q) one.1 in
+    let head : n ≡ m = one.0 in
+    let rest : ns ≡ ms = more.0 in
+    ((cc), more.1)
+
+-- pairs are those of one list of parents and one of amounts
+pub pairs_once : (ps ws qs bs : List ℕ) → length ws ≡ length ps → length bs ≡ length qs → pairs ps ws ≡ pairs qs bs → (ps ≡ qs) × (ws ≡ bs)
+pairs_once [] [] [] [] h g e = (refl, refl)
+pairs_once [] [] [] (b ∷ bs) h g e = absurd (omega arith)
+pairs_once [] [] (q ∷ qs) [] h g e = absurd (omega arith)
+pairs_once [] [] (q ∷ qs) (b ∷ bs) h g e = absurd (cc)
+pairs_once [] (w ∷ ws) qs bs h g e = absurd (omega arith)
+pairs_once (p ∷ ps) [] qs bs h g e = absurd (omega arith)
+pairs_once (p ∷ ps) (w ∷ ws) [] [] h g e = absurd (cc)
+pairs_once (p ∷ ps) (w ∷ ws) [] (b ∷ bs) h g e = absurd (omega arith)
+pairs_once (p ∷ ps) (w ∷ ws) (q ∷ qs) [] h g e = absurd (omega arith)
+pairs_once (p ∷ ps) (w ∷ ws) (q ∷ qs) (b ∷ bs) h g e =
+    let tail : pairs ps ws ≡ pairs qs bs = cc in
+    let first : p ≡ q = cc in
+    let second : w ≡ b = cc in
+    let rest : (ps ≡ qs) × (ws ≡ bs) = pairs_once ps ws qs bs (omega arith) (omega arith) tail in
+    let others : ps ≡ qs = rest.0 in
+    let amounts : ws ≡ bs = rest.1 in
+    ((cc), (cc))
+
+-- a load cost is read in one way
+pub load_once : (l k : Option ℕ) (a b : List ℕ) → ForSome l IsSmall → ForSome k IsSmall → ForSome l (λ n. EndsNumber a) → ForSome k (λ n. EndsNumber b) → load_field l ++ a ≡ load_field k ++ b → (l ≡ k) × (a ≡ b)
+load_once None None a b sl sk el ek e = (refl, (cc))
+load_once None (Some k) a b sl sk el ek e =
+    let tail : 45 ∷ a ≡ (decimal k ++ []) ++ b = cc in
+    let both : ([] ≡ decimal k) × (45 ∷ a ≡ b) =
+    digits_once [] (decimal k) (45 ∷ a) b tt (decimal_is_IsNumeral k (sk k refl)).0.1 (dash_ends a) (ek k refl) (tail ∙ ap (λ t. t ++ b) (append-nil (decimal k)))
+    in
+    let some : 0 < length (decimal k) = (decimal_is_IsNumeral k (sk k refl)).0.0 in
+    let none : 0 ≡ length (decimal k) = ap length both.0 in
+    absurd (omega arith)
+load_once (Some l) None a b sl sk el ek e =
+    let tail : (decimal l ++ []) ++ a ≡ 45 ∷ b = cc in
+    let both : (decimal l ≡ []) × (a ≡ 45 ∷ b) =
+    digits_once (decimal l) [] a (45 ∷ b) (decimal_is_IsNumeral l (sl l refl)).0.1 tt (el l refl) (dash_ends b) (ap (λ t. t ++ a) (sym (append-nil (decimal l))) ∙ tail)
+    in
+    let some : 0 < length (decimal l) = (decimal_is_IsNumeral l (sl l refl)).0.0 in
+    let none : length (decimal l) ≡ 0 = ap length both.0 in
+    absurd (omega arith)
+load_once (Some l) (Some k) a b sl sk el ek e =
+    let tail : (decimal l ++ []) ++ a ≡ (decimal k ++ []) ++ b = cc in
+    let both : (l ≡ k) × (a ≡ b) =
+    number_once l k a b (sl l refl) (sk k refl) (el l refl) (ek k refl) (ap (λ t. t ++ a) (sym (append-nil (decimal l))) ∙ tail ∙ ap (λ t. t ++ b) (append-nil (decimal k)))
+    in
+    (ap Some both.0, both.1)
+
+-- what may follow numbers that were read
+ends_more : (ns rest : List ℕ) → EndsNumber rest → EndsNumber (spaced ns ++ rest)
+ends_more [] rest h = h
+ends_more (n ∷ ns) rest h = space_ends ((decimal n ++ spaced ns) ++ rest)
+
+numbers_stop : (ns ms rest y : List ℕ) → All IsSmall ns → All IsSmall ms → (0 < length ns → EndsNumber rest) → NoNumber rest → ((z : List ℕ) → rest ≢ 10 ∷ z) → spaced ns ++ rest ≢ spaced ms ++ 10 ∷ y
+numbers_stop [] [] rest y p q ends none feed e = feed y e
+numbers_stop [] (m ∷ ms) rest y p q ends none feed e =
+    none m (spaced ms ++ 10 ∷ y) (record { small = All-head IsSmall m ms q; ends = numbers_end ms y; begins = e ∙ append_assoc (32 ∷ decimal m) (spaced ms) (10 ∷ y) })
+numbers_stop (n ∷ ns) [] rest y p q ends none feed e = absurd (let h : 32 ≡ 10 = ap first_of e in omega (arith, h))
+numbers_stop (n ∷ ns) (m ∷ ms) rest y p q ends none feed e =
+    let tail : (decimal n ++ spaced ns) ++ rest ≡ (decimal m ++ spaced ms) ++ 10 ∷ y = cc in
+    let grouped : decimal n ++ (spaced ns ++ rest) ≡ decimal m ++ (spaced ms ++ 10 ∷ y) =
+    sym (append_assoc (decimal n) (spaced ns) rest) ∙ tail ∙ append_assoc (decimal m) (spaced ms) (10 ∷ y)
+    in
+    let ended : EndsNumber rest = ends (omega arith) in
+    let one : (n ≡ m) × (spaced ns ++ rest ≡ spaced ms ++ 10 ∷ y) =
+    number_once n m (spaced ns ++ rest) (spaced ms ++ 10 ∷ y) (All-head IsSmall n ns p) (All-head IsSmall m ms q) (ends_more ns rest ended) (numbers_end ms y) grouped
+    in
+    numbers_stop ns ms rest y (All-tail IsSmall n ns p) (All-tail IsSmall m ms q) (λ l. ended) none feed one.1
+
+-- where no number and no line feed follows, these were no numbers up to a line feed
+pub no_numbers : (text ns rest : List ℕ) → All IsSmall ns → text ≡ spaced ns ++ rest → (0 < length ns → EndsNumber rest) → NoNumber rest → ((z : List ℕ) → rest ≢ 10 ∷ z) → NoNumbers text
+no_numbers text ns rest small read ends none feed ms y other =
+    numbers_stop ns ms rest y small other.small ends none feed (sym read ∙ other.begins)
+
+-- one number more
+pub numbers_more : (text ns rest after : List ℕ) (n : ℕ) → text ≡ spaced ns ++ rest → rest ≡ (32 ∷ decimal n) ++ after → text ≡ spaced (ns ++ n ∷ []) ++ after
+numbers_more text ns rest after n read next =
+    read
+    ∙ ap (λ t. spaced ns ++ t) next
+    ∙ sym (append_assoc (spaced ns) (32 ∷ decimal n) after)
+    ∙ ap (λ t. (spaced ns ++ t) ++ after) (sym (append-nil (32 ∷ decimal n)))
+    ∙ ap (λ t. t ++ after) (sym (spaced-append ns (n ∷ [])))
+
+pub small_more : (ns new : List ℕ) (n : ℕ) → All IsSmall ns → IsSmall n → new ≡ ns ++ n ∷ [] → All IsSmall new
+small_more ns new n small one is = subst (All IsSmall) (sym is) (All-push IsSmall ns n small one)
+
+pub number_more : (text ns new rest after : List ℕ) (n : ℕ) → text ≡ spaced ns ++ rest → BeginsWithNumber rest n after → new ≡ ns ++ n ∷ [] → text ≡ spaced new ++ after
+number_more text ns new rest after n read next is =
+    numbers_more text ns rest after n read next.begins ∙ ap (λ t. spaced t ++ after) (sym is)
