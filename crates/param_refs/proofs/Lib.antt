@@ -1,0 +1,4 @@
+pub mod Cut
+pub mod Readings
+pub mod Scanned
+pub mod Settled
