@@ -1,5 +1,5 @@
 -- Where a run of bytes that pass a test ends, and where a segment does.
-use Rattle.std.proofs.Common.{◌≡◌, ℕ, Bool, true, false, true≢false, not, ◌==◌, ◌&&◌, ◌||◌, List, [], ◌∷◌, ◌++◌, append_assoc, refl, sym, ap, subst, ◌∙◌, arith}
+use Rattle.std.proofs.Common.{◌≡◌, ℕ, Bool, true, false, true≢false, not, ◌==◌, ◌&&◌, ◌||◌, List, [], ◌∷◌, ◌++◌, append_assoc, refl, sym, ap, subst, ◌∙◌, eq-eqb}
 use Rattle.std.specs.List.{list_all, list_any}
 use Rattle.std.specs.Char.{is_ascii_digit}
 use Rattle.param_refs.specs.Grammar.{is_symbol_byte, is_symbol, is_quoted, is_number, IsSegment, AreSegments, IsReference}
@@ -15,6 +15,13 @@ both_first false b h = h
 pub both_second : (a b : Bool) → (a && b) ≡ true → b ≡ true
 both_second true b h = h
 both_second false b h = absurd (true≢false (sym h))
+
+-- two texts that differ in the first byte, or in the second
+pub differ : (x y : ℕ) (s t : List ℕ) → x ∷ s ≡ y ∷ t → (x == y) ≡ false → ⊥
+differ x y s t e apart = let head : x ≡ y = cc in true≢false (sym (eq-eqb x y head) ∙ apart)
+
+pub differ_next : (w x y : ℕ) (s t : List ℕ) → w ∷ x ∷ s ≡ w ∷ y ∷ t → (x == y) ≡ false → ⊥
+differ_next w x y s t e apart = let after : x ∷ s ≡ y ∷ t = cc in differ x y s t after apart
 
 -- a run that passes, up to what doesn't pass, is the same run however it was found
 pub cut : (p : ℕ → Bool) (a b c d : List ℕ) → a ++ b ≡ c ++ d → list_all p a ≡ true → list_all p c ≡ true → first_passes p b ≡ false → first_passes p d ≡ false → (a ≡ c) × (b ≡ d)
@@ -49,8 +56,20 @@ neither true b c h = absurd (true≢false (sym h))
 neither false true c h = absurd (true≢false (sym h))
 neither false false c h = (refl, h)
 
-both : (a b : Bool) → a ≡ true → b ≡ true → (a && b) ≡ true
+pub both : (a b : Bool) → a ≡ true → b ≡ true → (a && b) ≡ true
 both a b p q = rw (p, q) refl
+
+pub neither_part : (a b : Bool) → (a || b) ≡ false → (a ≡ false) × (b ≡ false)
+neither_part true b h = absurd (true≢false h)
+neither_part false b h = (refl, h)
+
+pub clean : (a b c d : Bool) → not ((a || b) || c) ≡ true → (not c ≡ true → d ≡ false) → (b || d) ≡ false
+clean true b c d h rest = absurd (true≢false (sym h))
+clean false true c d h rest = absurd (true≢false (sym h))
+clean false false c d h rest = rest h
+
+pub all_clean : (a b c : Bool) → a ≡ false → b ≡ false → not c ≡ true → not ((a || b) || c) ≡ true
+all_clean a b c p q r = rw (p, q) r
 
 -- no quote stands inside quotes
 pub quoted-all : (q : ℕ) (s : List ℕ) → is_quoted q s ≡ true → list_all (λ b. not (b == q)) s ≡ true
@@ -66,14 +85,11 @@ segment-no_symbol x t s (IsSegment.in_quotes text p) = refl
 segment-no_symbol x t s (IsSegment.in_double_quotes text p) = refl
 segment-no_symbol x t s (IsSegment.index digits p) = refl
 
-is_closing : ℕ → Bool
-is_closing b = b == 41
-
 pub segment-no_closing : (x t u : List ℕ) (s : Segment) → IsSegment x s → x ++ t ≡ 41 ∷ u → ⊥
-segment-no_closing x t u s (IsSegment.dotted symbol p) e = let h : 46 ≡ 41 = cc in absurd (omega arith)
-segment-no_closing x t u s (IsSegment.in_quotes text p) e = let h : 91 ≡ 41 = cc in absurd (omega arith)
-segment-no_closing x t u s (IsSegment.in_double_quotes text p) e = let h : 91 ≡ 41 = cc in absurd (omega arith)
-segment-no_closing x t u s (IsSegment.index digits p) e = let h : 91 ≡ 41 = cc in absurd (omega arith)
+segment-no_closing x t u s (IsSegment.dotted symbol p) e = absurd (differ 46 41 _ _ e refl)
+segment-no_closing x t u s (IsSegment.in_quotes text p) e = absurd (differ 91 41 _ _ e refl)
+segment-no_closing x t u s (IsSegment.in_double_quotes text p) e = absurd (differ 91 41 _ _ e refl)
+segment-no_closing x t u s (IsSegment.index digits p) e = absurd (differ 91 41 _ _ e refl)
 
 pub segments-no_symbol : (x u : List ℕ) (ss : List Segment) → AreSegments x ss → starts_symbol (x ++ 41 ∷ u) ≡ false
 segments-no_symbol x u ss AreSegments.no_segment = refl
@@ -92,8 +108,8 @@ quotes_same q a u b v e p r same =
     (parts.0, cc)
 
 digits_first : (b : ℕ) (t digits u : List ℕ) → is_ascii_digit b ≡ false → b ∷ t ≡ (digits ++ 93 ∷ []) ++ u → is_number digits ≡ true → ⊥
-digits_first b t digits u no e p =
-    true≢false (sym (number-first digits (93 ∷ u) p) ∙ sym (ap (first_passes is_ascii_digit) (e ∙ append_assoc digits (93 ∷ []) u)) ∙ no)
+digits_first b t digits u fails e p =
+    true≢false (sym (number-first digits (93 ∷ u) p) ∙ sym (ap (first_passes is_ascii_digit) (e ∙ append_assoc digits (93 ∷ []) u)) ∙ fails)
 
 -- a segment, and what follows it, is the same however it was found
 pub segment_same : (x u y v : List ℕ) (s t : Segment) → IsSegment x s → IsSegment y t → x ++ u ≡ y ++ v → Ended x u → Ended y v → (s ≡ t) × (u ≡ v)
@@ -101,20 +117,20 @@ segment_same x u y v s t (IsSegment.dotted a p) (IsSegment.dotted b q) e eu ev =
     let after : a ++ u ≡ b ++ v = cc in
     let parts = cut is_symbol_byte a u b v after (symbol-all a p) (symbol-all b q) (eu a refl) (ev b refl) in
     (ap Key parts.0, parts.1)
-segment_same x u y v s t (IsSegment.dotted a p) (IsSegment.in_quotes b q) e eu ev = let h : 46 ≡ 91 = cc in absurd (omega arith)
-segment_same x u y v s t (IsSegment.dotted a p) (IsSegment.in_double_quotes b q) e eu ev = let h : 46 ≡ 91 = cc in absurd (omega arith)
-segment_same x u y v s t (IsSegment.dotted a p) (IsSegment.index b q) e eu ev = let h : 46 ≡ 91 = cc in absurd (omega arith)
-segment_same x u y v s t (IsSegment.in_quotes a p) (IsSegment.dotted b q) e eu ev = let h : 91 ≡ 46 = cc in absurd (omega arith)
+segment_same x u y v s t (IsSegment.dotted a p) (IsSegment.in_quotes b q) e eu ev = absurd (differ 46 91 _ _ e refl)
+segment_same x u y v s t (IsSegment.dotted a p) (IsSegment.in_double_quotes b q) e eu ev = absurd (differ 46 91 _ _ e refl)
+segment_same x u y v s t (IsSegment.dotted a p) (IsSegment.index b q) e eu ev = absurd (differ 46 91 _ _ e refl)
+segment_same x u y v s t (IsSegment.in_quotes a p) (IsSegment.dotted b q) e eu ev = absurd (differ 91 46 _ _ e refl)
 segment_same x u y v s t (IsSegment.in_quotes a p) (IsSegment.in_quotes b q) e eu ev =
     let after : (a ++ 39 ∷ 93 ∷ []) ++ u ≡ (b ++ 39 ∷ 93 ∷ []) ++ v = cc in
     let parts = quotes_same 39 a u b v after p q refl in
     (ap Key parts.0, parts.1)
-segment_same x u y v s t (IsSegment.in_quotes a p) (IsSegment.in_double_quotes b q) e eu ev = let h : 39 ≡ 34 = cc in absurd (omega arith)
+segment_same x u y v s t (IsSegment.in_quotes a p) (IsSegment.in_double_quotes b q) e eu ev = absurd (differ_next _ 39 34 _ _ e refl)
 segment_same x u y v s t (IsSegment.in_quotes a p) (IsSegment.index b q) e eu ev =
     let after : 39 ∷ ((a ++ 39 ∷ 93 ∷ []) ++ u) ≡ (b ++ 93 ∷ []) ++ v = cc in
     absurd (digits_first 39 ((a ++ 39 ∷ 93 ∷ []) ++ u) b v refl after q)
-segment_same x u y v s t (IsSegment.in_double_quotes a p) (IsSegment.dotted b q) e eu ev = let h : 91 ≡ 46 = cc in absurd (omega arith)
-segment_same x u y v s t (IsSegment.in_double_quotes a p) (IsSegment.in_quotes b q) e eu ev = let h : 34 ≡ 39 = cc in absurd (omega arith)
+segment_same x u y v s t (IsSegment.in_double_quotes a p) (IsSegment.dotted b q) e eu ev = absurd (differ 91 46 _ _ e refl)
+segment_same x u y v s t (IsSegment.in_double_quotes a p) (IsSegment.in_quotes b q) e eu ev = absurd (differ_next _ 34 39 _ _ e refl)
 segment_same x u y v s t (IsSegment.in_double_quotes a p) (IsSegment.in_double_quotes b q) e eu ev =
     let after : (a ++ 34 ∷ 93 ∷ []) ++ u ≡ (b ++ 34 ∷ 93 ∷ []) ++ v = cc in
     let parts = quotes_same 34 a u b v after p q refl in
@@ -122,7 +138,7 @@ segment_same x u y v s t (IsSegment.in_double_quotes a p) (IsSegment.in_double_q
 segment_same x u y v s t (IsSegment.in_double_quotes a p) (IsSegment.index b q) e eu ev =
     let after : 34 ∷ ((a ++ 34 ∷ 93 ∷ []) ++ u) ≡ (b ++ 93 ∷ []) ++ v = cc in
     absurd (digits_first 34 ((a ++ 34 ∷ 93 ∷ []) ++ u) b v refl after q)
-segment_same x u y v s t (IsSegment.index a p) (IsSegment.dotted b q) e eu ev = let h : 91 ≡ 46 = cc in absurd (omega arith)
+segment_same x u y v s t (IsSegment.index a p) (IsSegment.dotted b q) e eu ev = absurd (differ 91 46 _ _ e refl)
 segment_same x u y v s t (IsSegment.index a p) (IsSegment.in_quotes b q) e eu ev =
     let after : 39 ∷ ((b ++ 39 ∷ 93 ∷ []) ++ v) ≡ (a ++ 93 ∷ []) ++ u = cc in
     absurd (digits_first 39 ((b ++ 39 ∷ 93 ∷ []) ++ v) a u refl after p)

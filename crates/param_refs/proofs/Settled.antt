@@ -5,7 +5,7 @@ use Rattle.param_refs.specs.declared.fault.RefFault.{RefFault}
 use Rattle.param_refs.specs.declared.template.Part.{Part}
 use Rattle.param_refs.specs.declared.template.Part.TheVariants.{Plain, Referred}
 use Rattle.param_refs.specs.declared.template.Reference.{Reference}
-use Rattle.param_refs.proofs.Cut.{both_first, both_second, reference_same}
+use Rattle.param_refs.proofs.Cut.{differ_next, both_first, both_second, reference_same}
 
 never : (b : Bool) → b ≡ true → b ≡ false → ⊥
 never b p q = true≢false (sym p ∙ q)
@@ -37,7 +37,7 @@ reference-opens : (x t : List ℕ) (r : Reference) → IsReference x r → opens
 reference-opens x t r (IsReference.reference symbol y ss p are) = refl
 
 reference-no_expression : (x t u : List ℕ) (r : Reference) → IsReference x r → x ++ t ≡ 36 ∷ 123 ∷ u → ⊥
-reference-no_expression x t u r (IsReference.reference symbol y ss p are) e = let h : 40 ≡ 123 = cc in absurd (omega arith)
+reference-no_expression x t u r (IsReference.reference symbol y ss p are) e = absurd (differ_next _ 40 123 _ _ e refl)
 
 -- plain text doesn't open
 closed : (b : ℕ) (s t other : List ℕ) → is_plain (b ∷ s) t ≡ true → b ∷ (s ++ t) ≡ other → opens other ≡ true → ⊥
@@ -80,6 +80,6 @@ reads_same text other r s (Reads.no_reference t none) (Reads.no_reference u none
 
 pub reading_same : (text : List ℕ) (one other : Result (List Part) RefFault) → IsReading text one → IsReading text other → one ≡ other
 reading_same text one other (IsReading.escaped p) (IsReading.escaped q) = refl
-reading_same text one other (IsReading.escaped p) (IsReading.unescaped s no reads) = absurd (never (is_escaped text) p no)
-reading_same text one other (IsReading.unescaped r no reads) (IsReading.escaped q) = absurd (never (is_escaped text) q no)
-reading_same text one other (IsReading.unescaped r no reads) (IsReading.unescaped s no' reads') = reads_same text text r s reads reads' refl
+reading_same text one other (IsReading.escaped p) (IsReading.unescaped s fails reads) = absurd (never (is_escaped text) p fails)
+reading_same text one other (IsReading.unescaped r fails reads) (IsReading.escaped q) = absurd (never (is_escaped text) q fails)
+reading_same text one other (IsReading.unescaped r fails reads) (IsReading.unescaped s no' reads') = reads_same text text r s reads reads' refl

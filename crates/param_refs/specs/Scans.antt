@@ -1,5 +1,5 @@
 -- What the scanner finds at the front of a text, part by part. No public contract cites this.
-use Rattle.std.specs.Prelude.{◌≡◌, ℕ, ◌<◌, ◌≤◌, Bool, true, false, List, [], ◌∷◌, ◌++◌, length, take, drop, codes, Result}
+use Rattle.std.specs.Prelude.{◌≡◌, ◌⊎◌, ℕ, ◌<◌, ◌≤◌, Bool, true, false, List, [], ◌∷◌, ◌++◌, length, take, drop, codes, Result}
 use Rattle.std.specs.List.{list_all}
 use Rattle.param_refs.specs.Grammar.{is_symbol_byte, is_symbol, is_quoted, is_number, IsSegment, AreSegments, IsReference, opens, Reads, with_part}
 use Rattle.param_refs.specs.declared.fault.RefFault.{RefFault}
@@ -37,6 +37,14 @@ pub record QuotedThen (quote : ℕ) (text quoted rest : List ℕ) : Type 0 where
 
 abbrev pub NoQuoted : ℕ → List ℕ → Type 0
 NoQuoted quote text = (quoted rest : List ℕ) → text ≡ quoted ++ quote ∷ 93 ∷ rest → is_quoted quote quoted ≡ true → ⊥
+
+-- the two quotes
+abbrev pub IsQuote : ℕ → Type 0
+IsQuote quote = (quote ≡ 39) ⊎ (quote ≡ 34)
+
+-- the same with the first quote in front
+abbrev pub NoQuotes : ℕ → List ℕ → Type 0
+NoQuotes quote text = (quoted rest : List ℕ) → text ≡ quote ∷ (quoted ++ quote ∷ 93 ∷ rest) → is_quoted quote quoted ≡ true → ⊥
 
 pub record NumberThen (text digits rest : List ℕ) : Type 0 where
   pub parts : text ≡ digits ++ 93 ∷ rest

@@ -1,11 +1,11 @@
 //! From a value along the segments of a reference.
-ghost use Rattle.std.specs.Prelude.{◌≡◌, ◌≢◌, Ok, Err, Some, None, IfOk, IfErr, length, pos, slice_get};
+ghost use Rattle.std.specs.Prelude.{◌≡◌, ◌≢◌, Ok, Err, IfOk, IfErr, length, pos, slice_get};
 ghost use Rattle.std.specs.Option.{option_copied};
 ghost use Rattle.cwl_value.specs.declared.value.Value as value;
 ghost use Rattle.cwl_value.specs.declared.value.Value.{out-Value};
 ghost use Rattle.param_refs.specs.Reached.{reached};
 ghost use Rattle.param_refs.specs.Descent.{step, by_key, by_index, number_of, descent, has_outdir};
-ghost use Rattle.param_refs.specs.declared.fault.RefFault.TheVariants.{OutOfMemory, NoField};
+ghost use Rattle.param_refs.specs.declared.fault.RefFault.TheVariants.{OutOfMemory};
 
 use crate::fault::RefFault;
 use crate::index::{character, index_of};
@@ -75,20 +75,16 @@ fn by_key<'v>(
             None => Err(RefFault::NoField),
             Some(inner) => Ok(Reached::Inside(inner)),
         },
-        Value::FileVal(file) => made(file_value(alloc, file, key, with_places)?),
-        Value::DirVal(dir) => made(dir_value(alloc, dir, key, with_places)?),
+        Value::FileVal(file) => match file_value(alloc, file, key, with_places)? {
+            None => Err(RefFault::NoField),
+            Some(inner) => Ok(Reached::Made(inner)),
+        },
+        Value::DirVal(dir) => match dir_value(alloc, dir, key, with_places)? {
+            None => Err(RefFault::NoField),
+            Some(inner) => Ok(Reached::Made(inner)),
+        },
         Value::List(items) if is_last && key == "length" => { Ok(Reached::Made(length_of(items)?)) }
         _ => Err(RefFault::WrongKind),
-    }
-}
-
-fn made<'v>(value: Option<Value>) -> Result<Reached<'v>, RefFault>
-    ensures ok { IfOk result (λ found. value ≡ Some (reached found)) }
-    ensures err { IfErr result (λ e. (value ≡ None) × (e ≡ NoField)) }
-{
-    match value {
-        None => Err(RefFault::NoField),
-        Some(value) => Ok(Reached::Made(value)),
     }
 }
 
@@ -156,7 +152,7 @@ fn descend_text(
 
 /// Whether references may see paths: where `runtime` has an `outdir`.
 pub(crate) fn has_outdir(runtime: Option<&Value>) -> bool
-    ensures { result ≡ has_outdir (option_copied runtime) }
+    ensures { result ≡ has_outdir (option_copied runtime.entry) }
 {
     match runtime {
         Some(Value::Fields(fields)) => fields.contains("outdir"),

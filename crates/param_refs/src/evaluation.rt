@@ -1,14 +1,15 @@
 //! From a template to its value.
-ghost use Rattle.std.specs.Prelude.{◌≡◌, ◌≢◌, ◌++◌, Ok, Err, IfOk, IfErr, OnOk, string_bytes};
+ghost use Rattle.std.specs.Prelude.{◌≡◌, ◌≢◌, Ok, Err, IfOk, IfErr};
 ghost use Rattle.std.specs.Option.{option_copied};
 ghost use Rattle.std.specs.List.{list_all};
 ghost use Rattle.std.specs.Char.{is_ascii_whitespace};
-ghost use Rattle.param_refs.specs.Descent.{descent, has_outdir};
-ghost use Rattle.param_refs.specs.Evaluation.{template_value, reference_value, joined, alone, is_blank, is_all_blank, text_of_value};
+ghost use Rattle.param_refs.specs.Descent.{root};
+ghost use Rattle.param_refs.specs.Reached.{reached};
+ghost use Rattle.param_refs.specs.Evaluation.{template_value, reference_value, part_text, joined, alone, is_blank, is_all_blank, text_of_value};
 ghost use Rattle.param_refs.specs.declared.fault.RefFault.TheVariants.{OutOfMemory};
 
 use crate::context::Context;
-use crate::descent::{descend, has_outdir};
+use crate::descent::{Reached, descend, has_outdir};
 use crate::fault::RefFault;
 use crate::template::{Part, Reference, Template};
 use cwl_value::{Value, canonical_text, erased};
@@ -78,23 +79,31 @@ fn joined(alloc: Global, context: &Context<'_>, parts: &[Part]) -> Result<Text, 
 {
     let mut text = String::new(alloc);
     for part in parts {
-        match part {
-            Part::Plain(plain) => text.push_str(plain.as_str())?,
-            Part::Referred(reference) => {
-                let value = reference_value(alloc, context, reference)?;
-                push_value(alloc, &mut text, &value)?;
-            }
-        }
+        let found = part_text(alloc, context, part)?;
+        text.push_str(found.as_str())?;
     }
     Ok(Text::from_string(text))
 }
 
-fn push_value(alloc: Global, text: &mut String, value: &Value) -> Result<(), AllocError>
-    ensures { OnOk result (string_bytes text.new ≡ string_bytes text.old ++ text_of_value value.now) }
+fn part_text(alloc: Global, context: &Context<'_>, part: &Part) -> Result<Text, RefFault>
+    ensures ok { IfOk result (λ text. part_text context.now.inputs.now (option_copied context.now.runtime) context.now.own.now part.now ≡ Ok text) }
+    ensures err { IfErr result (λ e. e ≢ OutOfMemory → part_text context.now.inputs.now (option_copied context.now.runtime) context.now.own.now part.now ≡ Err e) }
+{
+    match part {
+        Part::Plain(plain) => Ok(plain.copied(alloc)?),
+        Part::Referred(reference) => {
+            let value = reference_value(alloc, context, reference)?;
+            Ok(text_of_value(alloc, value)?)
+        }
+    }
+}
+
+fn text_of_value(alloc: Global, value: Value) -> Result<Text, AllocError>
+    ensures { IfOk result (λ text. text ≡ text_of_value value) }
 {
     match value {
-        Value::Text(own) => text.push_str(own.as_str()),
-        _ => text.push_str(canonical_text(alloc, &erased(alloc, value)?)?.as_str()),
+        Value::Text(text) => Ok(text),
+        value => canonical_text(alloc, &erased(alloc, &value)?),
     }
 }
 
@@ -106,14 +115,27 @@ fn reference_value(
     ensures ok { IfOk result (λ value. reference_value context.now.inputs.now (option_copied context.now.runtime) context.now.own.now reference.now ≡ Ok value) }
     ensures err { IfErr result (λ e. e ≢ OutOfMemory → reference_value context.now.inputs.now (option_copied context.now.runtime) context.now.own.now reference.now ≡ Err e) }
 {
-    let null = Value::Null;
-    let root = match reference.symbol.as_str() {
-        "inputs" => context.inputs,
-        "runtime" => context.runtime.ok_or(RefFault::NoName)?,
-        "self" => context.own,
-        "null" => &null,
-        _ => return Err(RefFault::NoName),
-    };
+    let segments = reference.segments.as_slice();
     let with_places = has_outdir(context.runtime);
-    descend(alloc, root, reference.segments.as_slice(), with_places)
+    match root(context, reference.symbol.as_str())? {
+        Reached::Inside(value) => descend(alloc, value, segments, with_places),
+        Reached::Made(value) => descend(alloc, &value, segments, with_places),
+    }
+}
+
+// What the first symbol of a reference stands for.
+fn root<'a>(context: &Context<'a>, symbol: &str) -> Result<Reached<'a>, RefFault>
+    ensures ok { IfOk result (λ found. root context.now.inputs.now (option_copied context.now.runtime) context.now.own.now symbol.now ≡ Ok (reached found)) }
+    ensures err { IfErr result (λ e. root context.now.inputs.now (option_copied context.now.runtime) context.now.own.now symbol.now ≡ Err e) }
+{
+    match symbol {
+        "inputs" => Ok(Reached::Inside(context.inputs)),
+        "runtime" => match context.runtime {
+            None => Err(RefFault::NoName),
+            Some(runtime) => Ok(Reached::Inside(runtime)),
+        },
+        "self" => Ok(Reached::Inside(context.own)),
+        "null" => Ok(Reached::Made(Value::Null)),
+        _ => Err(RefFault::NoName),
+    }
 }

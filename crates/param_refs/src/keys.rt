@@ -1,5 +1,6 @@
 //! The keys of Files and Directories.
 ghost use Rattle.std.specs.Prelude.{◌≡◌, IfOk, option_map, option_and_then};
+ghost use Rattle.std.specs.Option.{option_copied};
 ghost use Rattle.cwl_value.specs.NameParts.{nameroot, nameext};
 ghost use Rattle.cwl_value.specs.declared.value.FileVal.{out-FileVal};
 ghost use Rattle.cwl_value.specs.declared.value.DirVal.{out-DirVal};
@@ -60,7 +61,7 @@ pub(crate) fn dir_value(
 }
 
 fn path_of(place: &Place, with_places: bool) -> Option<&str>
-    ensures { option_map (λ path. path.now) result ≡ path_of with_places place.now }
+    ensures { option_copied result ≡ path_of with_places place.now }
 {
     match place {
         Place::Path(path) if with_places => Some(path.as_str()),
@@ -102,7 +103,7 @@ fn nameext_value(alloc: Global, basename: &Option<Text>) -> Result<Option<Value>
 }
 
 fn path_value(alloc: Global, path: Option<&str>) -> Result<Option<Value>, AllocError>
-    ensures { IfOk result (λ v. v ≡ text_of (option_map (λ path. path.now) path)) }
+    ensures { IfOk result (λ v. v ≡ text_of (option_copied path.entry)) }
 {
     match path {
         None => Ok(None),
@@ -111,7 +112,7 @@ fn path_value(alloc: Global, path: Option<&str>) -> Result<Option<Value>, AllocE
 }
 
 fn dirname_value(alloc: Global, path: Option<&str>) -> Result<Option<Value>, AllocError>
-    ensures { IfOk result (λ v. v ≡ text_of (option_map dirname (option_map (λ path. path.now) path))) }
+    ensures { IfOk result (λ v. v ≡ text_of (option_map dirname (option_copied path.entry))) }
 {
     match path {
         None => Ok(None),
@@ -120,7 +121,7 @@ fn dirname_value(alloc: Global, path: Option<&str>) -> Result<Option<Value>, All
 }
 
 fn location_value(alloc: Global, path: Option<&str>) -> Result<Option<Value>, AllocError>
-    ensures { IfOk result (λ v. v ≡ text_of (option_map location_of (option_map (λ path. path.now) path))) }
+    ensures { IfOk result (λ v. v ≡ text_of (option_map location_of (option_copied path.entry))) }
 {
     match path {
         None => Ok(None),

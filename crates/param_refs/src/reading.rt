@@ -1,5 +1,5 @@
 //! From a text to its template.
-ghost use Rattle.std.specs.Prelude.{◌≡◌, ◌≢◌, Err, IfOk, IfErr, ◌<◌, length};
+ghost use Rattle.std.specs.Prelude.{◌≡◌, ◌≢◌, Err, IfOk, IfErr, MatchOption, ◌<◌, length, List, ℕ, ◌∷◌};
 ghost use Rattle.param_refs.specs.declared.fault.RefFault.TheVariants.{OutOfMemory};
 ghost use Rattle.param_refs.specs.Grammar.{IsReading, Reads};
 ghost use Rattle.param_refs.specs.Scans.{PartThen};
@@ -50,11 +50,20 @@ fn part(alloc: Global, text: &str) -> Result<(Part, &str), RefFault>
 {
     let (plain, rest) = text.split_at(opening(text));
     if !plain.is_empty() {
-        return Ok((Part::Plain(Text::from_text(alloc, plain)?), rest));
+        let copy = Text::from_text(alloc, plain)?;
+        return Ok((Part::Plain(copy), rest));
     }
-    let Some(rest) = text.strip_prefix("$(") else {
+    let Some(inside) = inside(text) else {
         return Err(RefFault::NotAReference);
     };
-    let (reference, rest) = reference(alloc, rest)?;
+    let (reference, rest) = reference(alloc, inside)?;
     Ok((Part::Referred(reference), rest))
+}
+
+// What stands after the `$(` that a text begins with.
+fn inside(text: &str) -> Option<&str>
+    ensures { MatchOption result ((rest : List ℕ) → text.now ≢ 36 ∷ 40 ∷ rest) (λ inside. text.now ≡ 36 ∷ 40 ∷ inside.now) }
+{
+    let rest = text.strip_prefix('$')?;
+    rest.strip_prefix('(')
 }

@@ -1,7 +1,9 @@
 //! What stands at the front of a text: symbols, segments and references.
-ghost use Rattle.std.specs.Prelude.{◌≡◌, ◌≢◌, ◌++◌, ◌∷◌, true, false, codes, IfOk, IfErr, MatchOption};
+ghost use Rattle.std.specs.Prelude.{◌≡◌, ◌<◌, ◌≢◌, ◌++◌, ◌∷◌, true, false, codes, IfOk, IfErr, MatchOption};
+ghost use Rattle.std.specs.Char.{is_ascii_digit};
+ghost use Rattle.std.specs.List.{list_all};
 ghost use Rattle.param_refs.specs.Grammar.{is_symbol_byte, is_number, BeginsNone};
-ghost use Rattle.param_refs.specs.Scans.{starts_symbol, IsSymbolLength, SymbolThen, QuotedThen, NoQuoted, NumberThen, NoNumber, segment_of, SegmentThen, NoSegment, SegmentsThen, ReferenceThen};
+ghost use Rattle.param_refs.specs.Scans.{starts_symbol, IsSymbolLength, SymbolThen, QuotedThen, IsQuote, NoQuotes, NoQuoted, NumberThen, NoNumber, segment_of, SegmentThen, NoSegment, SegmentsThen, ReferenceThen};
 ghost use Rattle.param_refs.specs.declared.fault.RefFault.TheVariants.{OutOfMemory, NotAReference};
 
 use crate::fault::RefFault;
@@ -74,23 +76,32 @@ fn first_piece(text: &str) -> Option<(Piece<'_>, &str)>
         let (symbol, rest) = symbol(rest)?;
         return Some((Piece::Key(symbol), rest));
     }
-    bracketed(text.strip_prefix('[')?)
+    let inside = text.strip_prefix('[')?;
+    bracketed(inside)
 }
 
 // The segment whose bracket has been opened, and what follows it.
 fn bracketed(text: &str) -> Option<(Piece<'_>, &str)>
     ensures { MatchOption result (NoSegment (91 ∷ text.now)) (λ t. SegmentThen (91 ∷ text.now) (segment_of t.0) t.1.now) }
 {
-    if let Some(rest) = text.strip_prefix('\'') {
-        let (key, rest) = quoted(rest, '\'')?;
-        return Some((Piece::Key(key), rest));
+    if let Some(taken) = in_quotes(text, '\'') {
+        return Some(taken);
     }
-    if let Some(rest) = text.strip_prefix('"') {
-        let (key, rest) = quoted(rest, '"')?;
-        return Some((Piece::Key(key), rest));
+    if let Some(taken) = in_quotes(text, '"') {
+        return Some(taken);
     }
     let (digits, rest) = number(text)?;
     Some((Piece::Index(digits), rest))
+}
+
+// The same where a text between quotes stands in the brackets.
+fn in_quotes(text: &str, quote: char) -> Option<(Piece<'_>, &str)>
+    requires { IsQuote quote }
+    ensures { MatchOption result (NoQuotes quote text.now) (λ t. SegmentThen (91 ∷ text.now) (segment_of t.0) t.1.now) }
+{
+    let inside = text.strip_prefix(quote)?;
+    let (key, rest) = quoted(inside, quote)?;
+    Some((Piece::Key(key), rest))
 }
 
 // The symbol at the front of a text, and what follows it.
@@ -127,12 +138,12 @@ fn quoted(text: &str, quote: char) -> Option<(&str, &str)>
     requires { quote < 128 }
     ensures { MatchOption result (NoQuoted quote text.now) (λ taken. QuotedThen quote text.now taken.0.now taken.1.now) }
 {
-    let (quoted, rest) = text.split_once(quote)?;
-    let rest = rest.strip_prefix(']')?;
-    if has_backslash(quoted) {
+    let (key, after) = text.split_once(quote)?;
+    let rest = after.strip_prefix(']')?;
+    if has_backslash(key) {
         return None;
     }
-    Some((quoted, rest))
+    Some((key, rest))
 }
 
 // Digits up to a closing bracket, and what follows it.
@@ -149,5 +160,11 @@ fn number(text: &str) -> Option<(&str, &str)>
 fn is_number(text: &str) -> bool
     ensures { result ≡ is_number text.now }
 {
-    !text.is_empty() && text.as_bytes().iter().all(|byte| byte.is_ascii_digit())
+    !text.is_empty() && are_digits(text)
+}
+
+fn are_digits(text: &str) -> bool
+    ensures { result ≡ list_all is_ascii_digit text.now }
+{
+    text.as_bytes().iter().all(|byte| byte.is_ascii_digit())
 }

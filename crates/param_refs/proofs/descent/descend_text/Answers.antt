@@ -1,0 +1,4 @@
+use Rattle.param_refs.proofs.descent.descend_text.Goals as goal
+
+pub returns : goal.returns
+returns c = ?

@@ -1,0 +1,19 @@
+use Rattle.std.proofs.Common.{rules}
+use Rattle.param_refs.proofs.Readings.{parts_begin, parts_pushed, parts_end, parts_stop}
+use Rattle.param_refs.proofs.reading.parts.Goals as goal
+
+pub loop-rest-init : goal.loop-rest-init
+loop-rest-init c = (search rules, parts_begin c.args.text.now)
+
+pub part-requires : goal.part-requires
+part-requires c = ?
+
+pub loop-rest-preserved : goal.loop-rest-preserved
+loop-rest-preserved c =
+    (search rules, parts_pushed c.args.text.now c.loop-rest.rest.now c.in_ok-part.after.now c.loop-rest.found c.push.new.self c.in_ok-part.part c.loop-rest.invariant.1 c.in_ok-part.ensures.ok c.in_ok-push.ensures.ok)
+
+pub returns-in_err-part : goal.returns-in_err-part
+returns-in_err-part c = ?
+
+pub returns : goal.returns
+returns c = ?

@@ -1,0 +1,12 @@
+use Rattle.std.proofs.Common.{Ok, sym, ◌∙◌}
+use Rattle.param_refs.specs.Grammar.{IsReading}
+use Rattle.param_refs.proofs.template.Template.read.Goals as goal
+
+pub returns-then-is_escaped : goal.returns-then-is_escaped
+returns-then-is_escaped c = λ _. IsReading.escaped (sym c.is_escaped.ensures ∙ c.if-is_escaped.true)
+
+pub returns-in_err-parts : goal.returns-in_err-parts
+returns-in_err-parts c = ?
+
+pub returns : goal.returns
+returns c = ?
