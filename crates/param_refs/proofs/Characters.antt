@@ -1,8 +1,9 @@
 -- Counting through the characters of a text, and reading an index.
-use Rattle.std.proofs.Common.{◌≡◌, ℕ, zero, suc, ◌+◌, ◌-◌, ◌*◌, ◌<◌, ◌≤◌, min, List, [], ◌∷◌, ◌++◌, length, take, drop, Option, Some, None, refl, sym, ap, subst, ◌∙◌, arith}
+use Rattle.std.proofs.Common.{◌≡◌, ℕ, zero, suc, ◌+◌, ◌-◌, ◌*◌, ◌<◌, ◌≤◌, min, List, [], ◌∷◌, ◌++◌, length, take, drop, Option, Some, None, option_map, refl, sym, ap, subst, ◌∙◌, arith}
 use Rattle.std.specs.List.{slice_get}
 use Rattle.std.specs.Str.{chars, IsUtf8}
 use Rattle.std.specs.Char.{encode_utf8}
+use Rattle.param_refs.specs.Descent.{character}
 use Rattle.std.proofs.lemmas.Str.{chars_past_char, chars-nil, IsUtf8-past_char, length-le-encodes, encodes-chars}
 use Rattle.std.proofs.lemmas.Option.{slice_get_past}
 
@@ -34,3 +35,8 @@ counting-past text index (b ∷ rest) left h none = absurd (omega arith)
 pub no_character : (text : List ℕ) (n : ℕ) → IsUtf8 text → length text ≤ n → slice_get (chars text) n ≡ None
 no_character text n utf8 past =
     slice_get_past (chars text) n (omega (arith, length-le-encodes (chars text), ap length (encodes-chars text utf8)))
+
+-- the character as a text of its own
+pub character_is : (text copy : List ℕ) (n index : ℕ) (r : Option ℕ) → copy ≡ text → n ≡ index → r ≡ slice_get (chars copy) index → option_map encode_utf8 r ≡ character text n
+character_is text copy n index r same_text same_index is =
+    ap (option_map encode_utf8) (is ∙ ap (λ t. slice_get (chars t) index) same_text ∙ ap (slice_get (chars text)) (sym same_index))

@@ -1,3 +1,4 @@
+pub mod Absent
 pub mod Characters
 pub mod Cut
 pub mod Descents

@@ -37,7 +37,7 @@ plain_part text s t parts some found =
       reads = λ r reads. subst (λ (x : List ℕ). Reads x (with_part (Plain s) r)) (sym parts) (plain_reads s t r some inside end reads);
     }
 
-nonzero : (n : ℕ) → (n == 0) ≡ false → 0 < n
+pub nonzero : (n : ℕ) → (n == 0) ≡ false → 0 < n
 nonzero zero h = absurd (true≢false h)
 nonzero (suc n) h = omega arith
 

@@ -16,6 +16,7 @@ use plain_data::{Items, Text};
 use std::alloc::Global;
 
 /// The value that one reaches from a value along segments. Paths show where `with_places` says so.
+#[tactic(auto, using(crate::proofs::Descents::descended, crate::proofs::Descents::stopped, crate::proofs::Descents::no_segments))]
 pub(crate) fn descend(
     alloc: Global,
     value: &Value,
@@ -108,7 +109,7 @@ fn by_index<'v>(alloc: Global, value: &'v Value, digits: &str) -> Result<Reached
             None => Err(RefFault::IndexOut),
             Some(item) => Ok(Reached::Inside(item)),
         },
-        Value::Text(text) => match character(alloc, text.as_str(), digits)? {
+        Value::Text(text) => match character(alloc, text, digits)? {
             None => Err(RefFault::IndexOut),
             Some(character) => Ok(Reached::Made(Value::Text(character))),
         },
@@ -128,6 +129,7 @@ fn item<'v>(items: &'v Items<Value>, digits: &str) -> Option<&'v Value>
 }
 
 // The same from a text on. A text has indexes alone, and each gives a text.
+#[tactic(auto, using(crate::proofs::Descents::text_more, crate::proofs::Descents::text_key_stop, crate::proofs::Descents::text_past_stop))]
 fn descend_text(
     alloc: Global,
     text: &Text,
@@ -139,12 +141,12 @@ fn descend_text(
 {
     let mut found = text.copied(alloc)?;
     for segment in segments {
-        let Segment::Index(digits) = segment else {
-            return Err(RefFault::WrongKind);
-        };
-        match character(alloc, found.as_str(), digits.as_str())? {
-            None => return Err(RefFault::IndexOut),
-            Some(character) => found = character,
+        match segment {
+            Segment::Key(_) => return Err(RefFault::WrongKind),
+            Segment::Index(digits) => match character(alloc, &found, digits.as_str())? {
+                None => return Err(RefFault::IndexOut),
+                Some(character) => found = character,
+            },
         }
     }
     Ok(Value::Text(found))

@@ -1,5 +1,6 @@
 //! Indexes, as digits and into texts.
 ghost use Rattle.std.specs.Prelude.{◌≡◌, ◌-◌, ◌^◌, min, IfOk, slice_get};
+ghost use Rattle.std.specs.Char.{encode_utf8};
 ghost use Rattle.std.specs.Str.{chars};
 ghost use Rattle.param_refs.specs.Descent.{number_of, character};
 
@@ -20,21 +21,33 @@ pub(crate) fn index_of(digits: &str) -> usize
 }
 
 /// The character at an index of a text, as a text of its own.
-pub(crate) fn character(alloc: Global, text: &str, digits: &str) -> Result<Option<Text>, AllocError>
+pub(crate) fn character(
+    alloc: Global,
+    text: &Text,
+    digits: &str,
+) -> Result<Option<Text>, AllocError>
     ensures { IfOk result (λ found. found ≡ character text.now (number_of digits.now)) }
 {
     let index = index_of(digits);
+    let characters = text.as_str();
     if index >= text.len() {
         return Ok(None);
     }
-    match char_at(text, index) {
+    match char_at(characters, index) {
         None => Ok(None),
         Some(character) => {
-            let mut alone = String::new(alloc);
-            alone.push(character)?;
-            Ok(Some(Text::from_string(alone)))
+            let single = single(alloc, character)?;
+            Ok(Some(single))
         }
     }
+}
+
+fn single(alloc: Global, character: char) -> Result<Text, AllocError>
+    ensures { IfOk result (λ text. text ≡ encode_utf8 character) }
+{
+    let mut text = String::new(alloc);
+    text.push(character)?;
+    Ok(Text::from_string(text))
 }
 
 fn char_at(text: &str, index: usize) -> Option<char>

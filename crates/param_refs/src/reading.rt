@@ -22,10 +22,8 @@ impl Template {
         if is_escaped(text) {
             return Err(RefFault::BackslashOut);
         }
-        Ok(Template {
-            parts: parts(alloc, text)?,
-            alloc,
-        })
+        let parts = parts(alloc, text)?;
+        Ok(Template { parts, alloc })
     }
 }
 

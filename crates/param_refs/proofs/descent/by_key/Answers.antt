@@ -1,4 +1,2 @@
+-- nothing is left to answer yet
 use Rattle.param_refs.proofs.descent.by_key.Goals as goal
-
-pub returns : goal.returns
-returns c = ?

@@ -15,7 +15,9 @@ returns-in_default-clause-err c = λ _.
     expression_reads c.args.text.now (opened c.args.text.now c.split_at.result.0.now c.opening.result c.opening.ensures c.split_at.ensures.front (sym c.is_empty.ensures ∙ c.if-not-is_empty.false) c.requires) c.in_default.ensures
 
 pub returns-in_err-reference-clause-err : goal.returns-in_err-reference-clause-err
-returns-in_err-reference-clause-err c = ?
+returns-in_err-reference-clause-err c = λ other.
+    let why = c.in_err-reference.ensures.err other in
+    rw why.0 (no_reference_reads c.args.text.now c.in-Some.inside.now c.in-Some.ensures why.1)
 
 pub returns-clause-ok : goal.returns-clause-ok
 returns-clause-ok c = referred_part c.args.text.now c.in-Some.inside.now c.in_ok-reference.rest.now c.in_ok-reference.reference c.in-Some.ensures c.in_ok-reference.ensures.ok

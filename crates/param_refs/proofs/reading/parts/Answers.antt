@@ -1,19 +1,19 @@
-use Rattle.std.proofs.Common.{rules}
-use Rattle.param_refs.proofs.Readings.{parts_begin, parts_pushed, parts_end, parts_stop}
+use Rattle.std.proofs.Common.{Err, length, sym, ap, ◌∙◌, eqb-true, rules}
+use Rattle.param_refs.proofs.Readings.{nonzero, parts_begin, parts_pushed, parts_end, parts_stop}
 use Rattle.param_refs.proofs.reading.parts.Goals as goal
 
 pub loop-rest-init : goal.loop-rest-init
 loop-rest-init c = (search rules, parts_begin c.args.text.now)
 
 pub part-requires : goal.part-requires
-part-requires c = ?
+part-requires c = nonzero (length c.loop-rest.rest.now) (sym c.is_empty.ensures ∙ c.loop-rest-test.true)
 
 pub loop-rest-preserved : goal.loop-rest-preserved
 loop-rest-preserved c =
     (search rules, parts_pushed c.args.text.now c.loop-rest.rest.now c.in_ok-part.after.now c.loop-rest.found c.push.new.self c.in_ok-part.part c.loop-rest.invariant.1 c.in_ok-part.ensures.ok c.in_ok-push.ensures.ok)
 
 pub returns-in_err-part : goal.returns-in_err-part
-returns-in_err-part c = ?
+returns-in_err-part c = λ other. parts_stop c.args.text.now c.loop-rest.rest.now c.loop-rest.found c.in_err-part.field-0 c.loop-rest.invariant.1 (c.in_err-part.ensures.err (λ same. other (ap Err same)))
 
 pub returns : goal.returns
-returns c = ?
+returns c = λ _. parts_end c.args.text.now c.loop-rest.rest.now c.loop-rest.found c.loop-rest.invariant.1 (eqb-true (length c.loop-rest.rest.now) 0 (sym c.is_empty.ensures ∙ c.loop-rest-test.false))

@@ -1,4 +1,4 @@
-use Rattle.std.proofs.Common.{Ok, sym, ◌∙◌}
+use Rattle.std.proofs.Common.{Ok, Err, sym, ◌∙◌}
 use Rattle.param_refs.specs.Grammar.{IsReading}
 use Rattle.param_refs.proofs.template.Template.read.Goals as goal
 
@@ -6,7 +6,7 @@ pub returns-then-is_escaped : goal.returns-then-is_escaped
 returns-then-is_escaped c = λ _. IsReading.escaped (sym c.is_escaped.ensures ∙ c.if-is_escaped.true)
 
 pub returns-in_err-parts : goal.returns-in_err-parts
-returns-in_err-parts c = ?
+returns-in_err-parts c = λ other. IsReading.unescaped (Err c.in_err-parts.field-0) (sym c.is_escaped.ensures ∙ c.if-is_escaped.false) (c.in_err-parts.ensures other)
 
 pub returns : goal.returns
-returns c = ?
+returns c = λ _. IsReading.unescaped (Ok c.in_ok-parts.parts) (sym c.is_escaped.ensures ∙ c.if-is_escaped.false) (c.in_ok-parts.ensures (λ same. cc))

@@ -1,0 +1,2 @@
+-- nothing is left to answer yet
+use Rattle.param_refs.proofs.descent.step.Goals as goal
