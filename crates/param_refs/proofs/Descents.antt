@@ -1,5 +1,5 @@
 -- The descent, step by step.
-use Rattle.std.proofs.Common.{◌≡◌, ◌==◌, ℕ, suc, ◌+◌, ◌<◌, add-one, arith, Bool, true, false, List, [], ◌∷◌, ◌++◌, length, drop, drop-cons, get_or, Option, Some, None, option_map, Result, Ok, Err, refl, sym, ap, ◌∙◌, append_assoc, rules}
+use Rattle.std.proofs.Common.{◌≡◌, ◌==◌, ℕ, suc, ◌+◌, ◌<◌, add-one, ne_eqb, arith, Bool, true, false, List, [], ◌∷◌, ◌++◌, length, drop, drop-cons, get_or, Option, Some, None, option_map, Result, Ok, Err, refl, sym, ap, ◌∙◌, append_assoc, rules}
 use Rattle.std.specs.Option.{ok_or}
 use Rattle.cwl_value.specs.declared.value.Value.{Value, the_lemmas}
 use Rattle.cwl_value.specs.declared.value.Value as value
@@ -60,7 +60,7 @@ text_past_stop with_places ss i s digits text all within is kind here before =
 
 pub none_left : (ss : List Segment) → (length ss == 0) ≡ is_none_left ss
 none_left [] = refl
-none_left (s ∷ ss) = refl
+none_left (s ∷ ss) = ne_eqb (length (s ∷ ss)) 0 (λ h. omega arith)
 
 pub descended : (with_places is_last : Bool) (all : List Segment) (s : Segment) (ss : List Segment) (v w : Value) → all ≡ s ∷ ss → is_last ≡ (length ss == 0) → step with_places is_last s v ≡ Ok w
     → descent with_places all v ≡ descent with_places ss w

@@ -93,17 +93,17 @@ fn part_text(alloc: Global, context: &Context<'_>, part: &Part) -> Result<Text, 
         Part::Plain(plain) => Ok(plain.copied(alloc)?),
         Part::Referred(reference) => {
             let value = reference_value(alloc, context, reference)?;
-            Ok(text_of_value(alloc, value)?)
+            Ok(text_of_value(alloc, &value)?)
         }
     }
 }
 
-fn text_of_value(alloc: Global, value: Value) -> Result<Text, AllocError>
-    ensures { IfOk result (λ text. text ≡ text_of_value value) }
+fn text_of_value(alloc: Global, value: &Value) -> Result<Text, AllocError>
+    ensures { IfOk result (λ text. text ≡ text_of_value value.now) }
 {
     match value {
-        Value::Text(text) => Ok(text),
-        value => canonical_text(alloc, &erased(alloc, &value)?),
+        Value::Text(text) => text.copied(alloc),
+        _ => canonical_text(alloc, &erased(alloc, value)?),
     }
 }
 

@@ -1,4 +1,4 @@
-use Rattle.std.proofs.Common.{◌≡◌, Some, None, option_map, sym, ap, ◌∙◌, arith}
+use Rattle.std.proofs.Common.{◌≡◌, None, option_map, sym, ap, arith}
 use Rattle.std.specs.Char.{encode_utf8}
 use Rattle.param_refs.specs.Descent.{number_of}
 use Rattle.param_refs.proofs.Characters.{no_character, character_is}
@@ -12,9 +12,3 @@ pub returns-in-None : goal.returns-in-None
 returns-in-None c =
     let same : number_of c.args.digits.now ≡ c.index_of-index.result = omega (arith, c.index_of-index.ensures, c.len.ensures, c.len.type_inv) in
     character_is c.args.text.now c.as_str-characters.result.now (number_of c.args.digits.now) c.index_of-index.result None c.as_str-characters.ensures.bytes same c.in-None.ensures
-
-pub returns : goal.returns
-returns c =
-    let same : number_of c.args.digits.now ≡ c.index_of-index.result = omega (arith, c.index_of-index.ensures, c.len.ensures, c.len.type_inv) in
-    ap Some c.in_ok-single.ensures
-    ∙ character_is c.args.text.now c.as_str-characters.result.now (number_of c.args.digits.now) c.index_of-index.result (Some c.in-Some.character) c.as_str-characters.ensures.bytes same c.in-Some.ensures

@@ -1,10 +1,11 @@
-use Rattle.std.proofs.Common.{rules}
+use Rattle.std.proofs.Common.{List, sym, subst, rules}
+use Rattle.param_refs.specs.declared.template.Segment.{Segment}
 use Rattle.param_refs.specs.Scans.{SegmentThen, NoSegment}
-use Rattle.param_refs.proofs.Scanned.{so_far_begins, so_far_pushed, so_far_ends, segment_shorter}
+use Rattle.param_refs.proofs.Scanned.{SoFar, so_far_begins, so_far_pushed, so_far_ends, segment_shorter}
 use Rattle.param_refs.proofs.scanner.segments.Goals as goal
 
 pub loop-found-init : goal.loop-found-init
-loop-found-init c = (search rules, so_far_begins c.args.text.now)
+loop-found-init c = (search rules, subst (λ (ss : List Segment). SoFar c.args.text.now ss c.args.text.now) (sym c.new-found.ensures) (so_far_begins c.args.text.now))
 
 pub loop-found-preserved : goal.loop-found-preserved
 loop-found-preserved c =

@@ -1,2 +1,0 @@
--- nothing is left to answer yet
-use Rattle.param_refs.proofs.evaluation.part_text.Goals as goal
