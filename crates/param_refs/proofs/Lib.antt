@@ -1,0 +1,10 @@
+pub mod Absent
+pub mod Characters
+pub mod Cut
+pub mod Descents
+pub mod Folders
+pub mod Joined
+pub mod Placing
+pub mod Readings
+pub mod Scanned
+pub mod Settled

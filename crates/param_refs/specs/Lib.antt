@@ -1,0 +1,9 @@
+pub mod Descent
+pub mod Evaluation
+pub mod Grammar
+pub mod Keys
+pub mod Laws
+pub mod Listings
+pub mod Locations
+pub mod Reached
+pub mod Scans

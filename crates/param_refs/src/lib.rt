@@ -1,0 +1,31 @@
+//! References to parameters inside texts (CWL v1.2, "Parameter references"), without any JavaScript.
+//!
+//! `Template::read` takes a text apart into plain parts and references, exactly as the grammar of
+//! `specs/Grammar.antt` has it, and `Template::value` gives the value that the references have in a `Context`.
+//! - What is read is the one reading of the text; a refusal comes exactly where the grammar has that cause.
+//! - A reference's value is the descent of `specs/Descent.antt`, and of several refusals the leftmost is answered.
+//! - A text that is one reference, but for white space around it, has the reference's value; any other is a text.
+//!
+//! Each call that takes memory may also refuse for want of it.
+#![tactic(auto)]
+
+mod context;
+mod descent;
+mod evaluation;
+mod fault;
+mod index;
+mod keys;
+mod laws;
+mod listing;
+mod location;
+mod opening;
+mod reading;
+mod scanner;
+mod template;
+#[cfg(test)]
+mod tests;
+
+pub use context::Context;
+pub use fault::RefFault;
+pub use laws::readings_are_settled;
+pub use template::{Part, Reference, Segment, Template};
