@@ -1,14 +1,14 @@
 -- Where names and paths are cut.
-use Rattle.std.proofs.Common.{◌≡◌, ◌≢◌, ℕ, ◌+◌, ◌-◌, ◌<◌, ◌≤◌, true, false, not, ◌==◌, List, [], ◌∷◌, ◌++◌, length, get_or, take, drop, reverse, inl, inr, refl, sym, ap, subst, ◌∙◌, arith, eq-eqb, append-nil, length-append, take_all, take_at}
+use Rattle.std.proofs.Common.{◌≡◌, ◌≢◌, ℕ, ◌+◌, ◌-◌, ◌<◌, false, not, List, [], ◌∷◌, ◌++◌, length, get_or, take, drop, refl, sym, ap, ◌∙◌, arith, eq-eqb, append-nil, length-append, take_all, take_at}
 use Rattle.std.specs.List.{after_last, suffix_len, prefix_len}
-use Rattle.std.proofs.lemmas.Bool.{cond-true, cond-false, ne_eqb, cases_eq}
+use Rattle.std.proofs.lemmas.Bool.{cond-true, cond-false, ne_eqb}
 use Rattle.std.proofs.lemmas.List.{reverse-append, take_more, get_or_at, take-append-le}
 use Rattle.std.proofs.lemmas.List.Elements.{All-from_get_or}
 use Rattle.std.proofs.lemmas.List.Folds.{list_any_at, list_any_none}
 use Rattle.std.proofs.lemmas.List.Sums.{suffix_len_is, suffix_len-le-length}
 use Rattle.cwl_value.specs.NameParts.{is_period}
 use Rattle.cwl_value.proofs.Periods.{before_last-at}
-use Rattle.file_values.specs.Names.{stem, beside, required, is_slash, without_last_slashes, last_component}
+use Rattle.file_values.specs.Names.{stem, beside, required, is_slash, without_last_slashes}
 
 -- a name with a last period, and one without
 pub stem-at : (name : List ℕ) (k : ℕ) → k < length name → get_or name k 0 ≡ 46 → ((i : ℕ) → k < i → i < length name → get_or name i 0 ≢ 46) → take k name ≡ stem name

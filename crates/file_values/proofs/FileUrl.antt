@@ -1,22 +1,19 @@
 -- A path's location is the text of a URL whose path is the escaped one, so the URL Standard's parser gives that URL.
-use Rattle.std.proofs.Common.{◌≡◌, ◌≢◌, ℕ, ◌+◌, ◌<◌, ◌≤◌, true, false, not, ◌&&◌, ◌||◌, ◌==◌, ◌⊎◌, List, [], ◌∷◌, ◌++◌, length, get_or, drop, map, codes, All, Some, None, Ok, Err, inl, inr, ⊎_elim, refl, sym, ap, subst, ◌∙◌, arith, append-nil, IsUtf8, lit<}
-use Rattle.std.specs.Prelude.{is_some}
-use Rattle.std.specs.Str.{is_utf8}
+use Rattle.std.proofs.Common.{◌≡◌, ◌≢◌, ℕ, ◌+◌, ◌<◌, true, false, ◌==◌, List, [], ◌∷◌, ◌++◌, length, get_or, drop, map, codes, All, Some, None, Ok, inl, inr, refl, sym, ap, subst, ◌∙◌, arith, append-nil, IsUtf8, lit<}
 use Rattle.std.specs.List.{slice_split}
-use Rattle.std.proofs.lemmas.Bool.{eq-eqb, cond-true, cond-false, cases_Bool, true≢false, both_ways}
+use Rattle.std.proofs.lemmas.Bool.{eq-eqb, cond-true, true≢false}
 use Rattle.std.proofs.lemmas.Bool.Decides.{nat_tests}
-use Rattle.std.proofs.lemmas.List.Elements.{All-nil, All-cons, All-head, All-tail, All-map, All-take, All-drop}
+use Rattle.std.proofs.lemmas.List.Elements.{All-nil, All-cons, All-tail, All-map, All-take, All-drop}
 use Rattle.std.proofs.lemmas.Str.{is_utf8-from_IsUtf8}
-use Rattle.percent_encoding.specs.Percent.{IsKept, percent_decode}
+use Rattle.percent_encoding.specs.Percent.{IsKept}
 use Rattle.percent_encoding.proofs.PercentLemmas.{IsByte, IsEscapeByte}
 use Rattle.url.specs.declared.sets.TheConstants.{PATH, USERINFO}
 use Rattle.url.specs.declared.host.Host.TheVariants.{Domain}
-use Rattle.url.specs.declared.scheme.SchemeType.{SchemeType}
 use Rattle.url.specs.declared.scheme.SchemeType.TheVariants.{File}
-use Rattle.url.specs.Scheme.{is_special, is_file, is_slash as is_url_slash, scheme_type}
-use Rattle.url.specs.Host.{IsHostOf, IsDomain}
-use Rattle.url.specs.Path.{dot_count, is_windows_drive_letter, segment_len, IsSegment, IsSegmentList, join_segments}
-use Rattle.url.specs.Parts.{Parts, kind_of, serialize, IsValid, IsValidHead}
+use Rattle.url.specs.Scheme.{is_slash as is_url_slash}
+use Rattle.url.specs.Host.{IsHostOf}
+use Rattle.url.specs.Path.{is_windows_drive_letter, segment_len, IsSegment, IsSegmentList}
+use Rattle.url.specs.Parts.{Parts, serialize, IsValid, IsValidHead}
 use Rattle.url.specs.Parser.{parse_url}
 use Rattle.url.specs.Canonical.{IsCanonical, IsCanonicalAs, first_segment}
 use Rattle.url.proofs.SchemeLemmas.{IsScheme_file, scheme_type_file}

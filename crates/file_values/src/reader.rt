@@ -1,5 +1,5 @@
-ghost use Rattle.std.specs.Prelude.{◌≡◌, ◌≤◌, ◌<◌, true, false, length, take, IfOk, IfErr, OnErr};
-ghost use Rattle.std.specs.Io.KnownBytes.{ReadConsumes, Consumes, Keeps};
+ghost use Rattle.std.specs.Prelude.{◌≡◌, ◌≤◌, true, false, length, IfOk, IfErr};
+ghost use Rattle.std.specs.Io.KnownBytes.{ReadConsumes};
 ghost use Rattle.file_values.specs.declared.refusal.FileRefusal.TheVariants.{Read as ReadRefused};
 
 use crate::refusal::FileRefusal;

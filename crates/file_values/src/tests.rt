@@ -2,7 +2,7 @@ use crate::{
     FileRefusal, FileSum, Watched, location_to_path, name_parts, path_to_location, resolve,
     secondary_name, sum_of, there_and_back,
 };
-use cwl_value::{Place, Value, read_value};
+use cwl_value::{FileVal, Place, Value, read_value};
 use std::alloc::Global;
 use std::cmp::min;
 use std::io::{Error, ErrorKind, Read, Result as IoResult};
@@ -179,18 +179,26 @@ fn paths_come_back(rt: HostRuntime) -> Result<(), Fail> {
     Ok(())
 }
 
-// The paths and names of the Files in a list, each followed by a semicolon.
+// The path and the name of a File, and a semicolon.
+fn shown(alloc: Global, file: &FileVal) -> Result<String, Fail> {
+    let mut text = String::new(alloc);
+    if let Place::Path(path) = &file.place {
+        text.push_str(path.as_str())?;
+    }
+    text.push(' ')?;
+    if let Some(name) = &file.basename {
+        text.push_str(name.as_str())?;
+    }
+    text.push(';')?;
+    Ok(text)
+}
+
 fn listed(alloc: Global, value: &Value) -> Result<String, Fail> {
     let mut text = String::new(alloc);
     if let Value::List(items) = value {
         for item in items.as_slice() {
             if let Value::FileVal(file) = item {
-                if let (Place::Path(path), Some(name)) = (&file.place, &file.basename) {
-                    text.push_str(path.as_str())?;
-                    text.push(' ')?;
-                    text.push_str(name.as_str())?;
-                    text.push(';')?;
-                }
+                text.push_str(shown(alloc, file)?.as_str())?;
             }
         }
     }

@@ -1,4 +1,4 @@
-use Rattle.std.proofs.Common.{◌≡◌, ◌⊎◌, true, false, Ok, inl, inr, ⊎_elim, IsUtf8, sym, ap, subst, ◌∙◌}
+use Rattle.std.proofs.Common.{◌⊎◌, Ok, inl, inr, ⊎_elim, IsUtf8, sym, ap, subst, ◌∙◌}
 use Rattle.std.specs.Str.{is_utf8}
 use Rattle.std.proofs.lemmas.Bool.{cond-true, cond-false, cases_Bool}
 use Rattle.std.proofs.lemmas.Str.{IsUtf8-from_is_utf8, is_utf8-from_IsUtf8}

@@ -1,4 +1,4 @@
-use Rattle.std.proofs.Common.{Some, None, lit<, sym, ap, length, ◌∙◌, length-append, arith, rules}
+use Rattle.std.proofs.Common.{Some, None, lit<, sym, ◌∙◌, rules}
 use Rattle.std.proofs.lemmas.Str.Pattern.{strip_suffix_char}
 use Rattle.file_values.proofs.Cuts.{trimmed-step, trimmed-end}
 use Rattle.file_values.proofs.names.without_last_slashes.Goals as goal

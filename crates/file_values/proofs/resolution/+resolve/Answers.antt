@@ -1,8 +1,8 @@
-use Rattle.std.proofs.Common.{◌≡◌, [], ◌∷◌, ◌++◌, Ok, sym, ap, ◌∙◌}
+use Rattle.std.proofs.Common.{[], ◌∷◌, ◌++◌, Ok, sym, ap, ◌∙◌}
 use Rattle.std.proofs.lemmas.Result.{err_from_is_err_and}
 use Rattle.file_values.specs.Resolved.{resolved, has_long}
 use Rattle.file_values.proofs.Finding.{items_more, items_stop, fields_more_at, fields_stop_at, fields_by_name}
-use Rattle.file_values.proofs.Levels.{file_err, dir_err, list_err, fields_err, file_at_place, file_at_name, file_at_items, file_at_distinct, file_whole, dir_at_place, dir_at_name, dir_at_listing, dir_whole, listing_ok, listing_at_items, listing_at_distinct}
+use Rattle.file_values.proofs.Levels.{file_at_place, file_at_name, file_at_items, dir_at_place, dir_at_name}
 use Rattle.file_values.proofs.resolution.+resolve.Goals as goal
 
 pub resolved_items-loop-item-preserved : goal.resolved_items-loop-item-preserved
