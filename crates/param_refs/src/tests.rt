@@ -6,10 +6,11 @@ use std::test::Fail;
 
 // The JSON of the value that a text has where `self` is null and there is no runtime, or the refusal.
 fn value_in(alloc: Global, inputs: &Value, text: &str) -> Result<Text, RefFault> {
+    let runtime: Option<&Value> = None;
     let own = Value::Null;
     let context = Context {
         inputs,
-        runtime: None,
+        runtime,
         own: &own,
     };
     let template = Template::read(alloc, text)?;
@@ -216,13 +217,15 @@ fn file(alloc: Global, path: &str, name: &str) -> Result<FileVal, AllocError> {
 fn value_of(alloc: Global, own: &Value, has_outdir: bool, text: &str) -> Result<Text, RefFault> {
     let mut runtime = Keyed::new(alloc);
     if has_outdir {
+        let name = Text::from_text(alloc, "outdir")?;
         let path = Value::Text(Text::from_text(alloc, "/o")?);
-        drop(runtime.insert(Text::from_text(alloc, "outdir")?, path)?);
+        drop(runtime.insert(name, path)?);
     }
     let runtime = Value::Fields(runtime);
+    let runtime: Option<&Value> = Some(&runtime);
     let context = Context {
         inputs: own,
-        runtime: Some(&runtime),
+        runtime,
         own,
     };
     let template = Template::read(alloc, text)?;
