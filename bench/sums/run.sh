@@ -4,7 +4,7 @@
 set -euo pipefail
 cd "$(dirname "$0")/../../crates/sum_bench"
 size=$((256 * 1024 * 1024))
-rt run >/dev/null 2>&1 || { rt run; exit 1; }
+rt run -- digest 0 >/dev/null 2>&1 || { rt run -- digest 0; exit 1; }
 program=$PWD/out/sum_bench
 file=$(mktemp)
 trap 'rm -f "$file"' EXIT
