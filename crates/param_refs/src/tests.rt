@@ -4,17 +4,27 @@ use plain_data::{Items, Keyed, Text};
 use std::alloc::{AllocError, Global};
 use std::test::Fail;
 
-// The JSON of the value that a text has where `self` is null and there is no runtime, or the refusal.
-fn value_in(alloc: Global, inputs: &Value, text: &str) -> Result<Text, RefFault> {
-    let runtime: Option<&Value> = None;
-    let own = Value::Null;
+// The JSON of the value that a text has in a context, or the refusal.
+fn value_with<'a>(
+    alloc: Global,
+    inputs: &'a Value,
+    runtime: Option<&'a Value>,
+    own: &'a Value,
+    text: &str,
+) -> Result<Text, RefFault> {
     let context = Context {
         inputs,
         runtime,
-        own: &own,
+        own,
     };
     let template = Template::read(alloc, text)?;
     Ok(canonical_text(alloc, &template.value(&context)?)?)
+}
+
+// The same where `self` is null and there is no runtime.
+fn value_in(alloc: Global, inputs: &Value, text: &str) -> Result<Text, RefFault> {
+    let own = Value::Null;
+    value_with(alloc, inputs, None, &own, text)
 }
 
 fn refusal(alloc: Global, inputs: &Value, text: &str) -> Option<RefFault> {
@@ -222,14 +232,7 @@ fn value_of(alloc: Global, own: &Value, has_outdir: bool, text: &str) -> Result<
         drop(runtime.insert(name, path)?);
     }
     let runtime = Value::Fields(runtime);
-    let runtime: Option<&Value> = Some(&runtime);
-    let context = Context {
-        inputs: own,
-        runtime,
-        own,
-    };
-    let template = Template::read(alloc, text)?;
-    Ok(canonical_text(alloc, &template.value(&context)?)?)
+    value_with(alloc, own, Some(&runtime), own, text)
 }
 
 #[test]
