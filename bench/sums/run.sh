@@ -27,17 +27,21 @@ median() { tr ' ' '\n' <<<"${times[$1]}" | grep . | sort -n | sed -n 3p; }
 for _ in 1 2 3 4 5; do
     measure sum_of "$program" sum "$file"
     measure hasher "$program" digest "$size"
+    measure reading dd if="$file" of=/dev/null bs=64K status=none
     measure sha1sum sha1sum "$file"
     if command -v openssl >/dev/null; then measure openssl openssl dgst -sha1 "$file"; fi
 done
 
 ours=$(median sum_of)
 echo "sum_of   $ours ms"
-for name in hasher sha1sum openssl; do
+for name in hasher reading sha1sum openssl; do
     [ -n "${times[$name]-}" ] || { echo "$name   is not here"; continue; }
     theirs=$(median "$name")
     printf '%-8s %s ms, sum_of takes %s.%02d of it\n' "$name" "$theirs" $((ours / theirs)) $((ours * 100 / theirs % 100))
 done
+
+both=$(($(median hasher) + $(median reading)))
+printf 'hasher and reading %s ms, sum_of takes %s.%02d of it\n' "$both" $((ours / both)) $((ours * 100 / both % 100))
 
 if (ulimit -v 65536 && "$program" sum "$file" >/dev/null); then
     echo "memory   64 MB are enough"
