@@ -60,13 +60,11 @@ fn ended(code: Option<i32>) -> Option<Reply> {
     }))
 }
 
-// Stage, then a start unless it is to fail, then this end if any, scan, deliver.
-fn replies(alloc: Global, starts: bool, end: Option<Reply>) -> Result<Items<Reply>, AllocError> {
+// Stage, start, this end if any, scan, deliver.
+fn replies(alloc: Global, end: Option<Reply>) -> Result<Items<Reply>, AllocError> {
     let mut script = Items::new(alloc);
     script.push(Reply::Stage)?;
-    if starts {
-        script.push(Reply::Start)?;
-    }
+    script.push(Reply::Start)?;
     if let Some(end) = end {
         script.push(end)?;
     }
@@ -75,13 +73,14 @@ fn replies(alloc: Global, starts: bool, end: Option<Reply>) -> Result<Items<Repl
     Ok(script)
 }
 
-fn host(alloc: Global, starts: bool, end: Option<Reply>) -> Result<Scripted, AllocError>
+fn host(alloc: Global, end: Option<Reply>) -> Result<Scripted, AllocError>
     ensures { IfOk result (λ host. host.running ≡ []) }
 {
-    Ok(Scripted::new(alloc, replies(alloc, starts, end)?, 0))
+    Ok(Scripted::new(alloc, replies(alloc, end)?, 0))
 }
 
-// `hello` on these inputs over this script. Want of memory is a failure of the test.
+// `hello` on these inputs over this script. Want of memory is a failure of the test, so that a body that always
+// refuses passes none of these rows.
 fn hello(alloc: Global, inputs: &str, host: &mut Scripted) -> Result<Result<Report, RunFault>, Fail>
     requires { host.old.running ≡ [] }
 {
@@ -97,7 +96,7 @@ fn hello(alloc: Global, inputs: &str, host: &mut Scripted) -> Result<Result<Repo
 #[test]
 fn hello_gives_the_delivered_file(rt: HostRuntime) -> Result<(), Fail> {
     let alloc = rt.alloc();
-    let mut host = host(alloc, true, ended(Some(0)))?;
+    let mut host = host(alloc, ended(Some(0)))?;
     let Ok(report) = hello(alloc, "{\"t\":\"abc\"}", &mut host)? else {
         return Err(Fail::from("no report"));
     };
@@ -111,7 +110,7 @@ fn hello_gives_the_delivered_file(rt: HostRuntime) -> Result<(), Fail> {
 #[test]
 fn hello_asks_five_times(rt: HostRuntime) -> Result<(), Fail> {
     let alloc = rt.alloc();
-    let mut host = host(alloc, true, ended(Some(0)))?;
+    let mut host = host(alloc, ended(Some(0)))?;
     let _report = hello(alloc, "{\"t\":\"abc\"}", &mut host)?;
     assert_eq!(rt; host.log().len(), 5);
     assert!(rt; host.running().is_empty());
@@ -121,7 +120,7 @@ fn hello_asks_five_times(rt: HostRuntime) -> Result<(), Fail> {
 #[test]
 fn an_input_left_out_fails_with_nothing_asked(rt: HostRuntime) -> Result<(), Fail> {
     let alloc = rt.alloc();
-    let mut host = host(alloc, true, ended(Some(0)))?;
+    let mut host = host(alloc, ended(Some(0)))?;
     let Ok(report) = hello(alloc, "{}", &mut host)? else {
         return Err(Fail::from("no report"));
     };
@@ -137,7 +136,7 @@ fn an_input_left_out_fails_with_nothing_asked(rt: HostRuntime) -> Result<(), Fai
 #[test]
 fn a_script_without_the_collect_leaves_its_ticket(rt: HostRuntime) -> Result<(), Fail> {
     let alloc = rt.alloc();
-    let mut host = host(alloc, true, None)?;
+    let mut host = host(alloc, None)?;
     let Err(RunFault::Host(fault, running)) = hello(alloc, "{\"t\":\"abc\"}", &mut host)? else {
         return Err(Fail::from("no host fault"));
     };
@@ -147,10 +146,42 @@ fn a_script_without_the_collect_leaves_its_ticket(rt: HostRuntime) -> Result<(),
     Ok(())
 }
 
+// A host whose script ends before the call of this number (from 1), so that it fails.
+fn host_failing_at(alloc: Global, call: usize) -> Result<Scripted, AllocError>
+    ensures { IfOk result (λ host. host.running ≡ []) }
+{
+    let mut script = replies(alloc, ended(Some(0)))?;
+    for _ in call..6 {
+        drop(script.pop());
+    }
+    Ok(Scripted::new(alloc, script, 0))
+}
+
 #[test]
-fn a_start_that_fails_is_the_hosts_fault(rt: HostRuntime) -> Result<(), Fail> {
+fn a_call_that_fails_is_the_hosts_fault(rt: HostRuntime) -> Result<(), Fail> {
     let alloc = rt.alloc();
-    let mut host = host(alloc, false, None)?;
+    for (call, failing) in [
+        (1, HostFault::Stage),
+        (2, HostFault::Start),
+        (3, HostFault::Collect),
+        (4, HostFault::Scan),
+        (5, HostFault::Deliver),
+    ] {
+        let mut host = host_failing_at(alloc, call)?;
+        let Err(RunFault::Host(fault, _)) = hello(alloc, "{\"t\":\"abc\"}", &mut host)? else {
+            return Err(Fail::from("no host fault"));
+        };
+        assert_eq!(rt; fault, failing);
+        assert_eq!(rt; host.log().len(), call);
+        assert!(rt; host.running().is_empty());
+    }
+    Ok(())
+}
+
+#[test]
+fn a_start_that_fails_leaves_no_ticket(rt: HostRuntime) -> Result<(), Fail> {
+    let alloc = rt.alloc();
+    let mut host = host_failing_at(alloc, 2)?;
     let Err(RunFault::Host(fault, running)) = hello(alloc, "{\"t\":\"abc\"}", &mut host)? else {
         return Err(Fail::from("no host fault"));
     };
@@ -162,7 +193,7 @@ fn a_start_that_fails_is_the_hosts_fault(rt: HostRuntime) -> Result<(), Fail> {
 #[test]
 fn a_child_that_exits_with_one_fails_for_good(rt: HostRuntime) -> Result<(), Fail> {
     let alloc = rt.alloc();
-    let mut host = host(alloc, true, ended(Some(1)))?;
+    let mut host = host(alloc, ended(Some(1)))?;
     let Ok(report) = hello(alloc, "{\"t\":\"abc\"}", &mut host)? else {
         return Err(Fail::from("no report"));
     };
@@ -178,7 +209,7 @@ fn a_child_that_exits_with_one_fails_for_good(rt: HostRuntime) -> Result<(), Fai
 #[test]
 fn a_child_that_a_signal_ended_fails_for_now(rt: HostRuntime) -> Result<(), Fail> {
     let alloc = rt.alloc();
-    let mut host = host(alloc, true, ended(None))?;
+    let mut host = host(alloc, ended(None))?;
     let Ok(report) = hello(alloc, "{\"t\":\"abc\"}", &mut host)? else {
         return Err(Fail::from("no report"));
     };
