@@ -132,6 +132,68 @@ fn a_fault_stands_in_the_log(rt: HostRuntime) -> Result<(), Fail> {
     Ok(())
 }
 
+// The fault of a start; the ticket of one that succeeds is closed at once.
+fn start_refused(host: &mut Scripted, launch: &Launch) -> Option<HostError> {
+    match host.start(launch) {
+        Ok(ticket) => {
+            host.close(ticket);
+            None
+        }
+        Err(error) => Some(error),
+    }
+}
+
+#[test]
+fn a_fault_of_each_call(rt: HostRuntime) -> Result<(), Fail> {
+    let alloc = rt.alloc();
+    let launch = echo(alloc)?;
+    let mut script = Items::new(alloc);
+    script.push(Reply::Start)?;
+    let mut host = Scripted::new(alloc, script, 0);
+    let ticket = host.start(&launch)?;
+    let collected = host.collect().err();
+    host.close(ticket);
+    let staged = host.stage(&no_moves(alloc), 1).err();
+    let started = start_refused(&mut host, &launch);
+    let scanned = host.scan(&launch.dir).err();
+    let delivered = host.deliver(&no_moves(alloc)).err();
+    assert_eq!(rt; collected, Some(HostError::Fault(HostFault::Collect)));
+    assert_eq!(rt; staged, Some(HostError::Fault(HostFault::Stage)));
+    assert_eq!(rt; started, Some(HostError::Fault(HostFault::Start)));
+    assert_eq!(rt; scanned, Some(HostError::Fault(HostFault::Scan)));
+    assert_eq!(rt; delivered, Some(HostError::Fault(HostFault::Deliver)));
+    assert_eq!(rt; host.log().len(), 6);
+    Ok(())
+}
+
+#[test]
+fn codes_of_the_faults(rt: HostRuntime) {
+    assert_eq!(rt; HostFault::Stage.code(), "H2");
+    assert_eq!(rt; HostFault::Start.code(), "H3");
+    assert_eq!(rt; HostFault::Collect.code(), "H4");
+    assert_eq!(rt; HostFault::Scan.code(), "H5");
+    assert_eq!(rt; HostFault::Deliver.code(), "H9");
+}
+
+#[test]
+fn starts_are_numbered(rt: HostRuntime) -> Result<(), Fail> {
+    let alloc = rt.alloc();
+    let launch = echo(alloc)?;
+    let mut script = Items::new(alloc);
+    script.push(Reply::Start)?;
+    script.push(Reply::Start)?;
+    let mut host = Scripted::new(alloc, script, 0);
+    let first = host.start(&launch)?;
+    let one = first.number();
+    host.close(first);
+    let second = host.start(&launch)?;
+    let two = second.number();
+    host.close(second);
+    assert_eq!(rt; one, 1);
+    assert_eq!(rt; two, 2);
+    Ok(())
+}
+
 #[test]
 fn a_listing_is_copied(rt: HostRuntime) -> Result<(), Fail> {
     let alloc = rt.alloc();
