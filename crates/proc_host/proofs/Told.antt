@@ -9,7 +9,8 @@ use Rattle.proc_host.specs.declared.reply.Reply.TheVariants as replies
 use Rattle.std.proofs.lemmas.List.Sums.{sum_by-append}
 use Rattle.proc_host.specs.declared.call.Entry.{Entry}
 use Rattle.proc_host.specs.declared.call.HostRequest.{HostRequest}
-use Rattle.proc_host.specs.Script.{ScriptState, answer_by, can_end, is_start, starts}
+use Rattle.proc_host.specs.Log.{is_start, starts}
+use Rattle.proc_host.specs.Script.{ScriptState, answer_by, can_end}
 
 pub start_told : (state : ScriptState) (launch : Launch) (reply : Option Reply) → reply ≡ Some replies.Start →
     answers.Started (state.started + 1) ≡ answer_by state (requests.Start launch) reply

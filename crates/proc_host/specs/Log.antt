@@ -2,7 +2,7 @@
 use Rattle.std.specs.Prelude.{◌≡◌, ℕ, Bool, true, false, List, [], ◌∷◌, Option, Some, None, Result, Ok, Err, count_by}
 use Rattle.proc_host.specs.declared.call.HostRequest.{HostRequest}
 use Rattle.proc_host.specs.declared.call.HostAnswer.{HostAnswer}
-use Rattle.proc_host.specs.declared.call.HostAnswer.TheVariants.{Failed}
+use Rattle.proc_host.specs.declared.call.HostAnswer.TheVariants.{Started, Failed}
 use Rattle.proc_host.specs.declared.call.HostFault.{HostFault}
 use Rattle.proc_host.specs.declared.call.HostError.{HostError}
 use Rattle.proc_host.specs.declared.call.HostError.TheVariants.{Fault, OutOfMemory}
@@ -39,6 +39,14 @@ is_failure _ = false
 -- how often the host failed
 abbrev pub failures : List Entry → ℕ
 failures log = count_by (λ entry. is_failure entry.answer) log
+
+abbrev pub is_start : HostAnswer → Bool
+is_start (Started ticket) = true
+is_start _ = false
+
+-- how often a child was started
+abbrev pub starts : List Entry → ℕ
+starts log = count_by (λ entry. is_start entry.answer) log
 
 -- 1 where what was told is a fault, and 0 otherwise
 abbrev pub faults_in : Option HostAnswer → ℕ

@@ -1,5 +1,5 @@
 -- What a host that answers from a script answers.
-use Rattle.std.specs.Prelude.{◌≡◌, ◌≤◌, ℕ, ◌+◌, ◌==◌, nat_le, Bool, true, false, ◌&&◌, if◌then◌else◌, List, [], ◌∷◌, ◌++◌, Option, Some, None, length, drop, slice_get, count_by}
+use Rattle.std.specs.Prelude.{◌≡◌, ◌≤◌, ℕ, ◌+◌, ◌==◌, nat_le, Bool, true, false, ◌&&◌, if◌then◌else◌, List, [], ◌∷◌, ◌++◌, Option, Some, None, length, drop, slice_get}
 use Rattle.std.specs.List.{list_any}
 use Rattle.proc_host.specs.declared.call.Entry.{Entry}
 use Rattle.proc_host.specs.declared.call.HostAnswer.{HostAnswer}
@@ -10,7 +10,7 @@ use Rattle.proc_host.specs.declared.call.HostFault.TheVariants as faults
 use Rattle.proc_host.specs.declared.child.Ending.{Ending}
 use Rattle.proc_host.specs.declared.reply.Reply.{Reply}
 use Rattle.proc_host.specs.declared.reply.Reply.TheVariants as replies
-use Rattle.proc_host.specs.Log.{entries_of}
+use Rattle.proc_host.specs.Log.{entries_of, starts}
 use Rattle.proc_host.specs.Tickets.{AllUpTo}
 
 -- the replies still to be given, the log, the children that run, how many were started, and how many starts a collect waits for
@@ -20,14 +20,6 @@ pub record ScriptState : Type 0 where
   pub running : List ℕ
   pub started : ℕ
   pub least_started : ℕ
-
-abbrev pub is_start : HostAnswer → Bool
-is_start (answers.Started ticket) = true
-is_start _ = false
-
--- the starts that a log tells of
-abbrev pub starts : List Entry → ℕ
-starts log = count_by (λ entry. is_start entry.answer) log
 
 -- whether this end can be told now: its child runs, and enough children were started
 abbrev pub can_end : ScriptState → Ending → Bool

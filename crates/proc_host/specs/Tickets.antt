@@ -2,11 +2,11 @@
 use Rattle.std.specs.Prelude.{◌≡◌, ◌≤◌, ℕ, ◌==◌, not, List, [], ◌∷◌, ◌++◌, filter, Result, Ok, Err}
 use Rattle.proc_host.specs.declared.call.HostError.{HostError}
 
--- the others
+-- the tickets that run, but for this one
 abbrev pub without : ℕ → List ℕ → List ℕ
 without ticket running = filter (λ n. not (n == ticket)) running
 
--- none of these is it
+-- no child runs under this ticket
 abbrev pub IsFresh : ℕ → List ℕ → Type 0
 IsFresh ticket running = without ticket running ≡ running
 
@@ -15,7 +15,7 @@ abbrev pub running_after : List ℕ → Result ℕ HostError → List ℕ
 running_after running (Ok ticket) = running ++ ticket ∷ []
 running_after running (Err error) = running
 
--- no number above this one
+-- no ticket of the list is above the last one
 abbrev pub AllUpTo : ℕ → List ℕ → Type 0
 AllUpTo last [] = Unit {0}
 AllUpTo last (n ∷ ns) = (n ≤ last) × AllUpTo last ns

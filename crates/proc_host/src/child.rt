@@ -48,7 +48,8 @@ pub struct Ending {
     pub millis: u64,
 }
 
-/// What an end means for the job (CWL v1.2, CommandLineTool, "Output binding": exit codes).
+/// What an end means for the job, at a tool that lists no codes of its own (CWL v1.2, CommandLineTool:
+/// successCodes, temporaryFailCodes and permanentFailCodes).
 #[derive(Clone, Copy, Debug, PartialEq, Eq)]
 pub enum ExitClass {
     Success,

@@ -1,6 +1,6 @@
-ghost use Rattle.std.specs.Prelude.{◌≡◌, ◌≢◌, ◌++◌, List, ℕ, [], IfOk, Contains};
+ghost use Rattle.std.specs.Prelude.{◌≡◌, ◌≢◌, ◌+◌, ◌++◌, List, ℕ, [], IfOk, Contains};
 ghost use Rattle.proc_host.specs.declared.call.Entry.{Entry};
-ghost use Rattle.proc_host.specs.Log.{told, entries_of, FailsOnlyBy};
+ghost use Rattle.proc_host.specs.Log.{told, entries_of, starts, FailsOnlyBy};
 ghost use Rattle.proc_host.specs.Tickets.{IsFresh, running_after, without};
 
 use crate::{Ending, Found, HostAnswer, HostError, HostFault, HostRequest, StagePlan, Ticket};
@@ -25,13 +25,14 @@ pub trait Host {
         ensures own { FailsOnlyBy HostFault.Stage result }
         ensures running { running self.new ≡ running self.old };
 
-    /// Starts a child.
+    /// Starts a child. Ticket numbers count the successful starts of a host from 1.
     fn start(&mut self, launch: &Launch) -> Result<Ticket, HostError>
         ensures logged { log self.new ≡ log self.old
             ++ entries_of (HostRequest.Start launch.now) (told (λ ticket. HostAnswer.Started ticket) result) }
         ensures own { FailsOnlyBy HostFault.Start result }
         ensures fresh { IfOk result (λ ticket. IsFresh ticket (running self.old)) }
-        ensures started { running self.new ≡ running_after (running self.old) result };
+        ensures started { running self.new ≡ running_after (running self.old) result }
+        ensures numbered { IfOk result (λ ticket. ticket ≡ starts (log self.old) + 1) };
 
     /// Waits for the end of a child that runs. Its ticket is still to be closed.
     fn collect(&mut self) -> Result<Ending, HostError>

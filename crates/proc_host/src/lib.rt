@@ -3,8 +3,9 @@
 //! A `Host` stages files, starts children, collects their ends, scans folders and delivers outputs. It keeps a
 //! log: each call adds exactly one entry, of what was asked and what was answered, or none where memory was
 //! wanting, and the log never shrinks. A call fails only by its own fault, and the fault stands in the log. It
-//! also keeps the tickets of the children that run: a start adds a fresh one, `close` alone takes one out, and
-//! a collect answers one of them. `exit_class` says what an exit code means.
+//! also keeps the tickets of the children that run: a start adds a fresh one, numbered from 1 by the starts that
+//! the log tells of, `close` alone takes one out, and a collect answers one of them. `exit_class` says what an
+//! exit code means.
 //!
 //! `Scripted` is a host that answers from a list, and its contracts say what it answers.
 #![tactic(auto)]

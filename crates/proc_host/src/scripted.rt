@@ -1,7 +1,7 @@
 ghost use Rattle.std.specs.Prelude.{◌≡◌, ◌+◌, ◌++◌, ◌∷◌, ◌↔◌, [], IfOk, OnOk, OnErr, IfSome, IfNone, IsTrue, slice_get, Contains};
-ghost use Rattle.proc_host.specs.Log.{told, told_error, entries_of, FailsOnlyBy, IsOnly};
+ghost use Rattle.proc_host.specs.Log.{told, told_error, entries_of, starts, FailsOnlyBy, IsOnly};
 ghost use Rattle.proc_host.specs.Tickets.{IsFresh, running_after, without};
-ghost use Rattle.proc_host.specs.Script.{Answers, after, can_end, starts};
+ghost use Rattle.proc_host.specs.Script.{Answers, after, can_end};
 ghost use Rattle.proc_host.specs.declared.child.Ending.{Ending};
 
 use crate::found::listing_in;

@@ -133,6 +133,38 @@ fn a_fault_stands_in_the_log(rt: HostRuntime) -> Result<(), Fail> {
 }
 
 #[test]
+fn codes_of_the_faults(rt: HostRuntime) {
+    for (fault, code) in [
+        (HostFault::Stage, "H2"),
+        (HostFault::Start, "H3"),
+        (HostFault::Collect, "H4"),
+        (HostFault::Scan, "H5"),
+        (HostFault::Deliver, "H9"),
+    ] {
+        assert_eq!(rt; fault.code(), code);
+    }
+}
+
+#[test]
+fn starts_are_numbered(rt: HostRuntime) -> Result<(), Fail> {
+    let alloc = rt.alloc();
+    let launch = echo(alloc)?;
+    let mut script = Items::new(alloc);
+    script.push(Reply::Start)?;
+    script.push(Reply::Start)?;
+    let mut host = Scripted::new(alloc, script, 0);
+    let first = host.start(&launch)?;
+    let one = first.number();
+    host.close(first);
+    let second = host.start(&launch)?;
+    let two = second.number();
+    host.close(second);
+    assert_eq!(rt; one, 1);
+    assert_eq!(rt; two, 2);
+    Ok(())
+}
+
+#[test]
 fn a_listing_is_copied(rt: HostRuntime) -> Result<(), Fail> {
     let alloc = rt.alloc();
     let copy = listing_in(alloc, &one_file(alloc)?)?;
