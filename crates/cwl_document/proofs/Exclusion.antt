@@ -85,7 +85,7 @@ pub Breaks-excluded : (e : DocumentRefusal) (kind : ObjectKind) (d : Data) → e
 Breaks-excluded NotJson kind d memory h f = h
 Breaks-excluded WrongVersion kind d memory h f = h
 Breaks-excluded WrongClass kind d memory h f = h
-Breaks-excluded (MissingField name) kind d memory h f = missing name d (fields_of kind) h.0 h.1 (Follows-from kind d f).required
+Breaks-excluded (MissingField name) kind d memory h f = missing name d (fields_of kind) h.1 h.2 (Follows-from kind d f).required
 Breaks-excluded (UnknownField name) kind d memory h f = both h.1 (list_all-at (is_known kind) name (names_of d) h.0 (Follows-from kind d f).known)
 Breaks-excluded (WrongShape name) kind d memory h f =
     elim h [

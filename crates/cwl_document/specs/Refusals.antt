@@ -39,12 +39,12 @@ NamesBreak (RepeatedId id) kind names = ⊥
 NamesBreak TooDeep kind names = ⊥
 NamesBreak OutOfMemory kind names = ⊤
 
--- the object breaks its table
+-- The object breaks its table. JSON that is no object lacks no field: it has the wrong form.
 abbrev pub Breaks : DocumentRefusal → ObjectKind → Data → Type 0
 Breaks NotJson kind d = ⊥
 Breaks WrongVersion kind d = ⊥
 Breaks WrongClass kind d = ⊥
-Breaks (MissingField name) kind d = (is_required kind name ≡ true) × (get name d ≡ None)
+Breaks (MissingField name) kind d = (is_object d ≡ true) × (is_required kind name ≡ true) × (get name d ≡ None)
 Breaks (UnknownField name) kind d = HasUnknown name kind (names_of d)
 Breaks (WrongShape name) kind d = ((name ≡ place_of kind) × (is_object d ≡ false)) ⊎ IsSomeAnd (get name d) (λ v. has_form kind name v ≡ false)
 Breaks (RepeatedId id) kind d = ⊥

@@ -4,7 +4,7 @@ ghost use Rattle.std.specs.Option.{option_copied, option_map_or};
 ghost use Rattle.serde_json.specs.Find.{get};
 ghost use Rattle.serde_json.specs.View.{view, items_view, members_view};
 ghost use Rattle.cwl_document.specs.Document.{input_follows, output_follows};
-ghost use Rattle.cwl_document.specs.Forms.{elements, is_parameters};
+ghost use Rattle.cwl_document.specs.Forms.{elements, is_object, is_parameters};
 ghost use Rattle.cwl_document.specs.Refusals.{Breaks, InputBreaks, OutputBreaks, SomeOf};
 ghost use Rattle.cwl_document.specs.declared.fields.ObjectKind.TheVariants.{ToolObject};
 ghost use Rattle.cwl_document.specs.Values.{input_in, output_in, named_parameters, parameter, parameters, parameters_in};
@@ -19,6 +19,7 @@ use std::alloc::Global;
 
 /// The tool's inputs, from a list or from a map by their ids.
 pub fn read_inputs(alloc: Global, tool: &Value) -> Result<Items<ToolInput>, DocumentRefusal>
+    requires { is_object (view tool.now) ≡ true }
     ensures formed { OnOk result
         (option_map_or is_parameters (get (codes "inputs") (view tool.now)) false ≡ true) }
     ensures follows { OnOk result
@@ -86,6 +87,7 @@ fn read_mapped_inputs(
 
 /// The tool's outputs, from a list or from a map by their ids.
 pub fn read_outputs(alloc: Global, tool: &Value) -> Result<Items<ToolOutput>, DocumentRefusal>
+    requires { is_object (view tool.now) ≡ true }
     ensures formed { OnOk result
         (option_map_or is_parameters (get (codes "outputs") (view tool.now)) false ≡ true) }
     ensures follows { OnOk result

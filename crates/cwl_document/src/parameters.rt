@@ -79,7 +79,8 @@ fn read_id(
     key: Option<&str>,
     value: &Value,
 ) -> Result<Text, DocumentRefusal>
-    requires { is_required kind (codes "id") ≡ true }
+    requires named { is_required kind (codes "id") ≡ true }
+    requires object { is_object (parameter (option_copied key) (view value.now)) ≡ true }
     ensures ok { IfOk result (λ id. IsSomeAnd
         (get (codes "id") (parameter (option_copied key.entry) (view value.now)))
         (λ v. (is_id v ≡ true) × (id ≡ text_in v))) }

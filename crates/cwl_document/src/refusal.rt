@@ -14,7 +14,7 @@ pub enum DocumentRefusal {
     WrongVersion,
     /// `class` is something other than the text `CommandLineTool`.
     WrongClass,
-    /// A field of this name has to be there, and is absent.
+    /// An object that has to have a field of this name lacks it.
     MissingField(Text),
     /// A field of this name is none of its object's.
     UnknownField(Text),
