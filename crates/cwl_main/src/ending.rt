@@ -1,5 +1,6 @@
-ghost use Rattle.std.specs.Prelude.{◌≡◌};
+ghost use Rattle.std.specs.Prelude.{◌≡◌, OnOk};
 ghost use Rattle.cwl_main.specs.Status.{status_of};
+ghost use Rattle.cwl_main.specs.Told.{Prints};
 
 use plain_data::Text;
 use std::io;
@@ -37,7 +38,9 @@ impl Ending {
     }
 
     /// Writes the one line that says it, where it belongs.
-    pub fn print<O: Write, E: Write>(&self, out: &mut O, err: &mut E) -> io::Result<()> {
+    pub fn print<O: Write, E: Write>(&self, out: &mut O, err: &mut E) -> io::Result<()>
+        ensures { OnOk result (Prints self.now (O.contents out.old) (O.contents out.new) (E.contents err.old) (E.contents err.new)) }
+    {
         match self {
             Ending::Output(line) => writeln!(out, "{line}"),
             Ending::Broken(rule) => writeln!(out, "broken {rule}"),

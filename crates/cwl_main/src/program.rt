@@ -1,3 +1,5 @@
+ghost use Rattle.cwl_main.specs.Told.{Tells};
+
 use crate::command::{Choice, choice_of};
 use crate::ending::Ending;
 use crate::{certificate, demo};
@@ -18,7 +20,9 @@ pub fn main_run<R: AllocGlobal + Files, O: Write, E: Write>(
     path: &str,
     out: &mut O,
     err: &mut E,
-) -> u8 {
+) -> u8
+    ensures { Tells (O.contents out.old) (O.contents out.new) (E.contents err.old) (E.contents err.new) result }
+{
     let ending = match choice_of(rt.alloc(), words) {
         Ok(Choice::Demo) => demo::ending(rt.alloc(), path),
         Ok(Choice::Check(file)) => certificate::ending(rt, file),
@@ -34,7 +38,9 @@ pub fn main_run<R: AllocGlobal + Files, O: Write, E: Write>(
 }
 
 /// Help goes to the output, with status 0; what is wrong with the words to the errors.
-fn explain<O: Write, E: Write>(error: &Error, out: &mut O, err: &mut E) -> u8 {
+fn explain<O: Write, E: Write>(error: &Error, out: &mut O, err: &mut E) -> u8
+    ensures { Tells (O.contents out.old) (O.contents out.new) (E.contents err.old) (E.contents err.new) result }
+{
     if error.use_stderr() {
         let _told = write!(err, "{error}");
         return FAULT;
