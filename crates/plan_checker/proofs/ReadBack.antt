@@ -1,7 +1,7 @@
-use Rattle.std.proofs.Common.{◌≡◌, ℕ, ◌<◌, ◌⊎◌, List, sym, refl, ap, ◌∙◌, arith}
+use Rattle.std.proofs.Common.{sym, ap, ◌∙◌, arith}
 use Rattle.std.proofs.lemmas.Bool.{cases_lt}
 use Rattle.std.proofs.Common.{⊎_elim}
-use Rattle.plan_checker.specs.Format.{certificate_text, first_lines, HasGoodLines, IsFirstBad, IsTextOf}
+use Rattle.plan_checker.specs.Format.{first_lines}
 use Rattle.plan_checker.specs.Laws.{TextsTellCertificates, OneBadLineIsFirst}
 use Rattle.plan_checker.proofs.TextLines.{texts_once}
 

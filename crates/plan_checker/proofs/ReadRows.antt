@@ -1,4 +1,4 @@
-use Rattle.std.proofs.Common.{◌≡◌, ◌≢◌, ℕ, zero, suc, ◌+◌, ◌*◌, ◌<◌, ◌≤◌, ◌^◌, ◌⊎◌, inl, inr, Bool, true, false, List, [], ◌∷◌, ◌++◌, length, get_or, drop, All, Option, Some, None, sym, refl, ap, ◌∙◌, subst, arith}
+use Rattle.std.proofs.Common.{◌≡◌, ◌≢◌, ℕ, suc, ◌+◌, ◌*◌, ◌<◌, ◌≤◌, Bool, List, [], ◌∷◌, ◌++◌, length, get_or, drop, All, Option, Some, None, sym, refl, ap, ◌∙◌, subst, arith}
 use Rattle.std.specs.Option.{ForSome}
 use Rattle.std.specs.Fmt.{decimal}
 use Rattle.std.proofs.lemmas.List.{append_assoc, append-nil, length-append}
@@ -9,8 +9,8 @@ use Rattle.plan_checker.specs.declared.row.Row.{Row}
 use Rattle.plan_checker.specs.declared.row.Start.{Start}
 use Rattle.plan_checker.specs.declared.graph.TheConstants.{MOST_VERTICES}
 use Rattle.plan_checker.specs.Graph.{vertex, entries_below, Fits}
-use Rattle.plan_checker.specs.Format.{IsSmall, spaced, letter, flag, load_field, pairs, row_numbers, line, lines, count_line, IsWhole}
-use Rattle.plan_checker.specs.Reading.{EndsNumber, BeginsWithNumber, NoNumber, BeginsWithNumbers, NoNumbers, BeginsWithCount, NoCount, BeginsWithLoad, NoLoadField, start_text, start_of, BeginsWithStart, NoStart, ArePairs, NoPairs, AreNumbersOf, NoRowOf, IsRow, BeginsWithRow, NoRow, FitsNext, BeginsWithLines, StopsAt, more_charges}
+use Rattle.plan_checker.specs.Format.{IsSmall, spaced, letter, flag, load_field, pairs, row_numbers, line, lines, count_line}
+use Rattle.plan_checker.specs.Reading.{BeginsWithNumber, NoNumber, BeginsWithNumbers, NoNumbers, BeginsWithCount, NoCount, BeginsWithLoad, NoLoadField, start_text, start_of, BeginsWithStart, NoStart, ArePairs, NoPairs, AreNumbersOf, NoRowOf, BeginsWithRow, NoRow, FitsNext, BeginsWithLines, StopsAt, more_charges}
 use Rattle.plan_checker.proofs.Numbers.{numbers_once, numbers_end, pairs_once, feed_ends, number_once}
 use Rattle.plan_checker.proofs.Texts.{pairs-append}
 use Rattle.plan_checker.proofs.Rows.{start_once, line_is, line_once}

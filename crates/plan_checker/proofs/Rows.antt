@@ -1,7 +1,6 @@
-use Rattle.std.proofs.Common.{◌≡◌, ◌≢◌, ℕ, suc, ◌+◌, ◌<◌, ◌≤◌, ◌^◌, Bool, true, false, List, [], ◌∷◌, ◌++◌, length, get_or, All, Option, Some, None, sym, refl, ap, ◌∙◌, subst, arith}
+use Rattle.std.proofs.Common.{◌≡◌, ℕ, Bool, true, false, List, [], ◌∷◌, ◌++◌, length, Option, sym, refl, ap, ◌∙◌, arith}
 use Rattle.std.specs.Option.{ForSome}
 use Rattle.std.proofs.lemmas.List.{append_assoc}
-use Rattle.plan_checker.specs.declared.vertex.Vertex.{Vertex}
 use Rattle.plan_checker.specs.declared.plan.Mark.{Mark}
 use Rattle.plan_checker.specs.declared.plan.Mark.TheVariants.{Load, Compute, Prune}
 use Rattle.plan_checker.specs.declared.row.Row.{Row}

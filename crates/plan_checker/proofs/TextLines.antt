@@ -1,4 +1,4 @@
-use Rattle.std.proofs.Common.{◌≡◌, ◌≢◌, ℕ, zero, suc, ◌+◌, ◌<◌, ◌≤◌, ◌^◌, ◌⊎◌, inl, inr, List, [], ◌∷◌, ◌++◌, length, get_or, sym, refl, ap, ◌∙◌, subst, arith, zero-add}
+use Rattle.std.proofs.Common.{◌≡◌, ℕ, zero, suc, ◌+◌, ◌<◌, ◌≤◌, ◌^◌, inl, inr, List, [], ◌∷◌, ◌++◌, length, get_or, sym, ap, ◌∙◌, subst, arith, zero-add}
 use Rattle.std.proofs.lemmas.List.{append_assoc, append-nil, append_cancel_left, ext_get_or}
 use Rattle.plan_checker.specs.declared.vertex.Vertex.{Vertex}
 use Rattle.plan_checker.specs.declared.plan.Mark.{Mark}
@@ -6,16 +6,14 @@ use Rattle.plan_checker.specs.declared.plan.Mark.TheVariants.{Prune}
 use Rattle.plan_checker.specs.declared.charges.Charges.{Charges}
 use Rattle.plan_checker.specs.declared.row.Row.{Row}
 use Rattle.plan_checker.specs.declared.graph.TheConstants.{MOST_VERTICES}
-use Rattle.plan_checker.specs.Graph.{vertex, no_vertex, entries_below, Fits, FitsAt, IsGraph}
-use Rattle.plan_checker.specs.Plan.{mark}
-use Rattle.plan_checker.specs.Charges.{passes, IsCounted}
+use Rattle.plan_checker.specs.Graph.{no_vertex, FitsAt}
 use Rattle.plan_checker.specs.Format.{IsSmall, spaced, row, line, lines, title, count_line, last_line, certificate_text, first_lines, IsWhole}
 use Rattle.plan_checker.specs.Reading.{IsRow}
 use Rattle.plan_checker.proofs.SumsBelow.{below_or_last}
-use Rattle.plan_checker.proofs.Numbers.{numbers_once, feed_ends}
+use Rattle.plan_checker.proofs.Numbers.{numbers_once}
 use Rattle.std.proofs.lemmas.List.Elements.{All-cons, All-nil}
 use Rattle.plan_checker.proofs.Rows.{line_once}
-use Rattle.plan_checker.proofs.FirstLines.{line_ahead, no_lines, row_is_line, title_is_line, count_is_line}
+use Rattle.plan_checker.proofs.FirstLines.{line_ahead, row_is_line, title_is_line, count_is_line}
 use Rattle.plan_checker.proofs.Pushed.{whole_row}
 
 -- the lines of d vertices from the one of number k on

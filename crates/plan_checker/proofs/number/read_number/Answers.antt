@@ -1,5 +1,3 @@
-use Rattle.std.proofs.Common.{rules, arith}
-use Rattle.std.proofs.lemmas.Grind.{common_steps}
 use Rattle.plan_checker.proofs.ReadNumbers.{no_space, no_digits}
 use Rattle.plan_checker.proofs.number.read_number.Goals as goal
 

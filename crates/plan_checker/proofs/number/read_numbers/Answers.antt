@@ -1,4 +1,4 @@
-use Rattle.std.proofs.Common.{◌++◌, List, ℕ, sym, ap, ◌∙◌, rules, arith}
+use Rattle.std.proofs.Common.{◌++◌, List, ℕ, sym, ap, ◌∙◌}
 use Rattle.plan_checker.proofs.Numbers.{no_numbers, number_more, small_more}
 use Rattle.plan_checker.proofs.number.read_numbers.Goals as goal
 

@@ -1,5 +1,3 @@
-use Rattle.std.proofs.Common.{rules, arith}
-use Rattle.std.proofs.lemmas.Grind.{common_steps}
 use Rattle.plan_checker.proofs.ReadRows.{no_jobs, no_job_feed, many_jobs}
 use Rattle.plan_checker.proofs.reader.read_count.Goals as goal
 
