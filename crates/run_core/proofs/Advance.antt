@@ -35,7 +35,7 @@ MeansBy s world (Succeeds outputs) = eval_by world s.walker ≡ Some (fields_era
 MeansBy s world (Fails_for_good place cause) = eval_by world s.walker ≡ None
 MeansBy s world _ = Unit {0}
 
-means_of : (setting : Setting) (world : World) (end : End) → MeansBy (scene_of setting) world end → Means setting world end
+pub means_of : (setting : Setting) (world : World) (end : End) → MeansBy (scene_of setting) world end → Means setting world end
 means_of setting world (Succeeds outputs) m = m
 means_of setting world (Fails_for_good place cause) m = m
 means_of setting world (Fails_for_now place) m = tt

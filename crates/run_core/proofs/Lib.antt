@@ -12,4 +12,7 @@ pub mod Files
 pub mod Knows
 pub mod Succeeded
 pub mod Over
+pub mod AtRoot
+pub mod Rightly
+pub mod Moved
 pub mod Rows

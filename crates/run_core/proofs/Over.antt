@@ -46,7 +46,7 @@ module _ (tool : Tool) (inputs : Fields) where
   abbrev job : Job
   job = record { place = []; tool = tool; inputs = inputs }
 
-  one_job : (known : List Resolved) → jobs_after (tool_walk tool [] (Ok inputs)) known ≡ job ∷ []
+  pub one_job : (known : List Resolved) → jobs_after (tool_walk tool [] (Ok inputs)) known ≡ job ∷ []
   one_job [] = refl
   one_job (r ∷ earlier) = rw (one_job earlier) refl
 

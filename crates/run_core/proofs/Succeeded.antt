@@ -58,7 +58,7 @@ module _ (s : Scene) where
       (or_neither (unfold_end s (es ++ e ∷ [])) (settled_from s (es ++ e ∷ []) later) (fault_is_none (unfolding_at s (es ++ e ∷ [])).fault)
       (settled_later (es ++ e ∷ []) later))
 
-  settled_failure : (es : List Event) → IsNoSuccess (settled s es)
+  pub settled_failure : (es : List Event) → IsNoSuccess (settled s es)
   settled_failure es = or_neither (unfold_end s []) (settled_from s [] es) (fault_is_none (unfolding_at s []).fault) (settled_later [] es)
 
   end_cases : (lost landed : Bool) (es : List Event) (fault : Option End) (end : Option End) → IsNoSuccess fault → IsNoSuccess end →

@@ -56,6 +56,10 @@ delivery number work outdir outputs = record {
   value = by_name (fields_moved (target_place outdir) outputs);
 }
 
+-- named values as one object, in the order of their names
+abbrev pub object_of : Fields → Value
+object_of named = roll-Value (Value-F.Fields (by_name named))
+
 -- the output object, each file at the location that it was put at
 abbrev pub located : Name → Fields → Value
 located outdir outputs = roll-Value (Value-F.Fields (by_name (fields_moved (location_place outdir) outputs)))

@@ -22,7 +22,10 @@ mod state;
 mod steps;
 mod targets;
 
-pub use laws::{nothing_follows_the_end, success_ran_a_child};
+pub use laws::{
+    an_honest_run_ends_rightly, delivery_keeps_the_value, nothing_follows_the_end,
+    success_ran_a_child,
+};
 pub use outcome::{Cause, CollectFault, Note, Outcome, PlanNote, Report, RunFault};
 pub use request::{Pair, Request};
 pub use runner::RunCore;
