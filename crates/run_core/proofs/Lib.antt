@@ -14,5 +14,6 @@ pub mod Succeeded
 pub mod Over
 pub mod AtRoot
 pub mod Rightly
+pub mod Asking
 pub mod Moved
 pub mod Rows
