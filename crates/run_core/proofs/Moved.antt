@@ -6,15 +6,18 @@ use Rattle.std.specs.Ordering.{match_ordering}
 use Rattle.plain_data.specs.ByName.{name_cmp, with_value, map_values}
 use Rattle.cwl_value.specs.Erased.{erased, file_erased, dir_erased, items_erased, fields_erased, placeless_file, placeless_dir}
 use Rattle.cwl_value.specs.declared.place.Place.{Place}
-use Rattle.cwl_value.specs.declared.value.Value.{Value, roll-Value, the_lemmas}
+use Rattle.cwl_value.specs.declared.value.Value.{Value, roll-Value, fold-roll-Value, the_lemmas}
 use Rattle.cwl_value.specs.declared.value.Value as value
 use Rattle.cwl_value.specs.declared.value.Value.TheOpen.{Value-F, FileVal-F, DirVal-F}
 use Rattle.cwl_value.specs.declared.value.FileVal.{FileVal, roll-FileVal, fold-FileVal}
 use Rattle.cwl_value.specs.declared.value.DirVal.{DirVal, roll-DirVal, fold-DirVal}
 use Rattle.cwl_value.proofs.Induction.{Cases, induction}
+use Rattle.proc_host.specs.declared.found.Found.{Found}
 use Rattle.run_core.specs.Words.{Name, Fields, by_name}
+use Rattle.run_core.specs.Collected.{file_at}
 use Rattle.run_core.specs.Made.{value_moved, file_moved, dir_moved, fields_moved}
 use Rattle.run_core.specs.Delivered.{located, location_place, object_of}
+use Rattle.run_core.proofs.Gathered.{file_fields}
 
 -- Values without their places, level by level
 
@@ -134,6 +137,12 @@ module _ (move : Place → Place) where
   fields_erased_moved (e ∷ es) =
       ap (λ (x : Value). (e.0, x) ∷ fields_erased (fields_moved move es)) (erased_moved e.1)
       ∙ ap (λ (xs : Fields). (e.0, erased e.1) ∷ xs) (fields_erased_moved es)
+
+-- a file without its place
+pub file_erases : (place : Place) (found : Found) → erased (file_at place found) ≡ file_at Place.Nowhere found
+file_erases place found =
+    fold-roll-Value Value DirVal FileVal roll-Value placeless_dir placeless_file (Value-F.FileVal (roll-FileVal (file_fields place found)))
+    ∙ ap (λ (f : FileVal). roll-Value (Value-F.FileVal f)) (erased-file (file_fields place found))
 
 -- The order of names looks at no value
 
