@@ -11,8 +11,8 @@ use Rattle.run_core.specs.declared.request.Request.{Request}
 use Rattle.run_core.specs.declared.request.Pair.{Pair}
 use Rattle.run_core.specs.declared.setting.Options.{Options}
 use Rattle.run_core.specs.Words.{Fields, JobPlace}
-use Rattle.run_core.specs.Jobs.{Job, tool_walk}
-use Rattle.run_core.specs.Unfold.{Resolved, is_at, jobs_after}
+use Rattle.run_core.specs.Jobs.{Job}
+use Rattle.run_core.specs.Unfold.{is_at}
 use Rattle.run_core.specs.Collected.{collected}
 use Rattle.run_core.specs.Scene.{Scene}
 use Rattle.run_core.specs.Events.{Event, Staged, Began, Came_back, Succeeded, Broke, Gave_up, Delivered, Host_failed, Collect_failed, Work, Idle, Starting, Scanning, So_far, flight_after, in_flight, resolved, job_at, with_job, judged, came_back, gathered, free_step, due_step, step_of}

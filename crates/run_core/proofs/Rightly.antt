@@ -1,8 +1,7 @@
 -- In each world where a run is honest, its end is right.
-use Rattle.std.specs.Prelude.{◌&&◌, nat_lt}
+use Rattle.std.specs.Prelude.{◌&&◌, nat_lt, is_some}
 use Rattle.std.specs.List.{list_any}
-use Rattle.std.proofs.Common.{◌≡◌, ◌∙◌, ◌⊎◌, inl, inr, ℕ, ◌==◌, Bool, true, false, cond, List, [], ◌∷◌, ◌++◌, length, filter, find, reverse, Option, Some, None, Result, Ok, Err, option_map, refl, sym, ap, subst}
-use Rattle.std.specs.Prelude.{is_some}
+use Rattle.std.proofs.Common.{◌≡◌, ◌∙◌, ◌⊎◌, inl, inr, ◌==◌, Bool, true, false, cond, List, [], ◌∷◌, ◌++◌, length, filter, find, reverse, Option, Some, None, Result, Ok, Err, option_map, refl, sym, ap, subst}
 use Rattle.cwl_value.specs.Erased.{fields_erased}
 use Rattle.cwl_document.specs.declared.process.Tool.{Tool}
 use Rattle.proc_host.specs.declared.call.HostFault.{HostFault}
@@ -15,7 +14,7 @@ use Rattle.run_core.specs.Words.{Fields, JobPlace, is_same_place}
 use Rattle.run_core.specs.Inputs.{inputs_for}
 use Rattle.run_core.specs.Jobs.{Walker, tool_walk, result, all_named, outs_of, output_names}
 use Rattle.run_core.specs.Made.{fields_made}
-use Rattle.run_core.specs.Unfold.{Fault, Resolved, fault_after, made_by, or_else}
+use Rattle.run_core.specs.Unfold.{Resolved, fault_after, or_else}
 use Rattle.run_core.specs.Key.{key}
 use Rattle.run_core.specs.Eval.{World, eval_by}
 use Rattle.run_core.specs.Scene.{Scene, scene_of}
@@ -26,10 +25,21 @@ use Rattle.run_core.specs.Honest.{AgreesAt, AgreesFrom, IsHonest, Means}
 use Rattle.run_core.specs.Machine.{tool_of}
 use Rattle.run_core.specs.Run.{Goes, IsRun}
 use Rattle.run_core.proofs.Lone.{lone, walker_tool}
-use Rattle.run_core.proofs.Meaning.{fails, gives}
-use Rattle.run_core.proofs.Advance.{MeansBy, means_of}
+use Rattle.run_core.proofs.Meaning.{fails, gives, misfit_fails}
 use Rattle.run_core.proofs.AtRoot.{EventAtRoot, AllAtRoot, its_job, job_at_root, goes_at_root}
 use Rattle.run_core.proofs.Succeeded.{IsNoSuccess, settled_failure}
+
+-- an end's meaning, by how its process walks
+abbrev MeansBy : Scene → World → End → Type 0
+MeansBy s world (Succeeds outputs) = eval_by world s.walker ≡ Some (fields_erased outputs)
+MeansBy s world (Fails_for_good place cause) = eval_by world s.walker ≡ None
+MeansBy s world _ = Unit {0}
+
+means_of : (setting : Setting) (world : World) (end : End) → MeansBy (scene_of setting) world end → Means setting world end
+means_of setting world (Succeeds outputs) m = m
+means_of setting world (Fails_for_good place cause) m = m
+means_of setting world (Fails_for_now place) m = tt
+means_of setting world (Host_ends fault running) m = tt
 
 -- What brings an end about
 
@@ -185,7 +195,7 @@ means_rightly tool options (Ok inputs) Plans t f marks (Fails_for_good place cau
     fails_rightly tool inputs options world f.events place cause (goes_at_root tool inputs options Plans goes).events agrees is
 means_rightly tool options (Err why) Plans t f marks (Succeeds outputs) world goes is agrees =
     let never : None ≡ Some outputs = success_is_result (scene_by tool options (Err why)) f.events outputs is in absurd cc
-means_rightly tool options (Err why) Plans t f marks (Fails_for_good place cause) world goes is agrees = refl
+means_rightly tool options (Err why) Plans t f marks (Fails_for_good place cause) world goes is agrees = misfit_fails tool why world
 means_rightly tool options inputs Plans t f marks (Fails_for_now place) world goes is agrees = tt
 means_rightly tool options inputs Plans t f marks (Host_ends fault running) world goes is agrees = tt
 

@@ -6,7 +6,6 @@ use Rattle.command_line.specs.declared.launch.Launch.{Launch}
 use Rattle.cwl_value.specs.declared.place.Place.{Place}
 use Rattle.cwl_value.specs.declared.value.Value.{Value, roll-Value, out-roll-Value}
 use Rattle.cwl_value.specs.declared.value.Value.TheOpen.{Value-F}
-use Rattle.cwl_value.specs.Erased.{erased}
 use Rattle.cwl_document.specs.declared.process.Process.{Process}
 use Rattle.cwl_document.specs.declared.process.Tool.{Tool}
 use Rattle.cwl_document.specs.declared.process.CwlType.{CwlType}

@@ -1,7 +1,7 @@
 -- A success has an output object that was collected.
 use Rattle.std.specs.Prelude.{nat_lt}
 use Rattle.std.specs.List.{list_any}
-use Rattle.std.proofs.Common.{◌≡◌, ◌∙◌, ℕ, ◌==◌, Bool, true, false, cond, List, [], ◌∷◌, ◌++◌, length, filter, Option, Some, None, Result, Ok, Err, refl, sym, ap, subst}
+use Rattle.std.proofs.Common.{◌≡◌, ◌∙◌, ◌==◌, Bool, true, false, cond, List, [], ◌∷◌, ◌++◌, length, filter, Option, Some, None, Result, Ok, Err, refl, sym, ap, subst}
 use Rattle.cwl_document.specs.declared.process.Tool.{Tool}
 use Rattle.proc_host.specs.declared.call.HostFault.{HostFault}
 use Rattle.run_core.specs.declared.outcome.Cause.{Cause}

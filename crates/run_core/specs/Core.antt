@@ -1,5 +1,5 @@
 -- What callers see of the machine.
-use Rattle.std.specs.Prelude.{◌≡◌, ℕ, ◌<◌, ◌≢◌, List, [], Result, Ok, Err, vec_len, vec_capacity}
+use Rattle.std.specs.Prelude.{◌≡◌, ℕ, ◌<◌, List, [], Err, vec_len, vec_capacity}
 use Rattle.cwl_document.specs.declared.process.Process.{Process}
 use Rattle.run_core.specs.declared.outcome.RunFault.{RunFault}
 use Rattle.run_core.specs.declared.request.Request.{Request}

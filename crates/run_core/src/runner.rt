@@ -56,7 +56,7 @@ impl RunCore {
         })
     }
 
-    /// What it asks now; `Finished` where it has ended.
+    /// What it asks now, which may be asked after the run so far; `Finished` where it has ended.
     pub fn next(&self) -> &Request
         requires { Stands self.now }
         ensures asked { result.now ≡ asked self.now }
