@@ -1,13 +1,12 @@
 -- The file of a tool's stream, through the tool's outputs to where it is delivered.
-use Rattle.std.proofs.Common.{◌≡◌, ◌∙◌, ℕ, ◌||◌, Bool, true, false, cond, List, [], ◌∷◌, ◌++◌, map, Option, Some, None, Result, Ok, Err, refl, sym, ap, unwrap_or, codes, bytes_eq}
-use Rattle.std.specs.Option.{option_map}
+use Rattle.std.proofs.Common.{◌≡◌, ◌∙◌, ℕ, ◌||◌, Bool, true, false, cond, List, [], ◌∷◌, ◌++◌, map, Option, Some, None, Result, Ok, Err, refl, ap, unwrap_or, codes, bytes_eq}
 use Rattle.std.specs.List.{list_any, filter_map, cons_option}
 use Rattle.std.specs.Cmp.Lexicographic.{bytes_decides}
 use Rattle.plain_data.specs.ByName.{value_at}
 use Rattle.cwl_value.specs.declared.place.Place.{Place}
 use Rattle.cwl_value.specs.declared.value.Value.{Value, out-Value, roll-Value, fold-roll-Value, out-roll-Value}
-use Rattle.cwl_value.specs.declared.value.Value.TheOpen.{Value-F, FileVal-F, DirVal-F}
-use Rattle.cwl_value.specs.declared.value.FileVal.{FileVal, roll-FileVal, out-FileVal, fold-roll-FileVal, out-roll-FileVal}
+use Rattle.cwl_value.specs.declared.value.Value.TheOpen.{Value-F, FileVal-F}
+use Rattle.cwl_value.specs.declared.value.FileVal.{FileVal, roll-FileVal, fold-roll-FileVal, out-roll-FileVal}
 use Rattle.cwl_value.specs.declared.value.DirVal.{DirVal}
 use Rattle.cwl_document.specs.declared.process.Tool.{Tool}
 use Rattle.cwl_document.specs.declared.process.ToolOutput.{ToolOutput}
@@ -15,12 +14,11 @@ use Rattle.cwl_document.specs.declared.process.OutputSource.{OutputSource}
 use Rattle.command_line.specs.Launch.{stream_name}
 use Rattle.proc_host.specs.declared.found.Found.{Found}
 use Rattle.proc_host.specs.declared.plan.Move.{Move}
-use Rattle.proc_host.specs.declared.plan.StagePlan.{StagePlan}
 use Rattle.run_core.specs.declared.outcome.Cause.{Cause}
 use Rattle.run_core.specs.declared.outcome.CollectFault.{CollectFault}
-use Rattle.run_core.specs.Words.{Name, Fields, JobPlace, value_under, null, by_name}
+use Rattle.run_core.specs.Words.{Name, Fields, JobPlace, value_under, null}
 use Rattle.run_core.specs.Jobs.{all_named, outs_of, with_first}
-use Rattle.run_core.specs.Made.{value_moved, fields_moved, file_moved, dir_moved, made_place}
+use Rattle.run_core.specs.Made.{value_moved, fields_moved, file_moved, dir_moved}
 use Rattle.run_core.specs.Folders.{out_folder}
 use Rattle.run_core.specs.Collected.{file_at, found_under, one_file, output_from, with_output, outputs_from}
 use Rattle.run_core.specs.Delivered.{file_move, move_at, moves_of, shared, target_of}

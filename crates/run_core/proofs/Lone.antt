@@ -1,5 +1,5 @@
 -- The scene of a lone tool whose inputs are of their types, and what may be asked in it.
-use Rattle.std.proofs.Common.{◌≡◌, ◌∙◌, ℕ, ◌<◌, ◌==◌, not, Bool, true, false, cond, List, [], ◌∷◌, Option, Some, None, Result, Ok, Err, length, filter, refl, sym, ap, subst, arith, eq-eqb, lit<}
+use Rattle.std.proofs.Common.{◌≡◌, ◌∙◌, ℕ, ◌<◌, ◌==◌, not, true, false, [], ◌∷◌, Some, None, Ok, filter, refl, sym, ap, subst, arith, eq-eqb, lit<}
 use Rattle.command_line.specs.declared.launch.Launch.{Launch}
 use Rattle.command_line.specs.declared.fault.BuildFault.{BuildFault}
 use Rattle.command_line.specs.Launch.{IsLaunch, IsRefused}
@@ -8,15 +8,15 @@ use Rattle.cwl_document.specs.declared.process.Tool.{Tool}
 use Rattle.proc_host.specs.declared.plan.StagePlan.{StagePlan}
 use Rattle.run_core.specs.declared.setting.Options.{Options}
 use Rattle.run_core.specs.declared.setting.Setting.{Setting}
-use Rattle.run_core.specs.Words.{Fields, JobPlace, is_same_place}
+use Rattle.run_core.specs.Words.{Fields, JobPlace}
 use Rattle.run_core.specs.Inputs.{inputs_for}
 use Rattle.run_core.specs.Jobs.{Job, tool_walk, walker}
 use Rattle.run_core.specs.Folders.{out_folder, runtime_of}
 use Rattle.run_core.specs.Scene.{Scene, scene_of}
-use Rattle.run_core.specs.Events.{Event, Idle, So_far, at_first, in_flight, unfolding_at, is_at_hand}
+use Rattle.run_core.specs.Events.{at_first, unfolding_at}
 use Rattle.run_core.specs.Ending.{delivery_at}
 use Rattle.run_core.specs.Plans.{Load, Compute}
-use Rattle.run_core.specs.Allowed.{MayStage, MayStart, HasNoLaunch, MayCollect, MayScan, MayDeliver, IsFree, IsBusy}
+use Rattle.run_core.specs.Allowed.{MayStage, MayStart, HasNoLaunch, MayCollect, MayScan, MayDeliver}
 use Rattle.run_core.specs.Limits.{IsWithinLimits}
 use Rattle.run_core.specs.Machine.{tool_of}
 use Rattle.run_core.specs.Standing.{when_staged, when_running, when_back, when_gathered}

@@ -1,25 +1,21 @@
 -- Whatever it is answered, the machine stands in a longer run.
-use Rattle.std.proofs.Common.{◌≡◌, ℕ, List, [], ◌∷◌, ◌++◌, Some, Ok, Err, refl, sym, ap, subst}
-use Rattle.command_line.specs.declared.launch.Launch.{Launch}
-use Rattle.command_line.specs.Launch.{IsLaunch}
+use Rattle.std.proofs.Common.{◌≡◌, ℕ, List, [], ◌∷◌, ◌++◌, Some, sym, subst}
 use Rattle.proc_host.specs.declared.call.HostAnswer.{HostAnswer}
 use Rattle.proc_host.specs.declared.call.HostFault.{HostFault}
-use Rattle.proc_host.specs.declared.plan.StagePlan.{StagePlan}
 use Rattle.run_core.specs.declared.request.Request.{Request}
 use Rattle.run_core.specs.declared.request.Pair.{Pair}
 use Rattle.run_core.specs.declared.setting.Setting.{Setting}
 use Rattle.run_core.specs.declared.state.State.{State}
 use Rattle.run_core.specs.Words.{Fields}
 use Rattle.run_core.specs.Answers.{MayAnswer}
-use Rattle.run_core.specs.Folders.{runtime_of}
-use Rattle.run_core.specs.Scene.{Scene, scene_of}
-use Rattle.run_core.specs.Events.{So_far, unfolding_at, at_first}
+use Rattle.run_core.specs.Scene.{Scene}
+use Rattle.run_core.specs.Events.{So_far, unfolding_at}
 use Rattle.run_core.specs.Ending.{delivery_at}
 use Rattle.run_core.specs.Plans.{Mark, Load, Compute}
 use Rattle.run_core.specs.Run.{IsRunSoFar}
-use Rattle.run_core.specs.Machine.{tool_of, host_fails, FollowsFrom}
-use Rattle.run_core.specs.Standing.{IsLone, IsAt, staging, starting, running, scanning, delivering, ended, lost, when_staged, when_running, when_back, when_gathered}
-use Rattle.run_core.proofs.Advance.{Advances, its_scene, same}
+use Rattle.run_core.specs.Machine.{host_fails, FollowsFrom}
+use Rattle.run_core.specs.Standing.{IsLone, IsAt, staging, starting, running, scanning, delivering, ended, lost, when_staged, when_running, when_gathered}
+use Rattle.run_core.proofs.Advance.{Advances, same}
 use Rattle.run_core.proofs.Answered.{pair, staged, launches, stage_fails, began, start_fails, collect_fails, collected_one, scan_fails, delivers_well, deliver_fails}
 use Rattle.run_core.proofs.Listed.{listed}
 

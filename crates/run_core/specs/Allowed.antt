@@ -2,14 +2,14 @@
 use Rattle.command_line.specs.declared.launch.Launch.{Launch}
 use Rattle.command_line.specs.declared.fault.BuildFault.{BuildFault}
 use Rattle.command_line.specs.Launch.{IsLaunch, IsRefused}
-use Rattle.std.specs.Prelude.{ℕ, ◌+◌, ◌<◌, ◌≡◌, false, List, [], ◌∷◌, Option, Some, None, length, filter, Contains}
+use Rattle.std.specs.Prelude.{ℕ, ◌+◌, ◌<◌, ◌≡◌, false, List, [], Some, None, length, filter, Contains}
 use Rattle.std.specs.List.{list_any}
 use Rattle.proc_host.specs.declared.plan.StagePlan.{StagePlan}
 use Rattle.run_core.specs.declared.request.Request.{Request}
 use Rattle.run_core.specs.Words.{Name, Fields, JobPlace}
 use Rattle.run_core.specs.Folders.{out_folder, runtime_of}
 use Rattle.run_core.specs.Jobs.{Job}
-use Rattle.run_core.specs.Events.{Event, Work, Idle, Starting, Scanning, So_far, in_flight, is_held, is_staging, number_at, unfolding_at, job_at}
+use Rattle.run_core.specs.Events.{Idle, Starting, Scanning, So_far, in_flight, is_held, is_staging, number_at, unfolding_at, job_at}
 use Rattle.run_core.specs.Ending.{settled, delivery_at, is_delivery, is_lost_collect}
 use Rattle.run_core.specs.Plans.{Mark, Compute, mark_at}
 use Rattle.run_core.specs.Scene.{Scene}

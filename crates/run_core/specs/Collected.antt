@@ -1,6 +1,6 @@
 -- The outputs of a job, from what stands in its output folder after its child has ended
 -- (CWL v1.2, Command Line Tool, "Output binding" and the output type `stdout`).
-use Rattle.std.specs.Prelude.{ℕ, Bool, cond, List, [], ◌∷◌, ◌++◌, Option, Some, None, Result, Ok, Err, find, codes, bytes_eq}
+use Rattle.std.specs.Prelude.{cond, List, [], ◌∷◌, ◌++◌, Option, Some, None, Result, Ok, Err, find, codes, bytes_eq}
 use Rattle.cwl_value.specs.declared.value.Value.{Value, roll-Value}
 use Rattle.cwl_value.specs.declared.value.Value.TheOpen.{Value-F}
 use Rattle.cwl_value.specs.declared.value.FileVal.{roll-FileVal}

@@ -1,5 +1,5 @@
 -- Where the files of a result are put.
-use Rattle.std.specs.Prelude.{ℕ, Bool, true, false, ◌&&◌, ◌==◌, cond, not, List, [], ◌∷◌, ◌++◌, Option, Some, None, filter_map, length, codes}
+use Rattle.std.specs.Prelude.{ℕ, Bool, false, ◌&&◌, ◌==◌, cond, not, List, [], ◌∷◌, ◌++◌, Option, Some, None, filter_map, length, codes}
 use Rattle.std.specs.List.{list_all}
 use Rattle.cwl_value.specs.declared.value.Value.{Value, out-Value, roll-Value}
 use Rattle.cwl_value.specs.declared.value.FileVal.{FileVal, out-FileVal}

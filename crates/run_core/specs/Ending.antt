@@ -7,7 +7,7 @@ use Rattle.run_core.specs.declared.outcome.Cause.{Cause}
 use Rattle.run_core.specs.Words.{Fields, JobPlace, is_same_place}
 use Rattle.run_core.specs.Unfold.{Fault, or_else}
 use Rattle.run_core.specs.Delivered.{delivery}
-use Rattle.run_core.specs.Events.{Event, Succeeded, Broke, Gave_up, Delivered, Host_failed, Collect_failed, in_flight, tickets, number_at, unfolding_at}
+use Rattle.run_core.specs.Events.{Event, Broke, Gave_up, Delivered, Host_failed, Collect_failed, in_flight, tickets, number_at, unfolding_at}
 use Rattle.run_core.specs.Scene.{Scene}
 
 pub data End : Type 0 where

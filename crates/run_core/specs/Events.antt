@@ -1,16 +1,15 @@
 -- What has happened in a transcript, pair by pair, and what follows at once.
-use Rattle.std.specs.Prelude.{ℕ, ℤ, ◌==◌, ◌||◌, not, Bool, true, false, cond, List, [], ◌∷◌, ◌++◌, Option, Some, None, Result, Ok, Err, filter, filter_map, find, fold, unwrap_or, map}
+use Rattle.std.specs.Prelude.{ℕ, ℤ, ◌==◌, ◌||◌, not, Bool, true, false, cond, List, [], ◌∷◌, ◌++◌, Option, Some, None, Result, Ok, Err, filter, filter_map, find, fold, map}
 use Rattle.std.specs.List.{list_any}
 use Rattle.command_line.specs.declared.fault.BuildFault.{BuildFault}
 use Rattle.proc_host.specs.declared.call.HostAnswer.{HostAnswer}
 use Rattle.proc_host.specs.declared.call.HostFault.{HostFault}
-use Rattle.proc_host.specs.declared.found.Found.{Found}
 use Rattle.proc_host.specs.declared.child.ExitClass.{ExitClass}
 use Rattle.proc_host.specs.ExitClass.{class_of}
 use Rattle.run_core.specs.declared.outcome.Cause.{Cause}
 use Rattle.run_core.specs.declared.request.Request.{Request}
 use Rattle.run_core.specs.declared.request.Pair.{Pair}
-use Rattle.run_core.specs.Words.{Name, Fields, JobPlace, is_same_place}
+use Rattle.run_core.specs.Words.{Fields, JobPlace, is_same_place}
 use Rattle.run_core.specs.Jobs.{Job}
 use Rattle.run_core.specs.Unfold.{Resolved, Unfolded, unfolded, is_at}
 use Rattle.run_core.specs.Collected.{collected}

@@ -1,5 +1,5 @@
 -- The folders of a run.
-use Rattle.std.specs.Prelude.{ℕ, List, ◌++◌, codes}
+use Rattle.std.specs.Prelude.{ℕ, ◌++◌, codes}
 use Rattle.std.specs.Fmt.{decimal}
 use Rattle.command_line.specs.declared.runtime.Runtime.{Runtime}
 use Rattle.run_core.specs.declared.setting.Options.{Options}

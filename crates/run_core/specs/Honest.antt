@@ -1,5 +1,5 @@
 -- A run is honest in a world where each end of a job is what the world says of it.
-use Rattle.std.specs.Prelude.{◌≡◌, List, [], ◌∷◌, ◌++◌, Option, Some, None}
+use Rattle.std.specs.Prelude.{◌≡◌, List, [], ◌∷◌, ◌++◌, Some, None}
 use Rattle.cwl_value.specs.Erased.{fields_erased}
 use Rattle.run_core.specs.declared.setting.Setting.{Setting}
 use Rattle.run_core.specs.Jobs.{Job}

@@ -1,6 +1,6 @@
 -- A job's inputs: the values of the input object that its tool has an input for, checked against their types
 -- (CWL v1.2, Command Line Tool, "CommandInputParameter" and "CWLType").
-use Rattle.std.specs.Prelude.{ℕ, ℤ, pos, negsuc, int_le, Bool, true, false, not, ◌&&◌, List, Option, Some, None, Result, Ok, Err, map, find}
+use Rattle.std.specs.Prelude.{ℤ, pos, negsuc, int_le, Bool, true, false, not, ◌&&◌, List, Option, Some, None, Result, Ok, Err, map, find}
 use Rattle.cwl_value.specs.declared.value.Value.{Value, out-Value}
 use Rattle.cwl_value.specs.declared.value.FileVal.{FileVal}
 use Rattle.cwl_value.specs.declared.value.DirVal.{DirVal}
@@ -8,7 +8,7 @@ use Rattle.cwl_value.specs.declared.value.Value.TheOpen.{Value-F}
 use Rattle.cwl_document.specs.declared.process.CwlType.{CwlType}
 use Rattle.cwl_document.specs.declared.process.ToolInput.{ToolInput}
 use Rattle.run_core.specs.declared.outcome.Cause.{Cause}
-use Rattle.run_core.specs.Words.{Name, Fields, value_under, by_name}
+use Rattle.run_core.specs.Words.{Fields, value_under, by_name}
 
 -- a CWL int has 32 bits
 abbrev pub is_int : ℤ → Bool

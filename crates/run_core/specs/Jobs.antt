@@ -1,6 +1,6 @@
 -- The jobs of a process and its outputs, where the outputs of some jobs are known.
 -- What computing every job gives (`Eval`) and what is known in the midst of a run (`Unfold`) are this one walk.
-use Rattle.std.specs.Prelude.{Bool, true, false, cond, List, [], ◌∷◌, Option, Some, None, Result, Ok, Err, map, is_some, option_map}
+use Rattle.std.specs.Prelude.{Bool, false, cond, List, [], ◌∷◌, Option, Some, None, Result, Ok, Err, map, is_some, option_map}
 use Rattle.std.specs.List.{list_all}
 use Rattle.cwl_value.specs.declared.value.Value.{Value}
 use Rattle.cwl_document.specs.declared.process.Tool.{Tool}

@@ -3,7 +3,7 @@ use Rattle.std.specs.Prelude.{ℕ, List, ◌++◌, codes}
 use Rattle.cwl_value.specs.Erased.{erased}
 use Rattle.cwl_value.specs.Json.{json_of}
 use Rattle.serde_json.specs.Written.{compact_text}
-use Rattle.cwl_value.specs.declared.value.Value.{Value, roll-Value}
+use Rattle.cwl_value.specs.declared.value.Value.{roll-Value}
 use Rattle.cwl_value.specs.declared.value.Value.TheOpen.{Value-F}
 use Rattle.cwl_document.specs.declared.process.Tool.{Tool}
 use Rattle.run_core.specs.Words.{Fields}

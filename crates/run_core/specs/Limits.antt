@@ -1,5 +1,5 @@
 -- What a run's options may be.
-use Rattle.std.specs.Prelude.{ℕ, ◌≡◌, ◌≤◌, ◌^◌}
+use Rattle.std.specs.Prelude.{◌≡◌, ◌≤◌, ◌^◌}
 use Rattle.run_core.specs.declared.setting.Options.{Options}
 
 pub record IsWithinLimits (options : Options) : Type 0 where

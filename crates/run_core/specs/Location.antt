@@ -1,5 +1,5 @@
 -- A path as a location: a URL of the scheme `file` (RFC 8089, RFC 3986 section 2).
-use Rattle.std.specs.Prelude.{ℕ, Bool, ◌||◌, ◌&&◌, ◌==◌, nat_le, cond, List, [], ◌∷◌, ◌++◌, flat_map, codes}
+use Rattle.std.specs.Prelude.{ℕ, Bool, ◌||◌, ◌&&◌, ◌==◌, nat_le, cond, [], ◌∷◌, ◌++◌, flat_map, codes}
 use Rattle.percent_encoding.specs.Percent.{percent_encode_byte}
 use Rattle.run_core.specs.Words.{Name}
 

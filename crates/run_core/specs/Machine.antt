@@ -1,5 +1,5 @@
 -- What the machine waits for after each answer. That all this makes a run is a law above it.
-use Rattle.std.specs.Prelude.{◌≡◌, ◌⊎◌, ℕ, ℤ, cond, List, [], ◌∷◌, ◌++◌, Option, Some, None, Result, Ok, Err, map, find, codes}
+use Rattle.std.specs.Prelude.{◌≡◌, ℕ, ℤ, cond, List, [], ◌∷◌, ◌++◌, Option, Some, None, Result, Err, map, find, codes}
 use Rattle.command_line.specs.declared.launch.Launch.{Launch}
 use Rattle.command_line.specs.declared.fault.BuildFault.{BuildFault}
 use Rattle.command_line.specs.Launch.{IsLaunch, IsRefused, stream_name}

@@ -1,5 +1,5 @@
 -- Values elsewhere: each File and Directory in them at another place.
-use Rattle.std.specs.Prelude.{List, Option, Some, None, map}
+use Rattle.std.specs.Prelude.{map}
 use Rattle.cwl_value.specs.declared.value.Value.{Value, fold-Value, roll-Value}
 use Rattle.cwl_value.specs.declared.value.Value.TheOpen.{FileVal-F, DirVal-F}
 use Rattle.cwl_value.specs.declared.value.FileVal.{FileVal, roll-FileVal}

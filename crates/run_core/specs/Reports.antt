@@ -1,5 +1,5 @@
 -- What a run gains on its host, and what it reports.
-use Rattle.std.specs.Prelude.{◌≡◌, ℕ, List, [], ◌∷◌, Option, Some, None, Result, Ok, Err, filter_map, option_map}
+use Rattle.std.specs.Prelude.{◌≡◌, List, [], Option, Some, None, Result, Ok, Err, filter_map, option_map}
 use Rattle.cwl_document.specs.declared.process.Process.{Process}
 use Rattle.proc_host.specs.declared.call.HostRequest.{HostRequest}
 use Rattle.proc_host.specs.declared.call.Entry.{Entry}

@@ -1,5 +1,5 @@
 -- The jobs that are known once the outputs of some places are, from scratch.
-use Rattle.std.specs.Prelude.{Bool, not, cond, List, [], ◌∷◌, ◌++◌, Option, Some, None, filter, filter_map, find, option_map, reverse}
+use Rattle.std.specs.Prelude.{Bool, not, List, [], ◌∷◌, ◌++◌, Option, Some, None, filter, filter_map, find, option_map, reverse}
 use Rattle.std.specs.List.{list_any}
 use Rattle.run_core.specs.declared.outcome.Cause.{Cause}
 use Rattle.run_core.specs.Words.{Fields, JobPlace, is_same_place}

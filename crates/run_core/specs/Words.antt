@@ -1,5 +1,5 @@
 -- Words that the definitions of runs share.
-use Rattle.std.specs.Prelude.{ℕ, List, Option, Some, None, ◌&&◌, Bool, true, false, [], ◌∷◌, bytes_eq, unwrap_or, fold}
+use Rattle.std.specs.Prelude.{ℕ, List, ◌&&◌, Bool, true, false, [], ◌∷◌, bytes_eq, unwrap_or, fold}
 use Rattle.plain_data.specs.ByName.{value_at, with_value}
 use Rattle.cwl_value.specs.declared.place.Segment.{Segment}
 use Rattle.cwl_value.specs.declared.value.Value.{Value, roll-Value}
