@@ -3,4 +3,5 @@ pub mod Bindings
 pub mod Joined
 pub mod Keys
 pub mod Rising
+pub mod Rows
 pub mod Settled

@@ -7,4 +7,5 @@ pub mod Listing
 pub mod NoFloat
 pub mod Periods
 pub mod ReadText
+pub mod Rows
 pub mod Sorting

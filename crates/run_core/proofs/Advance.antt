@@ -1,25 +1,18 @@
 -- A machine that stands in a run and follows an answer stands in the longer run.
-use Rattle.std.proofs.Common.{◌≡◌, ◌∙◌, List, [], ◌∷◌, ◌++◌, Some, None, sym, ap, subst}
-use Rattle.cwl_value.specs.Erased.{fields_erased}
-use Rattle.cwl_document.specs.declared.process.Tool.{Tool}
-use Rattle.run_core.specs.declared.outcome.Cause.{Cause}
-use Rattle.run_core.specs.declared.request.Request.{Request}
+use Rattle.std.proofs.Common.{◌≡◌, ◌∙◌, List, [], ◌∷◌, ◌++◌, Some, sym, ap, subst}
 use Rattle.run_core.specs.declared.request.Pair.{Pair}
 use Rattle.run_core.specs.declared.setting.Setting.{Setting}
 use Rattle.run_core.specs.declared.state.State.{State}
 use Rattle.run_core.specs.Words.{Fields, JobPlace}
-use Rattle.run_core.specs.Key.{key}
-use Rattle.run_core.specs.Eval.{World, eval_by, eval}
 use Rattle.run_core.specs.Scene.{Scene, scene_of}
-use Rattle.run_core.specs.Events.{Event, So_far, Idle, after, without_launch}
-use Rattle.run_core.specs.Ending.{End, Succeeds, Fails_for_good, Fails_for_now, Host_ends, end_of}
+use Rattle.run_core.specs.Events.{So_far, Idle, after, without_launch}
+use Rattle.run_core.specs.Ending.{End, end_of}
 use Rattle.run_core.specs.Plans.{Mark, Loads_what_is_held}
 use Rattle.run_core.specs.Allowed.{Allowed, HasNoLaunch}
 use Rattle.run_core.specs.Run.{IsRunSoFar, Replans, asks, breaks}
-use Rattle.run_core.specs.Honest.{AgreesFrom, IsHonest, Means}
 use Rattle.run_core.specs.Reports.{report_of}
 use Rattle.run_core.specs.Machine.{tool_of, ends}
-use Rattle.run_core.specs.Standing.{IsLone, IsAt, ended, HasEnded}
+use Rattle.run_core.specs.Standing.{IsLone, IsAt, ended}
 use Rattle.command_line.specs.declared.fault.BuildFault.{BuildFault}
 use Rattle.run_core.proofs.Lone.{lone, scene_lone}
 
@@ -28,18 +21,6 @@ pub record Advances (setting : Setting) (t : List Pair) (next : State) : Type 0 
   pub marks : List Mark
   pub goes : IsRunSoFar setting t happened marks
   pub at : IsAt setting happened marks next
-
--- an end's meaning, by how its process walks
-abbrev pub MeansBy : Scene → World → End → Type 0
-MeansBy s world (Succeeds outputs) = eval_by world s.walker ≡ Some (fields_erased outputs)
-MeansBy s world (Fails_for_good place cause) = eval_by world s.walker ≡ None
-MeansBy s world _ = Unit {0}
-
-means_of : (setting : Setting) (world : World) (end : End) → MeansBy (scene_of setting) world end → Means setting world end
-means_of setting world (Succeeds outputs) m = m
-means_of setting world (Fails_for_good place cause) m = m
-means_of setting world (Fails_for_now place) m = tt
-means_of setting world (Host_ends fault running) m = tt
 
 abbrev pub its_scene : (setting : Setting) → Fields → Scene
 its_scene setting inputs = lone (tool_of setting.process) inputs setting.options
@@ -79,13 +60,8 @@ module _ (setting : Setting) (inputs : Fields) (l : IsLone setting inputs) where
   -- an end
   pub end_at : (t : List Pair) (f : So_far) (marks : List Mark) (end : End) → IsRunSoFar setting t f marks →
       f.work ≡ Idle → end_of (its_scene setting inputs) f.events ≡ Some end →
-      ((world : World) → AgreesFrom (its_scene setting inputs) world [] f.events → MeansBy (its_scene setting inputs) world end) →
       Advances setting t (ends (report_of setting.options end))
-  end_at t f marks end goes idle ends_so right =
+  end_at t f marks end goes idle ends_so =
       let ended_so : end_of (scene_of setting) f.events ≡ Some end =
       subst (λ (x : Scene). end_of x f.events ≡ Some end) (sym same) ends_so in
-      let means : (world : World) → IsHonest setting world f.events → Means setting world end =
-      λ world honest. means_of setting world end
-      (subst (λ (x : Scene). MeansBy x world end) (sym same)
-      (right world (subst (λ (x : Scene). AgreesFrom x world [] f.events) same honest))) in
-      record { happened = f; marks = marks; goes = goes; at = ended f marks end (record { idle = idle; ended = ended_so; right = means }) }
+      record { happened = f; marks = marks; goes = goes; at = ended f marks end (record { idle = idle; ended = ended_so }) }

@@ -1,6 +1,6 @@
 -- What each answer leads to.
 use Rattle.std.specs.Prelude.{Contains}
-use Rattle.std.proofs.Common.{◌≡◌, ◌∙◌, ℕ, ℤ, zero, suc, ◌<◌, ◌==◌, Bool, true, cond, length, List, [], ◌∷◌, ◌++◌, Option, Some, None, Result, Ok, Err, refl, sym, ap, subst, arith, eq-eqb}
+use Rattle.std.proofs.Common.{◌≡◌, ◌∙◌, ℕ, zero, suc, ◌==◌, Bool, true, cond, length, List, [], ◌∷◌, ◌++◌, Option, Some, None, Ok, Err, refl, sym, ap, subst, arith, eq-eqb}
 use Rattle.cwl_document.specs.declared.process.Tool.{Tool}
 use Rattle.proc_host.specs.declared.call.HostAnswer.{HostAnswer}
 use Rattle.proc_host.specs.declared.call.HostFault.{HostFault}
@@ -12,29 +12,26 @@ use Rattle.proc_host.specs.ExitClass.{class_of}
 use Rattle.command_line.specs.declared.launch.Launch.{Launch}
 use Rattle.command_line.specs.Launch.{IsLaunch}
 use Rattle.run_core.specs.declared.outcome.Cause.{Cause}
-use Rattle.run_core.specs.declared.outcome.Outcome.{Outcome}
 use Rattle.run_core.specs.declared.request.Request.{Request}
 use Rattle.run_core.specs.declared.request.Pair.{Pair}
 use Rattle.run_core.specs.declared.setting.Options.{Options}
 use Rattle.run_core.specs.declared.setting.Setting.{Setting}
 use Rattle.run_core.specs.declared.state.Phase.{Phase}
 use Rattle.run_core.specs.declared.state.State.{State}
-use Rattle.run_core.specs.Words.{Name, Fields, JobPlace}
-use Rattle.run_core.specs.Answers.{MayAnswer}
+use Rattle.run_core.specs.Words.{Fields}
 use Rattle.run_core.specs.Folders.{out_folder, runtime_of}
 use Rattle.run_core.specs.Delivered.{located}
-use Rattle.run_core.specs.Events.{Staged, Began, Came_back, Succeeded, Broke, Gave_up, Delivered, Host_failed, Collect_failed, Idle, Scanning, So_far, at_first, after, in_flight, unfolding_at}
+use Rattle.run_core.specs.Events.{Staged, Began, Came_back, Succeeded, Broke, Gave_up, Delivered, Host_failed, Collect_failed, Idle, So_far, at_first, after, in_flight, unfolding_at}
 use Rattle.run_core.specs.Collected.{collected}
 use Rattle.run_core.specs.Scene.{Scene}
 use Rattle.run_core.specs.Unfold.{or_else}
-use Rattle.run_core.specs.Ending.{End, settled, result_end, delivered_end, Succeeds, Fails_for_good, Fails_for_now, Host_ends, end_of, delivery_at}
-use Rattle.run_core.specs.Plans.{Mark, Load, Compute}
+use Rattle.run_core.specs.Ending.{End, settled, result_end, delivered_end, Succeeds, Fails_for_good, Fails_for_now, Host_ends, delivery_at}
+use Rattle.run_core.specs.Plans.{Load, Compute}
 use Rattle.run_core.specs.Run.{IsRunSoFar}
-use Rattle.run_core.specs.Reports.{reported, report_of}
-use Rattle.run_core.specs.Machine.{tool_of, waits, ends, fails_for_good, host_fails, stages, starts, after_ticket, after_class, after_exit, Launches, has_launch, has_none, FollowsFrom}
-use Rattle.run_core.specs.Standing.{IsLone, IsAt, staging, starting, running, scanning, delivering, ended, lost, when_staged, when_running, when_back, when_gathered}
-use Rattle.run_core.proofs.Lone.{lone, job, may_stage, may_start, has_no_launch, may_collect, may_scan, may_deliver, landed}
-use Rattle.run_core.proofs.Meaning.{fails, gives}
+use Rattle.run_core.specs.Reports.{report_of}
+use Rattle.run_core.specs.Machine.{tool_of, waits, ends, fails_for_good, host_fails, after_ticket, after_class, after_exit, Launches, has_launch, has_none}
+use Rattle.run_core.specs.Standing.{IsLone, starting, running, scanning, delivering, when_staged, when_running, when_back, when_gathered}
+use Rattle.run_core.proofs.Lone.{may_stage, may_start, has_no_launch, may_collect, may_scan, may_deliver, landed}
 use Rattle.run_core.proofs.Advance.{Advances, its_scene, same, step_at, break_at, end_at}
 
 abbrev pub pair : Request → HostAnswer → Pair
@@ -85,7 +82,7 @@ module _ (setting : Setting) (inputs : Fields) (l : IsLone setting inputs) (t : 
       (Fails_for_good [] (Cause.Build fault))
       (break_at setting inputs l (t ++ pair stage_request HostAnswer.Done ∷ []) when_staged (Compute ∷ []) [] fault
       (staged goes) (has_no_launch tool inputs o l.limits fault refused) refl)
-      refl refl (λ world honest. fails tool inputs world (honest.1.0 (job tool inputs o l.limits) refl))
+      refl refl
 
   pub stage_fails : (fault : HostFault) → IsRunSoFar setting t at_first (Compute ∷ []) →
       Advances setting (t ++ pair stage_request (HostAnswer.Failed fault) ∷ []) (host_fails fault [])
@@ -94,7 +91,7 @@ module _ (setting : Setting) (inputs : Fields) (l : IsLone setting inputs) (t : 
       end_at setting inputs l (t ++ pair stage_request (HostAnswer.Failed fault) ∷ []) f (Compute ∷ []) (Host_ends fault [])
       (step_at setting inputs l t at_first (Compute ∷ []) (pair stage_request (HostAnswer.Failed fault)) f (Compute ∷ [])
       goes (may_stage tool inputs o l.limits) refl refl)
-      refl refl (λ world honest. tt)
+      refl refl
 
   -- Starting
 
@@ -117,7 +114,7 @@ module _ (setting : Setting) (inputs : Fields) (l : IsLone setting inputs) (t : 
       end_at setting inputs l (t ++ pair (Request.Start [] launch) (HostAnswer.Failed fault) ∷ []) f (Compute ∷ []) (Host_ends fault [])
       (step_at setting inputs l t when_staged (Compute ∷ []) (pair (Request.Start [] launch) (HostAnswer.Failed fault)) f (Compute ∷ [])
       goes (may_start tool inputs o l.limits launch is) refl refl)
-      refl refl (λ world honest. tt)
+      refl refl
 
   -- Running
 
@@ -129,7 +126,7 @@ module _ (setting : Setting) (inputs : Fields) (l : IsLone setting inputs) (t : 
       (Host_ends HostFault.Collect (ticket ∷ []))
       (step_at setting inputs l t (when_running ticket) (Load ∷ []) (pair Request.Collect (HostAnswer.Failed HostFault.Collect)) f (Load ∷ [])
       goes (may_collect tool inputs o l.limits ticket) refl refl)
-      refl refl (λ world honest. tt)
+      refl refl
 
   module _ (e : Ending) (goes : IsRunSoFar setting t (when_running e.ticket) (Load ∷ [])) where
     abbrev pub back : Pair
@@ -163,13 +160,12 @@ module _ (setting : Setting) (inputs : Fields) (l : IsLone setting inputs) (t : 
         end_at setting inputs l (t ++ back ∷ []) gave_up (Load ∷ []) (Fails_for_now [])
         (step_at setting inputs l t (when_running e.ticket) (Load ∷ []) back gave_up (Load ∷ [])
         goes (may_collect tool inputs o l.limits e.ticket) (came_now is) (rw never refl))
-        refl (rw (eq-eqb e.ticket e.ticket refl, never) refl) (λ world honest. tt)
+        refl (rw (eq-eqb e.ticket e.ticket refl, never) refl)
     comes_back ExitClass.Permanent is =
         end_at setting inputs l (t ++ back ∷ []) broke (Load ∷ []) (Fails_for_good [] (Cause.Exit e.code))
         (step_at setting inputs l t (when_running e.ticket) (Load ∷ []) back broke (Load ∷ [])
         goes (may_collect tool inputs o l.limits e.ticket) (came_bad is) refl)
         refl (rw (eq-eqb e.ticket e.ticket refl) refl)
-        (λ world honest. fails tool inputs world (honest.1.1.1.0 (job tool inputs o l.limits) refl))
 
   pub collected_one : (ticket : ℕ) (e : Ending) → Contains (ticket ∷ []) e.ticket → IsRunSoFar setting t (when_running ticket) (Load ∷ []) →
       Advances setting (t ++ pair Request.Collect (HostAnswer.Ended e) ∷ []) (after_exit o e.code)
@@ -190,7 +186,7 @@ module _ (setting : Setting) (inputs : Fields) (l : IsLone setting inputs) (t : 
         end_at setting inputs l (t ++ pair scan_request (HostAnswer.Failed fault) ∷ []) f (Load ∷ []) (Host_ends fault [])
         (step_at setting inputs l t (when_back ticket) (Load ∷ []) (pair scan_request (HostAnswer.Failed fault)) f (Load ∷ [])
         goes (may_scan tool inputs o l.limits ticket) refl refl)
-        refl (rw (eq-eqb ticket ticket refl) refl) (λ world honest. tt)
+        refl (rw (eq-eqb ticket ticket refl) refl)
 
     module _ (found : List Found) where
       abbrev pub scan : Pair
@@ -203,7 +199,6 @@ module _ (setting : Setting) (inputs : Fields) (l : IsLone setting inputs) (t : 
           (step_at setting inputs l t (when_back ticket) (Load ∷ []) scan f (Load ∷ [])
           goes (may_scan tool inputs o l.limits ticket) (rw is refl) refl)
           refl (rw (eq-eqb ticket ticket refl) refl)
-          (λ world honest. fails tool inputs world (honest.1.1.1.0 (job tool inputs o l.limits) refl))
 
       scanned : (named : Fields) → collected tool found ≡ Ok named → IsRunSoFar setting (t ++ scan ∷ []) (when_gathered ticket named) (Load ∷ [])
       scanned named is =
@@ -235,7 +230,6 @@ module _ (setting : Setting) (inputs : Fields) (l : IsLone setting inputs) (t : 
           (ends_when (length (in_flight f.events) == 0) (settled (its_scene setting inputs) f.events) _ _
           (rw (eq-eqb ticket ticket refl) refl) refl
           (ap (result_end (its_scene setting inputs) f.events) result ∙ ap (delivered_end (its_scene setting inputs) f.events outputs) none))
-          (λ world honest. gives tool inputs world named outputs (honest.1.1.1.0 (job tool inputs o l.limits) refl) result)
 
   -- Delivering
 
@@ -253,7 +247,6 @@ module _ (setting : Setting) (inputs : Fields) (l : IsLone setting inputs) (t : 
         (ends_when (length (in_flight f.events) == 0) (settled (its_scene setting inputs) f.events) _ _
         (rw (eq-eqb ticket ticket refl) refl) refl
         (ap (result_end (its_scene setting inputs) f.events) result ∙ ap (delivered_end (its_scene setting inputs) f.events outputs) delivery))
-        (λ world honest. gives tool inputs world named outputs (honest.1.1.1.0 (job tool inputs o l.limits) refl) result)
 
     pub deliver_fails : (fault : HostFault) → Advances setting (t ++ pair (Request.Deliver plan) (HostAnswer.Failed fault) ∷ []) (host_fails fault [])
     deliver_fails fault =
@@ -261,4 +254,4 @@ module _ (setting : Setting) (inputs : Fields) (l : IsLone setting inputs) (t : 
         end_at setting inputs l (t ++ pair (Request.Deliver plan) (HostAnswer.Failed fault) ∷ []) f (Load ∷ []) (Host_ends fault [])
         (step_at setting inputs l t (when_gathered ticket named) (Load ∷ []) (pair (Request.Deliver plan) (HostAnswer.Failed fault)) f (Load ∷ [])
         goes (may_deliver tool inputs o l.limits ticket named outputs plan result delivery) refl refl)
-        refl (rw (eq-eqb ticket ticket refl) refl) (λ world honest. tt)
+        refl (rw (eq-eqb ticket ticket refl) refl)

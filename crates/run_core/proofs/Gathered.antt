@@ -25,7 +25,7 @@ use Rattle.run_core.specs.Folders.{out_folder}
 use Rattle.run_core.specs.Collected.{file_at, found_under, one_file, output_from, with_output, outputs_from}
 use Rattle.run_core.specs.Delivered.{file_move, move_at, moves_of, shared, target_of}
 
-abbrev file_fields : Place → Found → FileVal-F Value DirVal FileVal
+abbrev pub file_fields : Place → Found → FileVal-F Value DirVal FileVal
 file_fields place found = record {
   place = place;
   basename = Some found.name;

@@ -1,7 +1,7 @@
 -- What has happened in a run, its transcript tells.
 use Rattle.std.specs.Prelude.{Contains, ◌||◌}
 use Rattle.std.specs.List.{list_any}
-use Rattle.std.proofs.Common.{◌≡◌, ◌∙◌, ◌⊎◌, inl, inr, ℕ, zero, suc, ◌+◌, ◌<◌, ◌==◌, Bool, true, false, not, cond, List, [], ◌∷◌, ◌++◌, filter, filter_map, find, fold, Option, Some, None, Result, Ok, Err, refl, sym, ap, subst, arith}
+use Rattle.std.proofs.Common.{◌≡◌, ◌∙◌, ◌⊎◌, inl, inr, ℕ, zero, suc, ◌==◌, Bool, true, false, not, cond, List, [], ◌∷◌, ◌++◌, filter, filter_map, find, fold, Option, Some, None, Result, Ok, Err, refl, sym, ap, subst, arith}
 use Rattle.std.proofs.lemmas.Bool.{eqb-true}
 use Rattle.std.proofs.lemmas.List.{map-append}
 use Rattle.std.proofs.lemmas.List.Elements.{filter_map-append, Contains-append_left, Contains-append_cases, Contains-push, Contains-push_cases, All-contains, All-filter, All-contains_itself}
@@ -52,7 +52,7 @@ begun_more Delivered es n there = there
 begun_more (Host_failed fault) es n there = there
 begun_more Collect_failed es n there = there
 
-abbrev Flight : Type 0
+abbrev pub Flight : Type 0
 Flight = ℕ × JobPlace
 
 was_there : (p : Flight → Bool) (flying : List Flight) (x : Flight) → Contains (filter p flying) x → Contains flying x
@@ -100,11 +100,11 @@ found_by p y ys x true passes same later =
 found_by p y ys x false fails found later =
     let rest : Contains ys x × (p x ≡ true) = later found in ((suc rest.0.0, omega (arith, rest.0.1), rest.0.2), rest.1)
 
-find_some : (p : Flight → Bool) (xs : List Flight) (x : Flight) → find p xs ≡ Some x → Contains xs x × (p x ≡ true)
+pub find_some : (p : Flight → Bool) (xs : List Flight) (x : Flight) → find p xs ≡ Some x → Contains xs x × (p x ≡ true)
 find_some p [] x is = absurd cc
 find_some p (y ∷ ys) x is = found_by p y ys x (p y) refl is (find_some p ys x)
 
-abbrev Step : Type 0
+abbrev pub Step : Type 0
 Step = Work × List Event
 
 -- what a step may bring about, where these answers were told

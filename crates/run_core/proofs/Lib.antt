@@ -12,4 +12,8 @@ pub mod Files
 pub mod Knows
 pub mod Succeeded
 pub mod Over
+pub mod AtRoot
+pub mod Rightly
+pub mod Asking
+pub mod Moved
 pub mod Rows

@@ -1,18 +1,13 @@
 -- What the ends of a lone tool say of computing it.
-use Rattle.std.proofs.Common.{◌≡◌, ◌∙◌, List, [], ◌∷◌, Option, Some, None, Result, Ok, Err, option_map, refl, sym, ap, subst}
+use Rattle.std.proofs.Common.{◌≡◌, [], Some, None, Ok, Err, option_map, refl, ap}
 use Rattle.cwl_value.specs.Erased.{fields_erased}
 use Rattle.cwl_document.specs.declared.process.Tool.{Tool}
 use Rattle.run_core.specs.declared.outcome.Cause.{Cause}
-use Rattle.run_core.specs.declared.setting.Options.{Options}
-use Rattle.run_core.specs.declared.setting.Setting.{Setting}
 use Rattle.run_core.specs.Words.{Fields}
 use Rattle.run_core.specs.Key.{key}
-use Rattle.run_core.specs.Eval.{World, eval_by, eval}
+use Rattle.run_core.specs.Eval.{World, eval_by}
 use Rattle.run_core.specs.Jobs.{tool_walk, all_named, outs_of, output_names}
 use Rattle.run_core.specs.Made.{fields_made}
-use Rattle.run_core.specs.Scene.{Scene, scene_of}
-use Rattle.run_core.specs.Machine.{tool_of}
-use Rattle.run_core.proofs.Lone.{lone}
 
 module _ (tool : Tool) (inputs : Fields) (world : World) where
   pub fails : world (key tool inputs) ≡ None → eval_by world (tool_walk tool [] (Ok inputs)) ≡ None

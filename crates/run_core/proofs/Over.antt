@@ -1,7 +1,7 @@
 -- Where a run has come to its end, no request is allowed.
 use Rattle.std.specs.Prelude.{Contains, ◌||◌}
 use Rattle.std.specs.List.{list_any}
-use Rattle.std.proofs.Common.{◌≡◌, ◌∙◌, ℕ, ◌<◌, ◌==◌, Bool, true, false, cond, List, [], ◌∷◌, length, find, reverse, Option, Some, None, Result, Ok, Err, refl, sym, ap, subst, arith}
+use Rattle.std.proofs.Common.{◌≡◌, ◌∙◌, ◌==◌, Bool, true, false, cond, List, [], ◌∷◌, length, find, reverse, Option, Some, None, Result, Ok, Err, refl, sym, ap, subst, arith}
 use Rattle.std.proofs.lemmas.Bool.Decides.{nat_tests}
 use Rattle.cwl_document.specs.declared.process.Tool.{Tool}
 use Rattle.proc_host.specs.declared.call.HostFault.{HostFault}
@@ -46,7 +46,7 @@ module _ (tool : Tool) (inputs : Fields) where
   abbrev job : Job
   job = record { place = []; tool = tool; inputs = inputs }
 
-  one_job : (known : List Resolved) → jobs_after (tool_walk tool [] (Ok inputs)) known ≡ job ∷ []
+  pub one_job : (known : List Resolved) → jobs_after (tool_walk tool [] (Ok inputs)) known ≡ job ∷ []
   one_job [] = refl
   one_job (r ∷ earlier) = rw (one_job earlier) refl
 

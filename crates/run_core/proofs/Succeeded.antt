@@ -1,7 +1,7 @@
 -- A success has an output object that was collected.
 use Rattle.std.specs.Prelude.{nat_lt}
 use Rattle.std.specs.List.{list_any}
-use Rattle.std.proofs.Common.{◌≡◌, ◌∙◌, ℕ, ◌==◌, Bool, true, false, cond, List, [], ◌∷◌, ◌++◌, length, filter, Option, Some, None, Result, Ok, Err, refl, sym, ap, subst}
+use Rattle.std.proofs.Common.{◌≡◌, ◌∙◌, ◌==◌, Bool, true, false, cond, List, [], ◌∷◌, ◌++◌, length, filter, Option, Some, None, Result, Ok, Err, refl, sym, ap, subst}
 use Rattle.cwl_document.specs.declared.process.Tool.{Tool}
 use Rattle.proc_host.specs.declared.call.HostFault.{HostFault}
 use Rattle.run_core.specs.declared.outcome.Cause.{Cause}
@@ -58,7 +58,7 @@ module _ (s : Scene) where
       (or_neither (unfold_end s (es ++ e ∷ [])) (settled_from s (es ++ e ∷ []) later) (fault_is_none (unfolding_at s (es ++ e ∷ [])).fault)
       (settled_later (es ++ e ∷ []) later))
 
-  settled_failure : (es : List Event) → IsNoSuccess (settled s es)
+  pub settled_failure : (es : List Event) → IsNoSuccess (settled s es)
   settled_failure es = or_neither (unfold_end s []) (settled_from s [] es) (fault_is_none (unfolding_at s []).fault) (settled_later [] es)
 
   end_cases : (lost landed : Bool) (es : List Event) (fault : Option End) (end : Option End) → IsNoSuccess fault → IsNoSuccess end →

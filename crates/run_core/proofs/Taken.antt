@@ -1,11 +1,10 @@
 -- What the machine's callers learn of its steps and of its end.
-use Rattle.std.proofs.Common.{◌≡◌, ◌≢◌, ◌∙◌, ℕ, ℤ, zero, suc, ◌<◌, ◌==◌, Bool, true, false, cond, not, List, [], ◌∷◌, ◌++◌, find, Vec, Global, vec_len, vec_capacity, Option, Some, None, Result, Ok, Err, refl, sym, ap, subst, arith, eq-eqb, lit<}
+use Rattle.std.proofs.Common.{◌≡◌, ◌≢◌, ◌∙◌, ℕ, ℤ, ◌<◌, Bool, true, false, cond, List, [], ◌∷◌, ◌++◌, find, Vec, Global, vec_len, vec_capacity, Option, Some, None, Result, Err, refl, sym, ap, subst, arith, eq-eqb, lit<}
 use Rattle.cwl_document.specs.declared.process.Tool.{Tool}
 use Rattle.cwl_document.specs.declared.process.ToolOutput.{ToolOutput}
 use Rattle.command_line.specs.Launch.{stream_name}
 use Rattle.proc_host.specs.declared.call.HostAnswer.{HostAnswer}
 use Rattle.proc_host.specs.declared.call.HostFault.{HostFault}
-use Rattle.proc_host.specs.declared.child.Ending.{Ending}
 use Rattle.proc_host.specs.declared.child.ExitClass.{ExitClass}
 use Rattle.proc_host.specs.declared.found.Found.{Found}
 use Rattle.proc_host.specs.ExitClass.{class_of}
@@ -26,9 +25,9 @@ use Rattle.run_core.specs.Answers.{MayAnswer, flying_after}
 use Rattle.run_core.specs.Collected.{found_under}
 use Rattle.run_core.specs.Events.{So_far}
 use Rattle.run_core.specs.Plans.{Mark}
-use Rattle.run_core.specs.Run.{IsRunSoFar}
+use Rattle.run_core.specs.Run.{IsRunSoFar, IsRun}
 use Rattle.run_core.specs.Reports.{Concludes, whole, lost as memory_lost, reported, report_of, entries_of}
-use Rattle.run_core.specs.Machine.{tool_of, ends, fails_for_good, start_with, at_start, stages, starts, has_launch, has_none, after_class, after_file, after_listing, after_scan, delivers, AsksIn, FollowsFrom}
+use Rattle.run_core.specs.Machine.{tool_of, ends, fails_for_good, start_with, at_start, stages, has_launch, has_none, after_class, after_file, after_listing, delivers, AsksIn, FollowsFrom}
 use Rattle.run_core.specs.Standing.{IsAt, Blames, staging, starting, running, scanning, delivering, ended, lost}
 use Rattle.run_core.specs.Core.{steps_in, Stands, Begins}
 use Rattle.run_core.specs.declared.runner.RunCore.{RunCore}
@@ -36,14 +35,14 @@ use Rattle.run_core.specs.Limits.{IsWithinLimits}
 use Rattle.cwl_document.specs.declared.process.ToolInput.{ToolInput}
 use Rattle.run_core.specs.Inputs.{is_misfit, named_inputs, inputs_for, unless_misfit}
 use Rattle.run_core.specs.Jobs.{walker, tool_walk}
-use Rattle.run_core.specs.Eval.{World, eval_by}
 use Rattle.run_core.specs.Scene.{Scene, scene_of}
 use Rattle.run_core.specs.Events.{at_first}
 use Rattle.run_core.specs.Ending.{Fails_for_good, end_of}
 use Rattle.run_core.specs.Plans.{Compute, Loads_what_is_held}
 use Rattle.run_core.specs.Run.{Replans, begins}
 use Rattle.run_core.proofs.Lone.{walker_tool}
-use Rattle.run_core.proofs.Advance.{Advances, same, its_scene}
+use Rattle.run_core.proofs.Rightly.{ends_rightly}
+use Rattle.run_core.proofs.Advance.{Advances, same}
 use Rattle.run_core.proofs.Answered.{pair}
 use Rattle.run_core.proofs.Next.{advance, reach}
 use Rattle.run_core.proofs.Blamed.{blames_after, none_started}
@@ -91,8 +90,9 @@ module _ (setting : Setting) where
   concludes t result (delivering inputs ticket named outputs plan l its_result delivery) goes is = absurd cc
   concludes t result (ended f marks end has) goes is =
       let same : report_of setting.options end ≡ result = cc in
+      let run : IsRun setting t end = record { happened = f; marks = marks; goes = goes; idle = has.idle; ended = has.ended } in
       subst (λ (r : Result Report RunFault). Concludes setting t r) same
-      (whole end (record { happened = f; marks = marks; goes = goes; idle = has.idle; ended = has.ended }) has.right)
+      (whole end run (ends_rightly setting t end run))
   concludes t result (lost f marks) goes is =
       let same : Err RunFault.OutOfMemory ≡ result = cc in
       subst (λ (r : Result Report RunFault). Concludes setting t r) same (memory_lost f marks goes)
@@ -275,7 +275,7 @@ module _ (core : RunCore) (limits : IsWithinLimits core.setting.options) (empty 
           goes = subst (λ (t : List Pair). IsRunSoFar core.setting t at_first []) (sym empty) (begins [] plans);
           at = subst (λ (st : State). IsAt core.setting at_first [] st) (sym is)
               (ended at_first [] (Fails_for_good [] (Cause.Kind input.id))
-              (record { idle = refl; ended = ended_so; right = λ world honest. ap (λ w. eval_by world w) walks }));
+              (record { idle = refl; ended = ended_so }));
           blames = subst (λ (st : State). Blames (entries_of core.pairs.items) st) (sym is) (record { flying = none_started (entries_of core.pairs.items); rightly = tt });
           room = λ some. room;
         };

@@ -1,5 +1,5 @@
 -- What callers see of the machine.
-use Rattle.std.specs.Prelude.{◌≡◌, ℕ, ◌<◌, ◌≢◌, List, [], Result, Ok, Err, vec_len, vec_capacity}
+use Rattle.std.specs.Prelude.{◌≡◌, ℕ, ◌<◌, List, [], Err, vec_len, vec_capacity}
 use Rattle.cwl_document.specs.declared.process.Process.{Process}
 use Rattle.run_core.specs.declared.outcome.RunFault.{RunFault}
 use Rattle.run_core.specs.declared.request.Request.{Request}
@@ -11,6 +11,8 @@ use Rattle.run_core.specs.declared.runner.RunCore.{RunCore}
 use Rattle.run_core.specs.Words.{Fields}
 use Rattle.run_core.specs.Events.{So_far}
 use Rattle.run_core.specs.Plans.{Mark}
+use Rattle.run_core.specs.Scene.{scene_of}
+use Rattle.run_core.specs.Allowed.{Allowed}
 use Rattle.run_core.specs.Run.{IsRunSoFar}
 use Rattle.run_core.specs.Reports.{entries_of}
 use Rattle.run_core.specs.Standing.{IsAt, Blames}
@@ -59,6 +61,13 @@ pub record Stands (core : RunCore) : Type 0 where
   pub at : IsAt core.setting happened marks core.state
   pub blames : Blames (entries_of core.pairs.items) core.state
   pub room : 0 < steps_in core.state.phase → vec_len core.pairs < vec_capacity core.pairs
+
+-- what it asked and was answered is a run so far, after which it may ask what it asks
+pub record MayAsk (core : RunCore) : Type 0 where
+  pub happened : So_far
+  pub marks : List Mark
+  pub goes : IsRunSoFar core.setting core.pairs.items happened marks
+  pub allowed : Allowed (scene_of core.setting) happened marks core.state.asks
 
 -- a machine for this process, before any answer
 pub record Begins (process : Process) (inputs : Fields) (options : Options) (core : RunCore) : Type 0 where

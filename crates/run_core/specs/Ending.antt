@@ -11,29 +11,37 @@ use Rattle.run_core.specs.Events.{Event, Succeeded, Broke, Gave_up, Delivered, H
 use Rattle.run_core.specs.Scene.{Scene}
 
 pub data End : Type 0 where
+  -- with these named outputs, before they are delivered
   Succeeds : (outputs : Fields) → End
+  -- the job or the equation at this place fails, and would fail again
   Fails_for_good : (place : JobPlace) (cause : Cause) → End
+  -- a signal ended the child of the job at this place
   Fails_for_now : (place : JobPlace) → End
+  -- a call of the host's failed; the tickets of the children that nobody waits for any more
   Host_ends : (fault : HostFault) (running : List ℕ) → End
 
+-- the end by the first fault
 abbrev pub fault_end : Option Fault → Option End
 fault_end None = None
 fault_end (Some fault) = Some (Fails_for_good fault.place fault.cause)
 
+-- whether an event is that a signal ended the child of the job at a place
 abbrev pub gives_up : JobPlace → Event → Bool
 gives_up place (Gave_up p) = is_same_place p place
 gives_up place _ = false
 
+-- whether it is that the result's files were delivered
 abbrev pub is_delivery : Event → Bool
 is_delivery Delivered = true
 is_delivery _ = false
 
+-- whether it is that a collect failed
 abbrev pub is_lost_collect : Event → Bool
 is_lost_collect Collect_failed = true
 is_lost_collect _ = false
 
 module _ (s : Scene) where
-  -- the end that an event is, after these
+  -- the end that an event is, after these: a child's end by a signal is none while its job may be started again
   abbrev pub settled_by : List Event → Event → Option End
   settled_by es (Broke place cause) = Some (Fails_for_good place cause)
   settled_by es (Gave_up place) =
@@ -41,10 +49,11 @@ module _ (s : Scene) where
   settled_by es (Host_failed fault) = Some (Host_ends fault [])
   settled_by es _ = None
 
-  -- the first fault of what is known
+  -- the end by the first fault of what is known
   abbrev pub unfold_end : List Event → Option End
   unfold_end es = fault_end (unfolding_at s es).fault
 
+  -- the first end that one of the later events is, or what is known after it
   abbrev pub settled_from : List Event → List Event → Option End
   settled_from es [] = None
   settled_from es (e ∷ later) =
@@ -54,17 +63,20 @@ module _ (s : Scene) where
   abbrev pub settled : List Event → Option End
   settled es = or_else (unfold_end []) (settled_from [] es)
 
-  -- the copies of a result's files, where it has some
+  -- a plan, where it has something to copy
   abbrev pub if_any : StagePlan → Option StagePlan
   if_any plan = cond (length plan.moves == 0) None (Some plan)
 
+  -- the copies of a result's files, where it has some
   abbrev pub delivery_at : List Event → Fields → Option StagePlan
   delivery_at es outputs = if_any (delivery (number_at es) s.options.work s.options.outdir outputs)
 
+  -- a result is the end at once where it has nothing to copy, and else once that is copied
   abbrev pub delivered_end : List Event → Fields → Option StagePlan → Option End
   delivered_end es outputs None = Some (Succeeds outputs)
   delivered_end es outputs (Some plan) = cond (list_any is_delivery es) (Some (Succeeds outputs)) None
 
+  -- the end that the result is, where there is one
   abbrev pub result_end : List Event → Option Fields → Option End
   result_end es None = None
   result_end es (Some outputs) = delivered_end es outputs (delivery_at es outputs)

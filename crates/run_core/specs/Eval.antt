@@ -11,9 +11,11 @@ use Rattle.run_core.specs.Made.{fields_made}
 abbrev pub World : Type 0
 World = Key → Option Fields
 
+-- the outputs that a world gives each job, as the rest of the process sees them
 abbrev pub made_in : World → Made
 made_in world job = option_map (fields_made job.place) (world (key job.tool job.inputs))
 
+-- the result of a walk in a world, without places; none where a job or an equation fails
 abbrev pub eval_by : World → Walker → Option Fields
 eval_by world walks = option_map fields_erased (result walks (made_in world))
 

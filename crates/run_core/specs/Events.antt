@@ -25,18 +25,24 @@ pub data Event : Type 0 where
   Came_back : (ticket : ℕ) → Event
   -- the job's named outputs were collected
   Succeeded : (place : JobPlace) (outputs : Fields) → Event
-  -- it gives none
+  -- the job gives no outputs
   Broke : (place : JobPlace) (cause : Cause) → Event
   -- its child was ended by a signal
   Gave_up : (place : JobPlace) → Event
+  -- the result's files stand where they are wanted
   Delivered : Event
+  -- a call other than a collect failed
   Host_failed : (fault : HostFault) → Event
+  -- a collect failed
   Collect_failed : Event
 
 -- the work that follows at once
 pub data Work : Type 0 where
+  -- none
   Idle : Work
+  -- the staged job is started
   Starting : (place : JobPlace) → Work
+  -- the job's output folder is scanned, its child having ended well
   Scanning : (place : JobPlace) → Work
 
 -- what a transcript has brought about: what follows at once, and what has happened
@@ -46,6 +52,7 @@ pub record So_far : Type 0 where
 
 -- Read off the events
 
+-- the place that an event resolves, with its outputs
 abbrev pub resolves : Event → Option Resolved
 resolves (Succeeded place outputs) = Some (record { place = place; outputs = outputs })
 resolves _ = None
@@ -54,6 +61,7 @@ resolves _ = None
 abbrev pub resolved : List Event → List Resolved
 resolved es = filter_map resolves es
 
+-- the children in flight after one more event
 abbrev pub flight_after : List (ℕ × JobPlace) → Event → List (ℕ × JobPlace)
 flight_after flying (Began place ticket) = flying ++ (ticket, place) ∷ []
 flight_after flying (Came_back ticket) = filter (λ f. not (f.0 == ticket)) flying
@@ -63,9 +71,11 @@ flight_after flying _ = flying
 abbrev pub in_flight : List Event → List (ℕ × JobPlace)
 in_flight es = fold flight_after [] es
 
+-- their tickets
 abbrev pub tickets : List Event → List ℕ
 tickets es = map (λ f. f.0) (in_flight es)
 
+-- whether an event brings the outputs of the job at a place
 abbrev pub brings : JobPlace → Event → Bool
 brings place (Succeeded p outputs) = is_same_place p place
 brings place _ = false
@@ -78,6 +88,7 @@ is_at_hand es place = list_any (brings place) es
 abbrev pub is_held : List Event → JobPlace → Bool
 is_held es place = list_any (λ f. is_same_place f.1 place) (in_flight es) || is_at_hand es place
 
+-- the number of a place's folders after one more event, where it was n
 abbrev pub number_if : JobPlace → ℕ → Event → ℕ
 number_if place n (Staged p number) = cond (is_same_place p place) number n
 number_if place n _ = n
@@ -86,6 +97,7 @@ number_if place n _ = n
 abbrev pub number_at : List Event → JobPlace → ℕ
 number_at es place = fold (number_if place) 0 es
 
+-- whether folders were made
 abbrev pub is_staging : Event → Bool
 is_staging (Staged place number) = true
 is_staging _ = false
@@ -95,34 +107,41 @@ module _ (s : Scene) where
   abbrev pub unfolding_at : List Event → Unfolded
   unfolding_at es = unfolded s.walker (resolved es)
 
+  -- the known job at a place
   abbrev pub job_at : List Event → JobPlace → Option Job
   job_at es place = find (is_at place) (unfolding_at es).jobs
 
   -- What a pair is: the work after it, and what has happened
 
+  -- what follows at once after a pair, and what it adds to what has happened
   abbrev pub Step : Type 0
   Step = Work × List Event
 
+  -- nothing happens, and nothing follows at once
   abbrev pub nothing : Step
   nothing = (Idle, [])
 
+  -- one event, after which nothing follows at once
   abbrev pub happened : Event → Step
   happened e = (Idle, e ∷ [])
 
+  -- what a step is by its job; nothing where the job is not known
   abbrev pub with_job : Option Job → (Job → Step) → Step
   with_job None f = nothing
   with_job (Some job) f = f job
 
-  -- a success is scanned at once
+  -- a child of a place has ended with this code: a success is scanned at once
   abbrev pub judged : JobPlace → ℕ → Option ℤ → ExitClass → Step
   judged place ticket code ExitClass.Success = (Scanning place, Came_back ticket ∷ [])
   judged place ticket code ExitClass.Temporary = (Idle, Came_back ticket ∷ Gave_up place ∷ [])
   judged place ticket code ExitClass.Permanent = (Idle, Came_back ticket ∷ Broke place (Cause.Exit code) ∷ [])
 
+  -- the child with this ticket has ended, which stands so among those in flight
   abbrev pub came_back : ℕ → Option ℤ → Option (ℕ × JobPlace) → Step
   came_back ticket code None = nothing
   came_back ticket code (Some flight) = judged flight.1 ticket code (class_of code)
 
+  -- what was collected: outputs, or why there are none
   abbrev pub gathered : JobPlace → Result Fields Cause → Step
   gathered place (Ok outputs) = happened (Succeeded place outputs)
   gathered place (Err cause) = happened (Broke place cause)
@@ -145,10 +164,12 @@ module _ (s : Scene) where
   due_step es work (HostAnswer.Failed fault) = happened (Host_failed fault)
   due_step es work answer = nothing
 
+  -- a pair, by what was due before it
   abbrev pub step_of : List Event → Work → Pair → Step
   step_of es Idle p = free_step es p.request p.answer
   step_of es work p = due_step es work p.answer
 
+  -- one pair later
   abbrev pub after : So_far → Pair → So_far
   after f p = let step : Step = step_of f.events f.work p in record { work = step.0; events = f.events ++ step.1 }
 

@@ -33,13 +33,16 @@ Made = Job → Option Fields
 abbrev pub Walker : Type 0
 Walker = Made → Walk
 
+-- each name with its value, which is null where the fields have none; with no value while the fields are not known
 abbrev pub outs_of : List Name → Option Fields → List (Name × Option Value)
 outs_of names None = map (λ name. (name, None)) names
 outs_of names (Some fields) = map (λ name. (name, Some (value_under name fields))) names
 
+-- the walk through a process that has an equation that fails
 abbrev pub failed : JobPlace → Cause → List Name → Walk
 failed place cause names = record { met = A_fault place cause ∷ []; outs = outs_of names None }
 
+-- the names of a tool's outputs, in its order
 abbrev pub output_names : Tool → List Name
 output_names tool = map (λ o. o.id) tool.outputs
 
@@ -56,6 +59,7 @@ walker (Process.Tool tool) given = tool_walk tool [] (inputs_for tool.inputs giv
 
 -- The result: where each job's outputs are known, no equation fails and each output has a value
 
+-- one more at the front, where it and the others are there
 abbrev pub with_first : {T : Type 0} → Option T → Option (List T) → Option (List T)
 with_first (Some v) (Some vs) = Some (v ∷ vs)
 with_first _ _ = None
@@ -65,6 +69,7 @@ abbrev pub all_named : {T : Type 0} → List (Name × Option T) → Option (List
 all_named [] = Some []
 all_named (e ∷ entries) = with_first (option_map (λ v. (e.0, v)) e.1) (all_named entries)
 
+-- whether what is met lets there be a result: a job whose outputs are known
 abbrev pub is_well : Made → Met → Bool
 is_well made (A_job job) = is_some (made job)
 is_well made (A_fault place cause) = false

@@ -1,5 +1,5 @@
 -- Where the machine can stand, with what has happened and the plan in force there.
-use Rattle.std.specs.Prelude.{◌≡◌, ℕ, List, [], ◌∷◌, Some, Result, Ok, Err, IfErr}
+use Rattle.std.specs.Prelude.{◌≡◌, ℕ, List, [], ◌∷◌, Some, Ok, Err, IfErr}
 use Rattle.command_line.specs.declared.launch.Launch.{Launch}
 use Rattle.command_line.specs.Launch.{IsLaunch}
 use Rattle.proc_host.specs.declared.plan.StagePlan.{StagePlan}
@@ -17,8 +17,6 @@ use Rattle.run_core.specs.Events.{Staged, Began, Came_back, Succeeded, Idle, Sta
 use Rattle.run_core.specs.Ending.{End, end_of, delivery_at}
 use Rattle.run_core.specs.Plans.{Mark, Load, Compute}
 use Rattle.run_core.specs.Scene.{scene_of}
-use Rattle.run_core.specs.Eval.{World}
-use Rattle.run_core.specs.Honest.{IsHonest, Means}
 use Rattle.run_core.specs.Reports.{report_of}
 use Rattle.run_core.specs.Machine.{tool_of, waits, ends, stages, starts, after_ticket}
 use Rattle.run_core.specs.Limits.{IsWithinLimits}
@@ -42,11 +40,10 @@ abbrev pub when_gathered : ℕ → Fields → So_far
 when_gathered ticket named =
     record { work = Idle; events = Staged [] 1 ∷ Began [] ticket ∷ Came_back ticket ∷ Succeeded [] named ∷ [] }
 
--- the end, and that it is right in each world where what has happened is honest
+-- that it has come to this end
 pub record HasEnded (setting : Setting) (f : So_far) (end : End) : Type 0 where
   pub idle : f.work ≡ Idle
   pub ended : end_of (scene_of setting) f.events ≡ Some end
-  pub right : (world : World) → IsHonest setting world f.events → Means setting world end
 
 pub data IsAt (setting : Setting) : So_far → List Mark → State → Type 0 where
   staging : (inputs : Fields) → IsLone setting inputs → IsAt setting at_first (Compute ∷ []) (stages inputs)

@@ -16,6 +16,7 @@ pub record Fault : Type 0 where
   pub place : JobPlace
   pub cause : Cause
 
+-- whether a job stands at a place
 abbrev pub is_at : JobPlace → Job → Bool
 is_at place job = is_same_place job.place place
 
@@ -24,17 +25,21 @@ abbrev pub made_by : List Resolved → Made
 made_by resolved job =
     option_map (λ r. fields_made job.place r.outputs) (find (λ r. is_same_place r.place job.place) resolved)
 
+-- the job that is met, or none where it is a fault
 abbrev pub job_met : Met → Option Job
 job_met (A_job job) = Some job
 job_met (A_fault place cause) = None
 
+-- the fault that is met, or none where it is a job
 abbrev pub fault_met : Met → Option Fault
 fault_met (A_job job) = None
 fault_met (A_fault place cause) = Some (record { place = place; cause = cause })
 
+-- whether one of these jobs stands at the job's place
 abbrev pub is_known : List Job → Job → Bool
 is_known jobs job = list_any (is_at job.place) jobs
 
+-- the jobs that are met at places where none of these jobs stands
 abbrev pub new_in : List Job → List Met → List Job
 new_in jobs met = filter (λ job. not (is_known jobs job)) (filter_map job_met met)
 

@@ -4,10 +4,14 @@ ghost use Rattle.std.specs.Prelude.{◌≡◌, List, Some};
 ghost use Rattle.run_core.specs.declared.request.Pair.{Pair};
 ghost use Rattle.run_core.specs.declared.request.Request.{Request};
 ghost use Rattle.run_core.specs.declared.setting.Setting.{Setting};
-ghost use Rattle.run_core.specs.Words.{Fields};
+ghost use Rattle.cwl_value.specs.Erased.{erased, fields_erased};
+ghost use Rattle.run_core.specs.Words.{Name, Fields};
 ghost use Rattle.run_core.specs.Allowed.{Allowed};
+ghost use Rattle.run_core.specs.Delivered.{located, object_of};
 ghost use Rattle.run_core.specs.Ending.{End, Succeeds, end_of};
+ghost use Rattle.run_core.specs.Eval.{World};
 ghost use Rattle.run_core.specs.Events.{So_far, Idle};
+ghost use Rattle.run_core.specs.Honest.{IsHonest, Means};
 ghost use Rattle.run_core.specs.Plans.{Mark};
 ghost use Rattle.run_core.specs.Run.{IsRun};
 ghost use Rattle.run_core.specs.Scene.{scene_of};
@@ -24,4 +28,17 @@ pub fn nothing_follows_the_end()
     ensures { (setting : Setting) (f : So_far) (marks : List Mark) (end : End) (request : Request)
         → f.work ≡ Idle → end_of (scene_of setting) f.events ≡ Some end
         → Allowed (scene_of setting) f marks request → ⊥ }
+{}
+
+/// In each world where all that happened in a run is as the world says, its end is right: a success is the value of
+/// the process there, and where it failed for good the process has none.
+pub fn an_honest_run_ends_rightly()
+    ensures { (setting : Setting) (t : List Pair) (end : End) (run : IsRun setting t end) (world : World)
+        → IsHonest setting world run.happened.events → Means setting world end }
+{}
+
+/// What is reported of a success is its value: without their places, the outputs as they are delivered are the outputs,
+/// in the order of their names.
+pub fn delivery_keeps_the_value()
+    ensures { (outdir : Name) (outputs : Fields) → erased (located outdir outputs) ≡ object_of (fields_erased outputs) }
 {}

@@ -5,8 +5,10 @@
 //! host only where a call failed by that very fault (`specs/Blame.antt`), and where the tools' outputs are those of some
 //! world, a success is the value of the process there (`specs/Eval.antt`). `laws.rt` says what follows for any run.
 //!
-//! `specs/Machine.antt` and `specs/Standing.antt` say what the machine does and where it stands. Only its private
-//! contracts rest on them, so a reader may skip them; `proofs/Rows.antt` computes the definitions on a worked example.
+//! `specs/Machine.antt` and `specs/Standing.antt` say what the machine does and where it stands. Of what a caller sees
+//! only `Stands` rests on them, the invariant that each call keeps (`specs/Core.antt`). A caller hands it on unopened,
+//! and what follows from it the other clauses say, so a reader may skip both. `proofs/Rows.antt` computes the
+//! definitions on a worked example.
 #![tactic(auto)]
 
 mod folders;
@@ -22,7 +24,10 @@ mod state;
 mod steps;
 mod targets;
 
-pub use laws::{nothing_follows_the_end, success_ran_a_child};
+pub use laws::{
+    an_honest_run_ends_rightly, delivery_keeps_the_value, nothing_follows_the_end,
+    success_ran_a_child,
+};
 pub use outcome::{Cause, CollectFault, Note, Outcome, PlanNote, Report, RunFault};
 pub use request::{Pair, Request};
 pub use runner::RunCore;

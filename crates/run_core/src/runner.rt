@@ -2,7 +2,7 @@ ghost use Rattle.std.specs.Prelude.{◌≡◌, ◌≢◌, ◌↔◌, ◌<◌, �
 ghost use Rattle.run_core.specs.declared.outcome.RunFault.{RunFault};
 ghost use Rattle.run_core.specs.declared.request.Request.{Request};
 ghost use Rattle.run_core.specs.declared.state.Phase.{Phase};
-ghost use Rattle.run_core.specs.Core.{setting_of, transcript, asked, flying, steps_left, IsLost, IsEnded, Stands, Begins};
+ghost use Rattle.run_core.specs.Core.{setting_of, transcript, asked, flying, steps_left, IsLost, IsEnded, Stands, MayAsk, Begins};
 ghost use Rattle.run_core.specs.Answers.{MayAnswer, flying_after};
 ghost use Rattle.run_core.specs.Blame.{BlamesRightly};
 ghost use Rattle.run_core.specs.Limits.{IsWithinLimits};
@@ -56,11 +56,12 @@ impl RunCore {
         })
     }
 
-    /// What it asks now; `Finished` where it has ended.
+    /// What it asks now, which may be asked after the run so far; `Finished` where it has ended.
     pub fn next(&self) -> &Request
         requires { Stands self.now }
         ensures asked { result.now ≡ asked self.now }
         ensures flying { asked self.now ≡ Request.Collect → flying self.now ≢ [] }
+        ensures allowed { asked self.now ≢ Request.Finished → MayAsk self.now }
     {
         &self.state.asks
     }

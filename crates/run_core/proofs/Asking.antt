@@ -1,0 +1,48 @@
+-- What the machine asks, its run may ask.
+use Rattle.std.proofs.Common.{◌≡◌, ◌≢◌, List, [], ◌∷◌, Some, refl, sym, subst}
+use Rattle.cwl_document.specs.declared.process.Tool.{Tool}
+use Rattle.run_core.specs.declared.request.Request.{Request}
+use Rattle.run_core.specs.declared.setting.Options.{Options}
+use Rattle.run_core.specs.declared.setting.Setting.{Setting}
+use Rattle.run_core.specs.declared.state.State.{State}
+use Rattle.run_core.specs.Words.{Fields}
+use Rattle.run_core.specs.Allowed.{Allowed}
+use Rattle.run_core.specs.Ending.{delivery_at}
+use Rattle.run_core.specs.Events.{So_far, at_first, unfolding_at}
+use Rattle.run_core.specs.Folders.{out_folder}
+use Rattle.run_core.specs.Machine.{tool_of, stages}
+use Rattle.run_core.specs.Plans.{Mark, Load, Compute}
+use Rattle.run_core.specs.Scene.{Scene, scene_of}
+use Rattle.run_core.specs.Standing.{IsLone, IsAt, staging, starting, running, scanning, delivering, ended, lost, when_staged, when_running, when_back, when_gathered}
+use Rattle.run_core.proofs.Advance.{its_scene, same}
+use Rattle.run_core.proofs.Lone.{may_stage, may_start, may_collect, may_scan, may_deliver}
+
+module _ (setting : Setting) where
+  -- what may be asked in the scene of its tool may be asked in its own
+  in_run : (inputs : Fields) → IsLone setting inputs → (f : So_far) (marks : List Mark) (asks : Request) →
+      Allowed (its_scene setting inputs) f marks asks → Allowed (scene_of setting) f marks asks
+  in_run inputs l f marks asks may = subst (λ (x : Scene). Allowed x f marks asks) (sym (same setting inputs l)) may
+
+  abbrev tool : Tool
+  tool = tool_of setting.process
+
+  abbrev o : Options
+  o = setting.options
+
+  pub asks_allowed : {f : So_far} {marks : List Mark} {state : State} → IsAt setting f marks state → state.asks ≢ Request.Finished →
+      Allowed (scene_of setting) f marks state.asks
+  asks_allowed (staging inputs l) asks =
+      in_run inputs l at_first (Compute ∷ []) (stages inputs).asks (may_stage tool inputs o l.limits)
+  asks_allowed (starting inputs launch l is) asks =
+      in_run inputs l when_staged (Compute ∷ []) (Request.Start [] launch) (may_start tool inputs o l.limits launch is)
+  asks_allowed (running inputs ticket l) asks =
+      in_run inputs l (when_running ticket) (Load ∷ []) Request.Collect (may_collect tool inputs o l.limits ticket)
+  asks_allowed (scanning inputs ticket l) asks =
+      in_run inputs l (when_back ticket) (Load ∷ []) (Request.Scan [] (out_folder o.work 1)) (may_scan tool inputs o l.limits ticket)
+  asks_allowed (delivering inputs ticket named outputs plan l result delivery) asks =
+      in_run inputs l (when_gathered ticket named) (Load ∷ []) (Request.Deliver plan)
+      (may_deliver tool inputs o l.limits ticket named outputs plan
+      (subst (λ (x : Scene). (unfolding_at x (when_gathered ticket named).events).result ≡ Some outputs) (same setting inputs l) result)
+      (subst (λ (x : Scene). delivery_at x (when_gathered ticket named).events outputs ≡ Some plan) (same setting inputs l) delivery))
+  asks_allowed (ended f marks end has) asks = absurd (asks refl)
+  asks_allowed (lost f marks) asks = absurd (asks refl)
