@@ -39,77 +39,18 @@ fn sample(alloc: Global) -> Result<Value, Fail> {
 }
 
 #[test]
-fn reference_values_of_numbers(rt: HostRuntime) -> Result<(), Fail> {
+fn reference_values(rt: HostRuntime) -> Result<(), Fail> {
     let alloc = rt.alloc();
     let inputs = sample(alloc)?;
-    assert_eq!(rt;
-        value_in(alloc, &inputs, "x$(inputs.n)y")?.as_str(),
-        "\"x-7y\""
-    );
-    assert_eq!(rt; value_in(alloc, &inputs, " $(inputs.n) ")?.as_str(), "-7");
-    assert_eq!(rt;
-        value_in(alloc, &inputs, "$(inputs.l.length)")?.as_str(),
-        "2"
-    );
-    Ok(())
-}
-
-#[test]
-fn reference_values_of_texts(rt: HostRuntime) -> Result<(), Fail> {
-    let alloc = rt.alloc();
-    let inputs = sample(alloc)?;
-    assert_eq!(rt;
-        value_in(alloc, &inputs, "$(inputs.s[1])")?.as_str(),
-        "\"b\""
-    );
-    assert_eq!(rt;
-        refusal(alloc, &inputs, "$(inputs.s[2])"),
-        Some(RefFault::IndexOut)
-    );
-    assert_eq!(rt; value_in(alloc, &inputs, "$(self)")?.as_str(), "null");
-    Ok(())
-}
-
-#[test]
-fn reference_values_refused(rt: HostRuntime) -> Result<(), Fail> {
-    let alloc = rt.alloc();
-    let inputs = sample(alloc)?;
-    assert_eq!(rt;
-        refusal(alloc, &inputs, "$(inputs.l[2])"),
-        Some(RefFault::IndexOut)
-    );
-    assert_eq!(rt;
-        refusal(alloc, &inputs, "$(inputs.q)"),
-        Some(RefFault::NoField)
-    );
-    assert_eq!(rt;
-        refusal(alloc, &inputs, "$(inputs.n.a)"),
-        Some(RefFault::WrongKind)
-    );
-    assert_eq!(rt; refusal(alloc, &inputs, "$(x)"), Some(RefFault::NoName));
-    Ok(())
-}
-
-#[test]
-fn reference_values_not_read(rt: HostRuntime) -> Result<(), Fail> {
-    let alloc = rt.alloc();
-    let inputs = sample(alloc)?;
-    assert_eq!(rt;
-        refusal(alloc, &inputs, r"\$(inputs.n)"),
-        Some(RefFault::BackslashOut)
-    );
-    assert_eq!(rt;
-        refusal(alloc, &inputs, "${1}"),
-        Some(RefFault::NotAReference)
-    );
-    assert_eq!(rt;
-        refusal(alloc, &inputs, r"${1}\"),
-        Some(RefFault::BackslashOut)
-    );
-    assert_eq!(rt;
-        refusal(alloc, &inputs, "$(inputs.n"),
-        Some(RefFault::NotAReference)
-    );
+    for (text, json) in [
+        ("x$(inputs.n)y", r#""x-7y""#),
+        (" $(inputs.n) ", "-7"),
+        ("$(inputs.l.length)", "2"),
+        ("$(inputs.s[1])", r#""b""#),
+        ("$(self)", "null"),
+    ] {
+        assert_eq!(rt; value_in(alloc, &inputs, text)?.as_str(), json, "{text}");
+    }
     Ok(())
 }
 
@@ -117,57 +58,62 @@ fn reference_values_not_read(rt: HostRuntime) -> Result<(), Fail> {
 fn plain_text_stays(rt: HostRuntime) -> Result<(), Fail> {
     let alloc = rt.alloc();
     let inputs = sample(alloc)?;
-    assert_eq!(rt; value_in(alloc, &inputs, "")?.as_str(), "\"\"");
-    assert_eq!(rt;
-        value_in(alloc, &inputs, r"a\$b$ (c)")?.as_str(),
-        r#""a\\$b$ (c)""#
-    );
-    assert_eq!(rt;
-        value_in(alloc, &inputs, "$$(inputs.n)$(inputs.l)$")?.as_str(),
-        r#""$-7[1,2]$""#
-    );
+    for (text, json) in [
+        ("", r#""""#),
+        (r"a\$b$ (c)", r#""a\\$b$ (c)""#),
+        ("$$(inputs.n)$(inputs.l)$", r#""$-7[1,2]$""#),
+    ] {
+        assert_eq!(rt; value_in(alloc, &inputs, text)?.as_str(), json, "{text}");
+    }
     Ok(())
 }
 
 #[test]
-fn quoted_keys(rt: HostRuntime) -> Result<(), Fail> {
+fn keys_and_characters(rt: HostRuntime) -> Result<(), Fail> {
     let alloc = rt.alloc();
     let inputs = sample(alloc)?;
-    assert_eq!(rt;
-        value_in(alloc, &inputs, "$(inputs['é é'][\"k.\"])")?.as_str(),
-        "true"
-    );
-    assert_eq!(rt;
-        refusal(alloc, &inputs, "$(inputs['$(x)'])"),
-        Some(RefFault::NoField)
-    );
-    assert_eq!(rt;
-        refusal(alloc, &inputs, "$(inputs[''])"),
-        Some(RefFault::NoField)
-    );
-    assert_eq!(rt;
-        refusal(alloc, &inputs, "$(inputs['n\"])"),
-        Some(RefFault::NotAReference)
-    );
+    for (text, json) in [
+        (r#"$(inputs['é é']["k."])"#, "true"),
+        ("$(inputs.t[2])", r#""€""#),
+        ("$(inputs.t[03][0])", r#""z""#),
+    ] {
+        assert_eq!(rt; value_in(alloc, &inputs, text)?.as_str(), json, "{text}");
+    }
     Ok(())
 }
 
 #[test]
-fn characters_are_counted(rt: HostRuntime) -> Result<(), Fail> {
+fn reference_values_refused(rt: HostRuntime) -> Result<(), Fail> {
     let alloc = rt.alloc();
     let inputs = sample(alloc)?;
-    assert_eq!(rt;
-        value_in(alloc, &inputs, "$(inputs.t[2])")?.as_str(),
-        "\"€\""
-    );
-    assert_eq!(rt;
-        value_in(alloc, &inputs, "$(inputs.t[03][0])")?.as_str(),
-        "\"z\""
-    );
-    assert_eq!(rt;
-        refusal(alloc, &inputs, "$(inputs.t[4])"),
-        Some(RefFault::IndexOut)
-    );
+    for (text, fault) in [
+        ("$(inputs.s[2])", RefFault::IndexOut),
+        ("$(inputs.l[2])", RefFault::IndexOut),
+        ("$(inputs.q)", RefFault::NoField),
+        ("$(inputs.n.a)", RefFault::WrongKind),
+        ("$(x)", RefFault::NoName),
+        (r"\$(inputs.n)", RefFault::BackslashOut),
+        ("${1}", RefFault::NotAReference),
+    ] {
+        assert_eq!(rt; refusal(alloc, &inputs, text), Some(fault), "{text}");
+    }
+    Ok(())
+}
+
+#[test]
+fn further_refusals(rt: HostRuntime) -> Result<(), Fail> {
+    let alloc = rt.alloc();
+    let inputs = sample(alloc)?;
+    for (text, fault) in [
+        (r"${1}\", RefFault::BackslashOut),
+        ("$(inputs.n", RefFault::NotAReference),
+        ("$(inputs['$(x)'])", RefFault::NoField),
+        ("$(inputs[''])", RefFault::NoField),
+        ("$(inputs['n\"])", RefFault::NotAReference),
+        ("$(inputs.t[4])", RefFault::IndexOut),
+    ] {
+        assert_eq!(rt; refusal(alloc, &inputs, text), Some(fault), "{text}");
+    }
     Ok(())
 }
 
@@ -175,13 +121,16 @@ fn characters_are_counted(rt: HostRuntime) -> Result<(), Fail> {
 fn indexes_of_any_size(rt: HostRuntime) -> Result<(), Fail> {
     let alloc = rt.alloc();
     let inputs = sample(alloc)?;
-    let past = "$(inputs.l[18446744073709551616])";
-    assert_eq!(rt; refusal(alloc, &inputs, past), Some(RefFault::IndexOut));
-    let past_text = "$(inputs.s[184467440737095516160000000000])";
-    assert_eq!(rt;
-        refusal(alloc, &inputs, past_text),
-        Some(RefFault::IndexOut)
-    );
+    for text in [
+        "$(inputs.l[18446744073709551616])",
+        "$(inputs.s[184467440737095516160000000000])",
+    ] {
+        assert_eq!(rt;
+            refusal(alloc, &inputs, text),
+            Some(RefFault::IndexOut),
+            "{text}"
+        );
+    }
     Ok(())
 }
 
@@ -189,26 +138,15 @@ fn indexes_of_any_size(rt: HostRuntime) -> Result<(), Fail> {
 fn the_leftmost_refusal(rt: HostRuntime) -> Result<(), Fail> {
     let alloc = rt.alloc();
     let inputs = sample(alloc)?;
-    assert_eq!(rt;
-        refusal(alloc, &inputs, "$(inputs.q)$(x)"),
-        Some(RefFault::NoField)
-    );
-    assert_eq!(rt;
-        refusal(alloc, &inputs, "$(x)$(inputs.q)"),
-        Some(RefFault::NoName)
-    );
-    assert_eq!(rt;
-        refusal(alloc, &inputs, "$(null.a)"),
-        Some(RefFault::WrongKind)
-    );
-    assert_eq!(rt;
-        refusal(alloc, &inputs, "$(runtime)"),
-        Some(RefFault::NoName)
-    );
-    assert_eq!(rt;
-        refusal(alloc, &inputs, "$(inputs.l.length.a)"),
-        Some(RefFault::WrongKind)
-    );
+    for (text, fault) in [
+        ("$(inputs.q)$(x)", RefFault::NoField),
+        ("$(x)$(inputs.q)", RefFault::NoName),
+        ("$(null.a)", RefFault::WrongKind),
+        ("$(runtime)", RefFault::NoName),
+        ("$(inputs.l.length.a)", RefFault::WrongKind),
+    ] {
+        assert_eq!(rt; refusal(alloc, &inputs, text), Some(fault), "{text}");
+    }
     Ok(())
 }
 
@@ -235,19 +173,33 @@ fn value_of(alloc: Global, own: &Value, has_outdir: bool, text: &str) -> Result<
     value_with(alloc, own, Some(&runtime), own, text)
 }
 
+// Whether that text is refused for a field that is not there.
+fn no_field(alloc: Global, own: &Value, has_outdir: bool, text: &str) -> bool {
+    matches!(
+        value_of(alloc, own, has_outdir, text),
+        Err(RefFault::NoField)
+    )
+}
+
 #[test]
 fn keys_of_a_file(rt: HostRuntime) -> Result<(), Fail> {
     let alloc = rt.alloc();
     let own = Value::FileVal(file(alloc, "/d/a b.tar.gz", "a b.tar.gz")?);
-    let names = "$(self.class) $(self.basename) $(self.nameroot) $(self.nameext) $(self.size)";
-    assert_eq!(rt;
-        value_of(alloc, &own, false, names)?.as_str(),
-        r#""File a b.tar.gz a b.tar .gz 3""#
-    );
-    assert_eq!(rt;
-        value_of(alloc, &own, true, "$(self.path)")?.as_str(),
-        r#""/d/a b.tar.gz""#
-    );
+    for (has_outdir, text, json) in [
+        (
+            false,
+            "$(self.class) $(self.basename) $(self.nameroot) $(self.nameext) $(self.size)",
+            r#""File a b.tar.gz a b.tar .gz 3""#,
+        ),
+        (true, "$(self.path)", r#""/d/a b.tar.gz""#),
+        (true, "$(self.dirname)", r#""/d""#),
+    ] {
+        assert_eq!(rt;
+            value_of(alloc, &own, has_outdir, text)?.as_str(),
+            json,
+            "{text}"
+        );
+    }
     Ok(())
 }
 
@@ -256,44 +208,49 @@ fn places_of_a_file(rt: HostRuntime) -> Result<(), Fail> {
     let alloc = rt.alloc();
     let own = Value::FileVal(file(alloc, "/d/é%", "x")?);
     assert_eq!(rt;
-        value_of(alloc, &own, true, "$(self.dirname)")?.as_str(),
-        r#""/d""#
-    );
-    assert_eq!(rt;
         value_of(alloc, &own, true, "$(self.location)")?.as_str(),
         r#""file:///d/%C3%A9%25""#
     );
-    assert_eq!(rt;
-        value_of(alloc, &own, false, "$(self.location)").err(),
-        Some(RefFault::NoField)
-    );
-    assert_eq!(rt;
-        value_of(alloc, &own, true, "$(self.secondaryFiles)").err(),
-        Some(RefFault::NoField)
-    );
+    for (has_outdir, text) in [
+        (false, "$(self.location)"),
+        (true, "$(self.secondaryFiles)"),
+    ] {
+        assert!(rt; no_field(alloc, &own, has_outdir, text), "{text}");
+    }
     Ok(())
+}
+
+// A Directory at /d that lists b and then a.
+fn directory(alloc: Global) -> Result<Value, AllocError> {
+    let mut listing = Items::new(alloc);
+    for (path, name) in [("/d/b", "b"), ("/d/a", "a")] {
+        listing.push(Value::FileVal(file(alloc, path, name)?))?;
+    }
+    Ok(Value::DirVal(DirVal {
+        place: Place::Path(Text::from_text(alloc, "/d")?),
+        basename: Some(Text::from_text(alloc, "d")?),
+        listing: Some(listing),
+    }))
 }
 
 #[test]
 fn keys_of_a_directory(rt: HostRuntime) -> Result<(), Fail> {
     let alloc = rt.alloc();
-    let mut listing = Items::new(alloc);
-    listing.push(Value::FileVal(file(alloc, "/d/b", "b")?))?;
-    listing.push(Value::FileVal(file(alloc, "/d/a", "a")?))?;
-    let own = Value::DirVal(DirVal {
-        place: Place::Path(Text::from_text(alloc, "/d")?),
-        basename: Some(Text::from_text(alloc, "d")?),
-        listing: Some(listing),
-    });
-    let text = "$(self.listing[0].basename)$(self.class)";
-    assert_eq!(rt;
-        value_of(alloc, &own, false, text)?.as_str(),
-        r#""aDirectory""#
-    );
-    assert_eq!(rt;
-        value_of(alloc, &own, true, "$(self.listing[1].path)")?.as_str(),
-        r#""/d/b""#
-    );
+    let own = directory(alloc)?;
+    for (has_outdir, text, json) in [
+        (
+            false,
+            "$(self.listing[0].basename)$(self.class)",
+            r#""aDirectory""#,
+        ),
+        (true, "$(self.listing[1].path)", r#""/d/b""#),
+    ] {
+        assert_eq!(rt;
+            value_of(alloc, &own, has_outdir, text)?.as_str(),
+            json,
+            "{text}"
+        );
+    }
     Ok(())
 }
 
@@ -312,10 +269,7 @@ fn a_joined_file_has_no_place(rt: HostRuntime) -> Result<(), Fail> {
         value_of(alloc, &own, true, "-$(self)")?.as_str(),
         r#""-{\"class\":\"File\"}""#
     );
-    assert_eq!(rt;
-        value_of(alloc, &own, true, "$(self.location)").err(),
-        Some(RefFault::NoField)
-    );
+    assert!(rt; no_field(alloc, &own, true, "$(self.location)"));
     readings_are_settled();
     Ok(())
 }
