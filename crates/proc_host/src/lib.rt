@@ -1,4 +1,4 @@
-//! What a run asks of the world, and what the world answers.
+//! The world as a run meets it: which calls there are, and how each can be answered.
 //!
 //! A `Host` stages files, starts children, collects their ends, scans folders and delivers outputs. It keeps a
 //! log: each call adds exactly one entry, of what was asked and what was answered, or none where memory was
