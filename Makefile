@@ -1,12 +1,25 @@
-.PHONY: help demo test
+# Needs bash, make, python3 (3.8 or later) and the Rattle toolchain, whose command is rt.
+.PHONY: build help demo test gate-cost wrong-bodies
+
+# Proves and builds the program, and prints its path.
+build:
+	@scripts/build
 
 help:
-	@echo "make demo   build what it needs and run the worked example"
-	@echo "make test   the whole gate: every proof from nothing, the wrong bodies, the tests, the program"
+	@echo "make               prove and build the program, and print its path"
+	@echo "make demo          run the worked example, unproved, for a first look"
+	@echo "make test          the whole gate: every proof from nothing, the tests, the programs, the wrong bodies of must-fail/"
+	@echo "make gate-cost     what the last gate cost, by crate and part"
+	@echo "make wrong-bodies  try all wrong bodies over kept work; NAME=crate: those of one crate"
 
 demo:
-	@mkdir -p crates/cwl_main/out
-	@cd crates/cwl_main && rt run -- demo 2> out/demo.log || { cat out/demo.log >&2; exit 1; }
+	@scripts/demo
 
 test:
-	@rt ci
+	@scripts/gate
+
+gate-cost:
+	@scripts/gate-cost
+
+wrong-bodies:
+	@scripts/wrong-bodies $(NAME)

@@ -13,9 +13,13 @@
 
 mod augment;
 mod begin;
+mod blocking;
 mod chase;
 mod edit;
 mod error;
+mod greatest;
+mod levels;
+mod network;
 mod planner;
 mod search;
 #[cfg(test)]

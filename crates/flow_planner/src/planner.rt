@@ -4,15 +4,17 @@ ghost use Rattle.std.specs.Prelude.{◌≡◌, ◌<◌, IfOk, length, vec_len};
 ghost use Rattle.plan_checker.specs.Graph.{IsGraph};
 ghost use Rattle.plan_checker.specs.Least.{IsLeast};
 ghost use Rattle.plan_checker.specs.Certificate.{IsCertificate};
+ghost use Rattle.flow_planner.specs.Flow.{AreFairBut, nothing};
 ghost use Rattle.flow_planner.specs.Search.{marked, AreMarked};
 
 use crate::augment::augment;
 use crate::begin::no_charges;
 use crate::chase::{Chase, find_path};
 use crate::error::OutOfMemory;
+use crate::greatest::greatest;
 use crate::search::Search;
 use plain_data::Items;
-use plan_checker::{Charges, Graph, Mark, Plan, Vertex};
+use plan_checker::{Charges, Graph, Mark, Plan, Vertex, check};
 use std::alloc::{AllocError, Global};
 
 /// What is done with a job, by what a last search reached.
@@ -44,12 +46,17 @@ fn read_off(alloc: Global, search: &Search, jobs: usize) -> Result<Plan, AllocEr
 }
 
 /// Augments until no path is left.
-fn plan_vertices(alloc: Global, vertices: &[Vertex]) -> Result<(Plan, Charges), AllocError>
-    requires { IsGraph vertices.now }
+fn plan_from(
+    alloc: Global,
+    vertices: &[Vertex],
+    start: Charges,
+) -> Result<(Plan, Charges), AllocError>
+    requires graph { IsGraph vertices.now }
+    requires fair { AreFairBut vertices.now start nothing nothing }
     ensures least { IfOk result (λ made. IsLeast vertices.now made.0.marks) }
     ensures certified { IfOk result (λ made. IsCertificate vertices.now made.0.marks made.1) }
 {
-    let mut charges = no_charges(alloc, vertices)?;
+    let mut charges = start;
     let mut search = Search::new(alloc, vertices.len())?;
     let mut chase = Chase::new(alloc, vertices)?;
     loop {
@@ -61,6 +68,17 @@ fn plan_vertices(alloc: Global, vertices: &[Vertex]) -> Result<(Plan, Charges), 
     }
 }
 
+/// The charges of a greatest flow; none, where they don't certify the plan beside them.
+fn fair_start(alloc: Global, graph: &Graph) -> Result<Charges, AllocError>
+    ensures { IfOk result (λ charges. AreFairBut graph.now charges nothing nothing) }
+{
+    let (plan, charges) = greatest(alloc, graph.vertices())?;
+    match check(graph, &plan, &charges) {
+        Ok(_) => Ok(charges),
+        Err(_) => no_charges(alloc, graph.vertices()),
+    }
+}
+
 /// The Least plan of a graph, and charges that certify it.
 ///
 /// It fails only for want of memory. Since a graph has one Least plan, the plan is one function of the graph; the
@@ -69,5 +87,6 @@ pub fn plan(alloc: Global, graph: &Graph) -> Result<(Plan, Charges), OutOfMemory
     ensures least { IfOk result (λ made. IsLeast graph.now made.0.marks) }
     ensures certified { IfOk result (λ made. IsCertificate graph.now made.0.marks made.1) }
 {
-    Ok(plan_vertices(alloc, graph.vertices())?)
+    let start = fair_start(alloc, graph)?;
+    Ok(plan_from(alloc, graph.vertices(), start)?)
 }

@@ -13,21 +13,30 @@ const BLOCK: usize = 65_536;
 fn main(rt: HostRuntime) -> Result<()> {
     let mut words = env::args(&rt)?;
     let _program = words.next();
-    let (Some(verb), Some(object)) = (words.next(), words.next()) else {
-        bail!("sum FILE, or digest BYTES");
-    };
-    match verb.as_str() {
-        "sum" => {
-            let mut reader = Watched::new(fs::open(&rt, object.as_str())?);
-            let sum = sum_of(rt.alloc(), &mut reader)?;
-            println!(rt; "{} {}", sum.sum, sum.size)?;
-        }
-        "digest" => {
-            let sum = digest_of_zeros(rt.alloc(), object.as_str().parse::<u64>()?)?;
-            println!(rt; "{sum}")?;
-        }
+    match (words.next(), words.next()) {
+        (Some(verb), Some(object)) => measured(&rt, verb.as_str(), object.as_str()),
         _ => bail!("sum FILE, or digest BYTES"),
     }
+}
+
+fn measured(rt: &HostRuntime, verb: &str, object: &str) -> Result<()> {
+    match verb {
+        "sum" => print_sum(rt, object),
+        "digest" => print_digest(rt, object),
+        _ => bail!("sum FILE, or digest BYTES"),
+    }
+}
+
+fn print_sum(rt: &HostRuntime, file: &str) -> Result<()> {
+    let mut reader = Watched::new(fs::open(rt, file)?);
+    let sum = sum_of(rt.alloc(), &mut reader)?;
+    println!(rt; "{} {}", sum.sum, sum.size)?;
+    Ok(())
+}
+
+fn print_digest(rt: &HostRuntime, bytes: &str) -> Result<()> {
+    let sum = digest_of_zeros(rt.alloc(), bytes.parse::<u64>()?)?;
+    println!(rt; "{sum}")?;
     Ok(())
 }
 

@@ -4,11 +4,11 @@ use Rattle.flow_planner.specs.Flow.{nothing}
 use Rattle.flow_planner.proofs.Certify.{IsFinal, fair_from, certificate_from, least_from}
 use Rattle.flow_planner.proofs.Bounds.{pays-le}
 use Rattle.flow_planner.proofs.Fresh.{starts}
-use Rattle.flow_planner.proofs.planner.plan_vertices.Goals as goal
+use Rattle.flow_planner.proofs.planner.plan_from.Goals as goal
 
 pub find_path-requires : goal.find_path-requires
 find_path-requires c = record {
-  under_way = starts c.args.vertices.now c.loop-end.charges c.loop-end.search c.requires c.loop-end.invariant.0 c.loop-end.invariant.1;
+  under_way = starts c.args.vertices.now c.loop-end.charges c.loop-end.search c.requires.graph c.loop-end.invariant.0 c.loop-end.invariant.1;
 }
 
 pub returns-in-None-clause-least : goal.returns-in-None-clause-least
@@ -19,7 +19,7 @@ returns-in-None-clause-least c =
     let marks = c.in_ok-read_off-in-None.field-0.marks in
     let marked = c.in_ok-read_off-in-None.ensures in
     let final : IsFinal graph charges search marks = record {
-      good = c.requires;
+      good = c.requires.graph;
       fair = fair_from graph charges c.loop-end.invariant.0;
       settled = c.in-None.ensures.settled;
       count = marked.count;
@@ -35,7 +35,7 @@ returns-in-None-clause-certified c =
     let marks = c.in_ok-read_off-in-None.field-0.marks in
     let marked = c.in_ok-read_off-in-None.ensures in
     let final : IsFinal graph charges search marks = record {
-      good = c.requires;
+      good = c.requires.graph;
       fair = fair_from graph charges c.loop-end.invariant.0;
       settled = c.in-None.ensures.settled;
       count = marked.count;
@@ -56,5 +56,5 @@ loop-end-smaller c =
     let some = path.some in
     let changed = sum_by-set (λ x. x) old.pay end.job paid 0 (omega arith) in
     let now = ap sum c.augment.ensures.pay in
-    let most = pays-le graph new nothing nothing c.requires c.augment.ensures.fair in
+    let most = pays-le graph new nothing nothing c.requires.graph c.augment.ensures.fair in
     omega arith

@@ -1,7 +1,7 @@
 use Rattle.std.proofs.Common.{◌*◌, ◌-◌, length, sum}
 use Rattle.flow_planner.specs.Flow.{AreFairBut, nothing}
 use Rattle.flow_planner.specs.Search.{IsUntouched}
-use Rattle.flow_planner.proofs.planner.plan_vertices.Given as goal
+use Rattle.flow_planner.proofs.planner.plan_from.Given as goal
 
 abbrev pub invariant-loop-end : goal.invariant-loop-end
 invariant-loop-end l = AreFairBut l.vertices l.charges nothing nothing × IsUntouched (length l.vertices) l.search

@@ -1,0 +1,56 @@
+"""What the scripts of this folder share: the crates of crates.txt, their lines and their order."""
+
+import os
+import re
+
+TOP = os.path.dirname(os.path.dirname(os.path.realpath(__file__)))
+
+
+def crates():
+    """Returns the crates of crates.txt by name, each with the repository's crates that it uses."""
+    found = {}
+    with open(f"{TOP}/crates.txt", encoding="utf-8") as it:
+        for line in it:
+            name, colon, used = line.partition("#")[0].partition(":")
+            if colon:
+                found[name.split()[0]] = used.split()
+    return {name: [it for it in used if it in found] for name, used in found.items()}
+
+
+def below(name, known):
+    """Returns the crates below this one, each after those that it uses."""
+    found = []
+    for used in known[name]:
+        found += [it for it in [*below(used, known), used] if it not in found]
+    return found
+
+
+def files(name, *endings):
+    """Returns the crate's files with one of these endings, by their paths."""
+    found = []
+    for part in ("src", "specs", "proofs"):
+        for at, folders, names in os.walk(f"{TOP}/crates/{name}/{part}"):
+            folders.sort()
+            found += [f"{at}/{it}" for it in sorted(names) if it.endswith(endings)]
+    return found
+
+
+def text_of(file):
+    with open(file, encoding="utf-8", errors="replace") as it:
+        return it.read()
+
+
+def lines(name):
+    """Returns how many lines of code, definitions and proofs the crate has."""
+    return sum(text_of(it).count("\n") for it in files(name, ".rt", ".antt"))
+
+
+def has_tests(name):
+    return any(re.search(r"#\s*\[[^]]*\btest\b", text_of(it)) for it in files(name, ".rt"))
+
+
+def edits(folder):
+    """Returns the edits that stand right in this folder, by their paths."""
+    if not os.path.isdir(folder):
+        return []
+    return [f"{folder}/{it}" for it in sorted(os.listdir(folder)) if it.endswith(".edit")]
