@@ -1,3 +1,8 @@
+ghost use Rattle.std.specs.Prelude.{◌≡◌, IfOk, IfErr, map, option_map, option_and_then};
+ghost use Rattle.clap.specs.Words.{HasKind, app_of, fault_of, first_of, found_of, rows_of, subcommand_rows_of};
+ghost use Rattle.cwl_program.specs.CommandLine.{Asks, command_line, file_named, file_of};
+ghost use Rattle.std.specs.Prelude.{string_bytes};
+
 use clap::{Arg, ArgAction, ArgMatches, Command, Error};
 use std::alloc::Global;
 
@@ -9,7 +14,9 @@ pub enum Choice<'a> {
     Check(&'a str),
 }
 
-fn command<'a>(alloc: Global) -> Result<Command<'a>, Error> {
+fn command<'a>(alloc: Global) -> Result<Command<'a>, Error>
+    ensures { IfOk result (λ command. app_of command ≡ command_line) }
+{
     let demo = Command::new(alloc, "demo").about("Runs a small tool over a scripted host");
     let file = Arg::new(alloc, "CERTIFICATE")
         .required(true)
@@ -18,7 +25,7 @@ fn command<'a>(alloc: Global) -> Result<Command<'a>, Error> {
     let check = Command::new(alloc, "check")
         .about("Says whether a certificate shows its plan to be a cheapest one")
         .arg(file)?;
-    let whole = Command::new(alloc, "cwl_main")
+    let whole = Command::new(alloc, "deparohi")
         .about("Runs documents of the Common Workflow Language")
         .subcommand_required(true)
         .subcommand(demo)?
@@ -27,12 +34,17 @@ fn command<'a>(alloc: Global) -> Result<Command<'a>, Error> {
 }
 
 /// Reads the command line. An `Err` has the text for the user: help, or what is wrong.
-pub fn choice_of<'a>(alloc: Global, words: &'a [String]) -> Result<Choice<'a>, Error> {
+pub fn choice_of<'a>(alloc: Global, words: &'a [String]) -> Result<Choice<'a>, Error>
+    ensures ok { IfOk result (λ choice. Asks (map (λ word. string_bytes word) words.entry.now) (file_of choice)) }
+    ensures err { IfErr result (HasKind (fault_of command_line (map (λ word. string_bytes word) words.entry.now))) }
+{
     let matches = command(alloc)?.try_get_matches_from(words)?;
     Ok(chosen(&matches))
 }
 
-fn chosen<'a>(matches: &ArgMatches<'a>) -> Choice<'a> {
+fn chosen<'a>(matches: &ArgMatches<'a>) -> Choice<'a>
+    ensures { file_of result ≡ option_and_then file_named (subcommand_rows_of matches.now) }
+{
     match matches.subcommand() {
         Some(("check", words)) => Choice::Check(words.get_str("CERTIFICATE").unwrap_or("")),
         _ => Choice::Demo,

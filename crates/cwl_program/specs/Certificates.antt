@@ -1,0 +1,33 @@
+-- What the program says of the bytes of a certificate's file.
+use Rattle.std.specs.Prelude.{ℕ, List, ◌++◌, codes, decimal}
+use Rattle.plan_checker.specs.declared.vertex.Vertex.{Vertex}
+use Rattle.plan_checker.specs.declared.plan.Mark.{Mark}
+use Rattle.plan_checker.specs.declared.charges.Charges.{Charges}
+use Rattle.plan_checker.specs.declared.broken.Broken.{Broken as Rule}
+use Rattle.plan_checker.specs.Broken.{IsFirstBroken}
+use Rattle.plan_checker.specs.Certificate.{IsCertificate}
+use Rattle.plan_checker.specs.Format.{IsTextOf, IsFirstBad}
+use Rattle.plan_checker.specs.Plan.{cost}
+use Rattle.cwl_program.specs.declared.ending.Ending.{Ending}
+use Rattle.cwl_program.specs.declared.ending.Ending.TheVariants.{Output, Broken, Refused, Fault}
+use Rattle.cwl_program.specs.declared.ending.Fault.TheVariants as faults
+use Rattle.cwl_program.specs.declared.ending.Refusal.TheVariants as refusals
+
+-- the line for a certificate of this cost
+abbrev pub ok_line : ℕ → List ℕ
+ok_line total = codes "ok " ++ decimal total
+
+-- what these bytes are: the text of a certificate, that of three which break a rule, or no such text
+pub data IsVerdict (bytes : List ℕ) : Ending → Type 0 where
+  holds : (graph : List Vertex) (marks : List Mark) (charges : Charges) →
+      IsTextOf bytes graph marks charges → IsCertificate graph marks charges →
+      IsVerdict bytes (Output (ok_line (cost graph marks)))
+  breaks : (graph : List Vertex) (marks : List Mark) (charges : Charges) (rule : Rule) →
+      IsTextOf bytes graph marks charges → IsFirstBroken graph marks charges rule →
+      IsVerdict bytes (Broken rule)
+  unreadable : (line : ℕ) → IsFirstBad bytes line → IsVerdict bytes (Refused refusals.Certificate)
+
+-- what is said of a certificate's file
+pub data IsCheck : Ending → Type 0 where
+  read : {ending : Ending} (bytes : List ℕ) → IsVerdict bytes ending → IsCheck ending
+  unread : IsCheck (Fault faults.Input)

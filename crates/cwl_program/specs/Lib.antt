@@ -1,0 +1,6 @@
+pub mod Certificates
+pub mod CommandLine
+pub mod Runs
+pub mod Status
+pub mod Tells
+pub mod Words

@@ -1,0 +1,51 @@
+-- How the answer of a run ends the program.
+use Rattle.std.specs.Prelude.{◌≡◌, ℕ, List, [], Result, Ok, Err}
+use Rattle.serde_json.specs.Written.{compact_text}
+use Rattle.cwl_document.specs.declared.process.Process.{Process}
+use Rattle.cwl_value.specs.Json.{json_of}
+use Rattle.cwl_value.specs.Places.{job_text}
+use Rattle.cwl_value.specs.declared.value.Value.TheVariants as values
+use Rattle.cwl_value.specs.declared.place.Segment.{Segment}
+use Rattle.proc_host.specs.declared.call.Entry.{Entry}
+use Rattle.run_core.specs.Words.{Fields}
+use Rattle.run_core.specs.declared.outcome.Outcome.{Outcome}
+use Rattle.run_core.specs.declared.outcome.Outcome.TheVariants as outcomes
+use Rattle.run_core.specs.declared.outcome.Report.{Report}
+use Rattle.run_core.specs.declared.outcome.RunFault.{RunFault}
+use Rattle.run_core.specs.declared.outcome.RunFault.TheVariants as run_faults
+use Rattle.run_core.specs.declared.setting.Options.{Options}
+use Rattle.workflow_engine.specs.Gains.{RunsOn}
+use Rattle.cwl_program.specs.declared.ending.Ending.{Ending}
+use Rattle.cwl_program.specs.declared.ending.Ending.TheVariants as endings
+use Rattle.cwl_program.specs.declared.ending.Fault.{Fault}
+use Rattle.cwl_program.specs.declared.ending.Fault.TheVariants as faults
+use Rattle.cwl_program.specs.declared.ending.Refusal.{Refusal}
+
+-- the place of a job as JSON text, as `"main/step[0]"`
+abbrev pub place_json : List Segment → List ℕ
+place_json place = compact_text (json_of (values.Text (job_text place)))
+
+-- the output object in one line, or which job failed and how
+abbrev pub outcome_ending : Outcome → Ending
+outcome_ending (outcomes.Success outputs) = endings.Output (compact_text (json_of outputs))
+outcome_ending (outcomes.PermanentFail place cause) = endings.Permanent (place_json place)
+outcome_ending (outcomes.TemporaryFail place) = endings.Temporary (place_json place)
+
+-- a run that has no outcome is a fault
+abbrev pub fault_of : RunFault → Fault
+fault_of (run_faults.Host fault running) = faults.Host fault
+fault_of run_faults.OutOfMemory = faults.OutOfMemory
+
+abbrev pub run_ending : Result Report RunFault → Ending
+run_ending (Ok report) = outcome_ending report.outcome
+run_ending (Err fault) = endings.Fault (fault_of fault)
+
+-- how a run on a host that has done nothing before ends the program
+pub data IsRunEnding : Ending → Type 0 where
+  -- the host's log is that of a run, and the program ends as that run
+  ran : (process : Process) (inputs : Fields) (options : Options) (log : List Entry) (result : Result Report RunFault) →
+      RunsOn [] log process inputs options result → IsRunEnding (run_ending result)
+  -- the document or the inputs are refused
+  refused : (refusal : Refusal) → IsRunEnding (endings.Refused refusal)
+  -- the inputs are no object
+  no_object : IsRunEnding (endings.Fault faults.Input)

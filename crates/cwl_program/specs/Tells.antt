@@ -1,0 +1,54 @@
+-- What the program writes to its two writers for these words, and the status that it then answers.
+use Rattle.std.specs.Prelude.{◌≡◌, ◌≢◌, ◌⊎◌, ℕ, List, [], ◌++◌, Option, Some, None, codes}
+use Rattle.std.specs.Io.KnownBytes.{Appends}
+use Rattle.clap.specs.Words.{IsAmong, Text, fault_of}
+use Rattle.clap.specs.declared.error.ErrorKind.{ErrorKind}
+use Rattle.clap.specs.declared.error.ErrorKind.TheVariants.{DisplayHelp, DisplayVersion}
+use Rattle.cwl_program.specs.Certificates.{IsCheck}
+use Rattle.cwl_program.specs.CommandLine.{Asks, command_line}
+use Rattle.cwl_program.specs.Runs.{IsRunEnding}
+use Rattle.cwl_program.specs.Status.{status_of}
+use Rattle.cwl_program.specs.Words.{name_of, word_of, refusal_code}
+use Rattle.cwl_program.specs.declared.ending.Ending.{Ending}
+use Rattle.cwl_program.specs.declared.ending.Ending.TheVariants.{Output, Broken, Permanent, Temporary, Refused, Fault}
+use Rattle.cwl_program.specs.declared.ending.Fault.TheVariants as faults
+
+-- the bytes that a writer holds, where they are known
+abbrev pub Held : Type 0
+Held = Option (List ℕ)
+
+-- a writer was given this line, and the other one nothing
+abbrev pub IsGiven : List ℕ → Held → Held → Held → Held → Type 0
+IsGiven line old new other other_new = Appends old new (line ++ codes "\n") × (other_new ≡ other)
+
+-- results on the output, and what went wrong on the errors
+abbrev pub Prints : Ending → (out out_new err err_new : Held) → Type 0
+Prints (Output line) out out_new err err_new = IsGiven line out out_new err err_new
+Prints (Broken rule) out out_new err err_new = IsGiven (codes "broken " ++ name_of rule) out out_new err err_new
+Prints (Permanent place) out out_new err err_new = IsGiven (codes "permanentFail " ++ place) err err_new out out_new
+Prints (Temporary place) out out_new err err_new = IsGiven (codes "temporaryFail " ++ place) err err_new out out_new
+Prints (Refused refusal) out out_new err err_new = IsGiven (codes "refused: " ++ refusal_code refusal) err err_new out out_new
+Prints (Fault fault) out out_new err err_new = IsGiven (codes "fault: " ++ word_of fault) err err_new out out_new
+
+-- the end that these words lead to
+pub data LeadsTo (words : List Text) : Ending → Type 0 where
+  demonstrates : {ending : Ending} → Asks words None → IsRunEnding ending → LeadsTo words ending
+  checks : {ending : Ending} (file : List ℕ) → Asks words (Some file) → IsCheck ending → LeadsTo words ending
+  out_of_memory : LeadsTo words (Fault faults.OutOfMemory)
+
+-- help goes to the output with status 0, and what is wrong with the words to the errors
+pub data Explains (kind : ErrorKind) (out out_new err err_new : Held) : ℕ → Type 0 where
+  helps : (kind ≡ DisplayHelp) ⊎ (kind ≡ DisplayVersion) → err_new ≡ err → Explains kind out out_new err err_new 0
+  refuses : kind ≢ DisplayHelp → kind ≢ DisplayVersion → out_new ≡ out → Explains kind out out_new err err_new 3
+  fails : Explains kind out out_new err err_new 3
+
+-- what is written and answered
+pub data Tells (words : List Text) (out out_new err err_new : Held) : ℕ → Type 0 where
+  -- the words lead to this end: its line, and its status
+  ends : (ending : Ending) → LeadsTo words ending → Prints ending out out_new err err_new →
+      Tells words out out_new err err_new (status_of ending)
+  -- the words ask for help, or are refused, by a kind that they may be refused by
+  explains : {status : ℕ} (kind : ErrorKind) → IsAmong kind (fault_of command_line words) →
+      Explains kind out out_new err err_new status → Tells words out out_new err err_new status
+  -- a write failed
+  fails : Tells words out out_new err err_new 3

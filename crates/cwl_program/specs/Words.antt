@@ -1,0 +1,34 @@
+-- The words by which the program names what went wrong: rules of certificates, refusals and faults.
+use Rattle.std.specs.Prelude.{ℕ, List, codes}
+use Rattle.cwl_document.specs.Codes.{code_of as document_code}
+use Rattle.cwl_value.specs.Codes.{code_of as value_code}
+use Rattle.plan_checker.specs.declared.broken.Broken.{Broken}
+use Rattle.plan_checker.specs.declared.broken.Broken.TheVariants as rules
+use Rattle.proc_host.specs.Faults.{code_of as host_code}
+use Rattle.cwl_program.specs.declared.ending.Fault.{Fault}
+use Rattle.cwl_program.specs.declared.ending.Fault.TheVariants as faults
+use Rattle.cwl_program.specs.declared.ending.Refusal.{Refusal}
+use Rattle.cwl_program.specs.declared.ending.Refusal.TheVariants as refusals
+
+abbrev pub name_of : Broken → List ℕ
+name_of rules.MarkCount = codes "MarkCount"
+name_of rules.ChargeCount = codes "ChargeCount"
+name_of (rules.NeededPruned i) = codes "NeededPruned"
+name_of (rules.NoLoad i) = codes "NoLoad"
+name_of (rules.ParentPruned i parent) = codes "ParentPruned"
+name_of (rules.EnterNotNeeded i) = codes "EnterNotNeeded"
+name_of (rules.ThroughOverLoad i) = codes "ThroughOverLoad"
+name_of (rules.PayOverCompute i) = codes "PayOverCompute"
+name_of (rules.InNotThrough i) = codes "InNotThrough"
+name_of (rules.ThroughNotOut i) = codes "ThroughNotOut"
+name_of (rules.Sum total worth) = codes "Sum"
+
+abbrev pub refusal_code : Refusal → List ℕ
+refusal_code (refusals.Document refusal) = document_code refusal
+refusal_code (refusals.Inputs refusal) = value_code refusal
+refusal_code refusals.Certificate = codes "X1"
+
+abbrev pub word_of : Fault → List ℕ
+word_of (faults.Host fault) = host_code fault
+word_of faults.Input = codes "input"
+word_of faults.OutOfMemory = codes "OutOfMemory"

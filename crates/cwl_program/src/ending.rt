@@ -1,0 +1,120 @@
+ghost use Rattle.std.specs.Prelude.{◌≡◌, OnOk};
+ghost use Rattle.cwl_program.specs.Status.{status_of};
+ghost use Rattle.cwl_program.specs.Tells.{Prints};
+ghost use Rattle.cwl_program.specs.Words.{name_of, word_of, refusal_code};
+
+use cwl_document::DocumentRefusal;
+use cwl_value::ValueRefusal;
+use plain_data::Text;
+use plan_checker::Broken;
+use proc_host::HostFault;
+use std::io;
+use std::io::Write;
+
+/// How the program ends, and what it says.
+#[derive(Drop)]
+pub enum Ending {
+    /// A line for standard output.
+    Output(Text),
+    /// A certificate breaks this rule.
+    Broken(Broken),
+    /// A job failed permanently; its place as JSON text.
+    Permanent(Text),
+    /// A job failed temporarily; its place as JSON text.
+    Temporary(Text),
+    /// What the program was given is refused.
+    Refused(Refusal),
+    /// Anything else went wrong.
+    Fault(Fault),
+}
+
+/// Why what the program was given is no document, input object or certificate.
+#[derive(Drop)]
+pub enum Refusal {
+    Document(DocumentRefusal),
+    Inputs(ValueRefusal),
+    Certificate,
+}
+
+/// What went wrong outside documents and jobs.
+#[derive(Clone, Copy, Debug, PartialEq, Eq)]
+pub enum Fault {
+    Host(HostFault),
+    /// A file can't be read, or the inputs are no object.
+    Input,
+    OutOfMemory,
+}
+
+impl Refusal {
+    /// The refusal's short name.
+    pub fn code(&self) -> &'static str
+        ensures { result.now ≡ refusal_code self.now }
+    {
+        match self {
+            Refusal::Document(refusal) => refusal.code(),
+            Refusal::Inputs(refusal) => refusal.code(),
+            Refusal::Certificate => "X1",
+        }
+    }
+}
+
+impl Fault {
+    /// The word for it on standard error.
+    pub fn word(self) -> &'static str
+        ensures { result.now ≡ word_of self }
+    {
+        match self {
+            Fault::Host(fault) => fault.code(),
+            Fault::Input => "input",
+            Fault::OutOfMemory => "OutOfMemory",
+        }
+    }
+}
+
+/// Returns the name of a rule of certificates.
+fn rule_name(broken: Broken) -> &'static str
+    ensures { result.now ≡ name_of broken }
+{
+    match broken {
+        Broken::MarkCount => "MarkCount",
+        Broken::ChargeCount => "ChargeCount",
+        Broken::NeededPruned(_) => "NeededPruned",
+        Broken::NoLoad(_) => "NoLoad",
+        Broken::ParentPruned(_, _) => "ParentPruned",
+        Broken::EnterNotNeeded(_) => "EnterNotNeeded",
+        Broken::ThroughOverLoad(_) => "ThroughOverLoad",
+        Broken::PayOverCompute(_) => "PayOverCompute",
+        Broken::InNotThrough(_) => "InNotThrough",
+        Broken::ThroughNotOut(_) => "ThroughNotOut",
+        Broken::Sum(_, _) => "Sum",
+    }
+}
+
+impl Ending {
+    /// Returns the exit status.
+    pub fn status(&self) -> u8
+        ensures { result ≡ status_of self.now }
+    {
+        match self {
+            Ending::Output(_) => 0,
+            Ending::Broken(_) | Ending::Permanent(_) => 1,
+            Ending::Temporary(_) => 2,
+            Ending::Fault(_) => 3,
+            Ending::Refused(_) => 33,
+        }
+    }
+
+    /// Writes the line that says it: results to `out`, what went wrong to `err`.
+    pub fn print<O: Write, E: Write>(&self, out: &mut O, err: &mut E) -> io::Result<()>
+        ensures { OnOk result (Prints self.now (O.contents out.old) (O.contents out.new) (E.contents err.old) (E.contents err.new)) }
+    {
+        match self {
+            Ending::Output(line) => writeln!(out, "{line}"),
+            Ending::Broken(broken) => writeln!(out, "broken {}", rule_name(*broken)),
+            Ending::Permanent(place) => writeln!(err, "permanentFail {place}"),
+            Ending::Temporary(place) => writeln!(err, "temporaryFail {place}"),
+            Ending::Refused(refusal) => writeln!(err, "refused: {}", refusal.code()),
+            Ending::Fault(fault) => writeln!(err, "fault: {}", fault.word()),
+        }
+    }
+}

@@ -1,0 +1,16 @@
+//! The program behind a command line: `deparohi demo` and `deparohi check CERTIFICATE`.
+//!
+//! `main_run` is the whole program over two writers, and `program` hands it the words, `PATH`, the standard output and
+//! the standard error. Its contract, `Tells`, says which words lead to which end, and which line and status say it:
+//! `ok COST` for the text of a certificate of that cost alone, `broken NAME` by the first broken rule, `refused: X1`
+//! for every other text, and a run's end by its report.
+#![tactic(auto)]
+
+mod certificate;
+mod command;
+mod demo;
+mod ending;
+mod program;
+mod report;
+
+pub use program::{main_run, program};

@@ -1,0 +1,44 @@
+ghost use Rattle.std.specs.Prelude.{◌≡◌, IfOk};
+ghost use Rattle.cwl_program.specs.Runs.{fault_of, outcome_ending, place_json, run_ending};
+
+use crate::ending::{Ending, Fault};
+use cwl_value::{JobPlace, Value, canonical_text, place_text};
+use plain_data::Text;
+use run_core::{Outcome, Report, RunFault};
+use std::alloc::{AllocError, Global};
+
+/// Says how a run ends the program.
+pub fn ending_of_run(alloc: Global, run: &Result<Report, RunFault>) -> Result<Ending, AllocError>
+    ensures { IfOk result (λ ending. ending ≡ run_ending run.now) }
+{
+    match run {
+        Ok(report) => of_outcome(alloc, &report.outcome),
+        Err(fault) => Ok(Ending::Fault(of_fault(fault))),
+    }
+}
+
+fn of_outcome(alloc: Global, outcome: &Outcome) -> Result<Ending, AllocError>
+    ensures { IfOk result (λ ending. ending ≡ outcome_ending outcome.now) }
+{
+    match outcome {
+        Outcome::Success(outputs) => Ok(Ending::Output(canonical_text(alloc, outputs)?)),
+        Outcome::PermanentFail(place, _) => Ok(Ending::Permanent(place_in(alloc, place)?)),
+        Outcome::TemporaryFail(place) => Ok(Ending::Temporary(place_in(alloc, place)?)),
+    }
+}
+
+/// Writes a job's place as JSON text.
+fn place_in(alloc: Global, place: &JobPlace) -> Result<Text, AllocError>
+    ensures { IfOk result (λ text. text ≡ place_json place.now) }
+{
+    canonical_text(alloc, &Value::Text(place_text(alloc, place)?))
+}
+
+fn of_fault(fault: &RunFault) -> Fault
+    ensures { result ≡ fault_of fault.now }
+{
+    match fault {
+        RunFault::Host(fault, _) => Fault::Host(*fault),
+        RunFault::OutOfMemory => Fault::OutOfMemory,
+    }
+}

@@ -1,0 +1,68 @@
+use crate::list::numbers;
+use cwl_value::{JobPlace, Value, canonical_text, place_text};
+use plain_data::Text;
+use row_io::{RowFault, quoted};
+use run_core::{Cause, Outcome, Report, RunFault};
+use std::alloc::{AllocError, Global};
+
+/// How a run ended, as JSON.
+pub fn end_json(alloc: Global, end: &Result<Report, RunFault>) -> Result<String, RowFault> {
+    match end {
+        Ok(report) => outcome_json(alloc, &report.outcome),
+        Err(fault) => fault_json(alloc, fault),
+    }
+}
+
+fn outcome_json(alloc: Global, outcome: &Outcome) -> Result<String, RowFault> {
+    match outcome {
+        Outcome::Success(outputs) => success_json(alloc, outputs),
+        Outcome::PermanentFail(place, cause) => permanent_json(alloc, place, cause),
+        Outcome::TemporaryFail(place) => temporary_json(alloc, place),
+    }
+}
+
+fn success_json(alloc: Global, outputs: &Value) -> Result<String, RowFault> {
+    let outputs = canonical_text(alloc, outputs)?;
+    Ok(format!(in alloc; "{{\"success\":{}}}", outputs.as_str())?)
+}
+
+fn permanent_json(alloc: Global, place: &JobPlace, cause: &Cause) -> Result<String, RowFault> {
+    let place = place_json(alloc, place)?;
+    let cause = cause_json(alloc, cause)?;
+    Ok(format!(in alloc; "{{\"permanentFail\":{place},\"cause\":{cause}}}")?)
+}
+
+fn temporary_json(alloc: Global, place: &JobPlace) -> Result<String, RowFault> {
+    let place = place_json(alloc, place)?;
+    Ok(format!(in alloc; "{{\"temporaryFail\":{place}}}")?)
+}
+
+fn place_json(alloc: Global, place: &JobPlace) -> Result<String, RowFault> {
+    let place = place_text(alloc, place)?;
+    quoted(alloc, place.as_str())
+}
+
+fn cause_json(alloc: Global, cause: &Cause) -> Result<String, RowFault> {
+    let text = cause_text(alloc, cause)?;
+    quoted(alloc, text.as_str())
+}
+
+fn cause_text(alloc: Global, cause: &Cause) -> Result<Text, AllocError> {
+    Ok(Text::from_string(match cause {
+        Cause::Kind(input) => format!(in alloc; "Kind {}", input.as_str())?,
+        Cause::Build(fault) => format!(in alloc; "Build {}", fault.code())?,
+        Cause::Exit(Some(code)) => format!(in alloc; "Exit {code}")?,
+        Cause::Exit(None) => String::from_str(alloc, "Exit by a signal")?,
+        Cause::Collect(fault) => format!(in alloc; "Collect {}", fault.code())?,
+    }))
+}
+
+fn fault_json(alloc: Global, fault: &RunFault) -> Result<String, RowFault> {
+    match fault {
+        RunFault::Host(fault, running) => {
+            let running = numbers(alloc, running.as_slice())?;
+            Ok(format!(in alloc; "{{\"fault\":\"{}\",\"running\":{running}}}", fault.code())?)
+        }
+        RunFault::OutOfMemory => Err(RowFault::OutOfMemory),
+    }
+}

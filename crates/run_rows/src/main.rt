@@ -1,0 +1,43 @@
+//! Rows of hosts, runs and the program: each line of `stdin` is a call, and `stdout` has its answer.
+//!
+//! A host's script is a list of the answers that it gives: `{"staged":true}`, `{"started":true}`,
+//! `{"ended":[TICKET,CODE,MILLIS]}` (the code is null for a child that a signal ended),
+//! `{"found":[[NAME,IS_DIR,SIZE,SUM]]}` and `{"delivered":true}`. A call that the script does not answer next fails.
+#![tactic(auto)]
+
+mod copies;
+mod end;
+mod hosts;
+mod list;
+mod requests;
+mod run;
+mod script;
+mod words;
+
+use row_io::{Answers, Row, RowFault, answer_rows};
+use std::alloc::Global;
+use std::io;
+use std::process::ExitCode;
+
+#[derive(Drop)]
+struct Calls<'a>(&'a HostRuntime);
+
+impl Answers for Calls<'_> {
+    fn answer(&self, alloc: Global, row: &Row) -> Result<String, RowFault> {
+        match row.call() {
+            "host" => hosts::answer(alloc, row),
+            "exit_class" => words::class(alloc, row),
+            "fault_code" => words::fault(alloc, row),
+            "copy_listing" => copies::listing(alloc, row),
+            "copy_plan" => copies::plan(alloc, row),
+            "run" => run::answer(alloc, row),
+            "main_run" => words::program(self.0, row),
+            "main_run_out_of_room" => words::program_out_of_room(self.0, row),
+            _ => Err(RowFault::UnknownCall),
+        }
+    }
+}
+
+fn main(rt: HostRuntime) -> io::Result<ExitCode> {
+    answer_rows(&rt, &Calls(&rt))
+}

@@ -1,0 +1,75 @@
+ghost use Rattle.std.specs.Prelude.{◌≡◌, [], IfOk};
+ghost use Rattle.run_core.specs.Limits.{IsWithinLimits};
+
+use crate::end::end_json;
+use crate::list::numbers;
+use crate::requests::requests;
+use crate::script::script_of;
+use cwl_document::{Process, read_process};
+use cwl_value::{Value, from_json};
+use plain_data::{Keyed, Text};
+use proc_host::Scripted;
+use row_io::{Row, RowFault, json_text};
+use run_core::Options;
+use std::alloc::{AllocError, Global};
+use workflow_engine::run;
+
+/// How a run of the row's document on its inputs ends over its script, what was asked, and the tickets left.
+pub fn answer(alloc: Global, row: &Row) -> Result<String, RowFault> {
+    let process = process_of(alloc, row)?;
+    let inputs = inputs_of(alloc, row)?;
+    let host = host_of(alloc, row)?;
+    answer_of(alloc, process, inputs, host)
+}
+
+fn answer_of(
+    alloc: Global,
+    process: Process,
+    inputs: Keyed<Value>,
+    mut host: Scripted,
+) -> Result<String, RowFault>
+    requires { host.running ≡ [] }
+{
+    let options = options(alloc)?;
+    let end = run(alloc, &mut host, process, inputs, options);
+    let end = end_json(alloc, &end)?;
+    let asked = requests(alloc, host.log())?;
+    let left = numbers(alloc, host.running())?;
+    Ok(format!(in alloc; "{{\"end\":{end},\"asked\":{asked},\"left\":{left}}}")?)
+}
+
+fn host_of(alloc: Global, row: &Row) -> Result<Scripted, RowFault>
+    ensures { IfOk result (λ host. host.running ≡ []) }
+{
+    Ok(Scripted::new(alloc, script_of(alloc, row)?, 0))
+}
+
+fn process_of(alloc: Global, row: &Row) -> Result<Process, RowFault> {
+    let document = json_text(alloc, row.json("document")?)?;
+    match read_process(alloc, document.as_bytes()) {
+        Ok(process) => Ok(process),
+        Err(_) => Err(RowFault::BadArgument),
+    }
+}
+
+fn inputs_of(alloc: Global, row: &Row) -> Result<Keyed<Value>, RowFault> {
+    match from_json(alloc, row.json("inputs")?) {
+        Ok(Value::Fields(inputs)) => Ok(inputs),
+        _ => Err(RowFault::BadArgument),
+    }
+}
+
+fn options(alloc: Global) -> Result<Options, AllocError>
+    ensures { IfOk result IsWithinLimits }
+{
+    Ok(Options {
+        work: Text::from_text(alloc, "w")?,
+        outdir: Text::from_text(alloc, "/out")?,
+        path_env: Text::from_text(alloc, "/bin")?,
+        slots: 1,
+        retries: 0,
+        base: 1,
+        rate: 100_000,
+        keep: false,
+    })
+}

@@ -1,0 +1,90 @@
+use plain_data::{Items, Text};
+use proc_host::{Ending, Found, Reply};
+use row_io::{Row, RowFault};
+use serde_json::Value as Json;
+use std::alloc::Global;
+
+/// The script of a row.
+pub fn script_of(alloc: Global, row: &Row) -> Result<Items<Reply>, RowFault> {
+    let mut script = Items::new(alloc);
+    for reply in row.list("script")? {
+        script.push(reply_of(alloc, reply)?)?;
+    }
+    Ok(script)
+}
+
+fn reply_of(alloc: Global, json: &Json) -> Result<Reply, RowFault> {
+    if let Some(end) = json.get("ended") {
+        return Ok(Reply::Collect(end_of(end)?));
+    }
+    if let Some(found) = json.get("found") {
+        return Ok(Reply::Scan(listing_of(alloc, found)?));
+    }
+    bare_reply(json).ok_or(RowFault::BadArgument)
+}
+
+fn bare_reply(json: &Json) -> Option<Reply> {
+    if json.get("staged").is_some() {
+        return Some(Reply::Stage);
+    }
+    if json.get("started").is_some() {
+        return Some(Reply::Start);
+    }
+    json.get("delivered")?;
+    Some(Reply::Deliver)
+}
+
+fn end_of(json: &Json) -> Result<Ending, RowFault> {
+    Ok(Ending {
+        ticket: number_at(json, 0)?,
+        code: code_of(json.get(1).ok_or(RowFault::BadArgument)?)?,
+        millis: number_at(json, 2)?,
+    })
+}
+
+/// An exit code, or null.
+pub fn code_of(json: &Json) -> Result<Option<i32>, RowFault> {
+    if json.is_null() {
+        return Ok(None);
+    }
+    let code = json.as_i64().ok_or(RowFault::BadArgument)?;
+    match i32::try_from(code) {
+        Ok(code) => Ok(Some(code)),
+        Err(_) => Err(RowFault::BadArgument),
+    }
+}
+
+fn number_at(json: &Json, index: usize) -> Result<u64, RowFault> {
+    let number = json.get(index).ok_or(RowFault::BadArgument)?;
+    number.as_u64().ok_or(RowFault::BadArgument)
+}
+
+/// A text of a list.
+pub fn text_at(alloc: Global, json: &Json, index: usize) -> Result<Text, RowFault> {
+    let text = json.get(index).ok_or(RowFault::BadArgument)?;
+    let text = text.as_str().ok_or(RowFault::BadArgument)?;
+    Ok(Text::from_text(alloc, text)?)
+}
+
+/// A listing: for each file or folder its name, whether it is a folder, its size and its sum.
+pub fn listing_of(alloc: Global, json: &Json) -> Result<Items<Found>, RowFault> {
+    let mut listing = Items::new(alloc);
+    for found in json.as_array().ok_or(RowFault::BadArgument)? {
+        listing.push(found_of(alloc, found)?)?;
+    }
+    Ok(listing)
+}
+
+fn found_of(alloc: Global, json: &Json) -> Result<Found, RowFault> {
+    let is_dir = json.get(1).ok_or(RowFault::BadArgument)?;
+    let is_dir = is_dir.as_bool().ok_or(RowFault::BadArgument)?;
+    let size = number_at(json, 2)?;
+    let name = text_at(alloc, json, 0)?;
+    let sum = text_at(alloc, json, 3)?;
+    Ok(Found {
+        name,
+        is_dir,
+        size,
+        sum,
+    })
+}

@@ -1,0 +1,80 @@
+use crate::script::code_of;
+use cwl_program::main_run;
+use proc_host::{ExitClass, HostFault, exit_class};
+use row_io::{Row, RowFault, quoted};
+use std::alloc::Global;
+use std::str;
+
+/// The class of an exit code.
+pub fn class(alloc: Global, row: &Row) -> Result<String, RowFault> {
+    let class = exit_class(code_of(row.json("code")?)?);
+    quoted(
+        alloc,
+        match class {
+            ExitClass::Success => "Success",
+            ExitClass::Temporary => "Temporary",
+            ExitClass::Permanent => "Permanent",
+        },
+    )
+}
+
+/// The code of a fault of the host.
+pub fn fault(alloc: Global, row: &Row) -> Result<String, RowFault> {
+    let fault = fault_named(row.text("fault")?).ok_or(RowFault::BadArgument)?;
+    Ok(String::from_str(alloc, fault.code())?)
+}
+
+fn fault_named(name: &str) -> Option<HostFault> {
+    let fault = match name {
+        "Measure" => HostFault::Measure,
+        "Stage" => HostFault::Stage,
+        "Start" => HostFault::Start,
+        "Collect" => HostFault::Collect,
+        "Scan" => HostFault::Scan,
+        "Head" => HostFault::Head,
+        "Fetch" => HostFault::Fetch,
+        "Store" => HostFault::Store,
+        "Deliver" => HostFault::Deliver,
+        _ => return None,
+    };
+    Some(fault)
+}
+
+fn words_of(alloc: Global, row: &Row) -> Result<Vec<String>, RowFault> {
+    let mut words = Vec::new(alloc);
+    for word in row.list("words")? {
+        let word = word.as_str().ok_or(RowFault::BadArgument)?;
+        words.push(String::from_str(alloc, word)?)?;
+    }
+    Ok(words)
+}
+
+/// What the program answers and writes.
+pub fn program(rt: &HostRuntime, row: &Row) -> Result<String, RowFault> {
+    let alloc = rt.alloc();
+    let words = words_of(alloc, row)?;
+    let mut out = Vec::new(alloc);
+    let mut err = Vec::new(alloc);
+    let status = main_run(rt, words.as_slice(), "/bin", &mut out, &mut err);
+    let out = written(alloc, out.as_slice())?;
+    let err = written(alloc, err.as_slice())?;
+    Ok(format!(in alloc; "{{\"status\":{status},\"out\":{out},\"err\":{err}}}")?)
+}
+
+/// What the program answers where its output takes eight bytes alone.
+pub fn program_out_of_room(rt: &HostRuntime, row: &Row) -> Result<String, RowFault> {
+    let alloc = rt.alloc();
+    let words = words_of(alloc, row)?;
+    let mut room = [0; 8];
+    let mut out = room.as_mut_slice();
+    let mut err = Vec::new(alloc);
+    let status = main_run(rt, words.as_slice(), "/bin", &mut out, &mut err);
+    Ok(format!(in alloc; "{{\"status\":{status}}}")?)
+}
+
+fn written(alloc: Global, bytes: &[u8]) -> Result<String, RowFault> {
+    match str::from_utf8(bytes) {
+        Ok(text) => quoted(alloc, text),
+        Err(_) => Err(RowFault::BadArgument),
+    }
+}
