@@ -1,5 +1,6 @@
 -- What the machine's callers learn of its steps and of its end.
-use Rattle.std.proofs.Common.{◌≡◌, ◌≢◌, ◌∙◌, ℕ, ℤ, ◌<◌, Bool, true, false, cond, List, [], ◌∷◌, ◌++◌, find, Vec, Global, vec_len, vec_capacity, Option, Some, None, Result, Err, refl, sym, ap, subst, arith, eq-eqb, lit<}
+use Rattle.std.proofs.Common.{◌≡◌, ◌≢◌, ◌∙◌, ℕ, ℤ, ◌<◌, Bool, true, false, cond, List, [], ◌∷◌, ◌++◌, find, Vec, Global, vec_len, vec_capacity, Option, Some, None, Result, Ok, Err, refl, sym, ap, subst, arith, eq-eqb, lit<}
+use Rattle.std.proofs.lemmas.List.Elements.{filter_map-append}
 use Rattle.cwl_document.specs.declared.process.Tool.{Tool}
 use Rattle.cwl_document.specs.declared.process.ToolOutput.{ToolOutput}
 use Rattle.command_line.specs.Launch.{stream_name}
@@ -26,10 +27,10 @@ use Rattle.run_core.specs.Collected.{found_under}
 use Rattle.run_core.specs.Events.{So_far}
 use Rattle.run_core.specs.Plans.{Mark}
 use Rattle.run_core.specs.Run.{IsRunSoFar, IsRun}
-use Rattle.run_core.specs.Reports.{Concludes, whole, lost as memory_lost, reported, report_of, entries_of}
-use Rattle.run_core.specs.Machine.{tool_of, ends, fails_for_good, start_with, at_start, stages, has_launch, has_none, after_class, after_file, after_listing, delivers, AsksIn, FollowsFrom}
+use Rattle.run_core.specs.Reports.{Concludes, whole, lost as memory_lost, reported, report_of, entry_of, entries_of}
+use Rattle.run_core.specs.Machine.{tool_of, ends, fails_for_good, start_with, at_start, stages, has_launch, has_none, after_class, after_file, after_listing, delivers, told_of, AsksIn, FollowsFrom, Moves, moves, gives_up, MakesRoom, has_room, no_room}
 use Rattle.run_core.specs.Standing.{IsAt, Blames, staging, starting, running, scanning, delivering, ended, lost}
-use Rattle.run_core.specs.Core.{steps_in, Stands, Begins}
+use Rattle.run_core.specs.Core.{steps_in, Stands, Begins, Took}
 use Rattle.run_core.specs.declared.runner.RunCore.{RunCore}
 use Rattle.run_core.specs.Limits.{IsWithinLimits}
 use Rattle.cwl_document.specs.declared.process.ToolInput.{ToolInput}
@@ -219,6 +220,73 @@ module _ (core : RunCore) (answer : HostAnswer) (pairs : Vec Pair Global) (state
         blames = subst (λ (st : State). Blames (entries_of pairs.items) st) (sym is) (record { flying = none_started (entries_of pairs.items); rightly = tt });
         room = none;
       }
+
+-- an answer taken
+
+not_lost_is_ok : (phase : Phase) → (phase ≡ Phase.Ended (Err RunFault.OutOfMemory) → ⊥) → told_of phase ≡ Ok tt
+not_lost_is_ok Phase.Staging not_lost = refl
+not_lost_is_ok Phase.Starting not_lost = refl
+not_lost_is_ok Phase.Running not_lost = refl
+not_lost_is_ok Phase.Scanning not_lost = refl
+not_lost_is_ok (Phase.Delivering value) not_lost = refl
+not_lost_is_ok (Phase.Ended (Ok report)) not_lost = refl
+not_lost_is_ok (Phase.Ended (Err (RunFault.Host fault left))) not_lost = refl
+not_lost_is_ok (Phase.Ended (Err RunFault.OutOfMemory)) not_lost = absurd (not_lost refl)
+
+module _ (core : RunCore) (answer : HostAnswer) (pairs : Vec Pair Global) (stands : Stands core)
+    (may : MayAnswer core.state.asks core.state.flying answer) (longer : pairs.items ≡ core.pairs.items ++ pair core.state.asks answer ∷ []) where
+  more_entries : entries_of pairs.items ≡ entries_of core.pairs.items ++ entries_of (pair core.state.asks answer ∷ [])
+  more_entries = ap entries_of longer ∙ filter_map-append entry_of core.pairs.items (pair core.state.asks answer ∷ [])
+
+  took_lost : Took core answer (Err RunFault.OutOfMemory) (core_with core pairs (ends (Err RunFault.OutOfMemory)))
+  took_lost = record {
+    stands = stands_lost core answer pairs (ends (Err RunFault.OutOfMemory)) stands may longer refl;
+    setting = refl;
+    pair = longer;
+    entries = more_entries;
+    flying = tt;
+    steps = still_asks core.setting answer stands.at may;
+    ok = tt;
+    err = refl;
+    lost = refl;
+  }
+
+  took_next : (next : State) → FollowsFrom core.setting core.state.asks core.state.flying core.state.phase answer next →
+      vec_len pairs < vec_capacity pairs → Took core answer (Ok tt) (core_with core pairs next)
+  took_next next follows room =
+      let leaves : Leaves (steps_in core.state.phase) (flying_after core.state.flying answer) next =
+      step_leaves core.setting answer next stands.at may follows in
+      record {
+        stands = stands_next core answer pairs next stands may longer follows room;
+        setting = refl;
+        pair = longer;
+        entries = more_entries;
+        flying = leaves.flies;
+        steps = leaves.falls;
+        ok = leaves.not_lost;
+        err = tt;
+        lost = tt;
+      }
+
+  took_with_room : (next state : State) → FollowsFrom core.setting core.state.asks core.state.flying core.state.phase answer next →
+      MakesRoom (vec_len pairs) (vec_capacity pairs) next state → Took core answer (told_of state.phase) (core_with core pairs state)
+  took_with_room next state follows (has_room room) =
+      let leaves : Leaves (steps_in core.state.phase) (flying_after core.state.flying answer) next =
+      step_leaves core.setting answer next stands.at may follows in
+      subst (λ (r : Result (Unit {0}) RunFault). Took core answer r (core_with core pairs next)) (sym (not_lost_is_ok next.phase leaves.not_lost))
+      (took_next next follows room)
+  took_with_room next state follows no_room = took_lost
+
+  took_by : (next state : State) → Moves core.setting core.state answer next → MakesRoom (vec_len pairs) (vec_capacity pairs) next state →
+      Took core answer (told_of state.phase) (core_with core pairs state)
+  took_by next state (moves other follows) made = took_with_room next state follows made
+  took_by next state gives_up (has_room room) = took_lost
+  took_by next state gives_up no_room = took_lost
+
+  pub took : (next state : State) (result : Result (Unit {0}) RunFault) → Moves core.setting core.state answer next → MakesRoom (vec_len pairs) (vec_capacity pairs) next state →
+      result ≡ told_of state.phase → Took core answer result (core_with core pairs state)
+  took next state result moved made is =
+      subst (λ (r : Result (Unit {0}) RunFault). Took core answer r (core_with core pairs state)) (sym is) (took_by next state moved made)
 
 -- Before any answer
 

@@ -1,6 +1,7 @@
 -- What callers see of the machine.
-use Rattle.std.specs.Prelude.{◌≡◌, ℕ, ◌<◌, List, [], Err, vec_len, vec_capacity}
+use Rattle.std.specs.Prelude.{◌≡◌, ◌≢◌, ℕ, ◌<◌, List, [], ◌∷◌, ◌++◌, Result, Err, IfErr, OnOk, OnErr, vec_len, vec_capacity}
 use Rattle.cwl_document.specs.declared.process.Process.{Process}
+use Rattle.proc_host.specs.declared.call.HostAnswer.{HostAnswer}
 use Rattle.run_core.specs.declared.outcome.RunFault.{RunFault}
 use Rattle.run_core.specs.declared.request.Request.{Request}
 use Rattle.run_core.specs.declared.request.Pair.{Pair}
@@ -11,6 +12,7 @@ use Rattle.run_core.specs.declared.runner.RunCore.{RunCore}
 use Rattle.run_core.specs.Words.{Fields}
 use Rattle.run_core.specs.Events.{So_far}
 use Rattle.run_core.specs.Plans.{Mark}
+use Rattle.run_core.specs.Answers.{flying_after}
 use Rattle.run_core.specs.Scene.{scene_of}
 use Rattle.run_core.specs.Allowed.{Allowed}
 use Rattle.run_core.specs.Run.{IsRunSoFar}
@@ -76,3 +78,16 @@ pub record Begins (process : Process) (inputs : Fields) (options : Options) (cor
   pub nothing_asked : core.pairs.items ≡ []
   pub none_in_flight : core.state.flying ≡ []
   pub not_lost : IsLost core → ⊥
+
+-- one answer taken: the pair is noted, the machine stands in the longer run, and it is one of at most so many. An error
+-- is that memory ran out, and the machine then asks nothing more
+pub record Took (old : RunCore) (answer : HostAnswer) (result : Result (Unit {0}) RunFault) (new : RunCore) : Type 0 where
+  pub stands : Stands new
+  pub setting : setting_of new ≡ setting_of old
+  pub pair : transcript new ≡ transcript old ++ record { request = asked old; answer = answer } ∷ []
+  pub entries : entries_of (transcript new) ≡ entries_of (transcript old) ++ entries_of (record { request = asked old; answer = answer } ∷ [])
+  pub flying : OnOk result (asked new ≢ Request.Finished → flying new ≡ flying_after (flying old) answer)
+  pub steps : steps_left new < steps_left old
+  pub ok : OnOk result (IsLost new → ⊥)
+  pub err : IfErr result (λ fault. fault ≡ RunFault.OutOfMemory)
+  pub lost : OnErr result (IsLost new)

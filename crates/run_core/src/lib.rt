@@ -11,6 +11,7 @@
 //! definitions on a worked example.
 #![tactic(auto)]
 
+mod fields;
 mod folders;
 mod inputs;
 mod laws;
