@@ -9,3 +9,4 @@ pub mod Periods
 pub mod ReadText
 pub mod Rows
 pub mod Sorting
+pub mod Texts

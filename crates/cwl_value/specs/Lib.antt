@@ -1,3 +1,4 @@
+pub mod Canonical
 pub mod Codes
 pub mod Erased
 pub mod Json

@@ -1,7 +1,13 @@
 //! What the definitions come to: each law is the contract of a function that does nothing.
+ghost use Rattle.cwl_value.specs.Canonical.{TextsTellJsonApart};
 ghost use Rattle.cwl_value.specs.Laws.{ListingsAreInOrder};
 
 /// A Directory's listing is written with the entries that it has, in the order of their names.
 pub fn listings_are_in_order()
     ensures { ListingsAreInOrder }
+{}
+
+/// JSON whose numbers are whole is told apart by its canonical text: equal texts come from equal JSON.
+pub fn texts_tell_json_apart()
+    ensures { TextsTellJsonApart }
 {}
