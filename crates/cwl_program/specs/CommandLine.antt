@@ -12,14 +12,15 @@ file_rule = record (new_rule (codes "CERTIFICATE")) { required = true; action = 
 abbrev pub check_command : App
 check_command = with_rule (new_app (codes "check")) file_rule
 
--- the program's command, before its subcommands
-abbrev pub program_command : App
-program_command =
-    let plain = new_app (codes "deparohi") in
-    record plain { top = record plain.top { subcommand_required = true } }
+abbrev pub needing_subcommand : App → App
+needing_subcommand command = record command { top = record command.top { subcommand_required = true } }
 
+-- the program's command with its two subcommands
 abbrev pub command_line : App
-command_line = with_subcommand (with_subcommand program_command (new_app (codes "demo")).top) check_command.top
+command_line =
+    with_subcommand
+    (with_subcommand (needing_subcommand (new_app (codes "deparohi"))) (new_app (codes "demo")).top)
+    check_command.top
 
 -- the file that a subcommand names to be checked; a subcommand other than `check` names none
 abbrev pub file_named : Text × List Row → Option Text

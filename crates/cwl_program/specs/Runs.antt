@@ -1,5 +1,5 @@
 -- How the answer of a run ends the program.
-use Rattle.std.specs.Prelude.{◌≡◌, ℕ, List, [], Result, Ok, Err}
+use Rattle.std.specs.Prelude.{ℕ, List, Result, Ok, Err}
 use Rattle.serde_json.specs.Written.{compact_text}
 use Rattle.cwl_document.specs.declared.process.Process.{Process}
 use Rattle.cwl_value.specs.Json.{json_of}
@@ -40,11 +40,11 @@ abbrev pub run_ending : Result Report RunFault → Ending
 run_ending (Ok report) = outcome_ending report.outcome
 run_ending (Err fault) = endings.Fault (fault_of fault)
 
--- how a run on a host that has done nothing before ends the program
+-- how a run of a document on inputs ends the program
 pub data IsRunEnding : Ending → Type 0 where
-  -- the host's log is that of a run, and the program ends as that run
-  ran : (process : Process) (inputs : Fields) (options : Options) (log : List Entry) (result : Result Report RunFault) →
-      RunsOn [] log process inputs options result → IsRunEnding (run_ending result)
+  -- a host's log gained a run, and the program ends as that run
+  ran : (before after : List Entry) (process : Process) (inputs : Fields) (options : Options) (result : Result Report RunFault) →
+      RunsOn before after process inputs options result → IsRunEnding (run_ending result)
   -- the document or the inputs are refused
   refused : (refusal : Refusal) → IsRunEnding (endings.Refused refusal)
   -- the inputs are no object

@@ -1,5 +1,5 @@
 -- What the program writes to its two writers for these words, and the status that it then answers.
-use Rattle.std.specs.Prelude.{◌≡◌, ◌≢◌, ◌⊎◌, ℕ, List, [], ◌++◌, Option, Some, None, codes}
+use Rattle.std.specs.Prelude.{◌≡◌, ◌≢◌, ℕ, List, [], ◌++◌, Option, Some, None, codes}
 use Rattle.std.specs.Io.KnownBytes.{Appends}
 use Rattle.clap.specs.Words.{IsAmong, Text, fault_of}
 use Rattle.clap.specs.declared.error.ErrorKind.{ErrorKind}
@@ -36,19 +36,28 @@ pub data LeadsTo (words : List Text) : Ending → Type 0 where
   checks : {ending : Ending} (file : List ℕ) → Asks words (Some file) → IsCheck ending → LeadsTo words ending
   out_of_memory : LeadsTo words (Fault faults.OutOfMemory)
 
+-- `clap` answers with what is wrong, and not with the help that the words ask for
+abbrev pub IsWrong : ErrorKind → Type 0
+IsWrong kind = (kind ≢ DisplayHelp) × (kind ≢ DisplayVersion)
+
 -- help goes to the output with status 0, and what is wrong with the words to the errors
 pub data Explains (kind : ErrorKind) (out out_new err err_new : Held) : ℕ → Type 0 where
-  helps : (kind ≡ DisplayHelp) ⊎ (kind ≡ DisplayVersion) → err_new ≡ err → Explains kind out out_new err err_new 0
-  refuses : kind ≢ DisplayHelp → kind ≢ DisplayVersion → out_new ≡ out → Explains kind out out_new err err_new 3
-  fails : Explains kind out out_new err err_new 3
-
--- what is written and answered
-pub data Tells (words : List Text) (out out_new err err_new : Held) : ℕ → Type 0 where
-  -- the words lead to this end: its line, and its status
-  ends : (ending : Ending) → LeadsTo words ending → Prints ending out out_new err err_new →
-      Tells words out out_new err err_new (status_of ending)
-  -- the words ask for help, or are refused, by a kind that they may be refused by
-  explains : {status : ℕ} (kind : ErrorKind) → IsAmong kind (fault_of command_line words) →
-      Explains kind out out_new err err_new status → Tells words out out_new err err_new status
+  helps : ¬ IsWrong kind → err_new ≡ err → Explains kind out out_new err err_new 0
+  refuses : IsWrong kind → out_new ≡ out → Explains kind out out_new err err_new 3
   -- a write failed
-  fails : Tells words out out_new err err_new 3
+  unwritten : Explains kind out out_new err err_new 3
+
+-- an end is said in its line, with its status
+pub data Says (ending : Ending) (out out_new err err_new : Held) : ℕ → Type 0 where
+  says : Prints ending out out_new err err_new → Says ending out out_new err err_new (status_of ending)
+  -- a write failed
+  fails : Says ending out out_new err err_new 3
+
+-- what is written and answered for these words
+pub data Tells (words : List Text) (out out_new err err_new : Held) (status : ℕ) : Type 0 where
+  -- the words lead to this end
+  ends : (ending : Ending) → LeadsTo words ending → Says ending out out_new err err_new status →
+      Tells words out out_new err err_new status
+  -- the words ask for help, or are refused, by a kind that they may be refused by
+  explains : (kind : ErrorKind) → IsAmong kind (fault_of command_line words) →
+      Explains kind out out_new err err_new status → Tells words out out_new err err_new status

@@ -1,8 +1,9 @@
 ghost use Rattle.std.specs.Prelude.{◌≡◌, IfOk, IfErr, map, option_map, option_and_then};
-ghost use Rattle.clap.specs.Words.{HasKind, app_of, fault_of, first_of, found_of, rows_of, subcommand_rows_of};
+ghost use Rattle.clap.specs.Words.{HasKind, app_of, fault_of, kind_of, subcommand_rows_of};
 ghost use Rattle.cwl_program.specs.CommandLine.{Asks, command_line, file_named, file_of};
 ghost use Rattle.std.specs.Prelude.{string_bytes};
 
+use clap::error::ErrorKind;
 use clap::{Arg, ArgAction, ArgMatches, Command, Error};
 use std::alloc::Global;
 
@@ -15,7 +16,8 @@ pub enum Choice<'a> {
 }
 
 fn command<'a>(alloc: Global) -> Result<Command<'a>, Error>
-    ensures { IfOk result (λ command. app_of command ≡ command_line) }
+    ensures ok { IfOk result (λ command. app_of command ≡ command_line) }
+    ensures err { IfErr result (λ e. kind_of e ≡ ErrorKind.OutOfMemory) }
 {
     let demo = Command::new(alloc, "demo").about("Runs a small tool over a scripted host");
     let file = Arg::new(alloc, "CERTIFICATE")

@@ -22,25 +22,30 @@ const INPUTS: &str = "{\"t\":\"abc\"}";
 const SUM: &str = "a9993e364706816aba3e25717850c26c9cd0d89d";
 
 /// Runs the worked example over a host that answers from a script.
+#[tactic(auto, using(crate::specs::Runs::refused))]
 pub fn ending_of_demo(alloc: Global, path: &str) -> Result<Ending, AllocError>
     ensures { IfOk result IsRunEnding }
 {
-    let process = match read_process(alloc, DOCUMENT.as_bytes()) {
-        Ok(process) => process,
-        Err(DocumentRefusal::OutOfMemory) => return Err(AllocError),
-        Err(refusal) => return Ok(Ending::Refused(Refusal::Document(refusal))),
-    };
-    let inputs = match read_value(alloc, INPUTS.as_bytes()) {
-        Ok(Value::Fields(inputs)) => inputs,
-        Ok(_) => return Ok(Ending::Fault(Fault::Input)),
-        Err(ValueRefusal::OutOfMemory) => return Err(AllocError),
-        Err(refusal) => return Ok(Ending::Refused(Refusal::Inputs(refusal))),
-    };
-    ended(alloc, process, inputs, path)
+    match read_process(alloc, DOCUMENT.as_bytes()) {
+        Ok(process) => on_inputs(alloc, process, path),
+        Err(DocumentRefusal::OutOfMemory) => Err(AllocError),
+        Err(refusal) => Ok(Ending::Refused(Refusal::Document(refusal))),
+    }
 }
 
-/// Runs a process on a host that has done nothing yet.
-fn ended(
+#[tactic(auto, using(crate::specs::Runs::refused, crate::specs::Runs::no_object))]
+fn on_inputs(alloc: Global, process: Process, path: &str) -> Result<Ending, AllocError>
+    ensures { IfOk result IsRunEnding }
+{
+    match read_value(alloc, INPUTS.as_bytes()) {
+        Ok(Value::Fields(inputs)) => in_world(alloc, process, inputs, path),
+        Ok(_) => Ok(Ending::Fault(Fault::Input)),
+        Err(ValueRefusal::OutOfMemory) => Err(AllocError),
+        Err(refusal) => Ok(Ending::Refused(Refusal::Inputs(refusal))),
+    }
+}
+
+fn in_world(
     alloc: Global,
     process: Process,
     inputs: Keyed<Value>,
@@ -48,10 +53,38 @@ fn ended(
 ) -> Result<Ending, AllocError>
     ensures { IfOk result IsRunEnding }
 {
-    let options = options(alloc, path)?;
-    let mut host = Scripted::new(alloc, script(alloc)?, 0);
+    let world = world_of(alloc, path)?;
+    ended(alloc, process, inputs, world)
+}
+
+fn ended(
+    alloc: Global,
+    process: Process,
+    inputs: Keyed<Value>,
+    world: World,
+) -> Result<Ending, AllocError>
+    requires { IsWithinLimits world.options }
+    ensures { IfOk result IsRunEnding }
+{
+    let World { options, script } = world;
+    let mut host = Scripted::new(alloc, script, 0);
     let report = run(alloc, &mut host, process, inputs, options);
     ending_of_run(alloc, &report)
+}
+
+/// What the example's run is done with.
+#[derive(Drop)]
+struct World {
+    options: Options,
+    script: Items<Reply>,
+}
+
+fn world_of(alloc: Global, path: &str) -> Result<World, AllocError>
+    ensures { IfOk result (λ world. IsWithinLimits world.options) }
+{
+    let options = options(alloc, path)?;
+    let script = script(alloc)?;
+    Ok(World { options, script })
 }
 
 /// Staged; started; ended well after a second; `out.txt` is there with three bytes; delivered.

@@ -10,7 +10,7 @@ mod certificate;
 mod command;
 mod demo;
 mod ending;
-mod program;
+mod entry;
 mod report;
 
-pub use program::{main_run, program};
+pub use entry::{main_run, program};

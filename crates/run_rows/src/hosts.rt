@@ -96,16 +96,13 @@ fn started(
     let launch = echo(alloc)?;
     held.reserve(1)?;
     match host.start(&launch) {
-        Ok(ticket) => Ok(kept(held, ticket).to_string(alloc)?),
+        Ok(ticket) => {
+            let number = ticket.number();
+            held.push(ticket).unwrap();
+            Ok(number.to_string(alloc)?)
+        }
         Err(error) => failed(alloc, error),
     }
-}
-
-/// Keeps a ticket, for which there is room, and gives its number.
-fn kept(held: &mut Vec<Ticket>, ticket: Ticket) -> u64 {
-    let number = ticket.number();
-    held.push(ticket).unwrap();
-    number
 }
 
 fn collected(alloc: Global, host: &mut Scripted) -> Result<String, RowFault> {

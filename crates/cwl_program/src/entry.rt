@@ -1,7 +1,7 @@
 ghost use Rattle.std.specs.Prelude.{◌≡◌, ◌≢◌, IfOk, IfErr, map, string_bytes};
 ghost use Rattle.clap.specs.Words.{HasKind, fault_of, kind_of};
 ghost use Rattle.cwl_program.specs.CommandLine.{Asks, command_line};
-ghost use Rattle.cwl_program.specs.Tells.{Explains, LeadsTo, Tells};
+ghost use Rattle.cwl_program.specs.Tells.{Explains, LeadsTo, Says, Tells};
 ghost use Rattle.std.specs.Result.{result_unwrap_or};
 
 use crate::certificate::ending_of_check;
@@ -62,11 +62,18 @@ pub fn main_run<R: AllocGlobal + Files, O: Write, E: Write>(
     ensures { Tells (map (λ word. string_bytes word) words.now) (O.contents out.old) (O.contents out.new) (E.contents err.old) (E.contents err.new) result }
 {
     match ending_of(rt, words, path) {
-        Ok(ending) => match ending.print(out, err) {
-            Ok(()) => ending.status(),
-            Err(_) => FAULT,
-        },
+        Ok(ending) => say(&ending, out, err),
         Err(error) => explain(&error, out, err),
+    }
+}
+
+/// Says how the program ends.
+fn say<O: Write, E: Write>(ending: &Ending, out: &mut O, err: &mut E) -> u8
+    ensures { Says ending.now (O.contents out.old) (O.contents out.new) (E.contents err.old) (E.contents err.new) result }
+{
+    match ending.print(out, err) {
+        Ok(()) => ending.status(),
+        Err(_) => FAULT,
     }
 }
 
