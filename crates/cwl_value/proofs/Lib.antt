@@ -10,3 +10,5 @@ pub mod ReadText
 pub mod Rows
 pub mod Sorting
 pub mod Texts
+pub mod Told
+pub mod Whole

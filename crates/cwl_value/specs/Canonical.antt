@@ -1,5 +1,5 @@
 -- What the canonical text of JSON tells apart (RFC 8259: each value has a text of its own).
-use Rattle.std.specs.Prelude.{◌≡◌, ℕ, pos, negsuc, ◌^◌, ◌<◌, ⊤}
+use Rattle.std.specs.Prelude.{◌≡◌, pos, negsuc, ◌^◌, ◌<◌, ⊤}
 use Rattle.serde_json.specs.Data.{Num, unsigned, negative, float, Data, null, boolean, number, string, array, object, Items, no_items, item, Members, no_members, member}
 use Rattle.serde_json.specs.Written.{compact_text}
 

@@ -5,6 +5,7 @@ pub mod Json
 pub mod Laws
 pub mod NameParts
 pub mod Places
+pub mod Plain
 pub mod Reading
 pub mod Secondary
 pub mod Texts
