@@ -1,7 +1,7 @@
 -- What `clap`'s contracts say of the program's command and of its words.
 use Rattle.std.proofs.Common.{◌≡◌, ◌∙◌, ap, refl, subst, sym, true, false, ℕ, List, [], Option, Some, None, Bor, codes, option_map, option_and_then}
 use Rattle.std.specs.Prelude.{unwrap_or}
-use Rattle.clap.specs.Words.{App, Row, Rule, Text, app_of, fault_of, fields_of, first_of, first_value, found_of, is_simple, is_simple_and_free, rows_of, subcommand_name_of, subcommand_of, subcommand_rows, subcommand_rows_of}
+use Rattle.clap.specs.Words.{App, Row, Rule, Text, app_of, fault_of, first_of, first_value, found_of, is_simple, is_simple_and_free, rows_of, subcommand_name_of, subcommand_of, subcommand_rows, subcommand_rows_of}
 use Rattle.clap.specs.Simple.{app_of_fields}
 use Rattle.clap.specs.declared.builder.command.Command.{Command}
 use Rattle.clap.specs.declared.parser.matches.ArgMatches.{ArgMatches}
@@ -28,13 +28,13 @@ pub asked : (a : App) (words : List Text) (file : Option Text) (rows : Option (T
     → Asks words file
 asked a words file rows is_it matches kinds chosen =
     let rows_are : rows ≡ subcommand_of command_line words =
-        subst (λ (b : App). is_simple b ≡ true → rows ≡ subcommand_of b words) is_it matches simple in
+    subst (λ (b : App). is_simple b ≡ true → rows ≡ subcommand_of b words) is_it matches simple in
     let taken : fault_of command_line words ≡ [] =
-        subst (λ (b : App). is_simple_and_free b ≡ true → fault_of b words ≡ []) is_it kinds simple_and_free in
+    subst (λ (b : App). is_simple_and_free b ≡ true → fault_of b words ≡ []) is_it kinds simple_and_free in
     subst (λ (f : Option Text). Asks words f) (sym (chosen ∙ ap (option_and_then file_named) rows_are)) (asks taken)
 
 both : {A B C : Type 0} (f : A → B) (g : A → C) (o : Option A) (b : B) (c : C)
-    → option_map f o ≡ Some b → option_map (λ p. p.1) (option_map (λ x. (f x, g x)) o) ≡ Some c
+    → option_map f o ≡ Some b → option_map (λ (p : B × C). p.1) (option_map (λ x. (f x, g x)) o) ≡ Some c
     → option_map (λ x. (f x, g x)) o ≡ Some (b, c)
 both f g None b c by_first by_second = cc
 both f g (Some x) b c by_first by_second = cc
@@ -47,16 +47,16 @@ or_empty (Some s) empty o is_o none = subst (λ (p : Option Text). s.now ≡ unw
 -- the file that is read of the matches of `check`
 pub file_checked : (m words : ArgMatches) (given : Option (Bor (List ℕ))) (file empty : Bor (List ℕ))
     → subcommand_name_of m ≡ Some (codes "check")
-    → option_map (λ p. p.1) (subcommand_rows (out-ArgMatches m).subcommand) ≡ Some (rows_of (found_of words))
+    → option_map (λ (p : Text × List Row). p.1) (subcommand_rows (out-ArgMatches m).subcommand) ≡ Some (rows_of (found_of words))
     → option_map (λ s. s.now) given ≡ first_value (found_of words) (codes "CERTIFICATE")
     → file ≡ unwrap_or given empty → empty.now ≡ []
     → Some file.now ≡ option_and_then file_named (subcommand_rows_of m)
 file_checked m words given file empty name rows value is_file none =
     let named : subcommand_rows_of m ≡ Some (codes "check", rows_of (found_of words)) =
-        both (λ b. (out-SubCommand (box_value b)).name.now) (λ b. rows_of (found_of (out-SubCommand (box_value b)).matches))
-        (out-ArgMatches m).subcommand (codes "check") (rows_of (found_of words)) name rows in
+    both (λ b. (out-SubCommand (box_value b)).name.now) (λ b. rows_of (found_of (out-SubCommand (box_value b)).matches))
+    (out-ArgMatches m).subcommand (codes "check") (rows_of (found_of words)) name rows in
     let text : file.now ≡ unwrap_or (first_of (codes "CERTIFICATE") (rows_of (found_of words))) [] =
-        ap (λ (s : Bor (List ℕ)). s.now) is_file
-        ∙ or_empty given empty (first_of (codes "CERTIFICATE") (rows_of (found_of words)))
-          (value ∙ first_value-rows (found_of words) (codes "CERTIFICATE")) none in
+    ap (λ (s : Bor (List ℕ)). s.now) is_file
+    ∙ or_empty given empty (first_of (codes "CERTIFICATE") (rows_of (found_of words)))
+    (value ∙ first_value-rows (found_of words) (codes "CERTIFICATE")) none in
     ap Some text ∙ ap (option_and_then file_named) (sym named)

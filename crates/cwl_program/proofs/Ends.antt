@@ -5,25 +5,26 @@ use Rattle.std.specs.declared.alloc.AllocError.{AllocError}
 use Rattle.clap.specs.Words.{HasKind, Text, fault_of, kind_of}
 use Rattle.clap.specs.declared.error.Error.{Error}
 use Rattle.clap.specs.declared.error.ErrorKind.TheVariants.{OutOfMemory}
-use Rattle.cwl_program.specs.CommandLine.{command_line}
-use Rattle.cwl_program.specs.Tells.{Explains, Held, LeadsTo, Tells, explains, out_of_memory}
+use Rattle.cwl_program.specs.CommandLine.{Asks, command_line, file_of}
+use Rattle.cwl_program.specs.Tells.{Explains, Held, IsEndOf, LeadsTo, Tells, chooses, explains, out_of_memory}
+use Rattle.cwl_program.specs.declared.command.Choice.{Choice}
 use Rattle.cwl_program.specs.declared.ending.Ending.{Ending}
 use Rattle.cwl_program.specs.declared.ending.Ending.TheVariants.{Fault}
 use Rattle.cwl_program.specs.declared.ending.Fault.TheVariants as faults
 
--- an answer, or the fault where there is none
-pub leads_or_fault : (words : List Text) (P : Ending → Type 0) (answer : Result Ending AllocError) (ending : Ending)
-    → ((x : Ending) → P x → LeadsTo words x) → IfOk answer P
+-- what a choice comes to, or the fault where memory was short
+pub chosen_or_fault : (words : List Text) (choice : Choice) (answer : Result Ending AllocError) (ending : Ending)
+    → Asks words (file_of choice) → IfOk answer (IsEndOf choice)
     → ending ≡ result_unwrap_or answer (Fault faults.OutOfMemory) → LeadsTo words ending
-leads_or_fault words P (Ok x) ending leads holds is_it =
-    subst (λ (e : Ending). LeadsTo words e) (sym is_it) (leads x holds)
-leads_or_fault words P (Err error) ending leads holds is_it =
+chosen_or_fault words choice (Ok x) ending asked end is_it =
+    subst (λ (e : Ending). LeadsTo words e) (sym is_it) (chooses choice asked end)
+chosen_or_fault words choice (Err error) ending asked end is_it =
     subst (λ (e : Ending). LeadsTo words e) (sym is_it) out_of_memory
 
 pub explained : (words : List Text) (out out_new err err_new : Held) (error : Error) (status : ℕ)
-    → (kind_of error ≢ OutOfMemory) × HasKind (fault_of command_line words) error
+    → kind_of error ≢ OutOfMemory → HasKind (fault_of command_line words) error
     → Explains (kind_of error) out out_new err err_new status
     → Tells words out out_new err err_new status
-explained words out out_new err err_new error status (other, inl memory) explaining = absurd (other memory)
-explained words out out_new err err_new error status (other, inr among) explaining =
+explained words out out_new err err_new error status other (inl memory) explaining = absurd (other memory)
+explained words out out_new err err_new error status other (inr among) explaining =
     explains (kind_of error) among explaining

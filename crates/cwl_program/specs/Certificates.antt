@@ -17,14 +17,15 @@ use Rattle.cwl_program.specs.declared.ending.Refusal.TheVariants as refusals
 abbrev pub ok_line : ℕ → List ℕ
 ok_line total = codes "ok " ++ decimal total
 
--- what these bytes are: the text of a certificate, that of three which break a rule, or no such text
+-- what is said of a graph, a plan and charges: that they are a certificate, or the first rule that they break
+pub data IsJudgement (graph : List Vertex) (marks : List Mark) (charges : Charges) : Ending → Type 0 where
+  holds : IsCertificate graph marks charges → IsJudgement graph marks charges (Output (ok_line (cost graph marks)))
+  breaks : (rule : Rule) → IsFirstBroken graph marks charges rule → IsJudgement graph marks charges (Broken rule)
+
+-- what is said of bytes: they are the text of these three, or no such text
 pub data IsVerdict (bytes : List ℕ) : Ending → Type 0 where
-  holds : (graph : List Vertex) (marks : List Mark) (charges : Charges) →
-      IsTextOf bytes graph marks charges → IsCertificate graph marks charges →
-      IsVerdict bytes (Output (ok_line (cost graph marks)))
-  breaks : (graph : List Vertex) (marks : List Mark) (charges : Charges) (rule : Rule) →
-      IsTextOf bytes graph marks charges → IsFirstBroken graph marks charges rule →
-      IsVerdict bytes (Broken rule)
+  judges : {ending : Ending} (graph : List Vertex) (marks : List Mark) (charges : Charges) →
+      IsTextOf bytes graph marks charges → IsJudgement graph marks charges ending → IsVerdict bytes ending
   unreadable : (line : ℕ) → IsFirstBad bytes line → IsVerdict bytes (Refused refusals.Certificate)
 
 -- what is said of a certificate's file

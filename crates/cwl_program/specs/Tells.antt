@@ -1,14 +1,16 @@
 -- What the program writes to its two writers for these words, and the status that it then answers.
-use Rattle.std.specs.Prelude.{◌≡◌, ◌≢◌, ℕ, List, [], ◌++◌, Option, Some, None, codes}
+use Rattle.std.specs.Prelude.{◌≡◌, ◌≢◌, ℕ, List, ◌++◌, Option, codes}
 use Rattle.std.specs.Io.KnownBytes.{Appends}
 use Rattle.clap.specs.Words.{IsAmong, Text, fault_of}
 use Rattle.clap.specs.declared.error.ErrorKind.{ErrorKind}
 use Rattle.clap.specs.declared.error.ErrorKind.TheVariants.{DisplayHelp, DisplayVersion}
 use Rattle.cwl_program.specs.Certificates.{IsCheck}
-use Rattle.cwl_program.specs.CommandLine.{Asks, command_line}
+use Rattle.cwl_program.specs.CommandLine.{Asks, command_line, file_of}
 use Rattle.cwl_program.specs.Runs.{IsRunEnding}
 use Rattle.cwl_program.specs.Status.{status_of}
 use Rattle.cwl_program.specs.Words.{name_of, word_of, refusal_code}
+use Rattle.cwl_program.specs.declared.command.Choice.{Choice}
+use Rattle.cwl_program.specs.declared.command.Choice.TheVariants.{Demo, Check}
 use Rattle.cwl_program.specs.declared.ending.Ending.{Ending}
 use Rattle.cwl_program.specs.declared.ending.Ending.TheVariants.{Output, Broken, Permanent, Temporary, Refused, Fault}
 use Rattle.cwl_program.specs.declared.ending.Fault.TheVariants as faults
@@ -30,10 +32,14 @@ Prints (Temporary place) out out_new err err_new = IsGiven (codes "temporaryFail
 Prints (Refused refusal) out out_new err err_new = IsGiven (codes "refused: " ++ refusal_code refusal) err err_new out out_new
 Prints (Fault fault) out out_new err err_new = IsGiven (codes "fault: " ++ word_of fault) err err_new out out_new
 
+-- what the choice comes to
+abbrev pub IsEndOf : Choice → Ending → Type 0
+IsEndOf Demo ending = IsRunEnding ending
+IsEndOf (Check file) ending = IsCheck ending
+
 -- the end that these words lead to
 pub data LeadsTo (words : List Text) : Ending → Type 0 where
-  demonstrates : {ending : Ending} → Asks words None → IsRunEnding ending → LeadsTo words ending
-  checks : {ending : Ending} (file : List ℕ) → Asks words (Some file) → IsCheck ending → LeadsTo words ending
+  chooses : {ending : Ending} (choice : Choice) → Asks words (file_of choice) → IsEndOf choice ending → LeadsTo words ending
   out_of_memory : LeadsTo words (Fault faults.OutOfMemory)
 
 -- `clap` answers with what is wrong, and not with the help that the words ask for

@@ -1,9 +1,9 @@
 ghost use Rattle.std.specs.Prelude.{◌≡◌, IfOk, decimal};
-ghost use Rattle.cwl_program.specs.Certificates.{IsCheck, IsVerdict, ok_line};
+ghost use Rattle.cwl_program.specs.Certificates.{IsCheck, IsJudgement, IsVerdict, ok_line};
 
 use crate::ending::{Ending, Fault, Refusal};
 use plain_data::Text;
-use plan_checker::{CertificateError, check, read_certificate};
+use plan_checker::{CertificateError, Charges, Graph, Plan, check, read_certificate};
 use std::alloc::{AllocError, Global};
 use std::rt::Files;
 use std::{fs, io};
@@ -30,17 +30,29 @@ fn unread(error: &io::Error) -> Result<Ending, AllocError>
 
 /// Says whether these bytes are a certificate, which shows its plan to be a cheapest one: `ok` with its cost, the first
 /// rule that is broken, or that they are no certificate's text.
-pub fn verdict(alloc: Global, bytes: &[u8]) -> Result<Ending, AllocError>
+fn verdict(alloc: Global, bytes: &[u8]) -> Result<Ending, AllocError>
     ensures { IfOk result (IsVerdict bytes.now) }
 {
     match read_certificate(alloc, bytes) {
-        Ok((graph, plan, charges)) => match check(&graph, &plan, &charges) {
-            Ok(cost) => Ok(Ending::Output(ok_text(alloc, cost)?)),
-            Err(broken) => Ok(Ending::Broken(broken)),
-        },
+        Ok(read) => judged(alloc, &read),
         Err(CertificateError::NotACertificate(_)) => Ok(Ending::Refused(Refusal::Certificate)),
         Err(CertificateError::OutOfMemory) => Err(AllocError),
     }
+}
+
+fn judged(alloc: Global, read: &(Graph, Plan, Charges)) -> Result<Ending, AllocError>
+    ensures { IfOk result (IsJudgement read.now.0 read.now.1.marks read.now.2) }
+{
+    match check(&read.0, &read.1, &read.2) {
+        Ok(cost) => said_ok(alloc, cost),
+        Err(broken) => Ok(Ending::Broken(broken)),
+    }
+}
+
+fn said_ok(alloc: Global, cost: u64) -> Result<Ending, AllocError>
+    ensures { IfOk result (λ ending. ending ≡ Ending.Output (ok_line cost)) }
+{
+    Ok(Ending::Output(ok_text(alloc, cost)?))
 }
 
 fn ok_text(alloc: Global, cost: u64) -> Result<Text, AllocError>

@@ -8,6 +8,7 @@ use clap::{Arg, ArgAction, ArgMatches, Command, Error};
 use std::alloc::Global;
 
 /// What the words ask for.
+#[derive(Drop)]
 pub enum Choice<'a> {
     /// Run the worked example over a scripted host.
     Demo,

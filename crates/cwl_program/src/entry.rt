@@ -1,7 +1,7 @@
 ghost use Rattle.std.specs.Prelude.{◌≡◌, ◌≢◌, IfOk, IfErr, map, string_bytes};
 ghost use Rattle.clap.specs.Words.{HasKind, fault_of, kind_of};
 ghost use Rattle.cwl_program.specs.CommandLine.{Asks, command_line};
-ghost use Rattle.cwl_program.specs.Tells.{Explains, LeadsTo, Says, Tells};
+ghost use Rattle.cwl_program.specs.Tells.{Explains, IsEndOf, LeadsTo, Says, Tells};
 ghost use Rattle.std.specs.Result.{result_unwrap_or};
 
 use crate::certificate::ending_of_check;
@@ -78,17 +78,31 @@ fn say<O: Write, E: Write>(ending: &Ending, out: &mut O, err: &mut E) -> u8
 }
 
 /// Returns the end that the words lead to, or `clap`'s error.
+#[tactic(auto, using(crate::specs::Tells::out_of_memory))]
 fn ending_of<R: AllocGlobal + Files>(rt: &R, words: &[String], path: &str) -> Result<Ending, Error>
     ensures ok { IfOk result (LeadsTo (map (λ word. string_bytes word) words.now)) }
-    ensures err { IfErr result (λ e. (kind_of e ≢ ErrorKind.OutOfMemory) × HasKind (fault_of command_line (map (λ word. string_bytes word) words.now)) e) }
+    ensures other { IfErr result (λ e. kind_of e ≢ ErrorKind.OutOfMemory) }
+    ensures err { IfErr result (HasKind (fault_of command_line (map (λ word. string_bytes word) words.now))) }
 {
     match choice_of(rt.alloc(), words) {
-        Ok(Choice::Demo) => Ok(ending_or_fault(ending_of_demo(rt.alloc(), path))),
-        Ok(Choice::Check(file)) => Ok(ending_or_fault(ending_of_check(rt, file))),
+        Ok(choice) => Ok(ending_or_fault(end_of_choice(rt, &choice, path))),
         Err(error) if matches!(error.kind(), ErrorKind::OutOfMemory) => {
             Ok(Ending::Fault(Fault::OutOfMemory))
         }
         Err(error) => Err(error),
+    }
+}
+
+fn end_of_choice<R: AllocGlobal + Files>(
+    rt: &R,
+    choice: &Choice,
+    path: &str,
+) -> Result<Ending, AllocError>
+    ensures { IfOk result (IsEndOf choice.now) }
+{
+    match choice {
+        Choice::Demo => ending_of_demo(rt.alloc(), path),
+        Choice::Check(file) => ending_of_check(rt, file),
     }
 }
 
