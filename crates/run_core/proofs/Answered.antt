@@ -11,25 +11,26 @@ use Rattle.proc_host.specs.declared.plan.StagePlan.{StagePlan}
 use Rattle.proc_host.specs.ExitClass.{class_of}
 use Rattle.command_line.specs.declared.launch.Launch.{Launch}
 use Rattle.command_line.specs.Launch.{IsLaunch}
-use Rattle.run_core.specs.declared.outcome.Cause.{Cause}
-use Rattle.run_core.specs.declared.request.Request.{Request}
-use Rattle.run_core.specs.declared.request.Pair.{Pair}
-use Rattle.run_core.specs.declared.setting.Options.{Options}
-use Rattle.run_core.specs.declared.setting.Setting.{Setting}
+use Rattle.run_rules.specs.declared.outcome.Cause.{Cause}
+use Rattle.run_rules.specs.declared.request.Request.{Request}
+use Rattle.run_rules.specs.declared.request.Pair.{Pair}
+use Rattle.run_rules.specs.declared.setting.Options.{Options}
+use Rattle.run_rules.specs.declared.setting.Setting.{Setting}
 use Rattle.run_core.specs.declared.state.Phase.{Phase}
 use Rattle.run_core.specs.declared.state.State.{State}
-use Rattle.run_core.specs.Words.{Fields}
-use Rattle.run_core.specs.Folders.{out_folder, runtime_of}
-use Rattle.run_core.specs.Delivered.{located}
-use Rattle.run_core.specs.Events.{Staged, Began, Came_back, Succeeded, Broke, Gave_up, Delivered, Host_failed, Collect_failed, Idle, So_far, at_first, after, in_flight, unfolding_at}
-use Rattle.run_core.specs.Collected.{collected}
-use Rattle.run_core.specs.Scene.{Scene}
-use Rattle.run_core.specs.Unfold.{or_else}
-use Rattle.run_core.specs.Ending.{End, settled, result_end, delivered_end, Succeeds, Fails_for_good, Fails_for_now, Host_ends, delivery_at}
-use Rattle.run_core.specs.Plans.{Load, Compute}
-use Rattle.run_core.specs.Run.{IsRunSoFar}
-use Rattle.run_core.specs.Reports.{report_of}
-use Rattle.run_core.specs.Machine.{tool_of, waits, ends, fails_for_good, host_fails, after_ticket, after_class, after_exit, Launches, has_launch, has_none}
+use Rattle.run_rules.specs.Words.{Fields}
+use Rattle.run_rules.specs.Folders.{out_folder, runtime_of}
+use Rattle.run_rules.specs.Delivered.{located}
+use Rattle.run_rules.specs.Events.{Staged, Began, Came_back, Succeeded, Broke, Gave_up, Delivered, Host_failed, Collect_failed, Idle, So_far, at_first, after, in_flight, unfolding_at}
+use Rattle.run_rules.specs.Collected.{collected}
+use Rattle.run_rules.specs.Scene.{Scene}
+use Rattle.run_rules.specs.Unfold.{or_else}
+use Rattle.run_rules.specs.Ending.{End, settled, result_end, delivered_end, Succeeds, Fails_for_good, Fails_for_now, Host_ends, delivery_at}
+use Rattle.run_rules.specs.Plans.{Load, Compute}
+use Rattle.run_rules.specs.Run.{IsRunSoFar}
+use Rattle.run_rules.specs.Reports.{report_of}
+use Rattle.run_core.specs.Machine.{waits, ends, fails_for_good, host_fails, after_ticket, after_class, after_exit, Launches, has_launch, has_none}
+use Rattle.run_rules.specs.Jobs.{tool_of}
 use Rattle.run_core.specs.Standing.{IsLone, starting, running, scanning, delivering, when_staged, when_running, when_back, when_gathered}
 use Rattle.run_core.proofs.Lone.{may_stage, may_start, has_no_launch, may_collect, may_scan, may_deliver, landed}
 use Rattle.run_core.proofs.Advance.{Advances, its_scene, same, step_at, break_at, end_at}

@@ -10,39 +10,39 @@ use Rattle.proc_host.specs.declared.child.ExitClass.{ExitClass}
 use Rattle.proc_host.specs.declared.found.Found.{Found}
 use Rattle.proc_host.specs.ExitClass.{class_of}
 use Rattle.proc_host.specs.Tickets.{without}
-use Rattle.run_core.specs.declared.outcome.Cause.{Cause}
-use Rattle.run_core.specs.declared.outcome.CollectFault.{CollectFault}
-use Rattle.run_core.specs.declared.outcome.Outcome.{Outcome}
-use Rattle.run_core.specs.declared.outcome.Report.{Report}
-use Rattle.run_core.specs.declared.outcome.RunFault.{RunFault}
-use Rattle.run_core.specs.declared.request.Request.{Request}
-use Rattle.run_core.specs.declared.request.Pair.{Pair}
-use Rattle.run_core.specs.declared.setting.Options.{Options}
-use Rattle.run_core.specs.declared.setting.Setting.{Setting}
+use Rattle.run_rules.specs.declared.outcome.Cause.{Cause}
+use Rattle.run_rules.specs.declared.outcome.CollectFault.{CollectFault}
+use Rattle.run_rules.specs.declared.outcome.Outcome.{Outcome}
+use Rattle.run_rules.specs.declared.outcome.Report.{Report}
+use Rattle.run_rules.specs.declared.outcome.RunFault.{RunFault}
+use Rattle.run_rules.specs.declared.request.Request.{Request}
+use Rattle.run_rules.specs.declared.request.Pair.{Pair}
+use Rattle.run_rules.specs.declared.setting.Options.{Options}
+use Rattle.run_rules.specs.declared.setting.Setting.{Setting}
 use Rattle.run_core.specs.declared.state.Phase.{Phase}
 use Rattle.run_core.specs.declared.state.State.{State}
-use Rattle.run_core.specs.Words.{Name, Fields}
-use Rattle.run_core.specs.Answers.{MayAnswer, flying_after}
-use Rattle.run_core.specs.Collected.{found_under}
-use Rattle.run_core.specs.Events.{So_far}
-use Rattle.run_core.specs.Plans.{Mark}
-use Rattle.run_core.specs.Run.{IsRunSoFar, IsRun}
-use Rattle.run_core.specs.Reports.{Concludes, whole, lost as memory_lost, reported, report_of, entry_of, entries_of}
-use Rattle.run_core.specs.Machine.{tool_of, ends, fails_for_good, start_with, at_start, stages, has_launch, has_none, after_class, after_file, after_listing, delivers, told_of, AsksIn, FollowsFrom, Moves, moves, gives_up, MakesRoom, has_room, no_room}
+use Rattle.run_rules.specs.Words.{Name, Fields}
+use Rattle.run_rules.specs.Answers.{MayAnswer, flying_after}
+use Rattle.run_rules.specs.Collected.{found_under}
+use Rattle.run_rules.specs.Events.{So_far}
+use Rattle.run_rules.specs.Plans.{Mark}
+use Rattle.run_rules.specs.Run.{IsRunSoFar, IsRun}
+use Rattle.run_rules.specs.Reports.{Concludes, whole, lost as memory_lost, reported, report_of, entry_of, entries_of}
+use Rattle.run_core.specs.Machine.{ends, fails_for_good, start_with, at_start, stages, has_launch, has_none, after_class, after_file, after_listing, delivers, told_of, AsksIn, FollowsFrom, Moves, moves, gives_up, MakesRoom, has_room, no_room}
+use Rattle.run_rules.specs.Jobs.{tool_of, walker, tool_walk}
 use Rattle.run_core.specs.Standing.{IsAt, Blames, staging, starting, running, scanning, delivering, ended, lost}
 use Rattle.run_core.specs.Core.{steps_in, Stands, Begins, Took}
 use Rattle.run_core.specs.declared.runner.RunCore.{RunCore}
 use Rattle.run_core.specs.Limits.{IsWithinLimits}
 use Rattle.cwl_document.specs.declared.process.ToolInput.{ToolInput}
-use Rattle.run_core.specs.Inputs.{is_misfit, named_inputs, inputs_for, unless_misfit}
-use Rattle.run_core.specs.Jobs.{walker, tool_walk}
-use Rattle.run_core.specs.Scene.{Scene, scene_of}
-use Rattle.run_core.specs.Events.{at_first}
-use Rattle.run_core.specs.Ending.{Fails_for_good, end_of}
-use Rattle.run_core.specs.Plans.{Compute, Loads_what_is_held}
-use Rattle.run_core.specs.Run.{Replans, begins}
-use Rattle.run_core.proofs.Lone.{walker_tool}
-use Rattle.run_core.proofs.Rightly.{ends_rightly}
+use Rattle.run_rules.specs.Inputs.{is_misfit, named_inputs, inputs_for, unless_misfit}
+use Rattle.run_rules.specs.Scene.{Scene, scene_of}
+use Rattle.run_rules.specs.Events.{at_first}
+use Rattle.run_rules.specs.Ending.{Fails_for_good, end_of}
+use Rattle.run_rules.specs.Plans.{Compute, Loads_what_is_held}
+use Rattle.run_rules.specs.Run.{Replans, begins}
+use Rattle.run_rules.proofs.Lone.{walker_tool}
+use Rattle.run_rules.proofs.Reported.{reports_rightly}
 use Rattle.run_core.proofs.Advance.{Advances, same}
 use Rattle.run_core.proofs.Answered.{pair}
 use Rattle.run_core.proofs.Next.{advance, reach}
@@ -93,7 +93,7 @@ module _ (setting : Setting) where
       let same : report_of setting.options end ≡ result = cc in
       let run : IsRun setting t end = record { happened = f; marks = marks; goes = goes; idle = has.idle; ended = has.ended } in
       subst (λ (r : Result Report RunFault). Concludes setting t r) same
-      (whole end run (ends_rightly setting t end run))
+      (whole end run (reports_rightly setting t end run))
   concludes t result (lost f marks) goes is =
       let same : Err RunFault.OutOfMemory ≡ result = cc in
       subst (λ (r : Result Report RunFault). Concludes setting t r) same (memory_lost f marks goes)

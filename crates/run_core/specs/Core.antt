@@ -2,21 +2,21 @@
 use Rattle.std.specs.Prelude.{◌≡◌, ◌≢◌, ℕ, ◌<◌, List, [], ◌∷◌, ◌++◌, Result, Err, IfErr, OnOk, OnErr, vec_len, vec_capacity}
 use Rattle.cwl_document.specs.declared.process.Process.{Process}
 use Rattle.proc_host.specs.declared.call.HostAnswer.{HostAnswer}
-use Rattle.run_core.specs.declared.outcome.RunFault.{RunFault}
-use Rattle.run_core.specs.declared.request.Request.{Request}
-use Rattle.run_core.specs.declared.request.Pair.{Pair}
-use Rattle.run_core.specs.declared.setting.Options.{Options}
-use Rattle.run_core.specs.declared.setting.Setting.{Setting}
+use Rattle.run_rules.specs.declared.outcome.RunFault.{RunFault}
+use Rattle.run_rules.specs.declared.request.Request.{Request}
+use Rattle.run_rules.specs.declared.request.Pair.{Pair}
+use Rattle.run_rules.specs.declared.setting.Options.{Options}
+use Rattle.run_rules.specs.declared.setting.Setting.{Setting}
 use Rattle.run_core.specs.declared.state.Phase.{Phase}
 use Rattle.run_core.specs.declared.runner.RunCore.{RunCore}
-use Rattle.run_core.specs.Words.{Fields}
-use Rattle.run_core.specs.Events.{So_far}
-use Rattle.run_core.specs.Plans.{Mark}
-use Rattle.run_core.specs.Answers.{flying_after}
-use Rattle.run_core.specs.Scene.{scene_of}
-use Rattle.run_core.specs.Allowed.{Allowed}
-use Rattle.run_core.specs.Run.{IsRunSoFar}
-use Rattle.run_core.specs.Reports.{entries_of}
+use Rattle.run_rules.specs.Words.{Fields}
+use Rattle.run_rules.specs.Events.{So_far}
+use Rattle.run_rules.specs.Plans.{Mark}
+use Rattle.run_rules.specs.Answers.{flying_after}
+use Rattle.run_rules.specs.Scene.{scene_of}
+use Rattle.run_rules.specs.Allowed.{Allowed}
+use Rattle.run_rules.specs.Run.{IsRunSoFar}
+use Rattle.run_rules.specs.Reports.{entries_of}
 use Rattle.run_core.specs.Standing.{IsAt, Blames}
 
 abbrev pub setting_of : RunCore → Setting

@@ -16,26 +16,24 @@ use Rattle.proc_host.specs.declared.found.Found.{Found}
 use Rattle.proc_host.specs.declared.plan.StagePlan.{StagePlan}
 use Rattle.proc_host.specs.declared.child.ExitClass.{ExitClass}
 use Rattle.proc_host.specs.ExitClass.{class_of}
-use Rattle.run_core.specs.declared.outcome.Cause.{Cause}
-use Rattle.run_core.specs.declared.outcome.CollectFault.{CollectFault}
-use Rattle.run_core.specs.declared.outcome.Outcome.{Outcome}
-use Rattle.run_core.specs.declared.outcome.Report.{Report}
-use Rattle.run_core.specs.declared.outcome.RunFault.{RunFault}
-use Rattle.run_core.specs.declared.request.Request.{Request}
-use Rattle.run_core.specs.declared.setting.Options.{Options}
-use Rattle.run_core.specs.declared.setting.Setting.{Setting}
+use Rattle.run_rules.specs.declared.outcome.Cause.{Cause}
+use Rattle.run_rules.specs.declared.outcome.CollectFault.{CollectFault}
+use Rattle.run_rules.specs.declared.outcome.Outcome.{Outcome}
+use Rattle.run_rules.specs.declared.outcome.Report.{Report}
+use Rattle.run_rules.specs.declared.outcome.RunFault.{RunFault}
+use Rattle.run_rules.specs.declared.request.Request.{Request}
+use Rattle.run_rules.specs.declared.setting.Options.{Options}
+use Rattle.run_rules.specs.declared.setting.Setting.{Setting}
 use Rattle.run_core.specs.declared.state.Phase.{Phase}
 use Rattle.run_core.specs.declared.state.State.{State}
-use Rattle.run_core.specs.Words.{Name, Fields, by_name, null}
-use Rattle.run_core.specs.Inputs.{is_misfit, named_inputs}
-use Rattle.run_core.specs.Collected.{file_at, found_under}
-use Rattle.run_core.specs.Folders.{out_folder, runtime_of}
-use Rattle.run_core.specs.Location.{location_of}
-use Rattle.run_core.specs.Delivered.{target_of}
-use Rattle.run_core.specs.Reports.{reported}
-
-abbrev pub tool_of : Process → Tool
-tool_of (Process.Tool tool) = tool
+use Rattle.run_rules.specs.Words.{Name, Fields, by_name, null}
+use Rattle.run_rules.specs.Jobs.{tool_of}
+use Rattle.run_rules.specs.Inputs.{is_misfit, named_inputs}
+use Rattle.run_rules.specs.Collected.{file_at, found_under}
+use Rattle.run_rules.specs.Folders.{out_folder, runtime_of}
+use Rattle.run_rules.specs.Location.{location_of}
+use Rattle.run_rules.specs.Delivered.{target_of}
+use Rattle.run_rules.specs.Reports.{reported}
 
 abbrev pub waits : Request → Phase → State
 waits asks phase = record { asks = asks; phase = phase; flying = [] }

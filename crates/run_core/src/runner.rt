@@ -1,13 +1,13 @@
 ghost use Rattle.std.specs.Prelude.{◌≡◌, ◌≢◌, ◌↔◌, ◌<◌, ◌∷◌, ◌++◌, [], Err, IfOk, IfErr, OnOk, vec_len, vec_capacity};
-ghost use Rattle.run_core.specs.declared.outcome.RunFault.{RunFault};
-ghost use Rattle.run_core.specs.declared.request.Request.{Request};
+ghost use Rattle.run_rules.specs.declared.outcome.RunFault.{RunFault};
+ghost use Rattle.run_rules.specs.declared.request.Request.{Request};
 ghost use Rattle.run_core.specs.declared.state.Phase.{Phase};
 ghost use Rattle.run_core.specs.Core.{setting_of, transcript, asked, flying, IsLost, IsEnded, Stands, MayAsk, Begins, Took};
 ghost use Rattle.run_core.specs.Machine.{AsksIn, MakesRoom, Moves, at_start, told_of};
-ghost use Rattle.run_core.specs.Answers.{MayAnswer};
-ghost use Rattle.run_core.specs.Blame.{BlamesRightly};
+ghost use Rattle.run_rules.specs.Answers.{MayAnswer};
+ghost use Rattle.run_rules.specs.Blame.{BlamesRightly};
 ghost use Rattle.run_core.specs.Limits.{IsWithinLimits};
-ghost use Rattle.run_core.specs.Reports.{entries_of, Concludes};
+ghost use Rattle.run_rules.specs.Reports.{entries_of, Concludes};
 
 use crate::state::{Phase, State, ended};
 use crate::steps::{begun, follows};

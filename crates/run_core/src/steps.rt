@@ -1,10 +1,11 @@
 //! What the machine waits for after each answer, for a lone tool.
 ghost use Rattle.std.specs.Prelude.{◌≡◌, ◌++◌, IfOk, codes};
 ghost use Rattle.cwl_value.specs.declared.place.Place.{Place};
-ghost use Rattle.run_core.specs.Folders.{out_folder};
-ghost use Rattle.run_core.specs.Machine.{Launches, FollowsFrom, AsksIn, IsDelivering, after_ticket, after_exit, after_scan, at_start, delivered_in, delivers, ends, host_fails, left_by, outputs_at, plan_to, starts, tool_of};
-ghost use Rattle.run_core.specs.Answers.{MayAnswer};
-ghost use Rattle.run_core.specs.Reports.{reported};
+ghost use Rattle.run_rules.specs.Folders.{out_folder};
+ghost use Rattle.run_core.specs.Machine.{Launches, FollowsFrom, AsksIn, IsDelivering, after_ticket, after_exit, after_scan, at_start, delivered_in, delivers, ends, host_fails, left_by, outputs_at, plan_to, starts};
+ghost use Rattle.run_rules.specs.Jobs.{tool_of};
+ghost use Rattle.run_rules.specs.Answers.{MayAnswer};
+ghost use Rattle.run_rules.specs.Reports.{reported};
 
 use crate::folders::{out_folder, path_in, runtime_of};
 use crate::inputs::{first_misfit, named_inputs};

@@ -4,7 +4,7 @@ use Rattle.command_line.specs.declared.runtime.Runtime.{Runtime}
 use Rattle.command_line.specs.declared.fault.BuildError.{BuildError}
 use Rattle.command_line.specs.Launch.{IsLaunch, IsRefused, IsError}
 use Rattle.run_core.specs.declared.state.State.{State}
-use Rattle.run_core.specs.Folders.{runtime_of}
+use Rattle.run_rules.specs.Folders.{runtime_of}
 use Rattle.run_core.specs.Machine.{Launches, has_launch, has_none}
 use Rattle.run_core.proofs.steps.launched.Goals as goal
 

@@ -1,5 +1,5 @@
 use Rattle.std.proofs.Common.{◌∙◌, ◌++◌, ◌∷◌, [], ap}
-use Rattle.run_core.specs.declared.request.Request.{Request}
+use Rattle.run_rules.specs.declared.request.Request.{Request}
 use Rattle.run_core.proofs.Answered.{pair}
 use Rattle.run_core.proofs.Taken.{asks_in, still_asks, took}
 use Rattle.run_core.proofs.runner.RunCore.take.Goals as goal
