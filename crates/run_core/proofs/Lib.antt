@@ -8,3 +8,4 @@ pub mod Blamed
 pub mod Taken
 pub mod Files
 pub mod Asking
+pub mod Seats

@@ -13,8 +13,8 @@ use std::alloc::Global;
 pub(crate) enum Phase {
     /// The job's folders.
     Staging,
-    /// Its child's ticket.
-    Starting,
+    /// Its child's ticket, for which this list of one has a place.
+    Starting(Items<u64>),
     /// Its child's end.
     Running,
     /// What stands in its output folder.
