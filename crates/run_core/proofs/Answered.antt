@@ -88,7 +88,7 @@ module _ (setting : Setting) (inputs : Fields) (l : IsLone setting inputs) (t : 
   pub stage_fails : (fault : HostFault) → IsRunSoFar setting t at_first (Compute ∷ []) →
       Advances setting (t ++ pair stage_request (HostAnswer.Failed fault) ∷ []) (host_fails fault [])
   stage_fails fault goes =
-      let f : So_far = record { work = Idle; events = Host_failed fault ∷ [] } in
+      let f : So_far = record { work = Idle; events = Host_failed [] fault ∷ [] } in
       end_at setting inputs l (t ++ pair stage_request (HostAnswer.Failed fault) ∷ []) f (Compute ∷ []) (Host_ends fault [])
       (step_at setting inputs l t at_first (Compute ∷ []) (pair stage_request (HostAnswer.Failed fault)) f (Compute ∷ [])
       goes (may_stage tool inputs o l.limits) refl refl)
@@ -111,7 +111,7 @@ module _ (setting : Setting) (inputs : Fields) (l : IsLone setting inputs) (t : 
       IsRunSoFar setting t when_staged (Compute ∷ []) →
       Advances setting (t ++ pair (Request.Start [] launch) (HostAnswer.Failed fault) ∷ []) (host_fails fault [])
   start_fails launch fault is goes =
-      let f : So_far = record { work = Idle; events = Staged [] 1 ∷ Host_failed fault ∷ [] } in
+      let f : So_far = record { work = Idle; events = Staged [] 1 ∷ Host_failed [] fault ∷ [] } in
       end_at setting inputs l (t ++ pair (Request.Start [] launch) (HostAnswer.Failed fault) ∷ []) f (Compute ∷ []) (Host_ends fault [])
       (step_at setting inputs l t when_staged (Compute ∷ []) (pair (Request.Start [] launch) (HostAnswer.Failed fault)) f (Compute ∷ [])
       goes (may_start tool inputs o l.limits launch is) refl refl)
@@ -183,7 +183,7 @@ module _ (setting : Setting) (inputs : Fields) (l : IsLone setting inputs) (t : 
 
     pub scan_fails : (fault : HostFault) → Advances setting (t ++ pair scan_request (HostAnswer.Failed fault) ∷ []) (host_fails fault [])
     scan_fails fault =
-        let f : So_far = record { work = Idle; events = Staged [] 1 ∷ Began [] ticket ∷ Came_back ticket ∷ Host_failed fault ∷ [] } in
+        let f : So_far = record { work = Idle; events = Staged [] 1 ∷ Began [] ticket ∷ Came_back ticket ∷ Host_failed [] fault ∷ [] } in
         end_at setting inputs l (t ++ pair scan_request (HostAnswer.Failed fault) ∷ []) f (Load ∷ []) (Host_ends fault [])
         (step_at setting inputs l t (when_back ticket) (Load ∷ []) (pair scan_request (HostAnswer.Failed fault)) f (Load ∷ [])
         goes (may_scan tool inputs o l.limits ticket) refl refl)
@@ -251,7 +251,7 @@ module _ (setting : Setting) (inputs : Fields) (l : IsLone setting inputs) (t : 
 
     pub deliver_fails : (fault : HostFault) → Advances setting (t ++ pair (Request.Deliver plan) (HostAnswer.Failed fault) ∷ []) (host_fails fault [])
     deliver_fails fault =
-        let f : So_far = record { work = Idle; events = Staged [] 1 ∷ Began [] ticket ∷ Came_back ticket ∷ Succeeded [] named ∷ Host_failed fault ∷ [] } in
+        let f : So_far = record { work = Idle; events = Staged [] 1 ∷ Began [] ticket ∷ Came_back ticket ∷ Succeeded [] named ∷ Host_failed [] fault ∷ [] } in
         end_at setting inputs l (t ++ pair (Request.Deliver plan) (HostAnswer.Failed fault) ∷ []) f (Load ∷ []) (Host_ends fault [])
         (step_at setting inputs l t (when_gathered ticket named) (Load ∷ []) (pair (Request.Deliver plan) (HostAnswer.Failed fault)) f (Load ∷ [])
         goes (may_deliver tool inputs o l.limits ticket named outputs plan result delivery) refl refl)

@@ -64,7 +64,7 @@ flight_at_root flying (Succeeded place outputs) roots root = roots
 flight_at_root flying (Broke place cause) roots root = roots
 flight_at_root flying (Gave_up place) roots root = roots
 flight_at_root flying Delivered roots root = roots
-flight_at_root flying (Host_failed fault) roots root = roots
+flight_at_root flying (Host_failed place fault) roots root = roots
 flight_at_root flying Collect_failed roots root = roots
 
 flights_at_root : (flying : List Flight) (es : List Event) → All FlightAtRoot flying → AllAtRoot es → All FlightAtRoot (fold flight_after flying es)

@@ -17,7 +17,7 @@ use Rattle.run_rules.specs.Words.{Fields, JobPlace}
 use Rattle.run_rules.specs.Jobs.{Job}
 use Rattle.run_rules.specs.Collected.{collected}
 use Rattle.run_rules.specs.Scene.{Scene}
-use Rattle.run_rules.specs.Events.{Event, Staged, Began, Came_back, Succeeded, Broke, Gave_up, Delivered, Host_failed, Collect_failed, Work, Idle, Starting, Scanning, So_far, after, flight_after, in_flight, job_at, with_job, judged, came_back, gathered, free_step, due_step, step_of}
+use Rattle.run_rules.specs.Events.{Event, Staged, Began, Came_back, Succeeded, Broke, Gave_up, Delivered, Host_failed, Collect_failed, Work, Idle, Starting, Scanning, So_far, after, flight_after, in_flight, job_at, with_job, judged, came_back, gathered, free_step, due_step, step_of, place_of, place_due}
 use Rattle.run_rules.specs.Plans.{Mark}
 use Rattle.run_rules.specs.Run.{Goes, begins, asks, breaks}
 use Rattle.run_rules.specs.Told.{told, RanWell}
@@ -49,7 +49,7 @@ begun_more (Succeeded place outputs) es n there = there
 begun_more (Broke place cause) es n there = there
 begun_more (Gave_up place) es n there = there
 begun_more Delivered es n there = there
-begun_more (Host_failed fault) es n there = there
+begun_more (Host_failed place fault) es n there = there
 begun_more Collect_failed es n there = there
 
 abbrev pub Flight : Type 0
@@ -69,7 +69,7 @@ in_air flying (Succeeded place outputs) x there = inl there
 in_air flying (Broke place cause) x there = inl there
 in_air flying (Gave_up place) x there = inl there
 in_air flying Delivered x there = inl there
-in_air flying (Host_failed fault) x there = inl there
+in_air flying (Host_failed place fault) x there = inl there
 in_air flying Collect_failed x there = inl there
 
 begun_first : (e : Event) (es : List Event) (n : ℕ) → Contains (begun (e ∷ [])) n → Contains (begun (e ∷ es)) n
@@ -80,7 +80,7 @@ begun_first (Succeeded place outputs) es n there = absurd (none_in n there)
 begun_first (Broke place cause) es n there = absurd (none_in n there)
 begun_first (Gave_up place) es n there = absurd (none_in n there)
 begun_first Delivered es n there = absurd (none_in n there)
-begun_first (Host_failed fault) es n there = absurd (none_in n there)
+begun_first (Host_failed place fault) es n there = absurd (none_in n there)
 begun_first Collect_failed es n there = absurd (none_in n there)
 
 flew : (flying : List Flight) (es : List Event) (x : Flight) → Contains (fold flight_after flying es) x → Contains flying x ⊎ Contains (begun es) x.0
@@ -164,7 +164,7 @@ module _ (t : List Pair) (s : Scene) where
     free_told Request.Collect (HostAnswer.Ended e) now = back_told e now es (find (λ f. f.0 == e.ticket) (in_flight es)) refl flights
     free_told Request.Collect (HostAnswer.Failed fault) now = quiet_idle (Collect_failed ∷ []) refl refl
     free_told (Request.Deliver plan) HostAnswer.Done now = quiet_idle (Delivered ∷ []) refl refl
-    free_told request (HostAnswer.Failed fault) now = quiet_idle (Host_failed fault ∷ []) refl refl
+    free_told request (HostAnswer.Failed fault) now = quiet_idle (Host_failed (place_of request) fault ∷ []) refl refl
     free_told request answer now = quiet_idle [] refl refl
 
     due_told : (work : Work) (answer : HostAnswer) → Contains (told t) answer → ((place : JobPlace) → work ≡ Scanning place → RanWell t) →
@@ -176,7 +176,7 @@ module _ (t : List Pair) (s : Scene) where
     }
     due_told (Scanning place) (HostAnswer.Listed found) now ran =
         job_told place (job_at s es place) (λ job. gathered s place (collected job.tool found)) (λ job. gathered_told place (collected job.tool found) (ran place refl))
-    due_told work (HostAnswer.Failed fault) now ran = quiet_idle (Host_failed fault ∷ []) refl refl
+    due_told work (HostAnswer.Failed fault) now ran = quiet_idle (Host_failed (place_due work) fault ∷ []) refl refl
     due_told work answer now ran = quiet_idle [] refl refl
 
     step_told : (work : Work) (p : Pair) → Contains (told t) p.answer → ((place : JobPlace) → work ≡ Scanning place → RanWell t) →

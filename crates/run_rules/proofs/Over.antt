@@ -72,7 +72,7 @@ none_at_hand (Came_back ticket ∷ es) none = none_at_hand es none
 none_at_hand (Broke place cause ∷ es) none = none_at_hand es none
 none_at_hand (Gave_up place ∷ es) none = none_at_hand es none
 none_at_hand (Delivered ∷ es) none = none_at_hand es none
-none_at_hand (Host_failed fault ∷ es) none = none_at_hand es none
+none_at_hand (Host_failed place fault ∷ es) none = none_at_hand es none
 none_at_hand (Collect_failed ∷ es) none = none_at_hand es none
 
 by_inputs : (tool : Tool) (inputs : Result Fields Cause) (es : List Event) (place : JobPlace) (known : Job) →

@@ -123,7 +123,7 @@ module _ (tool : Tool) (inputs : Fields) (options : Options) (world : World) whe
   breaks_rightly es (Came_back ticket) place cause root agrees is = absurd cc
   breaks_rightly es (Succeeded at outputs) place cause root agrees is = absurd cc
   breaks_rightly es Delivered place cause root agrees is = absurd cc
-  breaks_rightly es (Host_failed fault) place cause root agrees is = absurd cc
+  breaks_rightly es (Host_failed at fault) place cause root agrees is = absurd cc
   breaks_rightly es Collect_failed place cause root agrees is = absurd cc
 
   settles_rightly : (es later : List Event) (place : JobPlace) (cause : Cause) → AllAtRoot later → AgreesFrom s world es later →
@@ -161,7 +161,7 @@ module _ (tool : Tool) (inputs : Fields) (options : Options) (world : World) whe
   collects_rightly es (Broke place cause ∷ later) r agrees is = collects_rightly (es ++ Broke place cause ∷ []) later r agrees.1 is
   collects_rightly es (Gave_up place ∷ later) r agrees is = collects_rightly (es ++ Gave_up place ∷ []) later r agrees.1 is
   collects_rightly es (Delivered ∷ later) r agrees is = collects_rightly (es ++ Delivered ∷ []) later r agrees.1 is
-  collects_rightly es (Host_failed fault ∷ later) r agrees is = collects_rightly (es ++ Host_failed fault ∷ []) later r agrees.1 is
+  collects_rightly es (Host_failed at fault ∷ later) r agrees is = collects_rightly (es ++ Host_failed at fault ∷ []) later r agrees.1 is
   collects_rightly es (Collect_failed ∷ later) r agrees is = collects_rightly (es ++ Collect_failed ∷ []) later r agrees.1 is
 
   -- the result, by what was collected at the root

@@ -47,7 +47,7 @@ module _ (s : Scene) where
   settled_by_failure es (Succeeded place outputs) = tt
   settled_by_failure es (Broke place cause) = tt
   settled_by_failure es Delivered = tt
-  settled_by_failure es (Host_failed fault) = tt
+  settled_by_failure es (Host_failed place fault) = tt
   settled_by_failure es Collect_failed = tt
 
   settled_later : (es later : List Event) → IsNoSuccess (settled_from s es later)
@@ -77,7 +77,7 @@ none_resolved (Came_back ticket ∷ es) none = none_resolved es none
 none_resolved (Broke place cause ∷ es) none = none_resolved es none
 none_resolved (Gave_up place ∷ es) none = none_resolved es none
 none_resolved (Delivered ∷ es) none = none_resolved es none
-none_resolved (Host_failed fault ∷ es) none = none_resolved es none
+none_resolved (Host_failed place fault ∷ es) none = none_resolved es none
 none_resolved (Collect_failed ∷ es) none = none_resolved es none
 
 no_result_by : (tool : Tool) (inputs : Result Fields Cause) → result (tool_walk tool [] inputs) (made_by []) ≡ None

@@ -46,7 +46,7 @@ module _ (s : Scene) where
   settled_by es (Broke place cause) = Some (Fails_for_good place cause)
   settled_by es (Gave_up place) =
       cond (nat_lt (length (filter (gives_up place) es)) s.options.retries) None (Some (Fails_for_now place))
-  settled_by es (Host_failed fault) = Some (Host_ends fault [])
+  settled_by es (Host_failed place fault) = Some (Host_ends fault [])
   settled_by es _ = None
 
   -- the end by the first fault of what is known

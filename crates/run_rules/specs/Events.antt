@@ -30,8 +30,8 @@ pub data Event : Type 0 where
   Gave_up : (place : JobPlace) → Event
   -- the result's files stand where they are wanted
   Delivered : Event
-  -- a call other than a collect failed
-  Host_failed : (fault : HostFault) → Event
+  -- a call for the job at this place, other than a collect, failed; the root's where it is for the whole run
+  Host_failed : (place : JobPlace) (fault : HostFault) → Event
   -- a collect failed
   Collect_failed : Event
 
@@ -43,6 +43,19 @@ pub data Work : Type 0 where
   Starting : (place : JobPlace) → Work
   -- the job's output folder is scanned, its child having ended well
   Scanning : (place : JobPlace) → Work
+
+-- the place of the job that a request is for; the root where it is for the whole run
+abbrev pub place_of : Request → JobPlace
+place_of (Request.Stage place plan number) = place
+place_of (Request.Start place launch) = place
+place_of (Request.Scan place folder) = place
+place_of _ = []
+
+-- the place of the job whose work follows at once
+abbrev pub place_due : Work → JobPlace
+place_due Idle = []
+place_due (Starting place) = place
+place_due (Scanning place) = place
 
 -- what a transcript has brought about: what follows at once, and what has happened
 pub record So_far : Type 0 where
@@ -152,7 +165,7 @@ module _ (s : Scene) where
       came_back e.ticket e.code (find (λ f. f.0 == e.ticket) (in_flight es))
   free_step es Request.Collect (HostAnswer.Failed fault) = happened Collect_failed
   free_step es (Request.Deliver plan) HostAnswer.Done = happened Delivered
-  free_step es request (HostAnswer.Failed fault) = happened (Host_failed fault)
+  free_step es request (HostAnswer.Failed fault) = happened (Host_failed (place_of request) fault)
   free_step es request answer = nothing
 
   -- the answer to what was due
@@ -160,7 +173,7 @@ module _ (s : Scene) where
   due_step es (Starting place) (HostAnswer.Started ticket) = happened (Began place ticket)
   due_step es (Scanning place) (HostAnswer.Listed found) =
       with_job (job_at es place) (λ job. gathered place (collected job.tool found))
-  due_step es work (HostAnswer.Failed fault) = happened (Host_failed fault)
+  due_step es work (HostAnswer.Failed fault) = happened (Host_failed (place_due work) fault)
   due_step es work answer = nothing
 
   -- a pair, by what was due before it
