@@ -11,20 +11,21 @@ use Rattle.proc_host.specs.declared.call.HostAnswer.{HostAnswer}
 use Rattle.proc_host.specs.declared.child.ExitClass.{ExitClass}
 use Rattle.proc_host.specs.declared.found.Found.{Found}
 use Rattle.proc_host.specs.ExitClass.{class_of}
-use Rattle.run_core.specs.declared.outcome.Cause.{Cause}
-use Rattle.run_core.specs.declared.outcome.CollectFault.{CollectFault}
-use Rattle.run_core.specs.declared.request.Request.{Request}
-use Rattle.run_core.specs.declared.request.Pair.{Pair}
-use Rattle.run_core.specs.declared.setting.Options.{Options}
-use Rattle.run_core.specs.declared.setting.Setting.{Setting}
+use Rattle.run_rules.specs.declared.outcome.Cause.{Cause}
+use Rattle.run_rules.specs.declared.outcome.CollectFault.{CollectFault}
+use Rattle.run_rules.specs.declared.request.Request.{Request}
+use Rattle.run_rules.specs.declared.request.Pair.{Pair}
+use Rattle.run_rules.specs.declared.setting.Options.{Options}
+use Rattle.run_rules.specs.declared.setting.Setting.{Setting}
 use Rattle.run_core.specs.declared.state.Phase.{Phase}
 use Rattle.run_core.specs.declared.state.State.{State}
-use Rattle.run_core.specs.Words.{Name, Fields}
-use Rattle.run_core.specs.Answers.{MayAnswer}
-use Rattle.run_core.specs.Blame.{answers, WereStarted}
-use Rattle.run_core.specs.Collected.{found_under}
-use Rattle.run_core.specs.Reports.{entries_of, entry_of}
-use Rattle.run_core.specs.Machine.{tool_of, fails_for_good, Launches, has_launch, has_none, after_class, after_file, after_listing, delivers, left_by, FollowsDone, FollowsFrom}
+use Rattle.run_rules.specs.Words.{Name, Fields}
+use Rattle.run_rules.specs.Answers.{MayAnswer}
+use Rattle.run_rules.specs.Blame.{answers, WereStarted}
+use Rattle.run_rules.specs.Collected.{found_under}
+use Rattle.run_rules.specs.Reports.{entries_of, entry_of}
+use Rattle.run_core.specs.Machine.{fails_for_good, Launches, has_launch, has_none, after_class, after_file, after_listing, delivers, left_by, FollowsDone, FollowsFrom}
+use Rattle.run_rules.specs.Jobs.{tool_of}
 use Rattle.run_core.specs.Standing.{Blames}
 use Rattle.run_core.proofs.Answered.{pair, only_ticket}
 

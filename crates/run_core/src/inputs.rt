@@ -1,7 +1,7 @@
 ghost use Rattle.std.specs.Prelude.{◌≡◌, IfOk, find, map};
 ghost use Rattle.std.specs.Option.{option_copied};
-ghost use Rattle.run_core.specs.Inputs.{fits, is_misfit, named_inputs};
-ghost use Rattle.run_core.specs.Words.{value_under};
+ghost use Rattle.run_rules.specs.Inputs.{fits, is_misfit, named_inputs};
+ghost use Rattle.run_rules.specs.Words.{value_under};
 
 use crate::fields::put;
 use cwl_document::{CwlType, ToolInput};

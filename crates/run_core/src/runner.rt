@@ -1,13 +1,13 @@
-ghost use Rattle.std.specs.Prelude.{◌≡◌, ◌≢◌, ◌↔◌, ◌<◌, ◌∷◌, ◌++◌, [], Err, IfOk, IfErr, OnOk, vec_len, vec_capacity};
-ghost use Rattle.run_core.specs.declared.outcome.RunFault.{RunFault};
-ghost use Rattle.run_core.specs.declared.request.Request.{Request};
+ghost use Rattle.std.specs.Prelude.{◌≡◌, ◌≢◌, ◌↔◌, ◌+◌, ◌<◌, ◌≤◌, ◌∷◌, ◌++◌, [], Err, IfOk, IfErr, OnOk, vec_len, vec_capacity};
+ghost use Rattle.run_rules.specs.declared.outcome.RunFault.{RunFault};
+ghost use Rattle.run_rules.specs.declared.request.Request.{Request};
 ghost use Rattle.run_core.specs.declared.state.Phase.{Phase};
 ghost use Rattle.run_core.specs.Core.{setting_of, transcript, asked, flying, IsLost, IsEnded, Stands, MayAsk, Begins, Took};
-ghost use Rattle.run_core.specs.Machine.{AsksIn, MakesRoom, Moves, at_start, told_of};
-ghost use Rattle.run_core.specs.Answers.{MayAnswer};
-ghost use Rattle.run_core.specs.Blame.{BlamesRightly};
+ghost use Rattle.run_core.specs.Machine.{AsksIn, HasRoom, MakesRoom, Moves, at_start, pairs_wanted, told_of};
+ghost use Rattle.run_rules.specs.Answers.{MayAnswer};
+ghost use Rattle.run_rules.specs.Blame.{BlamesRightly};
 ghost use Rattle.run_core.specs.Limits.{IsWithinLimits};
-ghost use Rattle.run_core.specs.Reports.{entries_of, Concludes};
+ghost use Rattle.run_rules.specs.Reports.{entries_of, Concludes};
 
 use crate::state::{Phase, State, ended};
 use crate::steps::{begun, follows};
@@ -79,7 +79,7 @@ impl RunCore {
     }
 
     /// Takes the answer to what it asks. Where memory runs out for what comes next, the pair is kept, it asks
-    /// nothing more, and `finish` says so too.
+    /// nothing more, and `finish` says so too. That comes only where no child is in flight.
     pub fn take(&mut self, answer: HostAnswer) -> Result<(), RunFault>
         requires stands { Stands self.old }
         requires answers { MayAnswer (asked self.old) (flying self.old) answer }
@@ -176,20 +176,42 @@ fn next_state(alloc: Global, setting: &Setting, state: &mut State, answer: &Host
 /// Adds a pair where there is room for it.
 fn note(pairs: &mut Vec<Pair>, request: Request, answer: HostAnswer)
     requires { vec_len pairs.old < vec_capacity pairs.old }
-    ensures { pairs.new.items ≡ pairs.old.items ++ record { request = request; answer = answer } ∷ [] }
+    ensures items { pairs.new.items ≡ pairs.old.items ++ record { request = request; answer = answer } ∷ [] }
+    ensures len { vec_len pairs.new ≡ vec_len pairs.old + 1 }
+    ensures room { vec_capacity pairs.old ≤ vec_capacity pairs.new }
 {
     pairs.push(Pair { request, answer }).unwrap();
 }
 
-/// Makes room for one more pair; where there is none, nothing more is asked.
-#[tactic(auto, using(crate::specs::Machine::has_room, crate::specs::Machine::no_room))]
+/// Makes room for the pairs that come next; where there is none, nothing more is asked. Before a child is started it
+/// makes room for its end too, so that none runs where memory is refused.
+#[tactic(auto, using(crate::specs::Machine::has_room, crate::specs::Machine::wants_none, crate::specs::Machine::no_room))]
 fn make_room(alloc: Global, pairs: &mut Vec<Pair>, state: &mut State)
+    requires { HasRoom (vec_len pairs.old) (vec_capacity pairs.old) state.old.phase }
     ensures items { pairs.new.items ≡ pairs.old.items }
     ensures room { MakesRoom (vec_len pairs.new) (vec_capacity pairs.new) state.old state.new }
 {
-    if pairs.reserve(1).is_err() {
-        let lost = ended(alloc, Err(RunFault::OutOfMemory));
-        mem::drop(mem::replace(state, lost));
+    let more = pairs_wanted(&state.phase);
+    if more == 0 {
+        return;
+    }
+    match pairs.reserve(more) {
+        Ok(()) => {}
+        Err(AllocError) => {
+            let lost = ended(alloc, Err(RunFault::OutOfMemory));
+            mem::drop(mem::replace(state, lost));
+        }
+    }
+}
+
+/// For how many pairs room is made in a phase.
+fn pairs_wanted(phase: &Phase) -> usize
+    ensures { result ≡ pairs_wanted phase.now }
+{
+    match phase {
+        Phase::Starting(_) => 2,
+        Phase::Running | Phase::Ended(_) => 0,
+        _ => 1,
     }
 }
 

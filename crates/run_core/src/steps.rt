@@ -1,10 +1,11 @@
 //! What the machine waits for after each answer, for a lone tool.
-ghost use Rattle.std.specs.Prelude.{◌≡◌, ◌++◌, IfOk, codes};
+ghost use Rattle.std.specs.Prelude.{◌≡◌, ◌++◌, IfOk, OnErr, codes};
 ghost use Rattle.cwl_value.specs.declared.place.Place.{Place};
-ghost use Rattle.run_core.specs.Folders.{out_folder};
-ghost use Rattle.run_core.specs.Machine.{Launches, FollowsFrom, AsksIn, IsDelivering, after_ticket, after_exit, after_scan, at_start, delivered_in, delivers, ends, host_fails, left_by, outputs_at, plan_to, starts, tool_of};
-ghost use Rattle.run_core.specs.Answers.{MayAnswer};
-ghost use Rattle.run_core.specs.Reports.{reported};
+ghost use Rattle.run_rules.specs.Folders.{out_folder};
+ghost use Rattle.run_core.specs.Machine.{Launches, FollowsFrom, AsksIn, HasSeat, IsDelivering, NeedsMemory, after_ticket, after_exit, after_scan, at_start, delivered_in, delivers, ends, host_fails, left_by, outputs_at, plan_to, starts};
+ghost use Rattle.run_rules.specs.Jobs.{tool_of};
+ghost use Rattle.run_rules.specs.Answers.{MayAnswer};
+ghost use Rattle.run_rules.specs.Reports.{reported};
 
 use crate::folders::{out_folder, path_in, runtime_of};
 use crate::inputs::{first_misfit, named_inputs};
@@ -57,23 +58,28 @@ fn launched(alloc: Global, setting: &Setting, inputs: &Keyed<Value>) -> Result<S
     let tool = tool_of(&setting.process);
     let runtime = runtime_of(alloc, &setting.options, 1)?;
     match build(alloc, tool, inputs, &runtime) {
-        Ok(launch) => Ok(starting(alloc, launch)),
+        Ok(launch) => starting(alloc, launch),
         Err(BuildError::Refused(fault)) => Ok(failed_for_good(alloc, Cause::Build(fault))),
         Err(BuildError::OutOfMemory) => Err(AllocError),
     }
 }
 
-/// The child runs: its end is waited for.
-fn running(alloc: Global, ticket: u64) -> Result<State, AllocError>
-    ensures { IfOk result (λ state. state ≡ after_ticket ticket) }
+/// The child runs: its end is waited for. The ticket takes the place that was made for it, so no memory is needed.
+fn running(alloc: Global, phase: &mut Phase, ticket: u64) -> State
+    requires { HasSeat phase.old }
+    ensures { result ≡ after_ticket ticket }
 {
-    let mut flying = Items::new(alloc);
-    flying.push(ticket)?;
-    Ok(State {
+    let seat = match phase {
+        Phase::Starting(seat) => mem::replace(seat, Items::new(alloc)),
+        _ => unreachable!(),
+    };
+    let mut held = seat.into_vec();
+    held[0] = ticket;
+    State {
         asks: Request::Collect,
         phase: Phase::Running,
-        flying,
-    })
+        flying: Items::from_vec(held),
+    }
 }
 
 /// The child has ended: a success is scanned.
@@ -178,15 +184,17 @@ fn path_of(alloc: Global, work: &Text, name: &Text) -> Result<Text, AllocError>
     path_in(alloc, &folder, name)
 }
 
-/// The child is to be started.
-fn starting(alloc: Global, launch: Launch) -> State
-    ensures { result ≡ starts launch }
+/// The child is to be started; its ticket has a place before it is asked for.
+fn starting(alloc: Global, launch: Launch) -> Result<State, AllocError>
+    ensures { IfOk result (λ state. state ≡ starts launch) }
 {
-    State {
+    let mut seat = Items::new(alloc);
+    seat.push(0)?;
+    Ok(State {
         asks: Request::Start(Items::new(alloc), launch),
-        phase: Phase::Starting,
+        phase: Phase::Starting(seat),
         flying: Items::new(alloc),
-    }
+    })
 }
 
 /// The result's files are where they are wanted: the outputs that name them are the end.
@@ -214,6 +222,7 @@ fn failed(alloc: Global, asks: &Request, flying: &mut Items<u64>, fault: HostFau
 
 /// What the machine waits for after this answer to what it asks. It takes what goes on out of the phase and the
 /// tickets.
+#[tactic(auto, using(crate::proofs::Seats::has_seat))]
 pub(crate) fn follows(
     alloc: Global,
     setting: &Setting,
@@ -224,14 +233,15 @@ pub(crate) fn follows(
 ) -> Result<State, AllocError>
     requires answers { MayAnswer asks.now flying.old answer.now }
     requires asks { AsksIn asks.now phase.old }
-    ensures { IfOk result (λ next. FollowsFrom setting.now asks.now flying.old phase.old answer.now next) }
+    ensures next { IfOk result (λ next. FollowsFrom setting.now asks.now flying.old phase.old answer.now next) }
+    ensures err { OnErr result (NeedsMemory answer.now) }
 {
     match answer {
         HostAnswer::Done => match asks {
             Request::Stage(_, plan, _) => launched(alloc, setting, &plan.value),
             _ => Ok(placed(alloc, phase)),
         },
-        HostAnswer::Started(ticket) => running(alloc, *ticket),
+        HostAnswer::Started(ticket) => Ok(running(alloc, phase, *ticket)),
         HostAnswer::Ended(ending) => judged(alloc, setting, ending),
         HostAnswer::Listed(found) => gathered(alloc, setting, found.as_slice()),
         HostAnswer::Failed(fault) => Ok(failed(alloc, asks, flying, *fault)),
