@@ -37,15 +37,28 @@ pub(crate) fn named_stream(alloc: Global, row: &Row) -> Result<String, RowFault>
 
 fn launch_of(alloc: Global, tool: &Tool, row: &Row, copy: bool) -> Result<String, RowFault> {
     let inputs = inputs_of(alloc, row)?;
-    match launched(alloc, tool, &inputs, row)? {
-        Ok(launch) if copy => copy_text(alloc, &launch),
-        Ok(launch) => launch_text(alloc, &launch),
-        Err(error) => not_built(alloc, &error),
+    let outcome = launched(alloc, tool, &inputs, row)?;
+    outcome_text(alloc, &outcome, copy)
+}
+
+fn outcome_text(
+    alloc: Global,
+    outcome: &Result<Launch, BuildError>,
+    copy: bool,
+) -> Result<String, RowFault> {
+    match outcome {
+        Ok(launch) if copy => copy_text(alloc, launch),
+        Ok(launch) => launch_text(alloc, launch),
+        Err(error) => not_built(alloc, error),
     }
 }
 
 fn inputs_of(alloc: Global, row: &Row) -> Result<Keyed<Value>, RowFault> {
     let text = json_text(alloc, row.json("inputs")?)?;
+    fields_in(alloc, text.as_str())
+}
+
+fn fields_in(alloc: Global, text: &str) -> Result<Keyed<Value>, RowFault> {
     match read_value(alloc, text.as_bytes()) {
         Ok(Value::Fields(fields)) => Ok(fields),
         _ => Err(RowFault::BadArgument),
@@ -100,15 +113,19 @@ fn put_launch(alloc: Global, out: &mut String, launch: &Launch) -> Result<(), Ro
     put_texts(alloc, out, launch.words.as_slice())?;
     out.push_str(",\"env\":")?;
     put_variables(alloc, out, launch.env.as_slice())?;
+    put_streams(alloc, out, launch)?;
+    out.push_str(",\"dir\":")?;
+    put_text(alloc, out, launch.dir.as_str())?;
+    Ok(out.push_str("}")?)
+}
+
+fn put_streams(alloc: Global, out: &mut String, launch: &Launch) -> Result<(), RowFault> {
     out.push_str(",\"stdin\":")?;
     put_text_or_null(alloc, out, &launch.stdin)?;
     out.push_str(",\"stdout\":")?;
     put_text_or_null(alloc, out, &launch.stdout)?;
     out.push_str(",\"stderr\":")?;
-    put_text_or_null(alloc, out, &launch.stderr)?;
-    out.push_str(",\"dir\":")?;
-    put_text(alloc, out, launch.dir.as_str())?;
-    Ok(out.push_str("}")?)
+    put_text_or_null(alloc, out, &launch.stderr)
 }
 
 fn put_variables(alloc: Global, out: &mut String, env: &[Variable]) -> Result<(), RowFault> {

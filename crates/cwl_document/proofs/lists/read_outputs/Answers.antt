@@ -1,4 +1,4 @@
-use Rattle.std.proofs.Common.{◌≡◌, List, map, Option, Some, codes, sym, ap, ◌∙◌, subst, inr, OnOk, bytes_eq}
+use Rattle.std.proofs.Common.{◌≡◌, map, Option, Some, codes, ap, ◌∙◌, subst, inr, OnOk, bytes_eq}
 use Rattle.std.specs.List.{IsDistinct}
 use Rattle.serde_json.specs.Data.{Data}
 use Rattle.serde_json.specs.Find.{get}
