@@ -47,7 +47,7 @@ fields_of OutputObject =
     ∷ must (codes "type") is_output_type
     ∷ []
 
--- the names that are read over at every object, beside each that has a colon
+-- the names that are ignored at every object, beside each that has a colon
 abbrev pub names_read_over : List (List ℕ)
 names_read_over = codes "doc" ∷ codes "label" ∷ codes "intent" ∷ codes "format" ∷ codes "streamable" ∷ codes "$namespaces" ∷ codes "$schemas" ∷ []
 

@@ -1,4 +1,4 @@
--- What of a tool's object tells two tools apart: all of it, without `hints` and the names that are read over.
+-- What of a tool's object tells two tools apart: all of it, without `hints` and the names that are ignored.
 use Rattle.std.specs.Prelude.{ℕ, ◌||◌, List, Bool, true, false, if◌then◌else◌, codes}
 use Rattle.std.specs.Str.{bytes_eq}
 use Rattle.serde_json.specs.Data.{Data, null, boolean, number, string, array, object, Items, no_items, item, Members, no_members, member}

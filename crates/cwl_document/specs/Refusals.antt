@@ -24,7 +24,7 @@ place_of InputObject = codes "inputs"
 place_of BindingObject = codes "inputBinding"
 place_of OutputObject = codes "outputs"
 
--- a name that is no field of such an object, and is not read over, is among the names
+-- a name that is no field of such an object, and is not ignored, is among the names
 abbrev pub HasUnknown : List ℕ → ObjectKind → List (List ℕ) → Type 0
 HasUnknown name kind names = (list_any (bytes_eq name) names ≡ true) × (is_known kind name ≡ false)
 

@@ -43,7 +43,7 @@ fn is_tool_field(name: &str) -> bool
     )
 }
 
-/// Whether a name is read over wherever it stands: those that describe, and every extension's.
+/// Whether a name is ignored wherever it stands: those that describe, and every extension's.
 pub fn is_read_over(name: &str) -> bool
     ensures { result ≡ is_read_over name.now }
 {

@@ -26,7 +26,7 @@ fn place_of(kind: ObjectKind) -> &'static str
     }
 }
 
-/// That a value is an object with no field but its kind's and those that are read over.
+/// That a value is an object with no field but its kind's and those that are ignored.
 fn check_names(alloc: Global, kind: ObjectKind, value: &Value) -> Result<(), DocumentRefusal>
     ensures object { OnOk result (is_object (view value.now) ≡ true) }
     ensures names { OnOk result (list_all (is_known kind) (names_of (view value.now)) ≡ true) }
@@ -38,7 +38,7 @@ fn check_names(alloc: Global, kind: ObjectKind, value: &Value) -> Result<(), Doc
     }
 }
 
-/// That an object has no field but its kind's and those that are read over.
+/// That an object has no field but its kind's and those that are ignored.
 pub fn check_members(
     alloc: Global,
     kind: ObjectKind,

@@ -20,7 +20,7 @@ pub struct Tool {
     /// The name of the file that takes the command's standard output.
     pub stdout: Option<Text>,
     /// The tool's object as compact JSON text, by which two tools are told apart: names in the
-    /// order of their bytes, without `hints` and without what is read over.
+    /// order of their bytes, without `hints` and without what is ignored.
     pub written: Text,
 }
 
