@@ -6,7 +6,6 @@ use Rattle.command_line.specs.Launch.{IsLaunch, IsRefused, stream_name}
 use Rattle.cwl_value.specs.declared.place.Place.{Place}
 use Rattle.cwl_value.specs.declared.value.Value.{Value, roll-Value}
 use Rattle.cwl_value.specs.declared.value.Value.TheOpen.{Value-F}
-use Rattle.cwl_document.specs.declared.process.Process.{Process}
 use Rattle.cwl_document.specs.declared.process.Tool.{Tool}
 use Rattle.cwl_document.specs.declared.process.ToolInput.{ToolInput}
 use Rattle.cwl_document.specs.declared.process.ToolOutput.{ToolOutput}

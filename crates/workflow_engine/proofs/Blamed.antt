@@ -1,6 +1,6 @@
 -- Where a call failed, the failures rose.
 use Rattle.std.specs.Prelude.{Contains}
-use Rattle.std.proofs.Common.{◌≡◌, ℕ, zero, suc, ◌+◌, ◌<◌, cond, List, [], ◌∷◌, ◌++◌, Result, Ok, Err, IfErr, ap, arith}
+use Rattle.std.proofs.Common.{◌≡◌, zero, suc, ◌+◌, ◌<◌, cond, List, [], ◌∷◌, ◌++◌, Result, Ok, Err, IfErr, ap, arith}
 use Rattle.std.proofs.lemmas.List.Sums.{sum_by-append}
 use Rattle.proc_host.specs.declared.call.Entry.{Entry}
 use Rattle.proc_host.specs.declared.call.HostAnswer.{HostAnswer}

@@ -1,7 +1,5 @@
-use Rattle.std.proofs.Common.{◌≡◌, [], ◌++◌, Err, sym, append-nil, subst, Result, ◌∙◌}
-use Rattle.run_rules.specs.declared.outcome.Report.{Report}
+use Rattle.std.proofs.Common.{◌≡◌, [], Err, sym, append-nil, ◌∙◌}
 use Rattle.run_rules.specs.declared.outcome.RunFault.{RunFault}
-use Rattle.workflow_engine.specs.Gains.{RunsOn}
 use Rattle.workflow_engine.proofs.Nothing.{nothing_asked, err_is}
 use Rattle.workflow_engine.proofs.Blamed.{hosts_fault}
 use Rattle.workflow_engine.proofs.drive.run.Goals as goal

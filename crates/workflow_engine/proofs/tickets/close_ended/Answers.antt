@@ -1,4 +1,4 @@
-use Rattle.std.proofs.Common.{◌≡◌, ◌==◌, rules, Some, None, position, ◌∙◌, sym, ap}
+use Rattle.std.proofs.Common.{◌≡◌, ◌==◌, rules, Some, None, position}
 use Rattle.workflow_engine.proofs.Covers.{covers_removed, found_is, none_runs}
 use Rattle.workflow_engine.proofs.tickets.close_ended.Goals as goal
 
