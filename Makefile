@@ -5,12 +5,14 @@
 build:
 	@scripts/build
 
+# The minutes are of four shared processors of two cores.
 help:
-	@echo "make               prove and build the program, and print its path"
-	@echo "make demo          run the worked example, unproved, for a first look"
-	@echo "make test          the whole gate: every proof from nothing, the tests, the programs, the wrong bodies of must-fail/"
-	@echo "make gate-cost     what the last gate cost, by crate and part"
-	@echo "make wrong-bodies  try all wrong bodies over kept work; NAME=crate: those of one crate"
+	@echo "make               prove and build the program, and print its path (about 35 minutes the first time, then seconds)"
+	@echo "make demo          run the worked example, unproved, for a first look (about 2 minutes)"
+	@echo "make test          the whole gate: every proof from nothing, the tests, the programs, the wrong bodies in must-fail/"
+	@echo "                   (about an hour)"
+	@echo "make gate-cost     what the last gate cost, by crate and part (a second)"
+	@echo "make wrong-bodies  try all wrong bodies over what \`rt check\` keeps (about an hour); NAME=crate: those of one crate (3 to 8)"
 
 demo:
 	@scripts/demo

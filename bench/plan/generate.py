@@ -6,11 +6,12 @@ usage: generate.py SHAPE COSTS JOBS
 SHAPE   chain: each job reads the one before it
         tree: each job but the first reads one job, drawn from all that come before it
         layers: 32 jobs a layer, each of which reads eight of the layer before
+        scatter: no job reads another one, and each is needed
         stairs: a graph made to be hard, with paths that go up and down among half of the jobs (COSTS is not looked at)
 COSTS   even: drawn from the whole range, each cost as likely as another
         decades: each number of digits as likely as another
 But in stairs, a job in eight has no load cost, and needed are the last job, or the last layer, or the leaves of a tree,
-and one job in sixteen besides. No plan is given: each job is marked P, and each charge is 0.
+or each job of a scatter, and one job in sixteen besides. No plan is given: each job is marked P, and each charge is 0.
 """
 
 import sys
@@ -40,7 +41,7 @@ def parents_of(shape, job, numbers):
     if shape == "tree":
         return [numbers.below(job)] if job else []
     start = (job // WIDTH - 1) * WIDTH
-    if start < 0:
+    if shape == "scatter" or start < 0:
         return []
     drawn = set()
     while len(drawn) < 8:
@@ -54,7 +55,7 @@ def cost_of(costs, lowest, numbers):
 
 
 def is_needed(shape, job, jobs, read):
-    if shape == "tree":
+    if shape == "tree" or shape == "scatter":
         return job not in read
     return job >= jobs - (WIDTH if shape == "layers" else 1)
 

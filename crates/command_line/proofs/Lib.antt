@@ -1,7 +1,6 @@
 pub mod Answered
 pub mod Bindings
 pub mod Joined
-pub mod Keys
 pub mod Rising
 pub mod Rows
 pub mod Settled

@@ -11,6 +11,7 @@ use Rattle.cwl_document.specs.declared.process.CwlType.{CwlType}
 use Rattle.cwl_document.specs.declared.process.OutputSource.{OutputSource}
 use Rattle.cwl_document.specs.declared.process.Tool.{Tool}
 use Rattle.command_line.specs.declared.fault.BuildFault.TheVariants.{NotText, EmptyCommand}
+use Rattle.command_line.specs.declared.fault.TextPlace.{TextPlace}
 use Rattle.command_line.specs.declared.launch.Launch.{Launch}
 use Rattle.command_line.specs.declared.runtime.Runtime.{Runtime}
 use Rattle.command_line.specs.Launch.{IsLaunch, IsRefused}
@@ -44,7 +45,7 @@ abbrev pub folders : Runtime
 folders = record { outdir = codes "w/j1/out"; tmpdir = codes "w/j1/tmp"; path_env = codes "/bin" }
 
 abbrev pub text_input : Bound
-text_input = record { position = pos 1; id = codes "t"; place = 0; prefix = None; separate = true }
+text_input = record { position = pos 1; id = codes "t"; prefix = None; separate = true }
 
 -- its one input is its one binding, and adds its text
 pub bindings_of_hello : bindings_of hello ≡ text_input ∷ []
@@ -91,7 +92,7 @@ launch_of_hello = record {
 abbrev pub into_a_folder : Tool
 into_a_folder = record hello { stdout = Some (codes "a/b") }
 
-pub a_stream_name_has_no_slash : IsRefused into_a_folder abc folders (NotText (codes "stdout"))
+pub a_stream_name_has_no_slash : IsRefused into_a_folder abc folders (NotText TextPlace.Stdout)
 a_stream_name_has_no_slash = IsRefused.in_stdout (codes "a/b") refl refl
 
 -- no base command and nothing else is B4 (row `same-position`)
@@ -121,7 +122,7 @@ abbrev pub below_zero : List (List ℕ × Value)
 below_zero = (codes "n", roll-Value (Value-F.Whole (negsuc 6))) ∷ []
 
 abbrev pub number_input : Bound
-number_input = record { position = pos 0; id = codes "n"; place = 0; prefix = Some (codes "-n"); separate = false }
+number_input = record { position = pos 0; id = codes "n"; prefix = Some (codes "-n"); separate = false }
 
 -- -7 adds `-n-7`
 pub words_of_its_number : words_of below_zero number_input ≡ Some (codes "-n-7" ∷ [])

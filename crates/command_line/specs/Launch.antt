@@ -5,9 +5,10 @@ use Rattle.std.specs.List.{AllPass, list_any, list_all}
 use Rattle.cwl_value.specs.declared.value.Value.{Value}
 use Rattle.cwl_document.specs.declared.process.Tool.{Tool}
 use Rattle.cwl_document.specs.declared.process.OutputSource.{OutputSource}
-use Rattle.cwl_document.specs.declared.process.OutputSource.TheVariants.{Stdout}
+use Rattle.cwl_document.specs.declared.process.OutputSource.TheVariants as source
 use Rattle.command_line.specs.declared.fault.BuildFault.{BuildFault}
 use Rattle.command_line.specs.declared.fault.BuildFault.TheVariants.{NotText, EmptyCommand}
+use Rattle.command_line.specs.declared.fault.TextPlace.TheVariants.{BaseCommand, Input, Stdout, EnvVariable}
 use Rattle.command_line.specs.declared.fault.BuildError.{BuildError}
 use Rattle.command_line.specs.declared.fault.BuildError.TheVariants.{Refused, OutOfMemory}
 use Rattle.command_line.specs.declared.launch.Launch.{Launch}
@@ -21,7 +22,7 @@ abbrev pub stream_name : Tool → List ℕ
 stream_name tool = unwrap_or tool.stdout (codes "cwl.stdout")
 
 abbrev pub is_stdout : OutputSource → Bool
-is_stdout Stdout = true
+is_stdout source.Stdout = true
 
 abbrev pub collects_stdout : Tool → Bool
 collects_stdout tool = list_any (λ output. is_stdout output.source) tool.outputs
@@ -63,13 +64,13 @@ are_plain_words (Some words) = list_all is_plain words
 
 -- why there is no launch: a constructor for each cause
 pub data IsRefused (tool : Tool) (inputs : List (List ℕ × Value)) (runtime : Runtime) : BuildFault → Type 0 where
-  in_base_command : (word : List ℕ) → Contains tool.base_command word → is_plain word ≡ false → IsRefused tool inputs runtime (NotText (codes "baseCommand"))
-  in_input : (b : Bound) → Contains (bindings_of tool) b → are_plain_words (words_of inputs b) ≡ false → IsRefused tool inputs runtime (NotText b.id)
-  in_stdout : (name : List ℕ) → stdout_of tool ≡ Some name → is_file_name name ≡ false → IsRefused tool inputs runtime (NotText (codes "stdout"))
-  in_env : (v : Variable) → Contains (environment_of runtime) v → is_plain v.text ≡ false → IsRefused tool inputs runtime (NotText v.name)
+  in_base_command : (word : List ℕ) → Contains tool.base_command word → is_plain word ≡ false → IsRefused tool inputs runtime (NotText BaseCommand)
+  in_input : (b : Bound) → Contains (bindings_of tool) b → are_plain_words (words_of inputs b) ≡ false → IsRefused tool inputs runtime (NotText (Input b.id))
+  in_stdout : (name : List ℕ) → stdout_of tool ≡ Some name → is_file_name name ≡ false → IsRefused tool inputs runtime (NotText Stdout)
+  in_env : (v : Variable) → Contains (environment_of runtime) v → is_plain v.text ≡ false → IsRefused tool inputs runtime (NotText (EnvVariable v.name))
   no_word : AreWords tool inputs [] → IsRefused tool inputs runtime EmptyCommand
 
--- an answer in place of a launch: a cause that holds, or want of memory
+-- an answer in place of a launch: a cause that holds, or out of memory
 abbrev pub IsError : Tool → List (List ℕ × Value) → Runtime → BuildError → Type 0
 IsError tool inputs runtime (Refused fault) = IsRefused tool inputs runtime fault
 IsError tool inputs runtime OutOfMemory = Unit {0}

@@ -1,7 +1,9 @@
 -- What the steps of `build` answer in place of a part of the launch.
-use Rattle.std.specs.Prelude.{◌≡◌, ℕ, false, List, Some, Contains, codes}
+use Rattle.std.specs.Prelude.{◌≡◌, ℕ, false, List, Some, Contains}
 use Rattle.cwl_value.specs.declared.value.Value.{Value}
 use Rattle.command_line.specs.declared.fault.BuildFault.TheVariants.{NotText, EmptyCommand}
+use Rattle.command_line.specs.declared.fault.TextPlace.{TextPlace}
+use Rattle.command_line.specs.declared.fault.TextPlace.TheVariants.{Input, Stdout, EnvVariable}
 use Rattle.command_line.specs.declared.fault.BuildError.{BuildError}
 use Rattle.command_line.specs.declared.fault.BuildError.TheVariants.{Refused, OutOfMemory}
 use Rattle.command_line.specs.declared.launch.Variable.{Variable}
@@ -10,24 +12,24 @@ use Rattle.command_line.specs.Launch.{are_plain_words, is_file_name, stdout_of}
 use Rattle.command_line.specs.Order.{Bound}
 use Rattle.command_line.specs.Words.{is_plain, words_of}
 
--- want of memory, or no text at this place, for which P is to hold
-abbrev pub NotTextAt : List ℕ → Type 0 → BuildError → Type 0
+-- out of memory, or no text at this place, for which P has to hold
+abbrev pub NotTextAt : TextPlace → Type 0 → BuildError → Type 0
 NotTextAt place P OutOfMemory = Unit {0}
 NotTextAt place P (Refused (NotText at)) = (at ≡ place) × P
 NotTextAt place P (Refused EmptyCommand) = ⊥
 
--- want of memory, or a binding whose words are no text
+-- out of memory, or a binding whose words are no text
 abbrev pub InputError : List (List ℕ × Value) → List Bound → BuildError → Type 0
 InputError inputs bound OutOfMemory = Unit {0}
-InputError inputs bound (Refused (NotText at)) = (b : Bound) × Contains bound b × (at ≡ b.id) × (are_plain_words (words_of inputs b) ≡ false)
+InputError inputs bound (Refused (NotText at)) = (b : Bound) × Contains bound b × (at ≡ Input b.id) × (are_plain_words (words_of inputs b) ≡ false)
 InputError inputs bound (Refused EmptyCommand) = ⊥
 
--- want of memory, or a name of a stream that is none of a file
+-- out of memory, or a name of a stream that is none of a file
 abbrev pub StreamError : Tool → BuildError → Type 0
-StreamError tool = NotTextAt (codes "stdout") ((name : List ℕ) × (stdout_of tool ≡ Some name) × (is_file_name name ≡ false))
+StreamError tool = NotTextAt Stdout ((name : List ℕ) × (stdout_of tool ≡ Some name) × (is_file_name name ≡ false))
 
--- want of memory, or a variable whose text is none
+-- out of memory, or a variable whose text is none
 abbrev pub EnvError : List Variable → BuildError → Type 0
 EnvError env OutOfMemory = Unit {0}
-EnvError env (Refused (NotText at)) = (v : Variable) × Contains env v × (at ≡ v.name) × (is_plain v.text ≡ false)
+EnvError env (Refused (NotText at)) = (v : Variable) × Contains env v × (at ≡ EnvVariable v.name) × (is_plain v.text ≡ false)
 EnvError env (Refused EmptyCommand) = ⊥

@@ -5,4 +5,4 @@ use Rattle.command_line.specs.declared.order.BoundInput.{BoundInput}
 
 abbrev pub bound_of : BoundInput → Bound
 bound_of row =
-    record { position = row.key.position; id = row.key.name.now; place = row.key.place; prefix = option_copied row.prefix; separate = row.separate }
+    record { position = row.key.position; id = row.key.name.now; prefix = option_copied row.prefix; separate = row.separate }

@@ -4,16 +4,54 @@ ghost use Rattle.command_line.specs.declared.fault.BuildError.TheVariants.{OutOf
 
 use plain_data::Text;
 use std::alloc::{AllocError, AllocFailed};
+use std::error::Error;
+use std::fmt;
+
+/// Which text of a launch an operating system does not take.
+#[derive(Debug, Drop)]
+pub enum TextPlace {
+    /// A word of `baseCommand`.
+    BaseCommand,
+    /// A word of the input with this id.
+    Input(Text),
+    /// The name of the file that takes standard output.
+    Stdout,
+    /// The variable of the environment with this name.
+    EnvVariable(Text),
+}
+
+impl fmt::Display for TextPlace {
+    fn fmt<W: fmt::Write>(&self, f: &mut fmt::Formatter<W>) -> fmt::Result {
+        match self {
+            TextPlace::BaseCommand => f.write_str("the base command"),
+            TextPlace::Input(id) => write!(f, "input {id:?}"),
+            TextPlace::Stdout => f.write_str("the file name of standard output"),
+            TextPlace::EnvVariable(name) => write!(f, "environment variable {name:?}"),
+        }
+    }
+}
 
 /// Why a tool and its inputs give no launch.
 #[derive(Debug, Drop)]
 pub enum BuildFault {
-    /// What stands at the named place is no text that an operating system takes: the id of an input,
-    /// `baseCommand`, `stdout`, or the name of a variable of the environment.
-    NotText(Text),
+    /// The text at this place is none that an operating system takes.
+    NotText(TextPlace),
     /// There is no word at all, so no program to start.
     EmptyCommand,
 }
+
+impl fmt::Display for BuildFault {
+    fn fmt<W: fmt::Write>(&self, f: &mut fmt::Formatter<W>) -> fmt::Result {
+        match self {
+            BuildFault::NotText(place) => {
+                write!(f, "{place} is not a text that an operating system takes")
+            }
+            BuildFault::EmptyCommand => f.write_str("the command has no word"),
+        }
+    }
+}
+
+impl Error for BuildFault {}
 
 impl BuildFault {
     /// The refusal's short name, which no other refusal has.
@@ -32,9 +70,20 @@ impl BuildFault {
 pub enum BuildError {
     /// No launch is right for this tool and these inputs.
     Refused(BuildFault),
-    /// Memory was wanting; nothing is said of the tool.
+    /// Nothing is said of the tool.
     OutOfMemory,
 }
+
+impl fmt::Display for BuildError {
+    fn fmt<W: fmt::Write>(&self, f: &mut fmt::Formatter<W>) -> fmt::Result {
+        match self {
+            BuildError::Refused(fault) => fault.fmt(f),
+            BuildError::OutOfMemory => f.write_str("out of memory"),
+        }
+    }
+}
+
+impl Error for BuildError {}
 
 impl From<AllocError> for BuildError {
     ghost from_gives = { λ _ e. e ≡ OutOfMemory };

@@ -1,5 +1,5 @@
 //! What the definitions settle, each as the contract of a function that does nothing.
-ghost use Rattle.command_line.specs.Laws.{KeysDecide, LaunchExcludesRefusal, LaunchIsSettled, WordsAreSettled};
+ghost use Rattle.command_line.specs.Laws.{LaunchExcludesRefusal, LaunchIsSettled, WordsAreSettled};
 
 /// A tool and its inputs have one list of words at most.
 pub fn words_are_settled()
@@ -14,9 +14,4 @@ pub fn launch_is_settled()
 /// Where there is a launch, no cause of refusal holds.
 pub fn launch_excludes_refusal()
     ensures { LaunchExcludesRefusal }
-{}
-
-/// Where no two inputs share an id, position and id alone order the words.
-pub fn keys_decide()
-    ensures { KeysDecide }
 {}

@@ -4,7 +4,7 @@
 //! strictly rise, the whole environment, the file of standard output and the folder to run in. What these are is said
 //! in `specs/Order.antt`, `specs/Words.antt` and `specs/Launch.antt`, without the sort that the code does. An `Ok` is
 //! the launch that they say, and a tool has one at most; a refusal comes only where its cause holds, and then there
-//! is no launch (`laws.rt`). Want of memory is the one exception.
+//! is no launch (`laws.rt`). Being out of memory is the one exception.
 #![tactic(auto)]
 
 mod builder;
@@ -19,11 +19,8 @@ mod stream;
 mod words;
 
 pub use builder::build;
-pub use fault::{BuildError, BuildFault};
+pub use fault::{BuildError, BuildFault, TextPlace};
 pub use launch::{Launch, Variable};
-pub use laws::{keys_decide, launch_excludes_refusal, launch_is_settled, words_are_settled};
+pub use laws::{launch_excludes_refusal, launch_is_settled, words_are_settled};
 pub use runtime::Runtime;
 pub use stream::stdout_name;
-
-#[cfg(test)]
-mod tests;

@@ -1,17 +1,17 @@
 ghost use Rattle.std.specs.Prelude.{◌≡◌, IfOk, map};
-ghost use Rattle.command_line.specs.Order.{AreInOrder, bindings_of};
+ghost use Rattle.std.specs.List.{filter_map};
+ghost use Rattle.command_line.specs.Order.{AreInOrder, bound_in};
 ghost use Rattle.command_line.specs.View.{bound_of};
 
-use cwl_document::Tool;
+use cwl_document::{Tool, ToolInput};
 use plain_data::Text;
 use std::alloc::{AllocError, Global};
 
-/// What the words of bindings are ordered by. `place` is where the input stands in the tool.
+/// What the words of bindings are ordered by.
 #[derive(Clone, Copy, PartialEq, Eq, PartialOrd, Ord)]
 pub(crate) struct Key<'t> {
     pub position: i32,
     pub name: &'t str,
-    pub place: usize,
 }
 
 /// An input with a binding, under its key.
@@ -26,22 +26,21 @@ pub(crate) struct BoundInput<'t> {
 pub(crate) fn in_order(alloc: Global, tool: &Tool) -> Result<Vec<BoundInput<'_>>, AllocError>
     ensures { IfOk result (λ rows. AreInOrder tool.now (map bound_of rows.items)) }
 {
-    let mut rows = as_listed(alloc, tool)?;
+    let mut rows = as_listed(alloc, tool.inputs.as_slice())?;
     rows.sort_by_key(|row| row.key)?;
     Ok(rows)
 }
 
-/// The inputs of `tool` that have a binding, in the order of the tool.
-fn as_listed(alloc: Global, tool: &Tool) -> Result<Vec<BoundInput<'_>>, AllocError>
-    ensures { IfOk result (λ rows. map bound_of rows.items ≡ bindings_of tool.now) }
+/// The inputs that have a binding, as listed.
+fn as_listed(alloc: Global, inputs: &[ToolInput]) -> Result<Vec<BoundInput<'_>>, AllocError>
+    ensures { IfOk result (λ rows. map bound_of rows.items ≡ filter_map bound_in inputs.now) }
 {
     let mut rows = Vec::new(alloc);
-    for (place, input) in tool.inputs.as_slice().iter().enumerate() {
+    for input in inputs {
         if let Some(binding) = &input.binding {
             let key = Key {
                 position: binding.position,
                 name: input.id.as_str(),
-                place,
             };
             rows.push(BoundInput {
                 key,

@@ -2,8 +2,9 @@ ghost use Rattle.std.specs.Prelude.{◌≡◌};
 ghost use Rattle.std.specs.List.{list_all};
 ghost use Rattle.command_line.specs.Words.{is_plain};
 ghost use Rattle.command_line.specs.Steps.{NotTextAt};
+ghost use Rattle.command_line.specs.declared.fault.TextPlace.TheVariants.{EnvVariable, Input};
 
-use crate::{BuildError, BuildFault};
+use crate::{BuildError, BuildFault, TextPlace};
 use plain_data::Text;
 use std::alloc::Global;
 
@@ -20,12 +21,22 @@ pub(crate) fn all_plain(words: &[Text]) -> bool
     words.iter().all(|word| is_plain(word.as_str()))
 }
 
-/// The refusal of what stands at `place`.
-pub(crate) fn not_text(alloc: Global, place: &str) -> BuildError
-    ensures { NotTextAt place.now (Unit {0}) result }
+/// The refusal of a word of the input with this id.
+pub(crate) fn not_text_in_input(alloc: Global, id: &str) -> BuildError
+    ensures { NotTextAt (Input id.now) (Unit {0}) result }
 {
-    match Text::from_text(alloc, place) {
-        Ok(text) => BuildError::Refused(BuildFault::NotText(text)),
+    match Text::from_text(alloc, id) {
+        Ok(id) => BuildError::Refused(BuildFault::NotText(TextPlace::Input(id))),
+        Err(_) => BuildError::OutOfMemory,
+    }
+}
+
+/// The refusal of the variable with this name.
+pub(crate) fn not_text_in_variable(alloc: Global, name: &str) -> BuildError
+    ensures { NotTextAt (EnvVariable name.now) (Unit {0}) result }
+{
+    match Text::from_text(alloc, name) {
+        Ok(name) => BuildError::Refused(BuildFault::NotText(TextPlace::EnvVariable(name))),
         Err(_) => BuildError::OutOfMemory,
     }
 }

@@ -1,9 +1,9 @@
-ghost use Rattle.std.specs.Prelude.{◌≡◌, false, true, IfOk, IfErr, IfSome, codes};
+ghost use Rattle.std.specs.Prelude.{◌≡◌, false, true, IfOk, IfErr, IfSome};
 ghost use Rattle.command_line.specs.Launch.{collects_stdout, is_file_name, stdout_of, stream_name};
 ghost use Rattle.command_line.specs.Steps.{StreamError};
 
-use crate::BuildError;
-use crate::plain::{is_plain, not_text};
+use crate::plain::is_plain;
+use crate::{BuildError, BuildFault, TextPlace};
 use cwl_document::{OutputSource, Tool};
 use plain_data::Text;
 use std::alloc::Global;
@@ -30,7 +30,7 @@ pub(crate) fn stdout_file(alloc: Global, tool: &Tool) -> Result<Option<Text>, Bu
     }
     let name = stdout_name(tool);
     if !is_file_name(name) {
-        return Err(not_text(alloc, "stdout"));
+        return Err(BuildError::Refused(BuildFault::NotText(TextPlace::Stdout)));
     }
     Ok(Some(Text::from_text(alloc, name)?))
 }

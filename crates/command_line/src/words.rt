@@ -1,15 +1,16 @@
-ghost use Rattle.std.specs.Prelude.{◌≡◌, codes, ℕ, false, List, [], ◌∷◌, ◌++◌, Option, Some, IsSome, IfOk, IfErr, OnOk, All, map};
+ghost use Rattle.std.specs.Prelude.{◌≡◌, ℕ, false, List, [], ◌∷◌, ◌++◌, Option, Some, IsSome, IfOk, IfErr, OnOk, All, map};
 ghost use Rattle.std.specs.Option.{option_copied, option_map, option_to_list};
 ghost use Rattle.std.specs.List.{AllPass, flat_map, list_all};
 ghost use Rattle.command_line.specs.Launch.{IsError, are_plain_words};
 ghost use Rattle.command_line.specs.Steps.{NotTextAt, InputError};
 ghost use Rattle.command_line.specs.View.{bound_of};
 ghost use Rattle.command_line.specs.Words.{AreWords, input_words, is_plain, prefixed, words_at, words_of};
+ghost use Rattle.command_line.specs.declared.fault.TextPlace.TheVariants.{BaseCommand, Input};
 ghost use Rattle.command_line.specs.declared.runtime.Runtime.{Runtime};
 
-use crate::BuildError;
 use crate::order::{BoundInput, in_order};
-use crate::plain::{all_plain, not_text};
+use crate::plain::{all_plain, not_text_in_input};
+use crate::{BuildError, BuildFault, TextPlace};
 use cwl_document::Tool;
 use cwl_value::Value;
 use plain_data::{Items, Keyed, Text};
@@ -34,10 +35,10 @@ pub(crate) fn words(
 fn base_words(alloc: Global, base: &[Text]) -> Result<Vec<Text>, BuildError>
     ensures words { IfOk result (λ words. words.items ≡ base.now) }
     ensures plain { OnOk result (AllPass is_plain base.now) }
-    ensures refused { IfErr result (NotTextAt (codes "baseCommand") (list_all is_plain base.now ≡ false)) }
+    ensures refused { IfErr result (NotTextAt BaseCommand (list_all is_plain base.now ≡ false)) }
 {
     if !all_plain(base) {
-        return Err(not_text(alloc, "baseCommand"));
+        return Err(BuildError::Refused(BuildFault::NotText(TextPlace::BaseCommand)));
     }
     let mut words = Vec::new(alloc);
     for word in base {
@@ -73,14 +74,14 @@ fn plain_words_of(
 ) -> Result<Vec<Text>, BuildError>
     ensures words { IfOk result (λ words. words_of inputs.now (bound_of row.now) ≡ Some words.items) }
     ensures plain { IfOk result (λ words. AllPass is_plain words.items) }
-    ensures refused { IfErr result (NotTextAt row.now.key.name.now (are_plain_words (words_of inputs.now (bound_of row.now)) ≡ false)) }
+    ensures refused { IfErr result (NotTextAt (Input row.now.key.name.now) (are_plain_words (words_of inputs.now (bound_of row.now)) ≡ false)) }
 {
     let value = inputs.get(row.key.name);
     let Some(words) = written(alloc, row, value)? else {
-        return Err(not_text(alloc, row.key.name));
+        return Err(not_text_in_input(alloc, row.key.name));
     };
     if !all_plain(words.as_slice()) {
-        return Err(not_text(alloc, row.key.name));
+        return Err(not_text_in_input(alloc, row.key.name));
     }
     Ok(words)
 }

@@ -1,8 +1,10 @@
 -- From what the tool's object, its inputs or its outputs break to the cause in the document.
-use Rattle.std.proofs.Common.{◌⊎◌, List, [], ◌∷◌, Option, Some, None, IsSomeAnd, inl, inr, codes}
+use Rattle.std.proofs.Common.{◌⊎◌, List, [], ◌∷◌, Option, Some, None, IsSomeAnd, Result, Ok, Err, IfErr, inl, inr, codes}
 use Rattle.serde_json.specs.Data.{Data}
 use Rattle.serde_json.specs.Find.{get}
-use Rattle.cwl_document.specs.Refusals.{Breaks, InputBreaks, OutputBreaks, SomeOf, ObjectBreaks, IsCause}
+use Rattle.cwl_document.specs.Document.{ids_in}
+use Rattle.cwl_document.specs.Ids.{IsRepeat}
+use Rattle.cwl_document.specs.Refusals.{Breaks, InputsBreak, OutputsBreak, SomeOf, ObjectBreaks, IsCause}
 use Rattle.cwl_document.specs.Values.{parameters}
 use Rattle.cwl_document.specs.declared.fields.ObjectKind.TheVariants.{ToolObject}
 use Rattle.cwl_document.specs.declared.refusal.DocumentRefusal.{DocumentRefusal}
@@ -45,8 +47,33 @@ IsCause-from_object OutOfMemory d h = tt
 pub IsCause-from_tool : (e : DocumentRefusal) (d : Data) → Breaks e ToolObject d → IsCause e d
 IsCause-from_tool e d h = IsCause-from_object e d (inl h)
 
-pub IsCause-from_inputs : (e : DocumentRefusal) (d : Data) → Breaks e ToolObject d ⊎ SomeOf (InputBreaks e) (parameters (get (codes "inputs") d)) → IsCause e d
-IsCause-from_inputs e d h = elim h [ inl own ↦ IsCause-from_object e d (inl own) | inr input ↦ IsCause-from_object e d (inr (inl input)) ]
+-- a refusal in place of another, where what it says follows
+pub IfErr-map : {T : Type 0} {P Q : DocumentRefusal → Type 0} (r : Result T DocumentRefusal) → ((e : DocumentRefusal) → P e → Q e) → IfErr r P → IfErr r Q
+IfErr-map (Ok x) follows h = h
+IfErr-map (Err e) follows h = follows e h
 
-pub IsCause-from_outputs : (e : DocumentRefusal) (d : Data) → Breaks e ToolObject d ⊎ SomeOf (OutputBreaks e) (parameters (get (codes "outputs") d)) → IsCause e d
-IsCause-from_outputs e d h = elim h [ inl own ↦ IsCause-from_object e d (inl own) | inr output ↦ IsCause-from_object e d (inr (inr output)) ]
+-- an id that repeats, among the inputs or the outputs
+IsCause-from_repeat : (e : DocumentRefusal) (d : Data) → IsRepeat e (ids_in (get (codes "inputs") d)) ⊎ IsRepeat e (ids_in (get (codes "outputs") d)) → IsCause e d
+IsCause-from_repeat NotJson d h = elim h [ inl x ↦ x | inr x ↦ x ]
+IsCause-from_repeat WrongVersion d h = absurd (elim h [ inl x ↦ x | inr x ↦ x ])
+IsCause-from_repeat WrongClass d h = absurd (elim h [ inl x ↦ x | inr x ↦ x ])
+IsCause-from_repeat (MissingField name) d h = absurd (elim h [ inl x ↦ x | inr x ↦ x ])
+IsCause-from_repeat (UnknownField name) d h = absurd (elim h [ inl x ↦ x | inr x ↦ x ])
+IsCause-from_repeat (WrongShape name) d h = absurd (elim h [ inl x ↦ x | inr x ↦ x ])
+IsCause-from_repeat (RepeatedId id) d h = h
+IsCause-from_repeat TooDeep d h = absurd (elim h [ inl x ↦ x | inr x ↦ x ])
+IsCause-from_repeat OutOfMemory d h = tt
+
+pub IsCause-from_inputs : (e : DocumentRefusal) (d : Data) → InputsBreak e d → IsCause e d
+IsCause-from_inputs e d h =
+    elim h [
+      | inl own ↦ IsCause-from_object e d (inl own)
+      | inr parts ↦ elim parts [ inl input ↦ IsCause-from_object e d (inr (inl input)) | inr id ↦ IsCause-from_repeat e d (inl id) ]
+    ]
+
+pub IsCause-from_outputs : (e : DocumentRefusal) (d : Data) → OutputsBreak e d → IsCause e d
+IsCause-from_outputs e d h =
+    elim h [
+      | inl own ↦ IsCause-from_object e d (inl own)
+      | inr parts ↦ elim parts [ inl output ↦ IsCause-from_object e d (inr (inr output)) | inr id ↦ IsCause-from_repeat e d (inr id) ]
+    ]

@@ -1,22 +1,24 @@
 -- No document is both accepted and refused.
 use Rattle.std.proofs.Common.{◌≡◌, ◌≢◌, ℕ, ◌<◌, ◌≤◌, List, [], ◌∷◌, Bool, true, false, not, ◌&&◌, ◌||◌, Option, Some, None, is_some, IsSomeAnd, refl, sym, ap, ◌∙◌, subst, inl, inr, arith, codes}
-use Rattle.std.proofs.lemmas.Bool.{true≢false, false≢true, and_parts, and_cases, or_cases, or_parts, not-false, leb-true}
+use Rattle.std.proofs.lemmas.Bool.{true≢false, false≢true, and_parts, and_cases, or_cases, or_parts, not-false}
 use Rattle.std.proofs.lemmas.Slice.Eq.{bytes_eq-Decides}
-use Rattle.std.specs.List.{list_all, list_any, count_by}
+use Rattle.std.specs.List.{list_all, list_any, count_by, IsDistinct}
 use Rattle.std.specs.Option.{option_map_or}
 use Rattle.std.specs.Str.{bytes_eq}
 use Rattle.serde_json.specs.Data.{Data, depth}
 use Rattle.serde_json.specs.Find.{get}
-use Rattle.cwl_document.specs.Document.{IsJson, IsAccepted, IsDocumentOf, ids_in, input_follows, output_follows, is_once}
+use Rattle.cwl_document.specs.Document.{IsJson, IsAccepted, IsDocumentOf, ids_in, input_follows, output_follows}
 use Rattle.cwl_document.specs.Fields.{Field, fields_of, follows, is_formed, is_known, is_there, names_of}
 use Rattle.cwl_document.specs.Forms.{is_named, is_object}
-use Rattle.cwl_document.specs.Refusals.{Breaks, InputBreaks, OutputBreaks, SomeOf, ObjectBreaks, Repeats, IsCause, Refuses}
+use Rattle.cwl_document.specs.Ids.{Repeats}
+use Rattle.cwl_document.specs.Refusals.{Breaks, InputBreaks, OutputBreaks, SomeOf, ObjectBreaks, IsCause, Refuses}
 use Rattle.cwl_document.specs.Values.{parameters}
 use Rattle.cwl_document.specs.declared.fields.ObjectKind.{ObjectKind}
 use Rattle.cwl_document.specs.declared.fields.ObjectKind.TheVariants.{ToolObject, InputObject, BindingObject, OutputObject}
 use Rattle.cwl_document.specs.declared.process.Process.{Process}
 use Rattle.cwl_document.specs.declared.refusal.DocumentRefusal.{DocumentRefusal}
 use Rattle.cwl_document.specs.declared.refusal.DocumentRefusal.TheVariants.{NotJson, WrongVersion, WrongClass, MissingField, UnknownField, WrongShape, RepeatedId, TooDeep, OutOfMemory}
+use Rattle.cwl_document.proofs.Repeated.{once}
 
 both : {b : Bool} → b ≡ false → b ≡ true → ⊥
 both f t = true≢false (sym t ∙ f)
@@ -127,9 +129,9 @@ other : (text : List ℕ) (o : Option Data) → IsSomeAnd o (λ v. is_named text
 other text None h named = h
 other text (Some v) h named = both h named
 
-repeated : (id : List ℕ) (ids : List (List ℕ)) → Repeats id ids → list_all (is_once ids) ids ≡ true → ⊥
+repeated : (id : List ℕ) (ids : List (List ℕ)) → Repeats id ids → IsDistinct bytes_eq ids → ⊥
 repeated id ids h distinct =
-    let few = leb-true (count_by (bytes_eq id) ids) 1 (list_all-at (is_once ids) id ids h.0 distinct) in
+    let few = once id ids distinct in
     let many : 1 < count_by (bytes_eq id) ids = h.1 in
     omega arith
 

@@ -1,5 +1,6 @@
 -- The definitions, computed on a document.
 use Rattle.std.proofs.Common.{◌≡◌, [], ◌∷◌, true, Some, None, refl, codes, pos, lit≤}
+use Rattle.std.specs.List.{IsDistinct}
 use Rattle.serde_json.specs.Data.{Data, number, unsigned, string, object, member, no_members}
 use Rattle.cwl_document.specs.Document.{IsAccepted}
 use Rattle.cwl_document.specs.Kept.{kept}
@@ -25,6 +26,7 @@ hello =
     (member (codes "stdout") (string (codes "out.txt")) no_members)))))))
 
 IsAccepted-hello : IsAccepted hello
+unfolding IsDistinct
 IsAccepted-hello = record {
   shallow = lit≤ tt;
   version = refl;
@@ -32,8 +34,8 @@ IsAccepted-hello = record {
   tool = refl;
   inputs = refl;
   outputs = refl;
-  input_ids = refl;
-  output_ids = refl;
+  input_ids = ((refl, tt), (tt, tt));
+  output_ids = (tt, tt);
   whole = refl;
 }
 

@@ -1,8 +1,7 @@
 -- Which bytes are a tool's document, and which process it stands for.
-use Rattle.std.specs.Prelude.{◌≡◌, ◌≤◌, ◌&&◌, ℕ, List, map, Bool, true, false, Option, Some, IsUtf8, nat_le, count_by, codes}
-use Rattle.std.specs.List.{list_all}
+use Rattle.std.specs.Prelude.{◌≡◌, ◌≤◌, ◌&&◌, ℕ, List, map, Bool, true, false, Option, Some, IsUtf8, bytes_eq, codes}
+use Rattle.std.specs.List.{list_all, IsDistinct}
 use Rattle.std.specs.Option.{option_map_or}
-use Rattle.std.specs.Str.{bytes_eq}
 use Rattle.serde_json.specs.Data.{Data, depth}
 use Rattle.serde_json.specs.Find.{get}
 use Rattle.serde_json.specs.Read.{read}
@@ -30,14 +29,7 @@ output_follows = follows OutputObject
 abbrev pub ids_in : Option Data → List (List ℕ)
 ids_in o = map id_in (parameters o)
 
-abbrev pub is_once : List (List ℕ) → List ℕ → Bool
-is_once ids id = nat_le (count_by (bytes_eq id) ids) 1
-
--- no id stands twice
-abbrev pub are_distinct : List (List ℕ) → Bool
-are_distinct ids = list_all (is_once ids) ids
-
--- The JSON is a tool's document: it says so itself, each object in it keeps to its table, and no id repeats.
+-- The JSON is a tool's document: it says so itself, each object in it keeps to its table, and ids differ.
 pub record IsAccepted (d : Data) : Type 0 where
   pub shallow : depth d ≤ 100
   pub version : option_map_or (is_named (codes "v1.2")) (get (codes "cwlVersion") d) false ≡ true
@@ -45,8 +37,9 @@ pub record IsAccepted (d : Data) : Type 0 where
   pub tool : follows ToolObject d ≡ true
   pub inputs : list_all input_follows (parameters (get (codes "inputs") d)) ≡ true
   pub outputs : list_all output_follows (parameters (get (codes "outputs") d)) ≡ true
-  pub input_ids : are_distinct (ids_in (get (codes "inputs") d)) ≡ true
-  pub output_ids : are_distinct (ids_in (get (codes "outputs") d)) ≡ true
+  -- No two inputs have the same id, and no two outputs.
+  pub input_ids : IsDistinct bytes_eq (ids_in (get (codes "inputs") d))
+  pub output_ids : IsDistinct bytes_eq (ids_in (get (codes "outputs") d))
   -- Every number that tells tools apart is whole.
   pub whole : has_float (kept ToolLevel d) ≡ false
 

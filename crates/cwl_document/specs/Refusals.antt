@@ -1,5 +1,5 @@
 -- What is wrong with a document, by the refusal that says so.
-use Rattle.std.specs.Prelude.{◌≡◌, ◌<◌, ◌⊎◌, ⊤, ℕ, List, [], ◌∷◌, true, false, Option, None, IsSomeAnd, count_by, codes}
+use Rattle.std.specs.Prelude.{◌≡◌, ◌<◌, ◌⊎◌, ⊤, ℕ, List, [], ◌∷◌, true, false, Option, None, IsSomeAnd, codes}
 use Rattle.std.specs.List.{list_any}
 use Rattle.std.specs.Str.{bytes_eq}
 use Rattle.serde_json.specs.Data.{Data, depth}
@@ -8,6 +8,7 @@ use Rattle.serde_json.specs.Written.{has_float}
 use Rattle.cwl_document.specs.Document.{IsJson, ids_in}
 use Rattle.cwl_document.specs.Fields.{is_known, is_required, has_form, names_of}
 use Rattle.cwl_document.specs.Forms.{is_named, is_object}
+use Rattle.cwl_document.specs.Ids.{IsRepeat, Repeats}
 use Rattle.cwl_document.specs.Kept.{kept}
 use Rattle.cwl_document.specs.Values.{parameters}
 use Rattle.cwl_document.specs.declared.fields.ObjectKind.{ObjectKind}
@@ -69,9 +70,17 @@ ObjectBreaks e d =
     Breaks e ToolObject d
     ⊎ (SomeOf (InputBreaks e) (parameters (get (codes "inputs") d)) ⊎ SomeOf (OutputBreaks e) (parameters (get (codes "outputs") d)))
 
--- the name is among the ids more than once
-abbrev pub Repeats : List ℕ → List (List ℕ) → Type 0
-Repeats id ids = (list_any (bytes_eq id) ids ≡ true) × (1 < count_by (bytes_eq id) ids)
+-- for private clauses: what reading the inputs can meet
+abbrev pub InputsBreak : DocumentRefusal → Data → Type 0
+InputsBreak e d =
+    Breaks e ToolObject d
+    ⊎ (SomeOf (InputBreaks e) (parameters (get (codes "inputs") d)) ⊎ IsRepeat e (ids_in (get (codes "inputs") d)))
+
+-- for private clauses: what reading the outputs can meet
+abbrev pub OutputsBreak : DocumentRefusal → Data → Type 0
+OutputsBreak e d =
+    Breaks e ToolObject d
+    ⊎ (SomeOf (OutputBreaks e) (parameters (get (codes "outputs") d)) ⊎ IsRepeat e (ids_in (get (codes "outputs") d)))
 
 -- another value than that text stands there
 abbrev pub IsOther : List ℕ → Option Data → Type 0

@@ -27,18 +27,20 @@ fn is_field(kind: ObjectKind, name: &str) -> bool
     ensures { result ≡ is_field kind name.now }
 {
     match kind {
-        ObjectKind::ToolObject => {
-            name == "cwlVersion"
-                || name == "class"
-                || name == "inputs"
-                || name == "outputs"
-                || name == "baseCommand"
-                || name == "stdout"
-        }
-        ObjectKind::InputObject => name == "id" || name == "type" || name == "inputBinding",
-        ObjectKind::BindingObject => name == "position" || name == "prefix" || name == "separate",
-        ObjectKind::OutputObject => name == "id" || name == "type",
+        ObjectKind::ToolObject => is_tool_field(name),
+        ObjectKind::InputObject => matches!(name, "id" | "type" | "inputBinding"),
+        ObjectKind::BindingObject => matches!(name, "position" | "prefix" | "separate"),
+        ObjectKind::OutputObject => matches!(name, "id" | "type"),
     }
+}
+
+fn is_tool_field(name: &str) -> bool
+    ensures { result ≡ is_field ObjectKind.ToolObject name.now }
+{
+    matches!(
+        name,
+        "cwlVersion" | "class" | "inputs" | "outputs" | "baseCommand" | "stdout"
+    )
 }
 
 /// Whether a name is read over wherever it stands: those that describe, and every extension's.

@@ -1,14 +1,14 @@
-ghost use Rattle.std.specs.Prelude.{◌≡◌, ◌⊎◌, [], ◌∷◌, ◌++◌, true, false, map, OnOk, IfOk, IfErr, codes};
-ghost use Rattle.std.specs.List.{list_all};
+ghost use Rattle.std.specs.Prelude.{◌≡◌, [], ◌∷◌, ◌++◌, true, false, map, OnOk, IfOk, IfErr, bytes_eq, codes};
+ghost use Rattle.std.specs.List.{list_all, IsDistinct};
 ghost use Rattle.std.specs.Option.{option_copied, option_map_or};
 ghost use Rattle.serde_json.specs.Find.{get};
 ghost use Rattle.serde_json.specs.View.{view, items_view, members_view};
-ghost use Rattle.cwl_document.specs.Document.{input_follows, output_follows};
+ghost use Rattle.cwl_document.specs.Document.{ids_in, input_follows, output_follows};
 ghost use Rattle.cwl_document.specs.Forms.{elements, is_object, is_parameters};
-ghost use Rattle.cwl_document.specs.Refusals.{Breaks, InputBreaks, OutputBreaks, SomeOf};
-ghost use Rattle.cwl_document.specs.declared.fields.ObjectKind.TheVariants.{ToolObject};
+ghost use Rattle.cwl_document.specs.Refusals.{InputBreaks, InputsBreak, OutputBreaks, OutputsBreak, SomeOf};
 ghost use Rattle.cwl_document.specs.Values.{input_in, output_in, named_parameters, parameter, parameters, parameters_in};
 
+use crate::distinct::Distinct;
 use crate::forms::is_parameters;
 use crate::parameters::{read_input, read_output};
 use crate::process::{ToolInput, ToolOutput};
@@ -18,7 +18,7 @@ use serde_json::{Map, Value};
 use std::alloc::Global;
 
 /// The tool's inputs, from a list or from a map by their ids.
-pub fn read_inputs(alloc: Global, tool: &Value) -> Result<Items<ToolInput>, DocumentRefusal>
+pub fn read_inputs(alloc: Global, tool: &Value) -> Result<Distinct<ToolInput>, DocumentRefusal>
     requires { is_object (view tool.now) ≡ true }
     ensures formed { OnOk result
         (option_map_or is_parameters (get (codes "inputs") (view tool.now)) false ≡ true) }
@@ -26,8 +26,8 @@ pub fn read_inputs(alloc: Global, tool: &Value) -> Result<Items<ToolInput>, Docu
         (list_all input_follows (parameters (get (codes "inputs") (view tool.now))) ≡ true) }
     ensures value { IfOk result
         (λ inputs. inputs ≡ map input_in (parameters (get (codes "inputs") (view tool.now)))) }
-    ensures err { IfErr result (λ e. Breaks e ToolObject (view tool.now)
-        ⊎ SomeOf (InputBreaks e) (parameters (get (codes "inputs") (view tool.now)))) }
+    ensures ids { OnOk result (IsDistinct bytes_eq (ids_in (get (codes "inputs") (view tool.now)))) }
+    ensures err { IfErr result (λ e. InputsBreak e (view tool.now)) }
 {
     let Some(found) = tool.get("inputs") else {
         return Err(DocumentRefusal::MissingField(Text::from_text(alloc, "inputs")?));
@@ -35,7 +35,7 @@ pub fn read_inputs(alloc: Global, tool: &Value) -> Result<Items<ToolInput>, Docu
     if !is_parameters(found) {
         return Err(DocumentRefusal::WrongShape(Text::from_text(alloc, "inputs")?));
     }
-    inputs_in(alloc, found)
+    Distinct::from_items(alloc, inputs_in(alloc, found)?)
 }
 
 fn inputs_in(alloc: Global, value: &Value) -> Result<Items<ToolInput>, DocumentRefusal>
@@ -86,7 +86,7 @@ fn read_mapped_inputs(
 }
 
 /// The tool's outputs, from a list or from a map by their ids.
-pub fn read_outputs(alloc: Global, tool: &Value) -> Result<Items<ToolOutput>, DocumentRefusal>
+pub fn read_outputs(alloc: Global, tool: &Value) -> Result<Distinct<ToolOutput>, DocumentRefusal>
     requires { is_object (view tool.now) ≡ true }
     ensures formed { OnOk result
         (option_map_or is_parameters (get (codes "outputs") (view tool.now)) false ≡ true) }
@@ -94,8 +94,8 @@ pub fn read_outputs(alloc: Global, tool: &Value) -> Result<Items<ToolOutput>, Do
         (list_all output_follows (parameters (get (codes "outputs") (view tool.now))) ≡ true) }
     ensures value { IfOk result
         (λ outputs. outputs ≡ map output_in (parameters (get (codes "outputs") (view tool.now)))) }
-    ensures err { IfErr result (λ e. Breaks e ToolObject (view tool.now)
-        ⊎ SomeOf (OutputBreaks e) (parameters (get (codes "outputs") (view tool.now)))) }
+    ensures ids { OnOk result (IsDistinct bytes_eq (ids_in (get (codes "outputs") (view tool.now)))) }
+    ensures err { IfErr result (λ e. OutputsBreak e (view tool.now)) }
 {
     let Some(found) = tool.get("outputs") else {
         return Err(DocumentRefusal::MissingField(Text::from_text(alloc, "outputs")?));
@@ -103,7 +103,7 @@ pub fn read_outputs(alloc: Global, tool: &Value) -> Result<Items<ToolOutput>, Do
     if !is_parameters(found) {
         return Err(DocumentRefusal::WrongShape(Text::from_text(alloc, "outputs")?));
     }
-    outputs_in(alloc, found)
+    Distinct::from_items(alloc, outputs_in(alloc, found)?)
 }
 
 fn outputs_in(alloc: Global, value: &Value) -> Result<Items<ToolOutput>, DocumentRefusal>

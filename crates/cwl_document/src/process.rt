@@ -1,3 +1,4 @@
+use crate::distinct::{Distinct, Identified};
 use plain_data::{Items, Text};
 
 /// What a document describes.
@@ -13,9 +14,9 @@ pub struct Tool {
     /// The words that every command line of the tool begins with; none where the field is absent.
     pub base_command: Items<Text>,
     /// In the order of the list, or of the bytes of the map's keys.
-    pub inputs: Items<ToolInput>,
+    pub inputs: Distinct<ToolInput>,
     /// In the order of the list, or of the bytes of the map's keys.
-    pub outputs: Items<ToolOutput>,
+    pub outputs: Distinct<ToolOutput>,
     /// The name of the file that takes the command's standard output.
     pub stdout: Option<Text>,
     /// The tool's object as compact JSON text, by which two tools are told apart: names in the
@@ -66,4 +67,20 @@ pub struct ToolOutput {
 pub enum OutputSource {
     /// `stdout`: the file that took the command's standard output.
     Stdout,
+}
+
+impl Identified for ToolInput {
+    ghost id_of = { λ input. input.id };
+
+    fn id(&self) -> &Text {
+        &self.id
+    }
+}
+
+impl Identified for ToolOutput {
+    ghost id_of = { λ output. output.id };
+
+    fn id(&self) -> &Text {
+        &self.id
+    }
 }

@@ -25,12 +25,12 @@ pub enum DocumentRefusal {
     RepeatedId(Text),
     /// The JSON nests over 100 deep.
     TooDeep,
-    /// Memory was wanting; nothing is said of the document.
+    /// Nothing is said of the document.
     OutOfMemory,
 }
 
 impl DocumentRefusal {
-    /// The refusal's short name; empty for want of memory, which is no refusal of the document.
+    /// The refusal's short name; empty for `OutOfMemory`, which is no refusal of the document.
     pub fn code(&self) -> &'static str
         ensures { result.now ≡ code_of self.now }
     {

@@ -3,15 +3,17 @@ ghost use Rattle.std.specs.Option.{option_map_or};
 ghost use Rattle.serde_json.specs.Data.{depth};
 ghost use Rattle.serde_json.specs.Find.{get, as_str};
 ghost use Rattle.serde_json.specs.View.{view};
+ghost use Rattle.serde_json.specs.Written.{compact_text, has_float};
 ghost use Rattle.cwl_document.specs.Document.{IsAccepted};
 ghost use Rattle.cwl_document.specs.Forms.{is_named, is_plain_text, is_words};
+ghost use Rattle.cwl_document.specs.Kept.{kept};
 ghost use Rattle.cwl_document.specs.Refusals.{Breaks, IsCause};
 ghost use Rattle.cwl_document.specs.Values.{tool_in, words_in};
 ghost use Rattle.cwl_document.specs.declared.fields.ObjectKind.TheVariants.{ToolObject};
+ghost use Rattle.cwl_document.specs.declared.kept.Level.TheVariants.{ToolLevel};
 
 use crate::fields::ObjectKind;
 use crate::forms::{holds_reference, is_named, read_words};
-use crate::ids::repeated_id;
 use crate::kept::written;
 use crate::lists::{read_inputs, read_outputs};
 use crate::objects::check_object;
@@ -30,24 +32,28 @@ pub fn read_tool(alloc: Global, document: &Value) -> Result<Tool, DocumentRefusa
 {
     check_header(alloc, document)?;
     check_object(alloc, ObjectKind::ToolObject, document)?;
+    let written = read_written(alloc, document)?;
     let base_command = read_command(alloc, document)?;
     let stdout = read_stdout(alloc, document)?;
     let inputs = read_inputs(alloc, document)?;
     let outputs = read_outputs(alloc, document)?;
-    if let Some(id) = repeated_id(inputs.as_slice()) {
-        return Err(DocumentRefusal::RepeatedId(id.copied(alloc)?));
-    }
-    if let Some(id) = repeated_id(outputs.as_slice()) {
-        return Err(DocumentRefusal::RepeatedId(id.copied(alloc)?));
-    }
+    Ok(Tool {
+        base_command,
+        inputs,
+        outputs,
+        stdout,
+        written,
+    })
+}
+
+/// What of the document tells two tools apart.
+fn read_written(alloc: Global, document: &Value) -> Result<Text, DocumentRefusal>
+    ensures whole { OnOk result (has_float (kept ToolLevel (view document.now)) ≡ false) }
+    ensures value { IfOk result (λ text. text ≡ compact_text (kept ToolLevel (view document.now))) }
+    ensures err { IfErr result (λ e. IsCause e (view document.now)) }
+{
     match written(alloc, document)? {
-        Some(written) => Ok(Tool {
-            base_command,
-            inputs,
-            outputs,
-            stdout,
-            written,
-        }),
+        Some(text) => Ok(text),
         None => Err(DocumentRefusal::WrongShape(Text::from_text(alloc, "")?)),
     }
 }

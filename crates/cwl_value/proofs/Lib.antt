@@ -9,3 +9,6 @@ pub mod Periods
 pub mod ReadText
 pub mod Rows
 pub mod Sorting
+pub mod Texts
+pub mod Told
+pub mod Whole

@@ -1,9 +1,11 @@
+pub mod Canonical
 pub mod Codes
 pub mod Erased
 pub mod Json
 pub mod Laws
 pub mod NameParts
 pub mod Places
+pub mod Plain
 pub mod Reading
 pub mod Secondary
 pub mod Texts

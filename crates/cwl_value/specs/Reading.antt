@@ -107,24 +107,33 @@ listing_read (Some vs) = if fit_inside vs then Ok (Some vs) else Err (BadFile Li
 abbrev pub field : List ℕ → Members → Option Data
 field name ms = get_member name ms
 
+-- the place and the basename of a File or Directory
+abbrev pub placed_read : Members → Reads (Place × Option (List ℕ))
+placed_read ms =
+    and_then (place_read (field (codes "location") ms) (field (codes "path") ms)) (λ place.
+    and_map (λ basename. (place, basename)) (basename_read (field (codes "basename") ms)))
+
+-- the checksum and the size of a File
+abbrev pub summed_read : Members → Reads (Option (List ℕ) × Option ℕ)
+summed_read ms =
+    and_then (text_read Checksum (field (codes "checksum") ms)) (λ checksum.
+    and_map (λ size. (checksum, size)) (size_read (field (codes "size") ms)))
+
 -- a File, from its members and what each of them reads as
 abbrev pub file_read : Members → List (List ℕ × Reads Value) → Reads FileVal
 file_read ms reads =
-    and_then (place_read (field (codes "location") ms) (field (codes "path") ms)) (λ place.
-    and_then (basename_read (field (codes "basename") ms)) (λ basename.
-    and_then (text_read Checksum (field (codes "checksum") ms)) (λ checksum.
-    and_then (size_read (field (codes "size") ms)) (λ size.
+    and_then (placed_read ms) (λ placed.
+    and_then (summed_read ms) (λ summed.
     and_then (list_read SecondaryFiles (value_at (codes "secondaryFiles") reads)) (λ listed.
-    and_map (λ secondary. roll-FileVal (record { place = place; basename = basename; checksum = checksum; size = size; contents = None; secondary = secondary }))
-    (secondary_read basename listed))))))
+    and_map (λ secondary. roll-FileVal (record { place = placed.0; basename = placed.1; checksum = summed.0; size = summed.1; contents = None; secondary = secondary }))
+    (secondary_read placed.1 listed))))
 
 -- a Directory, likewise
 abbrev pub dir_read : Members → List (List ℕ × Reads Value) → Reads DirVal
 dir_read ms reads =
-    and_then (place_read (field (codes "location") ms) (field (codes "path") ms)) (λ place.
-    and_then (basename_read (field (codes "basename") ms)) (λ basename.
+    and_then (placed_read ms) (λ placed.
     and_then (list_read Listing (value_at (codes "listing") reads)) (λ listed.
-    and_map (λ listing. roll-DirVal (record { place = place; basename = basename; listing = listing })) (listing_read listed))))
+    and_map (λ listing. roll-DirVal (record { place = placed.0; basename = placed.1; listing = listing })) (listing_read listed)))
 
 -- each member under its name
 abbrev pub fields_read : List (List ℕ × Reads Value) → Reads (List (List ℕ × Value))

@@ -15,6 +15,23 @@ pub(crate) fn copy_if_any(alloc: Global, text: &Option<Text>) -> Result<Option<T
     }
 }
 
+/// Copies of the texts of a File: its basename, its checksum and its contents.
+pub(crate) fn copy_texts(
+    alloc: Global,
+    basename: &Option<Text>,
+    checksum: &Option<Text>,
+    contents: &Option<Text>,
+) -> Result<(Option<Text>, Option<Text>, Option<Text>), AllocError>
+    ensures basename { IfOk result (λ copies. copies.0 ≡ basename.now) }
+    ensures checksum { IfOk result (λ copies. copies.1 ≡ checksum.now) }
+    ensures contents { IfOk result (λ copies. copies.2 ≡ contents.now) }
+{
+    let basename = copy_if_any(alloc, basename)?;
+    let checksum = copy_if_any(alloc, checksum)?;
+    let contents = copy_if_any(alloc, contents)?;
+    Ok((basename, checksum, contents))
+}
+
 fn copy_index(alloc: Global, index: &Items<usize>) -> Result<Items<usize>, AllocError>
     ensures { IfOk result (λ copy. copy ≡ index.now) }
 {
@@ -85,13 +102,21 @@ impl FileVal {
     pub fn clone_in(&self, alloc: Global) -> Result<FileVal, AllocError>
         ensures { IfOk result (λ copy. copy ≡ self.now) }
     {
+        let secondary = copy_items(alloc, &self.secondary)?;
+        let place = self.place.clone_in(alloc)?;
+        let (basename, checksum, contents) = copy_texts(
+            alloc,
+            &self.basename,
+            &self.checksum,
+            &self.contents,
+        )?;
         Ok(FileVal {
-            place: self.place.clone_in(alloc)?,
-            basename: copy_if_any(alloc, &self.basename)?,
-            checksum: copy_if_any(alloc, &self.checksum)?,
+            place,
+            basename,
+            checksum,
             size: self.size,
-            contents: copy_if_any(alloc, &self.contents)?,
-            secondary: copy_items(alloc, &self.secondary)?,
+            contents,
+            secondary,
         })
     }
 }

@@ -2,7 +2,7 @@
 ghost use Rattle.std.specs.Prelude.{◌≡◌, IfOk};
 ghost use Rattle.cwl_value.specs.Erased.{erased as erased_of, file_erased, dir_erased, items_erased, fields_erased};
 
-use crate::copy::copy_if_any;
+use crate::copy::{copy_if_any, copy_texts};
 use crate::place::Place;
 use crate::value::{DirVal, FileVal, Value};
 use plain_data::{Items, Keyed};
@@ -29,13 +29,20 @@ pub fn erased(alloc: Global, value: &Value) -> Result<Value, AllocError>
 fn erased_file(alloc: Global, file: &FileVal) -> Result<FileVal, AllocError>
     ensures { IfOk result (λ bare. bare ≡ file_erased file.now) }
 {
+    let secondary = erased_items(alloc, &file.secondary)?;
+    let (basename, checksum, contents) = copy_texts(
+        alloc,
+        &file.basename,
+        &file.checksum,
+        &file.contents,
+    )?;
     Ok(FileVal {
         place: Place::Nowhere,
-        basename: copy_if_any(alloc, &file.basename)?,
-        checksum: copy_if_any(alloc, &file.checksum)?,
+        basename,
+        checksum,
         size: file.size,
-        contents: copy_if_any(alloc, &file.contents)?,
-        secondary: erased_items(alloc, &file.secondary)?,
+        contents,
+        secondary,
     })
 }
 

@@ -6,6 +6,8 @@
 //! - `clone_in` gives an equal value, and `erased` one without places.
 //! - `place_text` prints the place of a job.
 //! - `listings_are_in_order` is a law: a listing is written in the order of its names.
+//! - `texts_tell_json_apart` is one too: JSON without fractions that has one text is one. So are
+//!   `json_tells_values_apart` and `texts_tell_values_apart`, of values without places.
 //!
 //! Each call that takes memory may also refuse for want of it.
 #![tactic(auto)]
@@ -28,7 +30,9 @@ mod write;
 
 pub use copy::{copy_fields, copy_items, copy_job};
 pub use erase::{erased, erased_fields, erased_items};
-pub use laws::listings_are_in_order;
+pub use laws::{
+    json_tells_values_apart, listings_are_in_order, texts_tell_json_apart, texts_tell_values_apart,
+};
 pub use names::name_parts;
 pub use place::{JobPlace, Place, Segment};
 pub use print::place_text;

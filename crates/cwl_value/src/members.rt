@@ -2,7 +2,7 @@
 ghost use Rattle.std.specs.Prelude.{◌≡◌, ◌≢◌, Ok, Err, IfOk, IfErr, codes, option_map, ◌==◌};
 ghost use Rattle.std.specs.List.{list_any};
 ghost use Rattle.serde_json.specs.View.{view, members_view};
-ghost use Rattle.cwl_value.specs.Reading.{text_read, text_form, place_read, basename_read, is_name, size_read, field as member, class_in};
+ghost use Rattle.cwl_value.specs.Reading.{text_read, text_form, place_read, basename_read, is_name, size_read, placed_read, summed_read, field as member, class_in};
 ghost use Rattle.cwl_value.specs.declared.refusal.ValueRefusal.TheVariants.{OutOfMemory};
 
 use crate::place::Place;
@@ -29,7 +29,33 @@ pub(crate) fn class_of(members: &Map<String, Json>) -> &str
     }
 }
 
-pub(crate) fn place_in(alloc: Global, members: &Map<String, Json>) -> Result<Place, ValueRefusal>
+/// The place and the basename.
+pub(crate) fn placed_in(
+    alloc: Global,
+    members: &Map<String, Json>,
+) -> Result<(Place, Option<Text>), ValueRefusal>
+    ensures ok { IfOk result (λ found. placed_read (members_view members.now.entries) ≡ Ok found) }
+    ensures err { IfErr result (λ e. e ≢ OutOfMemory → placed_read (members_view members.now.entries) ≡ Err e) }
+{
+    let place = place_in(alloc, members)?;
+    let basename = basename_in(alloc, members)?;
+    Ok((place, basename))
+}
+
+/// The checksum and the size.
+pub(crate) fn summed_in(
+    alloc: Global,
+    members: &Map<String, Json>,
+) -> Result<(Option<Text>, Option<u64>), ValueRefusal>
+    ensures ok { IfOk result (λ found. summed_read (members_view members.now.entries) ≡ Ok found) }
+    ensures err { IfErr result (λ e. e ≢ OutOfMemory → summed_read (members_view members.now.entries) ≡ Err e) }
+{
+    let checksum = text_in(alloc, members, "checksum", FileField::Checksum)?;
+    let size = size_in(members)?;
+    Ok((checksum, size))
+}
+
+fn place_in(alloc: Global, members: &Map<String, Json>) -> Result<Place, ValueRefusal>
     ensures ok { IfOk result (λ place. place_read (member (codes "location") (members_view members.now.entries))
         (member (codes "path") (members_view members.now.entries)) ≡ Ok place) }
     ensures err { IfErr result (λ e. e ≢ OutOfMemory
@@ -45,10 +71,7 @@ pub(crate) fn place_in(alloc: Global, members: &Map<String, Json>) -> Result<Pla
     }
 }
 
-pub(crate) fn basename_in(
-    alloc: Global,
-    members: &Map<String, Json>,
-) -> Result<Option<Text>, ValueRefusal>
+fn basename_in(alloc: Global, members: &Map<String, Json>) -> Result<Option<Text>, ValueRefusal>
     ensures ok { IfOk result (λ name. basename_read
         (member (codes "basename") (members_view members.now.entries)) ≡ Ok name) }
     ensures err { IfErr result (λ e. e ≢ OutOfMemory → basename_read
@@ -74,7 +97,7 @@ fn has_slash(name: &str) -> bool
     name.as_bytes().iter().any(|byte| *byte == b'/')
 }
 
-pub(crate) fn text_in(
+fn text_in(
     alloc: Global,
     members: &Map<String, Json>,
     name: &str,
@@ -100,7 +123,7 @@ fn text(alloc: Global, json: &Json, field: FileField) -> Result<Text, ValueRefus
     }
 }
 
-pub(crate) fn size_in(members: &Map<String, Json>) -> Result<Option<u64>, ValueRefusal>
+fn size_in(members: &Map<String, Json>) -> Result<Option<u64>, ValueRefusal>
     ensures { result ≡ size_read (member (codes "size") (members_view members.now.entries)) }
 {
     match find(members, "size") {

@@ -10,7 +10,7 @@ ghost use Rattle.cwl_value.specs.declared.refusal.ValueRefusal.TheVariants.{OutO
 
 use crate::beside::{listing_of, secondary_of};
 use crate::depth::nests_within;
-use crate::members::{basename_in, class_of, place_in, size_in, text_in};
+use crate::members::{class_of, placed_in, summed_in};
 use crate::refusal::{FileField, ValueRefusal};
 use crate::value::{DirVal, FileVal, Value};
 use plain_data::{Items, Keyed, Text};
@@ -117,10 +117,8 @@ fn read_file(alloc: Global, members: &Map<String, Json>) -> Result<FileVal, Valu
     ensures err { IfErr result (λ e. e ≢ OutOfMemory
         → file_read (members_view members.now.entries) (members_read (members_view members.now.entries)) ≡ Err e) }
 {
-    let place = place_in(alloc, members)?;
-    let basename = basename_in(alloc, members)?;
-    let checksum = text_in(alloc, members, "checksum", FileField::Checksum)?;
-    let size = size_in(members)?;
+    let (place, basename) = placed_in(alloc, members)?;
+    let (checksum, size) = summed_in(alloc, members)?;
     let listed = read_list(alloc, members, "secondaryFiles", FileField::SecondaryFiles)?;
     let secondary = secondary_of(alloc, &basename, listed)?;
     Ok(FileVal {
@@ -139,8 +137,7 @@ fn read_dir(alloc: Global, members: &Map<String, Json>) -> Result<DirVal, ValueR
     ensures err { IfErr result (λ e. e ≢ OutOfMemory
         → dir_read (members_view members.now.entries) (members_read (members_view members.now.entries)) ≡ Err e) }
 {
-    let place = place_in(alloc, members)?;
-    let basename = basename_in(alloc, members)?;
+    let (place, basename) = placed_in(alloc, members)?;
     let listed = read_list(alloc, members, "listing", FileField::Listing)?;
     let listing = listing_of(listed)?;
     Ok(DirVal {

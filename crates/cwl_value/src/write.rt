@@ -1,6 +1,7 @@
 //! The JSON of values.
-ghost use Rattle.std.specs.Prelude.{◌≡◌, IfOk, OnOk, option_map, map, codes};
-ghost use Rattle.serde_json.specs.View.{view, members_view};
+ghost use Rattle.std.specs.Prelude.{◌≡◌, Some, IfOk, OnOk, option_map, map, codes};
+ghost use Rattle.serde_json.specs.Data.{array, string};
+ghost use Rattle.serde_json.specs.View.{view, items_of, members_view};
 ghost use Rattle.serde_json.specs.Written.{compact_text};
 ghost use Rattle.cwl_value.specs.NameParts.{nameroot, nameext};
 ghost use Rattle.cwl_value.specs.Json.{json_of, file_data, dir_data, items_json, fields_json, with_member, with_entry, by_name, name_in, text_json, location_json, size_json, unless_empty};
@@ -39,22 +40,14 @@ fn file_to_json(alloc: Global, file: &FileVal) -> Result<Json, AllocError>
 {
     let secondary = items_to_json(alloc, &file.secondary)?;
     let mut members = Map::new(alloc);
-    put_text(&mut members, alloc, "basename", &file.basename)?;
-    put_text(&mut members, alloc, "checksum", &file.checksum)?;
-    put(
+    put_own(
         &mut members,
         alloc,
-        "class",
-        Some(Json::try_from_str(alloc, "File")?),
+        &file.basename,
+        &file.checksum,
+        &file.contents,
+        &file.place,
     )?;
-    put_text(&mut members, alloc, "contents", &file.contents)?;
-    put(
-        &mut members,
-        alloc,
-        "location",
-        location(alloc, &file.place)?,
-    )?;
-    put_parts(&mut members, alloc, &file.basename)?;
     put(&mut members, alloc, "secondaryFiles", some_array(secondary))?;
     put(&mut members, alloc, "size", size(file.size))?;
     Ok(Json::Object(members))
@@ -66,23 +59,13 @@ fn dir_to_json(alloc: Global, dir: &DirVal) -> Result<Json, AllocError>
 {
     let listing = match &dir.listing {
         None => None,
-        Some(items) => Some(Json::Array(sorted(alloc, items_to_json(alloc, items)?)?)),
+        Some(items) => Some(sorted_array(alloc, items_to_json(alloc, items)?)?),
     };
     let mut members = Map::new(alloc);
     put_text(&mut members, alloc, "basename", &dir.basename)?;
-    put(
-        &mut members,
-        alloc,
-        "class",
-        Some(Json::try_from_str(alloc, "Directory")?),
-    )?;
+    put_class(&mut members, alloc, "Directory")?;
     put(&mut members, alloc, "listing", listing)?;
-    put(
-        &mut members,
-        alloc,
-        "location",
-        location(alloc, &dir.place)?,
-    )?;
+    put_location(&mut members, alloc, &dir.place)?;
     Ok(Json::Object(members))
 }
 
@@ -143,6 +126,59 @@ fn put_text(
     }
 }
 
+// The members of a File that hold no other values, and are texts.
+fn put_own(
+    members: &mut Map<String, Json>,
+    alloc: Global,
+    basename: &Option<Text>,
+    checksum: &Option<Text>,
+    contents: &Option<Text>,
+    place: &Place,
+) -> Result<(), AllocError>
+    ensures { OnOk result (members_view members.new.entries
+        ≡ with_member (codes "nameroot") (text_json (option_map nameroot basename.now))
+        (with_member (codes "nameext") (text_json (option_map nameext basename.now))
+        (with_member (codes "location") (location_json place.now)
+        (with_member (codes "contents") (text_json contents.now)
+        (with_member (codes "class") (Some (string (codes "File")))
+        (with_member (codes "checksum") (text_json checksum.now)
+        (with_member (codes "basename") (text_json basename.now)
+        (members_view members.old.entries)))))))) }
+{
+    put_text(members, alloc, "basename", basename)?;
+    put_text(members, alloc, "checksum", checksum)?;
+    put_class(members, alloc, "File")?;
+    put_text(members, alloc, "contents", contents)?;
+    put_location(members, alloc, place)?;
+    put_parts(members, alloc, basename)
+}
+
+fn put_class(members: &mut Map<String, Json>, alloc: Global, class: &str) -> Result<(), AllocError>
+    ensures { OnOk result (members_view members.new.entries
+        ≡ with_member (codes "class") (Some (string class.now)) (members_view members.old.entries)) }
+{
+    serde_json::put(members, alloc, "class", Json::try_from_str(alloc, class)?)
+}
+
+fn put_location(
+    members: &mut Map<String, Json>,
+    alloc: Global,
+    place: &Place,
+) -> Result<(), AllocError>
+    ensures { OnOk result (members_view members.new.entries
+        ≡ with_member (codes "location") (location_json place.now) (members_view members.old.entries)) }
+{
+    match place {
+        Place::Url(location) => serde_json::put(
+            members,
+            alloc,
+            "location",
+            Json::try_from_str(alloc, location.as_str())?,
+        ),
+        Place::Nowhere | Place::Path(_) | Place::Made(_, _) => Ok(()),
+    }
+}
+
 fn put_parts(
     members: &mut Map<String, Json>,
     alloc: Global,
@@ -168,15 +204,6 @@ fn put_parts(
     }
 }
 
-fn location(alloc: Global, place: &Place) -> Result<Option<Json>, AllocError>
-    ensures { IfOk result (λ json. option_map view json ≡ location_json place.now) }
-{
-    match place {
-        Place::Url(location) => Ok(Some(Json::try_from_str(alloc, location.as_str())?)),
-        Place::Nowhere | Place::Path(_) | Place::Made(_, _) => Ok(None),
-    }
-}
-
 fn size(bytes: Option<u64>) -> Option<Json>
     ensures { option_map view result ≡ size_json bytes }
 {
@@ -194,6 +221,13 @@ fn some_array(items: Vec<Json>) -> Option<Json>
     } else {
         Some(Json::Array(items))
     }
+}
+
+// An array in the order of the basenames.
+fn sorted_array(alloc: Global, listing: Vec<Json>) -> Result<Json, AllocError>
+    ensures { IfOk result (λ json. view json ≡ array (items_of (by_name (map view listing.items)))) }
+{
+    Ok(Json::Array(sorted(alloc, listing)?))
 }
 
 // In the order of the basenames.

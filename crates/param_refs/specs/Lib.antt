@@ -1,3 +1,4 @@
+pub mod Codes
 pub mod Descent
 pub mod Evaluation
 pub mod Grammar

@@ -1,4 +1,5 @@
 ghost use Rattle.std.specs.Prelude.{◌≡◌};
+ghost use Rattle.param_refs.specs.Codes.{code_of};
 ghost use Rattle.param_refs.specs.declared.fault.RefFault.TheVariants.{OutOfMemory};
 
 use std::alloc::{AllocError, AllocFailed};
@@ -28,6 +29,23 @@ pub enum RefFault {
     /// Memory was wanting; nothing is said of the text or the values.
     #[error("out of memory")]
     OutOfMemory,
+}
+
+impl RefFault {
+    /// The fault's short name, from `P1` to `P6`, or `memory`.
+    pub fn code(&self) -> &'static str
+        ensures { result.now ≡ code_of self.now }
+    {
+        match self {
+            RefFault::NotAReference => "P1",
+            RefFault::BackslashOut => "P2",
+            RefFault::NoName => "P3",
+            RefFault::NoField => "P4",
+            RefFault::WrongKind => "P5",
+            RefFault::IndexOut => "P6",
+            RefFault::OutOfMemory => "memory",
+        }
+    }
 }
 
 impl From<AllocError> for RefFault {

@@ -15,3 +15,5 @@ pub mod Refusals
 pub mod ReadBack
 pub mod ReadNumbers
 pub mod ReadRows
+mod WholeTexts
+mod SomeLeast

@@ -1,3 +1,4 @@
+-- The rules of a certificate in the order in which they are looked at, and the first one that is broken.
 use Rattle.std.specs.Prelude.{◌≡◌, ◌≢◌, ℕ, ◌+◌, ◌<◌, List, length, sum, true, false, None, IsSomeAnd, Contains, slice_index}
 use Rattle.std.specs.Prelude.{◌⊎◌}
 use Rattle.plan_checker.specs.declared.vertex.Vertex.{Vertex}

@@ -1,3 +1,4 @@
+-- Certificates: a valid plan beside fair charges that are worth what it costs.
 use Rattle.std.specs.Prelude.{◌≡◌, List}
 use Rattle.plan_checker.specs.declared.vertex.Vertex.{Vertex}
 use Rattle.plan_checker.specs.declared.plan.Mark.{Mark}

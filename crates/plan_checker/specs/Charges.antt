@@ -1,3 +1,4 @@
+-- Charges: amounts at each vertex that obey five rules, and what they are worth. They are a flow in the network of the graph.
 use Rattle.std.specs.Prelude.{◌≡◌, ℕ, ◌+◌, ◌≤◌, ◌==◌, List, [], length, sum, false, EachIndex, slice_index, slice_index_or, if◌then◌else◌}
 use Rattle.std.specs.Option.{ForSome}
 use Rattle.plan_checker.specs.declared.vertex.Vertex.{Vertex}

@@ -1,3 +1,4 @@
+-- The children of each vertex, listed, so that what they pass to it can be summed in linear time.
 use Rattle.std.specs.Prelude.{◌≡◌, ℕ, ◌+◌, ◌<◌, List, [], length, sum_by, All, ◌==◌, slice_index, slice_index_or, if◌then◌else◌}
 use Rattle.plan_checker.specs.declared.vertex.Vertex.{Vertex}
 use Rattle.plan_checker.specs.declared.child.Child.{Child}

@@ -1,3 +1,4 @@
+-- What the check of a certificate has found so far: which rules are kept, and where one is broken.
 use Rattle.std.specs.Prelude.{◌≡◌, ◌≢◌, ℕ, All, slice_index, ◌+◌, ◌<◌, List, length, Option, None, Some, Result, Ok, Err}
 use Rattle.plan_checker.specs.declared.vertex.Vertex.{Vertex}
 use Rattle.plan_checker.specs.declared.plan.Mark.{Mark}

@@ -1,3 +1,4 @@
+-- The text of a certificate, line by line, and the first bad line of a text that is none.
 use Rattle.std.specs.Prelude.{◌≡◌, ℕ, zero, suc, ◌^◌, ◌<◌, ◌==◌, Bool, true, false, if◌then◌else◌, List, [], ◌∷◌, ◌++◌, length, All, Option, None, Some, codes, slice_index}
 use Rattle.std.specs.Fmt.{decimal}
 use Rattle.plan_checker.specs.declared.vertex.Vertex.{Vertex}
@@ -87,6 +88,13 @@ pub record AreSmall (charges : Charges) : Type 0 where
   pub throughs : All IsSmall charges.through
   pub pays : All IsSmall charges.pay
   pub passing : All (All IsSmall) charges.pass
+
+-- the numbers of vertex i are
+pub record AreSmallAt (charges : Charges) (i : ℕ) : Type 0 where
+  pub enter : IsSmall (slice_index charges.enter i)
+  pub through : IsSmall (slice_index charges.through i)
+  pub pay : IsSmall (slice_index charges.pay i)
+  pub passing : All IsSmall (passes charges i)
 
 -- a graph with one mark and one entry of each kind for each vertex, and one pass for each parent
 pub record IsWhole (graph : List Vertex) (marks : List Mark) (charges : Charges) : Type 0 where

@@ -1,3 +1,4 @@
+-- Job graphs: vertices with costs and parents, within the limits. A vertex is a job, as in Helix (Xin et al., 2018).
 use Rattle.std.specs.Prelude.{ℕ, ◌+◌, ◌<◌, ◌≤◌, List, [], length, false, None, All, EachIndex, slice_index_or}
 use Rattle.std.specs.Option.{ForSome}
 use Rattle.std.specs.List.Sorted.{IsStrictlyIncreasing}

@@ -1,3 +1,4 @@
+-- What holds of all graphs, plans, charges and texts; each law is the contract of a function in src/laws.rt.
 use Rattle.std.specs.Prelude.{◌≡◌, ℕ, ◌≤◌, List}
 use Rattle.plan_checker.specs.declared.vertex.Vertex.{Vertex}
 use Rattle.plan_checker.specs.declared.plan.Mark.{Mark}
@@ -27,6 +28,15 @@ CertificatesAreCheapest =
 abbrev pub LeastIsOne : Type 0
 LeastIsOne =
     (graph : List Vertex) (marks other : List Mark) → IsLeast graph marks → IsLeast graph other → marks ≡ other
+
+-- a Least plan of a graph
+pub record HasLeast (graph : List Vertex) : Type 0 where
+  pub marks : List Mark
+  pub least : IsLeast graph marks
+
+-- each graph has a Least plan
+abbrev pub EachHasLeast : Type 0
+EachHasLeast = (graph : List Vertex) → IsGraph graph → HasLeast graph
 
 -- a certificate breaks no rule
 abbrev pub CertificatesBreakNothing : Type 0

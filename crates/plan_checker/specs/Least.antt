@@ -1,3 +1,4 @@
+-- The cheapest plans of a graph, and the Least one among them: what it computes and keeps, each of them does.
 use Rattle.std.specs.Prelude.{◌≡◌, ◌≢◌, ◌≤◌, List, EachIndex}
 use Rattle.plan_checker.specs.declared.vertex.Vertex.{Vertex}
 use Rattle.plan_checker.specs.declared.plan.Mark.{Mark}

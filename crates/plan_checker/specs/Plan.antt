@@ -1,3 +1,4 @@
+-- Plans: one mark for each vertex; when a plan is valid, and what it costs (Helix: each job is loaded, computed or pruned).
 use Rattle.std.specs.Prelude.{◌≡◌, ◌≢◌, ℕ, List, length, false, IsSome, All, EachIndex, slice_index_or, unwrap_or}
 use Rattle.plan_checker.specs.declared.vertex.Vertex.{Vertex}
 use Rattle.plan_checker.specs.declared.plan.Mark.{Mark}

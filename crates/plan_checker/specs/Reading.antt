@@ -1,3 +1,4 @@
+-- What the reader of a certificate has found so far: with which lines the text begins, and that it has no next one.
 use Rattle.std.specs.Prelude.{◌≡◌, ℕ, ◌+◌, ◌<◌, ◌≤◌, List, [], ◌∷◌, ◌++◌, length, All, Option, slice_index}
 use Rattle.std.specs.Char.{IsAsciiDigit}
 use Rattle.std.specs.Option.{ForSome}

@@ -1,3 +1,4 @@
+-- The sum over all numbers below a limit, of which costs and charges are made.
 use Rattle.std.specs.Prelude.{ℕ, ◌+◌, zero, suc}
 
 -- f 0 + f 1 + .. + f (n - 1)

@@ -1,10 +1,11 @@
 //! The check of a certificate.
 
-ghost use Rattle.std.specs.Prelude.{◌≡◌, ℕ, ◌<◌, ◌≤◌, ◌^◌, ◌↔◌, length, sum, IsTrue, IfOk, IfErr, EachIndex};
+ghost use Rattle.std.specs.Prelude.{◌≡◌, ℕ, ◌<◌, ◌≤◌, ◌^◌, ◌↔◌, length, sum, IsTrue, IfOk, OnOk, IfErr, EachIndex};
 ghost use Rattle.plan_checker.specs.Graph.{vertex, Fits, IsGraph};
 ghost use Rattle.plan_checker.specs.Plan.{cost, cost_of};
 ghost use Rattle.plan_checker.specs.Charges.{passes, IsCounted};
 ghost use Rattle.plan_checker.specs.Certificate.{IsCertificate};
+ghost use Rattle.plan_checker.specs.Least.{IsCheapest};
 ghost use Rattle.plan_checker.specs.Broken.{IsFirstBroken};
 ghost use Rattle.plan_checker.specs.Claim.{graph_of, marks_of, charges_of, number, Decides, IsSized, KeepsRules, Settles, SettlesAt};
 
@@ -15,10 +16,11 @@ use crate::graph::{Graph, MOST_COST};
 use crate::plan::{Mark, Plan};
 use crate::vertex::Vertex;
 
-/// Whether these charges show this plan of the graph to be a cheapest one: its cost, or the first rule that is broken.
+/// Checks that these charges show this plan of the graph to be a cheapest one: its cost, or the first rule that is broken.
 /// It takes no memory, and time in proportion to the vertices and their parents.
 pub fn check(graph: &Graph, plan: &Plan, charges: &Charges) -> Result<u64, Broken>
     ensures certified { IfOk result (λ total. IsCertificate graph.now plan.now.marks charges.now × (total ≡ cost graph.now plan.now.marks)) }
+    ensures cheapest { OnOk result (IsCheapest graph.now plan.now.marks) }
     ensures broken { IfErr result (IsFirstBroken graph.now plan.now.marks charges.now) }
 {
     let claim = Claim {
@@ -116,7 +118,8 @@ fn broken_at(claim: &Claim, rule: Rule, i: usize) -> Option<Broken>
 /// Compares the plan's cost with the value of the charges.
 fn balance(claim: &Claim) -> Result<u64, Broken>
     requires { KeepsRules claim.now 10 }
-    ensures { Decides claim.now result }
+    ensures decided { Decides claim.now result }
+    ensures cheapest { OnOk result (IsCheapest (graph_of claim.now) (marks_of claim.now)) }
 {
     let total = plan_cost(claim.graph.vertices(), claim.plan.marks.as_slice());
     let worth = value(claim.charges.enter.as_slice());

@@ -1,6 +1,6 @@
 //! What certificates show, over all graphs: each law is the contract of a function that does nothing.
 
-ghost use Rattle.plan_checker.specs.Laws.{CertificatesAreCheapest, CertificatesBreakNothing, ChargesBoundCosts, LeastIsOne, OneBadLineIsFirst, TextsTellCertificates};
+ghost use Rattle.plan_checker.specs.Laws.{CertificatesAreCheapest, CertificatesBreakNothing, ChargesBoundCosts, EachHasLeast, LeastIsOne, OneBadLineIsFirst, TextsTellCertificates};
 
 /// Fair charges are worth no more than any valid plan costs.
 pub fn charges_bound_costs()
@@ -15,6 +15,11 @@ pub fn certificates_are_cheapest()
 /// A graph has at most one Least plan.
 pub fn least_is_one()
     ensures { LeastIsOne }
+{}
+
+/// Each graph has a Least plan.
+pub fn each_has_least()
+    ensures { EachHasLeast }
 {}
 
 /// No rule is broken by a certificate.

@@ -22,8 +22,6 @@ mod number;
 mod plan;
 mod reader;
 mod row;
-#[cfg(test)]
-mod tests;
 mod vertex;
 mod writer;
 
@@ -34,8 +32,8 @@ pub use checker::check;
 pub use graph::{Graph, MOST_COST, MOST_ENTRIES, MOST_VERTICES};
 pub use graph_error::GraphError;
 pub use laws::{
-    certificates_are_cheapest, certificates_break_nothing, charges_bound_costs, least_is_one,
-    one_bad_line_is_first, texts_tell_certificates,
+    certificates_are_cheapest, certificates_break_nothing, charges_bound_costs, each_has_least,
+    least_is_one, one_bad_line_is_first, texts_tell_certificates,
 };
 pub use plan::{Mark, Plan};
 pub use reader::read_certificate;

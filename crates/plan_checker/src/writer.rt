@@ -1,9 +1,9 @@
 //! The text of a certificate, written.
 
-ghost use Rattle.std.specs.Prelude.{◌≡◌, ℕ, ◌<◌, [], ◌∷◌, ◌++◌, length, IfOk, OnOk, string_bytes};
+ghost use Rattle.std.specs.Prelude.{◌≡◌, ℕ, ◌<◌, [], ◌∷◌, ◌++◌, length, All, IfOk, OnOk, string_bytes};
 ghost use Rattle.std.specs.Fmt.{decimal};
 ghost use Rattle.plan_checker.specs.Charges.{IsCounted};
-ghost use Rattle.plan_checker.specs.Format.{certificate_text, flag, letter, line, load_field, pairs, row, spaced};
+ghost use Rattle.plan_checker.specs.Format.{certificate_text, flag, letter, line, load_field, pairs, row, spaced, AreSmallAt, IsSmall, IsTextOf};
 ghost use Rattle.plan_checker.specs.Claim.{graph_of, marks_of, charges_of, IsSized};
 
 use crate::charges::Charges;
@@ -12,7 +12,7 @@ use crate::graph::Graph;
 use crate::plan::{Mark, Plan};
 use std::alloc::{AllocError, Global};
 
-/// The text of a certificate, from which `read_certificate` reads it back.
+/// Writes the text of a certificate: one that `read_certificate` takes, and that is no other certificate's.
 pub fn write_certificate(
     alloc: Global,
     graph: &Graph,
@@ -21,7 +21,8 @@ pub fn write_certificate(
 ) -> Result<String, AllocError>
     requires marks_counted { length plan.now.marks ≡ length graph.now }
     requires charges_counted { IsCounted graph.now charges.now }
-    ensures { IfOk result (λ text. string_bytes text ≡ certificate_text graph.now plan.now.marks charges.now) }
+    ensures text { IfOk result (λ text. string_bytes text ≡ certificate_text graph.now plan.now.marks charges.now) }
+    ensures read_back { IfOk result (λ text. IsTextOf (string_bytes text) graph.now plan.now.marks charges.now) }
 {
     let claim = Claim {
         graph,
@@ -43,7 +44,8 @@ pub fn write_certificate(
 fn push_row(text: &mut String, claim: &Claim, i: usize) -> Result<(), AllocError>
     requires there { i < length (graph_of claim.now) }
     requires sized { IsSized claim.now }
-    ensures { OnOk result (string_bytes text.new ≡ string_bytes text.old ++ line (row (graph_of claim.now) (marks_of claim.now) (charges_of claim.now) i)) }
+    ensures text { OnOk result (string_bytes text.new ≡ string_bytes text.old ++ line (row (graph_of claim.now) (marks_of claim.now) (charges_of claim.now) i)) }
+    ensures small { OnOk result (AreSmallAt (charges_of claim.now) i) }
 {
     let vertex = claim.vertex(i);
     push_start(text, claim.mark(i), vertex.needed)?;
@@ -91,7 +93,8 @@ fn push_load(text: &mut String, load: Option<u64>) -> Result<(), AllocError>
 /// Writes each parent and what is passed to it.
 fn push_pairs(text: &mut String, parents: &[usize], amounts: &[u64]) -> Result<(), AllocError>
     requires { length amounts.now ≡ length parents.now }
-    ensures { OnOk result (string_bytes text.new ≡ string_bytes text.old ++ spaced (pairs parents.now amounts.now)) }
+    ensures text { OnOk result (string_bytes text.new ≡ string_bytes text.old ++ spaced (pairs parents.now amounts.now)) }
+    ensures small { OnOk result (All IsSmall amounts.now) }
 {
     for (i, parent) in parents.iter().enumerate() {
         push_number(text, *parent as u64)?;

@@ -1,20 +1,21 @@
 -- A machine that stands in a run and follows an answer stands in the longer run.
 use Rattle.std.proofs.Common.{◌≡◌, ◌∙◌, List, [], ◌∷◌, ◌++◌, Some, sym, ap, subst}
-use Rattle.run_core.specs.declared.request.Pair.{Pair}
-use Rattle.run_core.specs.declared.setting.Setting.{Setting}
+use Rattle.run_rules.specs.declared.request.Pair.{Pair}
+use Rattle.run_rules.specs.declared.setting.Setting.{Setting}
 use Rattle.run_core.specs.declared.state.State.{State}
-use Rattle.run_core.specs.Words.{Fields, JobPlace}
-use Rattle.run_core.specs.Scene.{Scene, scene_of}
-use Rattle.run_core.specs.Events.{So_far, Idle, after, without_launch}
-use Rattle.run_core.specs.Ending.{End, end_of}
-use Rattle.run_core.specs.Plans.{Mark, Loads_what_is_held}
-use Rattle.run_core.specs.Allowed.{Allowed, HasNoLaunch}
-use Rattle.run_core.specs.Run.{IsRunSoFar, Replans, asks, breaks}
-use Rattle.run_core.specs.Reports.{report_of}
-use Rattle.run_core.specs.Machine.{tool_of, ends}
+use Rattle.run_rules.specs.Words.{Fields, JobPlace}
+use Rattle.run_rules.specs.Scene.{Scene, scene_of}
+use Rattle.run_rules.specs.Events.{So_far, Idle, after, without_launch}
+use Rattle.run_rules.specs.Ending.{End, end_of}
+use Rattle.run_rules.specs.Plans.{Mark, Loads_what_is_held}
+use Rattle.run_rules.specs.Allowed.{Allowed, HasNoLaunch}
+use Rattle.run_rules.specs.Run.{IsRunSoFar, Replans, asks, breaks}
+use Rattle.run_rules.specs.Reports.{report_of}
+use Rattle.run_core.specs.Machine.{ends}
+use Rattle.run_rules.specs.Jobs.{tool_of}
 use Rattle.run_core.specs.Standing.{IsLone, IsAt, ended}
 use Rattle.command_line.specs.declared.fault.BuildFault.{BuildFault}
-use Rattle.run_core.proofs.Lone.{lone, scene_lone}
+use Rattle.run_rules.proofs.Lone.{lone, scene_lone}
 
 pub record Advances (setting : Setting) (t : List Pair) (next : State) : Type 0 where
   pub happened : So_far

@@ -11,25 +11,26 @@ use Rattle.proc_host.specs.declared.plan.StagePlan.{StagePlan}
 use Rattle.proc_host.specs.ExitClass.{class_of}
 use Rattle.command_line.specs.declared.launch.Launch.{Launch}
 use Rattle.command_line.specs.Launch.{IsLaunch}
-use Rattle.run_core.specs.declared.outcome.Cause.{Cause}
-use Rattle.run_core.specs.declared.request.Request.{Request}
-use Rattle.run_core.specs.declared.request.Pair.{Pair}
-use Rattle.run_core.specs.declared.setting.Options.{Options}
-use Rattle.run_core.specs.declared.setting.Setting.{Setting}
+use Rattle.run_rules.specs.declared.outcome.Cause.{Cause}
+use Rattle.run_rules.specs.declared.request.Request.{Request}
+use Rattle.run_rules.specs.declared.request.Pair.{Pair}
+use Rattle.run_rules.specs.declared.setting.Options.{Options}
+use Rattle.run_rules.specs.declared.setting.Setting.{Setting}
 use Rattle.run_core.specs.declared.state.Phase.{Phase}
 use Rattle.run_core.specs.declared.state.State.{State}
-use Rattle.run_core.specs.Words.{Fields}
-use Rattle.run_core.specs.Folders.{out_folder, runtime_of}
-use Rattle.run_core.specs.Delivered.{located}
-use Rattle.run_core.specs.Events.{Staged, Began, Came_back, Succeeded, Broke, Gave_up, Delivered, Host_failed, Collect_failed, Idle, So_far, at_first, after, in_flight, unfolding_at}
-use Rattle.run_core.specs.Collected.{collected}
-use Rattle.run_core.specs.Scene.{Scene}
-use Rattle.run_core.specs.Unfold.{or_else}
-use Rattle.run_core.specs.Ending.{End, settled, result_end, delivered_end, Succeeds, Fails_for_good, Fails_for_now, Host_ends, delivery_at}
-use Rattle.run_core.specs.Plans.{Load, Compute}
-use Rattle.run_core.specs.Run.{IsRunSoFar}
-use Rattle.run_core.specs.Reports.{report_of}
-use Rattle.run_core.specs.Machine.{tool_of, waits, ends, fails_for_good, host_fails, after_ticket, after_class, after_exit, Launches, has_launch, has_none}
+use Rattle.run_rules.specs.Words.{Fields}
+use Rattle.run_rules.specs.Folders.{out_folder, runtime_of}
+use Rattle.run_rules.specs.Delivered.{located}
+use Rattle.run_rules.specs.Events.{Staged, Began, Came_back, Succeeded, Broke, Gave_up, Delivered, Host_failed, Collect_failed, Idle, So_far, at_first, after, in_flight, unfolding_at}
+use Rattle.run_rules.specs.Collected.{collected}
+use Rattle.run_rules.specs.Scene.{Scene}
+use Rattle.run_rules.specs.Unfold.{or_else}
+use Rattle.run_rules.specs.Ending.{End, settled, result_end, delivered_end, Succeeds, Fails_for_good, Fails_for_now, Host_ends, delivery_at}
+use Rattle.run_rules.specs.Plans.{Load, Compute}
+use Rattle.run_rules.specs.Run.{IsRunSoFar}
+use Rattle.run_rules.specs.Reports.{report_of}
+use Rattle.run_core.specs.Machine.{waits, ends, fails_for_good, host_fails, after_ticket, after_class, after_exit, Launches, has_launch, has_none}
+use Rattle.run_rules.specs.Jobs.{tool_of}
 use Rattle.run_core.specs.Standing.{IsLone, starting, running, scanning, delivering, when_staged, when_running, when_back, when_gathered}
 use Rattle.run_core.proofs.Lone.{may_stage, may_start, has_no_launch, may_collect, may_scan, may_deliver, landed}
 use Rattle.run_core.proofs.Advance.{Advances, its_scene, same, step_at, break_at, end_at}
@@ -87,7 +88,7 @@ module _ (setting : Setting) (inputs : Fields) (l : IsLone setting inputs) (t : 
   pub stage_fails : (fault : HostFault) → IsRunSoFar setting t at_first (Compute ∷ []) →
       Advances setting (t ++ pair stage_request (HostAnswer.Failed fault) ∷ []) (host_fails fault [])
   stage_fails fault goes =
-      let f : So_far = record { work = Idle; events = Host_failed fault ∷ [] } in
+      let f : So_far = record { work = Idle; events = Host_failed [] fault ∷ [] } in
       end_at setting inputs l (t ++ pair stage_request (HostAnswer.Failed fault) ∷ []) f (Compute ∷ []) (Host_ends fault [])
       (step_at setting inputs l t at_first (Compute ∷ []) (pair stage_request (HostAnswer.Failed fault)) f (Compute ∷ [])
       goes (may_stage tool inputs o l.limits) refl refl)
@@ -110,7 +111,7 @@ module _ (setting : Setting) (inputs : Fields) (l : IsLone setting inputs) (t : 
       IsRunSoFar setting t when_staged (Compute ∷ []) →
       Advances setting (t ++ pair (Request.Start [] launch) (HostAnswer.Failed fault) ∷ []) (host_fails fault [])
   start_fails launch fault is goes =
-      let f : So_far = record { work = Idle; events = Staged [] 1 ∷ Host_failed fault ∷ [] } in
+      let f : So_far = record { work = Idle; events = Staged [] 1 ∷ Host_failed [] fault ∷ [] } in
       end_at setting inputs l (t ++ pair (Request.Start [] launch) (HostAnswer.Failed fault) ∷ []) f (Compute ∷ []) (Host_ends fault [])
       (step_at setting inputs l t when_staged (Compute ∷ []) (pair (Request.Start [] launch) (HostAnswer.Failed fault)) f (Compute ∷ [])
       goes (may_start tool inputs o l.limits launch is) refl refl)
@@ -182,7 +183,7 @@ module _ (setting : Setting) (inputs : Fields) (l : IsLone setting inputs) (t : 
 
     pub scan_fails : (fault : HostFault) → Advances setting (t ++ pair scan_request (HostAnswer.Failed fault) ∷ []) (host_fails fault [])
     scan_fails fault =
-        let f : So_far = record { work = Idle; events = Staged [] 1 ∷ Began [] ticket ∷ Came_back ticket ∷ Host_failed fault ∷ [] } in
+        let f : So_far = record { work = Idle; events = Staged [] 1 ∷ Began [] ticket ∷ Came_back ticket ∷ Host_failed [] fault ∷ [] } in
         end_at setting inputs l (t ++ pair scan_request (HostAnswer.Failed fault) ∷ []) f (Load ∷ []) (Host_ends fault [])
         (step_at setting inputs l t (when_back ticket) (Load ∷ []) (pair scan_request (HostAnswer.Failed fault)) f (Load ∷ [])
         goes (may_scan tool inputs o l.limits ticket) refl refl)
@@ -250,7 +251,7 @@ module _ (setting : Setting) (inputs : Fields) (l : IsLone setting inputs) (t : 
 
     pub deliver_fails : (fault : HostFault) → Advances setting (t ++ pair (Request.Deliver plan) (HostAnswer.Failed fault) ∷ []) (host_fails fault [])
     deliver_fails fault =
-        let f : So_far = record { work = Idle; events = Staged [] 1 ∷ Began [] ticket ∷ Came_back ticket ∷ Succeeded [] named ∷ Host_failed fault ∷ [] } in
+        let f : So_far = record { work = Idle; events = Staged [] 1 ∷ Began [] ticket ∷ Came_back ticket ∷ Succeeded [] named ∷ Host_failed [] fault ∷ [] } in
         end_at setting inputs l (t ++ pair (Request.Deliver plan) (HostAnswer.Failed fault) ∷ []) f (Load ∷ []) (Host_ends fault [])
         (step_at setting inputs l t (when_gathered ticket named) (Load ∷ []) (pair (Request.Deliver plan) (HostAnswer.Failed fault)) f (Load ∷ [])
         goes (may_deliver tool inputs o l.limits ticket named outputs plan result delivery) refl refl)

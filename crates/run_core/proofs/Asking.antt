@@ -1,18 +1,19 @@
 -- What the machine asks, its run may ask.
 use Rattle.std.proofs.Common.{◌≡◌, ◌≢◌, List, [], ◌∷◌, Some, refl, sym, subst}
 use Rattle.cwl_document.specs.declared.process.Tool.{Tool}
-use Rattle.run_core.specs.declared.request.Request.{Request}
-use Rattle.run_core.specs.declared.setting.Options.{Options}
-use Rattle.run_core.specs.declared.setting.Setting.{Setting}
+use Rattle.run_rules.specs.declared.request.Request.{Request}
+use Rattle.run_rules.specs.declared.setting.Options.{Options}
+use Rattle.run_rules.specs.declared.setting.Setting.{Setting}
 use Rattle.run_core.specs.declared.state.State.{State}
-use Rattle.run_core.specs.Words.{Fields}
-use Rattle.run_core.specs.Allowed.{Allowed}
-use Rattle.run_core.specs.Ending.{delivery_at}
-use Rattle.run_core.specs.Events.{So_far, at_first, unfolding_at}
-use Rattle.run_core.specs.Folders.{out_folder}
-use Rattle.run_core.specs.Machine.{tool_of, stages}
-use Rattle.run_core.specs.Plans.{Mark, Load, Compute}
-use Rattle.run_core.specs.Scene.{Scene, scene_of}
+use Rattle.run_rules.specs.Words.{Fields}
+use Rattle.run_rules.specs.Allowed.{Allowed}
+use Rattle.run_rules.specs.Ending.{delivery_at}
+use Rattle.run_rules.specs.Events.{So_far, at_first, unfolding_at}
+use Rattle.run_rules.specs.Folders.{out_folder}
+use Rattle.run_core.specs.Machine.{stages}
+use Rattle.run_rules.specs.Jobs.{tool_of}
+use Rattle.run_rules.specs.Plans.{Mark, Load, Compute}
+use Rattle.run_rules.specs.Scene.{Scene, scene_of}
 use Rattle.run_core.specs.Standing.{IsLone, IsAt, staging, starting, running, scanning, delivering, ended, lost, when_staged, when_running, when_back, when_gathered}
 use Rattle.run_core.proofs.Advance.{its_scene, same}
 use Rattle.run_core.proofs.Lone.{may_stage, may_start, may_collect, may_scan, may_deliver}

@@ -11,20 +11,21 @@ use Rattle.proc_host.specs.declared.call.HostAnswer.{HostAnswer}
 use Rattle.proc_host.specs.declared.child.ExitClass.{ExitClass}
 use Rattle.proc_host.specs.declared.found.Found.{Found}
 use Rattle.proc_host.specs.ExitClass.{class_of}
-use Rattle.run_core.specs.declared.outcome.Cause.{Cause}
-use Rattle.run_core.specs.declared.outcome.CollectFault.{CollectFault}
-use Rattle.run_core.specs.declared.request.Request.{Request}
-use Rattle.run_core.specs.declared.request.Pair.{Pair}
-use Rattle.run_core.specs.declared.setting.Options.{Options}
-use Rattle.run_core.specs.declared.setting.Setting.{Setting}
+use Rattle.run_rules.specs.declared.outcome.Cause.{Cause}
+use Rattle.run_rules.specs.declared.outcome.CollectFault.{CollectFault}
+use Rattle.run_rules.specs.declared.request.Request.{Request}
+use Rattle.run_rules.specs.declared.request.Pair.{Pair}
+use Rattle.run_rules.specs.declared.setting.Options.{Options}
+use Rattle.run_rules.specs.declared.setting.Setting.{Setting}
 use Rattle.run_core.specs.declared.state.Phase.{Phase}
 use Rattle.run_core.specs.declared.state.State.{State}
-use Rattle.run_core.specs.Words.{Name}
-use Rattle.run_core.specs.Answers.{MayAnswer}
-use Rattle.run_core.specs.Blame.{answers, WereStarted}
-use Rattle.run_core.specs.Collected.{found_under}
-use Rattle.run_core.specs.Reports.{entries_of, entry_of}
-use Rattle.run_core.specs.Machine.{tool_of, fails_for_good, has_launch, has_none, after_class, after_file, after_listing, delivers, FollowsFrom}
+use Rattle.run_rules.specs.Words.{Name, Fields}
+use Rattle.run_rules.specs.Answers.{MayAnswer}
+use Rattle.run_rules.specs.Blame.{answers, WereStarted}
+use Rattle.run_rules.specs.Collected.{found_under}
+use Rattle.run_rules.specs.Reports.{entries_of, entry_of}
+use Rattle.run_core.specs.Machine.{fails_for_good, Launches, has_launch, has_none, after_class, after_file, after_listing, delivers, left_by, FollowsDone, FollowsFrom}
+use Rattle.run_rules.specs.Jobs.{tool_of}
 use Rattle.run_core.specs.Standing.{Blames}
 use Rattle.run_core.proofs.Answered.{pair, only_ticket}
 
@@ -79,25 +80,29 @@ module _ (entries : List Entry) where
   at_known : (next known : State) → next ≡ known → Blames entries known → Blames entries next
   at_known next known is blames = subst (λ (n : State). Blames entries n) (sym is) blames
 
+  left_started : (asks : Request) (flying : List ℕ) → WereStarted entries flying → WereStarted entries (left_by asks flying)
+  left_started Request.Collect flying began = began
+  left_started asks flying began = none_started entries
+
+  by_launch : (setting : Setting) (inputs : Fields) (next : State) → Launches setting inputs next → Blames entries next
+  by_launch setting inputs next (has_launch launch is) = record { flying = none_started entries; rightly = tt }
+  by_launch setting inputs next (has_none fault is) = record { flying = none_started entries; rightly = tt }
+
+  by_done : (setting : Setting) (asks : Request) (phase : Phase) (next : State) → FollowsDone setting asks phase next → Blames entries next
+  by_done setting (Request.Stage place plan number) phase next follows = by_launch setting plan.value next follows
+  by_done setting asks phase next is = at_known next _ is (record { flying = none_started entries; rightly = tt })
+
   blames_next : (setting : Setting) (asks : Request) (flying : List ℕ) (phase : Phase) (answer : HostAnswer) (next : State) →
       Contains (answers entries) answer → WereStarted entries flying → FollowsFrom setting asks flying phase answer next → Blames entries next
-  blames_next setting asks flying Phase.Running (HostAnswer.Failed fault) next told began is =
-      at_known next _ is (record { flying = none_started entries; rightly = record { failed = told; started = began } })
-  blames_next setting asks flying phase (HostAnswer.Failed fault) next told began is =
-      at_known next _ is (record { flying = none_started entries; rightly = record { failed = told; started = none_started entries } })
-  blames_next setting asks flying Phase.Staging HostAnswer.Done next told began (has_launch launch is) =
-      record { flying = none_started entries; rightly = tt }
-  blames_next setting asks flying Phase.Staging HostAnswer.Done next told began (has_none fault is) =
-      record { flying = none_started entries; rightly = tt }
-  blames_next setting asks flying Phase.Starting (HostAnswer.Started ticket) next told began is =
+  blames_next setting asks flying phase HostAnswer.Done next told began follows = by_done setting asks phase next follows
+  blames_next setting asks flying phase (HostAnswer.Started ticket) next told began is =
       at_known next _ is (record { flying = one_started ticket told; rightly = tt })
-  blames_next setting asks flying Phase.Running (HostAnswer.Ended e) next told began is =
+  blames_next setting asks flying phase (HostAnswer.Ended e) next told began is =
       at_known next _ is (by_class setting.options e.code (class_of e.code))
-  blames_next setting asks flying Phase.Scanning (HostAnswer.Listed found) next told began is =
+  blames_next setting asks flying phase (HostAnswer.Listed found) next told began is =
       at_known next _ is (by_listing setting.options (tool_of setting.process) found (tool_of setting.process).outputs)
-  blames_next setting asks flying (Phase.Delivering value) HostAnswer.Done next told began is =
-      at_known next _ is (record { flying = none_started entries; rightly = tt })
-  blames_next setting asks flying phase answer next told began is = absurd is
+  blames_next setting asks flying phase (HostAnswer.Failed fault) next told began is =
+      at_known next _ is (record { flying = none_started entries; rightly = record { failed = told; started = left_started asks flying began } })
 
 -- with one answer more
 pub blames_after : (setting : Setting) (t : List Pair) (asks : Request) (flying : List ℕ) (phase : Phase) (answer : HostAnswer) (next : State) →

@@ -9,13 +9,13 @@ use Rattle.cwl_value.specs.declared.value.FileVal.{roll-FileVal}
 use Rattle.cwl_document.specs.declared.process.ToolOutput.{ToolOutput}
 use Rattle.proc_host.specs.declared.found.Found.{Found}
 use Rattle.proc_host.specs.declared.plan.StagePlan.{StagePlan}
-use Rattle.run_core.specs.declared.request.Request.{Request}
-use Rattle.run_core.specs.declared.setting.Options.{Options}
+use Rattle.run_rules.specs.declared.request.Request.{Request}
+use Rattle.run_rules.specs.declared.setting.Options.{Options}
 use Rattle.run_core.specs.declared.state.Phase.{Phase}
-use Rattle.run_core.specs.Words.{Name, Fields}
-use Rattle.run_core.specs.Collected.{file_at}
-use Rattle.run_core.specs.Location.{location_of}
-use Rattle.run_core.specs.Delivered.{target_of}
+use Rattle.run_rules.specs.Words.{Name, Fields}
+use Rattle.run_rules.specs.Collected.{file_at}
+use Rattle.run_rules.specs.Location.{location_of}
+use Rattle.run_rules.specs.Delivered.{target_of}
 use Rattle.run_core.specs.Machine.{waits, fields, outputs_at, plan_to, delivers}
 
 pub file_is : (place at : Place) (found : Found) (name checksum : List ℕ) (secondary : List Value) → at ≡ place → name ≡ found.name →

@@ -9,28 +9,28 @@ use Rattle.command_line.specs.Launch.{stream_name}
 use Rattle.proc_host.specs.declared.found.Found.{Found}
 use Rattle.proc_host.specs.declared.plan.Move.{Move}
 use Rattle.proc_host.specs.declared.plan.StagePlan.{StagePlan}
-use Rattle.run_core.specs.declared.outcome.Cause.{Cause}
-use Rattle.run_core.specs.declared.outcome.CollectFault.{CollectFault}
-use Rattle.run_core.specs.declared.request.Request.{Request}
-use Rattle.run_core.specs.declared.request.Pair.{Pair}
-use Rattle.run_core.specs.declared.setting.Options.{Options}
-use Rattle.run_core.specs.declared.setting.Setting.{Setting}
+use Rattle.run_rules.specs.declared.outcome.Cause.{Cause}
+use Rattle.run_rules.specs.declared.outcome.CollectFault.{CollectFault}
+use Rattle.run_rules.specs.declared.request.Request.{Request}
+use Rattle.run_rules.specs.declared.request.Pair.{Pair}
+use Rattle.run_rules.specs.declared.setting.Options.{Options}
+use Rattle.run_rules.specs.declared.setting.Setting.{Setting}
 use Rattle.run_core.specs.declared.state.Phase.{Phase}
-use Rattle.run_core.specs.Words.{Name, Fields, by_name}
-use Rattle.run_core.specs.Jobs.{all_named, outs_of}
-use Rattle.run_core.specs.Made.{made_place, fields_made, fields_moved}
-use Rattle.run_core.specs.Collected.{file_at, found_under, outputs_from}
-use Rattle.run_core.specs.Location.{location_of}
-use Rattle.run_core.specs.Delivered.{target_of, target_place, location_place, delivery, located}
-use Rattle.run_core.specs.Events.{number_at}
-use Rattle.run_core.specs.Ending.{if_any, delivery_at}
-use Rattle.run_core.specs.Plans.{Load}
-use Rattle.run_core.specs.Run.{IsRunSoFar}
-use Rattle.run_core.specs.Machine.{tool_of, waits, after_file, after_listing, after_scan, delivers, outputs_at, fields, fails_for_good}
+use Rattle.run_rules.specs.Words.{Name, Fields, by_name}
+use Rattle.run_rules.specs.Jobs.{all_named, outs_of, tool_of}
+use Rattle.run_rules.specs.Made.{made_place, fields_made, fields_moved}
+use Rattle.run_rules.specs.Collected.{file_at, found_under, outputs_from}
+use Rattle.run_rules.specs.Location.{location_of}
+use Rattle.run_rules.specs.Delivered.{target_of, target_place, location_place, delivery, located}
+use Rattle.run_rules.specs.Events.{number_at}
+use Rattle.run_rules.specs.Ending.{if_any, delivery_at}
+use Rattle.run_rules.specs.Plans.{Load}
+use Rattle.run_rules.specs.Run.{IsRunSoFar}
+use Rattle.run_core.specs.Machine.{waits, after_file, after_listing, after_scan, delivers, outputs_at, fields, fails_for_good}
 use Rattle.run_core.specs.Standing.{IsLone, when_back, when_gathered}
 use Rattle.run_core.proofs.Advance.{Advances, its_scene}
 use Rattle.run_core.proofs.Answered.{scan, scan_breaks, scan_ends, scan_delivers}
-use Rattle.run_core.proofs.Gathered.{each_is, files_move, all_are, none_collected, folder_collected, file_collected, the_move, moves_are}
+use Rattle.run_rules.proofs.Gathered.{each_is, files_move, all_are, none_collected, folder_collected, file_collected, the_move, moves_are}
 
 module _ (setting : Setting) (inputs : Fields) (l : IsLone setting inputs) (t : List Pair) (ticket : ℕ)
     (goes : IsRunSoFar setting t (when_back ticket) (Load ∷ [])) (found : List Found) where

@@ -1,38 +1,22 @@
--- The scene of a lone tool whose inputs are of their types, and what may be asked in it.
-use Rattle.std.proofs.Common.{◌≡◌, ◌∙◌, ℕ, ◌<◌, ◌==◌, not, true, false, [], ◌∷◌, Some, None, Ok, filter, refl, sym, ap, subst, arith, eq-eqb, lit<}
+-- What may be asked in the scene of a lone tool whose inputs are of their types.
+use Rattle.std.proofs.Common.{◌≡◌, ℕ, ◌<◌, ◌==◌, not, true, false, [], ◌∷◌, Some, None, filter, refl, sym, subst, arith, eq-eqb, lit<}
 use Rattle.command_line.specs.declared.launch.Launch.{Launch}
 use Rattle.command_line.specs.declared.fault.BuildFault.{BuildFault}
 use Rattle.command_line.specs.Launch.{IsLaunch, IsRefused}
-use Rattle.cwl_document.specs.declared.process.Process.{Process}
 use Rattle.cwl_document.specs.declared.process.Tool.{Tool}
 use Rattle.proc_host.specs.declared.plan.StagePlan.{StagePlan}
-use Rattle.run_core.specs.declared.setting.Options.{Options}
-use Rattle.run_core.specs.declared.setting.Setting.{Setting}
-use Rattle.run_core.specs.Words.{Fields, JobPlace}
-use Rattle.run_core.specs.Inputs.{inputs_for}
-use Rattle.run_core.specs.Jobs.{Job, tool_walk, walker}
-use Rattle.run_core.specs.Folders.{out_folder, runtime_of}
-use Rattle.run_core.specs.Scene.{Scene, scene_of}
-use Rattle.run_core.specs.Events.{at_first, unfolding_at}
-use Rattle.run_core.specs.Ending.{delivery_at}
-use Rattle.run_core.specs.Plans.{Load, Compute}
-use Rattle.run_core.specs.Allowed.{MayStage, MayStart, HasNoLaunch, MayCollect, MayScan, MayDeliver}
+use Rattle.run_rules.specs.declared.setting.Options.{Options}
+use Rattle.run_rules.specs.Words.{Fields, JobPlace}
+use Rattle.run_rules.specs.Jobs.{Job}
+use Rattle.run_rules.specs.Folders.{out_folder, runtime_of}
+use Rattle.run_rules.specs.Scene.{Scene}
+use Rattle.run_rules.specs.Events.{at_first, unfolding_at}
+use Rattle.run_rules.specs.Ending.{delivery_at}
+use Rattle.run_rules.specs.Plans.{Load, Compute}
+use Rattle.run_rules.specs.Allowed.{MayStage, MayStart, HasNoLaunch, MayCollect, MayScan, MayDeliver}
 use Rattle.run_core.specs.Limits.{IsWithinLimits}
-use Rattle.run_core.specs.Machine.{tool_of}
 use Rattle.run_core.specs.Standing.{when_staged, when_running, when_back, when_gathered}
-
-abbrev pub lone : Tool → Fields → Options → Scene
-lone tool inputs options = record { walker = tool_walk tool [] (Ok inputs); options = options }
-
-pub walker_tool : (process : Process) (given : Fields) → walker process given ≡ tool_walk (tool_of process) [] (inputs_for (tool_of process).inputs given)
-walker_tool (Process.Tool tool) given = refl
-
-pub scene_lone : (setting : Setting) (inputs : Fields) → inputs_for (tool_of setting.process).inputs setting.inputs ≡ Ok inputs →
-    scene_of setting ≡ lone (tool_of setting.process) inputs setting.options
-scene_lone setting inputs fit =
-    let walks : walker setting.process setting.inputs ≡ tool_walk (tool_of setting.process) [] (Ok inputs) =
-    walker_tool setting.process setting.inputs ∙ ap (λ r. tool_walk (tool_of setting.process) [] r) fit
-    in ap (λ w. let scene : Scene = record { walker = w; options = setting.options } in scene) walks
+use Rattle.run_rules.proofs.Lone.{lone}
 
 -- the only child has landed
 pub landed : (ticket : ℕ) → filter (λ (f : ℕ × JobPlace). not (f.0 == ticket)) ((ticket, []) ∷ []) ≡ []

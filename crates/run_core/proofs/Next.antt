@@ -2,17 +2,17 @@
 use Rattle.std.proofs.Common.{◌≡◌, ℕ, List, [], ◌∷◌, ◌++◌, Some, sym, subst}
 use Rattle.proc_host.specs.declared.call.HostAnswer.{HostAnswer}
 use Rattle.proc_host.specs.declared.call.HostFault.{HostFault}
-use Rattle.run_core.specs.declared.request.Request.{Request}
-use Rattle.run_core.specs.declared.request.Pair.{Pair}
-use Rattle.run_core.specs.declared.setting.Setting.{Setting}
+use Rattle.run_rules.specs.declared.request.Request.{Request}
+use Rattle.run_rules.specs.declared.request.Pair.{Pair}
+use Rattle.run_rules.specs.declared.setting.Setting.{Setting}
 use Rattle.run_core.specs.declared.state.State.{State}
-use Rattle.run_core.specs.Words.{Fields}
-use Rattle.run_core.specs.Answers.{MayAnswer}
-use Rattle.run_core.specs.Scene.{Scene}
-use Rattle.run_core.specs.Events.{So_far, unfolding_at}
-use Rattle.run_core.specs.Ending.{delivery_at}
-use Rattle.run_core.specs.Plans.{Mark, Load, Compute}
-use Rattle.run_core.specs.Run.{IsRunSoFar}
+use Rattle.run_rules.specs.Words.{Fields}
+use Rattle.run_rules.specs.Answers.{MayAnswer}
+use Rattle.run_rules.specs.Scene.{Scene}
+use Rattle.run_rules.specs.Events.{So_far, unfolding_at}
+use Rattle.run_rules.specs.Ending.{delivery_at}
+use Rattle.run_rules.specs.Plans.{Mark, Load, Compute}
+use Rattle.run_rules.specs.Run.{IsRunSoFar}
 use Rattle.run_core.specs.Machine.{host_fails, FollowsFrom}
 use Rattle.run_core.specs.Standing.{IsLone, IsAt, staging, starting, running, scanning, delivering, ended, lost, when_staged, when_running, when_gathered}
 use Rattle.run_core.proofs.Advance.{Advances, same}

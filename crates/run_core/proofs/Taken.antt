@@ -1,5 +1,6 @@
 -- What the machine's callers learn of its steps and of its end.
-use Rattle.std.proofs.Common.{◌≡◌, ◌≢◌, ◌∙◌, ℕ, ℤ, ◌<◌, Bool, true, false, cond, List, [], ◌∷◌, ◌++◌, find, Vec, Global, vec_len, vec_capacity, Option, Some, None, Result, Err, refl, sym, ap, subst, arith, eq-eqb, lit<}
+use Rattle.std.proofs.Common.{◌≡◌, ◌≢◌, ◌∙◌, ℕ, ℤ, ◌+◌, ◌<◌, ◌≤◌, Bool, true, false, cond, List, [], ◌∷◌, ◌++◌, find, Vec, Global, vec_len, vec_capacity, Option, Some, None, Result, Ok, Err, refl, sym, ap, subst, arith, eq-eqb, lit<}
+use Rattle.std.proofs.lemmas.List.Elements.{filter_map-append}
 use Rattle.cwl_document.specs.declared.process.Tool.{Tool}
 use Rattle.cwl_document.specs.declared.process.ToolOutput.{ToolOutput}
 use Rattle.command_line.specs.Launch.{stream_name}
@@ -9,39 +10,39 @@ use Rattle.proc_host.specs.declared.child.ExitClass.{ExitClass}
 use Rattle.proc_host.specs.declared.found.Found.{Found}
 use Rattle.proc_host.specs.ExitClass.{class_of}
 use Rattle.proc_host.specs.Tickets.{without}
-use Rattle.run_core.specs.declared.outcome.Cause.{Cause}
-use Rattle.run_core.specs.declared.outcome.CollectFault.{CollectFault}
-use Rattle.run_core.specs.declared.outcome.Outcome.{Outcome}
-use Rattle.run_core.specs.declared.outcome.Report.{Report}
-use Rattle.run_core.specs.declared.outcome.RunFault.{RunFault}
-use Rattle.run_core.specs.declared.request.Request.{Request}
-use Rattle.run_core.specs.declared.request.Pair.{Pair}
-use Rattle.run_core.specs.declared.setting.Options.{Options}
-use Rattle.run_core.specs.declared.setting.Setting.{Setting}
+use Rattle.run_rules.specs.declared.outcome.Cause.{Cause}
+use Rattle.run_rules.specs.declared.outcome.CollectFault.{CollectFault}
+use Rattle.run_rules.specs.declared.outcome.Outcome.{Outcome}
+use Rattle.run_rules.specs.declared.outcome.Report.{Report}
+use Rattle.run_rules.specs.declared.outcome.RunFault.{RunFault}
+use Rattle.run_rules.specs.declared.request.Request.{Request}
+use Rattle.run_rules.specs.declared.request.Pair.{Pair}
+use Rattle.run_rules.specs.declared.setting.Options.{Options}
+use Rattle.run_rules.specs.declared.setting.Setting.{Setting}
 use Rattle.run_core.specs.declared.state.Phase.{Phase}
 use Rattle.run_core.specs.declared.state.State.{State}
-use Rattle.run_core.specs.Words.{Name, Fields}
-use Rattle.run_core.specs.Answers.{MayAnswer, flying_after}
-use Rattle.run_core.specs.Collected.{found_under}
-use Rattle.run_core.specs.Events.{So_far}
-use Rattle.run_core.specs.Plans.{Mark}
-use Rattle.run_core.specs.Run.{IsRunSoFar, IsRun}
-use Rattle.run_core.specs.Reports.{Concludes, whole, lost as memory_lost, reported, report_of, entries_of}
-use Rattle.run_core.specs.Machine.{tool_of, ends, fails_for_good, start_with, at_start, stages, has_launch, has_none, after_class, after_file, after_listing, delivers, AsksIn, FollowsFrom}
+use Rattle.run_rules.specs.Words.{Name, Fields}
+use Rattle.run_rules.specs.Answers.{MayAnswer, flying_after}
+use Rattle.run_rules.specs.Collected.{found_under}
+use Rattle.run_rules.specs.Events.{So_far}
+use Rattle.run_rules.specs.Plans.{Mark}
+use Rattle.run_rules.specs.Run.{IsRunSoFar, IsRun}
+use Rattle.run_rules.specs.Reports.{Concludes, whole, lost as memory_lost, reported, report_of, entry_of, entries_of}
+use Rattle.run_core.specs.Machine.{ends, fails_for_good, start_with, at_start, stages, has_launch, has_none, after_class, after_file, after_listing, delivers, told_of, AsksIn, FollowsFrom, HasRoom, NeedsMemory, pairs_ahead, pairs_wanted, Moves, moves, gives_up, MakesRoom, has_room, wants_none, no_room}
+use Rattle.run_rules.specs.Jobs.{tool_of, walker, tool_walk}
 use Rattle.run_core.specs.Standing.{IsAt, Blames, staging, starting, running, scanning, delivering, ended, lost}
-use Rattle.run_core.specs.Core.{steps_in, Stands, Begins}
+use Rattle.run_core.specs.Core.{steps_in, Stands, Begins, Took}
 use Rattle.run_core.specs.declared.runner.RunCore.{RunCore}
 use Rattle.run_core.specs.Limits.{IsWithinLimits}
 use Rattle.cwl_document.specs.declared.process.ToolInput.{ToolInput}
-use Rattle.run_core.specs.Inputs.{is_misfit, named_inputs, inputs_for, unless_misfit}
-use Rattle.run_core.specs.Jobs.{walker, tool_walk}
-use Rattle.run_core.specs.Scene.{Scene, scene_of}
-use Rattle.run_core.specs.Events.{at_first}
-use Rattle.run_core.specs.Ending.{Fails_for_good, end_of}
-use Rattle.run_core.specs.Plans.{Compute, Loads_what_is_held}
-use Rattle.run_core.specs.Run.{Replans, begins}
-use Rattle.run_core.proofs.Lone.{walker_tool}
-use Rattle.run_core.proofs.Rightly.{ends_rightly}
+use Rattle.run_rules.specs.Inputs.{is_misfit, named_inputs, inputs_for, unless_misfit}
+use Rattle.run_rules.specs.Scene.{Scene, scene_of}
+use Rattle.run_rules.specs.Events.{at_first}
+use Rattle.run_rules.specs.Ending.{Fails_for_good, end_of}
+use Rattle.run_rules.specs.Plans.{Compute, Loads_what_is_held}
+use Rattle.run_rules.specs.Run.{Replans, begins}
+use Rattle.run_rules.proofs.Lone.{walker_tool}
+use Rattle.run_rules.proofs.Reported.{reports_rightly}
 use Rattle.run_core.proofs.Advance.{Advances, same}
 use Rattle.run_core.proofs.Answered.{pair}
 use Rattle.run_core.proofs.Next.{advance, reach}
@@ -52,7 +53,7 @@ use Rattle.run_core.proofs.Answered.{only_ticket}
 module _ (setting : Setting) where
   pub asks_in : {f : So_far} {marks : List Mark} {state : State} → IsAt setting f marks state → AsksIn state.asks state.phase
   asks_in (staging inputs l) = tt
-  asks_in (starting inputs launch l is) = tt
+  asks_in (starting inputs launch l is) = refl
   asks_in (running inputs ticket l) = tt
   asks_in (scanning inputs ticket l) = tt
   asks_in (delivering inputs ticket named outputs plan l result delivery) = tt
@@ -92,7 +93,7 @@ module _ (setting : Setting) where
       let same : report_of setting.options end ≡ result = cc in
       let run : IsRun setting t end = record { happened = f; marks = marks; goes = goes; idle = has.idle; ended = has.ended } in
       subst (λ (r : Result Report RunFault). Concludes setting t r) same
-      (whole end run (ends_rightly setting t end run))
+      (whole end run (reports_rightly setting t end run))
   concludes t result (lost f marks) goes is =
       let same : Err RunFault.OutOfMemory ≡ result = cc in
       subst (λ (r : Result Report RunFault). Concludes setting t r) same (memory_lost f marks goes)
@@ -108,35 +109,41 @@ module _ (setting : Setting) where
   still_asks answer (ended f marks end has) may = absurd may
   still_asks answer (lost f marks) may = absurd may
 
--- what a step leaves: fewer steps, no want of memory, and the right children in flight
+-- what a step leaves: fewer steps, no refused memory, the right children in flight, a child only after its start, and
+-- none where room has to be made
 pub record Leaves (steps : ℕ) (flying : List ℕ) (next : State) : Type 0 where
   pub falls : steps_in next.phase < steps
   pub not_lost : next.phase ≡ Phase.Ended (Err RunFault.OutOfMemory) → ⊥
   pub flies : next.asks ≢ Request.Finished → next.flying ≡ flying
+  pub runs : next.phase ≡ Phase.Running → steps ≡ 4
+  pub landed : 0 < pairs_wanted next.phase → flying ≡ []
+
+none_less : 0 < 0 → ⊥
+none_less never = omega arith
 
 leaves_outcome : (steps : ℕ) (flying : List ℕ) (outcome : Outcome) → 0 < steps → Leaves steps flying (ends (reported outcome))
-leaves_outcome steps flying outcome some = record { falls = some; not_lost = λ is. cc; flies = λ asks. absurd (asks refl) }
+leaves_outcome steps flying outcome some = record { falls = some; not_lost = λ is. cc; flies = λ asks. absurd (asks refl); runs = λ is. cc; landed = λ needs. absurd (none_less needs) }
 
 leaves_fault : (steps : ℕ) (flying : List ℕ) (fault : HostFault) (left : List ℕ) → 0 < steps →
     Leaves steps flying (ends (Err (RunFault.Host fault left)))
-leaves_fault steps flying fault left some = record { falls = some; not_lost = λ is. cc; flies = λ asks. absurd (asks refl) }
+leaves_fault steps flying fault left some = record { falls = some; not_lost = λ is. cc; flies = λ asks. absurd (asks refl); runs = λ is. cc; landed = λ needs. absurd (none_less needs) }
 
 leaves_class : (options : Options) (code : Option ℤ) (class : ExitClass) (flying : List ℕ) → flying ≡ [] → Leaves 3 flying (after_class options code class)
-leaves_class options code ExitClass.Success flying none = record { falls = lit< tt; not_lost = λ is. cc; flies = λ asks. sym none }
+leaves_class options code ExitClass.Success flying none = record { falls = lit< tt; not_lost = λ is. cc; flies = λ asks. sym none; runs = λ is. cc; landed = λ needs. none }
 leaves_class options code ExitClass.Temporary flying none = leaves_outcome 3 flying (Outcome.TemporaryFail []) (lit< tt)
 leaves_class options code ExitClass.Permanent flying none = leaves_outcome 3 flying (Outcome.PermanentFail [] (Cause.Exit code)) (lit< tt)
 
 leaves_kind : (options : Options) (tool : Tool) (id : Name) (file : Found) (b : Bool) →
     Leaves 2 [] (cond b (fails_for_good (Cause.Collect (CollectFault.NotTyped id))) (delivers options tool.outputs file))
 leaves_kind options tool id file true = leaves_outcome 2 [] (Outcome.PermanentFail [] (Cause.Collect (CollectFault.NotTyped id))) (lit< tt)
-leaves_kind options tool id file false = record { falls = lit< tt; not_lost = λ is. cc; flies = λ asks. refl }
+leaves_kind options tool id file false = record { falls = lit< tt; not_lost = λ is. cc; flies = λ asks. refl; runs = λ is. cc; landed = λ needs. refl }
 
 leaves_file : (options : Options) (tool : Tool) (id : Name) (file : Option Found) → Leaves 2 [] (after_file options tool id file)
 leaves_file options tool id None = leaves_outcome 2 [] (Outcome.PermanentFail [] (Cause.Collect (CollectFault.NoMatch id))) (lit< tt)
 leaves_file options tool id (Some file) = leaves_kind options tool id file file.is_dir
 
 leaves_listing : (options : Options) (tool : Tool) (found : List Found) (outputs : List ToolOutput) → Leaves 2 [] (after_listing options tool found outputs)
-leaves_listing options tool found [] = record { falls = lit< tt; not_lost = λ is. cc; flies = λ asks. absurd (asks refl) }
+leaves_listing options tool found [] = record { falls = lit< tt; not_lost = λ is. cc; flies = λ asks. absurd (asks refl); runs = λ is. cc; landed = λ needs. absurd (none_less needs) }
 leaves_listing options tool found (o ∷ outputs) = leaves_file options tool o.id (found_under (stream_name tool) found)
 
 none_left : (ticket n : ℕ) → ticket ≡ n → without n (ticket ∷ []) ≡ []
@@ -149,14 +156,14 @@ module _ (setting : Setting) where
   pub step_leaves : {f : So_far} {marks : List Mark} {state : State} (answer : HostAnswer) (next : State) → IsAt setting f marks state →
       MayAnswer state.asks state.flying answer → FollowsFrom setting state.asks state.flying state.phase answer next →
       Leaves (steps_in state.phase) (flying_after state.flying answer) next
-  step_leaves HostAnswer.Done next (staging inputs l) may (has_launch launch is) = record { falls = lit< tt; not_lost = λ is_lost. cc; flies = λ asks. refl }
+  step_leaves HostAnswer.Done next (staging inputs l) may (has_launch launch is) = record { falls = lit< tt; not_lost = λ is_lost. cc; flies = λ asks. refl; runs = λ is. cc; landed = λ needs. refl }
   step_leaves HostAnswer.Done next (staging inputs l) may (has_none fault is) = leaves_outcome 5 [] (Outcome.PermanentFail [] (Cause.Build fault)) (lit< tt)
   step_leaves (HostAnswer.Failed fault) next (staging inputs l) may follows = at_known _ _ next _ follows (leaves_fault 5 [] fault [] (lit< tt))
   step_leaves (HostAnswer.Started ticket) next (staging inputs l) may follows = absurd may
   step_leaves (HostAnswer.Ended e) next (staging inputs l) may follows = absurd may
   step_leaves (HostAnswer.Listed found) next (staging inputs l) may follows = absurd may
   step_leaves (HostAnswer.Started ticket) next (starting inputs launch l is) may follows =
-      at_known _ _ next _ follows (record { falls = lit< tt; not_lost = λ is_lost. cc; flies = λ asks. refl })
+      at_known _ _ next _ follows (record { falls = lit< tt; not_lost = λ is_lost. cc; flies = λ asks. refl; runs = λ is_running. refl; landed = λ needs. absurd (none_less needs) })
   step_leaves (HostAnswer.Failed fault) next (starting inputs launch l is) may follows = at_known _ _ next _ follows (leaves_fault 4 [] fault [] (lit< tt))
   step_leaves HostAnswer.Done next (starting inputs launch l is) may follows = absurd may
   step_leaves (HostAnswer.Ended e) next (starting inputs launch l is) may follows = absurd may
@@ -184,6 +191,80 @@ module _ (setting : Setting) where
   step_leaves answer next (ended f marks end has) may follows = absurd may
   step_leaves answer next (lost f marks) may follows = absurd may
 
+module _ (setting : Setting) where
+  -- where memory is needed, no child is in flight
+  none_in_flight : {f : So_far} {marks : List Mark} {state : State} (answer : HostAnswer) → IsAt setting f marks state →
+      MayAnswer state.asks state.flying answer → NeedsMemory answer → flying_after state.flying answer ≡ []
+  none_in_flight (HostAnswer.Started n) at may needs = absurd needs
+  none_in_flight (HostAnswer.Failed fault) at may needs = absurd needs
+  none_in_flight HostAnswer.Done (staging inputs l) may needs = refl
+  none_in_flight (HostAnswer.Ended e) (staging inputs l) may needs = absurd may
+  none_in_flight (HostAnswer.Listed found) (staging inputs l) may needs = absurd may
+  none_in_flight HostAnswer.Done (starting inputs launch l is) may needs = absurd may
+  none_in_flight (HostAnswer.Ended e) (starting inputs launch l is) may needs = absurd may
+  none_in_flight (HostAnswer.Listed found) (starting inputs launch l is) may needs = absurd may
+  none_in_flight HostAnswer.Done (running inputs ticket l) may needs = absurd may
+  none_in_flight (HostAnswer.Ended e) (running inputs ticket l) may needs = none_left ticket e.ticket (only_ticket ticket e.ticket may)
+  none_in_flight (HostAnswer.Listed found) (running inputs ticket l) may needs = absurd may
+  none_in_flight HostAnswer.Done (scanning inputs ticket l) may needs = absurd may
+  none_in_flight (HostAnswer.Ended e) (scanning inputs ticket l) may needs = absurd may
+  none_in_flight (HostAnswer.Listed found) (scanning inputs ticket l) may needs = refl
+  none_in_flight HostAnswer.Done (delivering inputs ticket named outputs plan l result delivery) may needs = refl
+  none_in_flight (HostAnswer.Ended e) (delivering inputs ticket named outputs plan l result delivery) may needs = absurd may
+  none_in_flight (HostAnswer.Listed found) (delivering inputs ticket named outputs plan l result delivery) may needs = absurd may
+  none_in_flight answer (ended f marks end has) may needs = absurd may
+  none_in_flight answer (lost f marks) may needs = absurd may
+
+-- Room for the pairs that come next
+
+pub one_fits : (pairs room : ℕ) (phase : Phase) → 0 < steps_in phase → pairs + pairs_ahead phase ≤ room → pairs < room
+one_fits pairs room Phase.Staging some fits = omega arith
+one_fits pairs room (Phase.Starting seat) some fits = omega arith
+one_fits pairs room Phase.Running some fits = omega arith
+one_fits pairs room Phase.Scanning some fits = omega arith
+one_fits pairs room (Phase.Delivering value) some fits = omega arith
+one_fits pairs room (Phase.Ended result) some fits = absurd (omega arith)
+
+two_fit : (pairs room : ℕ) (phase : Phase) → steps_in phase ≡ 4 → pairs + pairs_ahead phase ≤ room → pairs + 2 ≤ room
+two_fit pairs room Phase.Staging four fits = absurd (omega arith)
+two_fit pairs room (Phase.Starting seat) four fits = fits
+two_fit pairs room Phase.Running four fits = absurd (omega arith)
+two_fit pairs room Phase.Scanning four fits = absurd (omega arith)
+two_fit pairs room (Phase.Delivering value) four fits = absurd (omega arith)
+two_fit pairs room (Phase.Ended result) four fits = absurd (omega arith)
+
+-- a child's end still fits once its start is noted
+by_phase : (pairs room : ℕ) (phase : Phase) → (phase ≡ Phase.Running → pairs + 1 ≤ room) → HasRoom pairs room phase
+by_phase pairs room Phase.Staging fits = tt
+by_phase pairs room (Phase.Starting seat) fits = tt
+by_phase pairs room Phase.Running fits = fits refl
+by_phase pairs room Phase.Scanning fits = tt
+by_phase pairs room (Phase.Delivering value) fits = tt
+by_phase pairs room (Phase.Ended result) fits = tt
+
+abbrev Room : ℕ → ℕ → State → Type 0
+Room pairs room state = 0 < steps_in state.phase → pairs + pairs_ahead state.phase ≤ room
+
+room_left : (pairs room : ℕ) (phase : Phase) → pairs_wanted phase ≡ 0 → HasRoom pairs room phase → 0 < steps_in phase → pairs + pairs_ahead phase ≤ room
+room_left pairs room Phase.Staging none has some = absurd (omega arith)
+room_left pairs room (Phase.Starting seat) none has some = absurd (omega arith)
+room_left pairs room Phase.Running none has some = has
+room_left pairs room Phase.Scanning none has some = absurd (omega arith)
+room_left pairs room (Phase.Delivering value) none has some = absurd (omega arith)
+room_left pairs room (Phase.Ended result) none has some = absurd (omega arith)
+
+room_made : (pairs room : ℕ) (phase : Phase) → 0 < pairs_wanted phase → pairs + pairs_wanted phase ≤ room → pairs + pairs_ahead phase ≤ room
+room_made pairs room Phase.Staging wants has = has
+room_made pairs room (Phase.Starting seat) wants has = has
+room_made pairs room Phase.Running wants has = absurd (omega arith)
+room_made pairs room Phase.Scanning wants has = has
+room_made pairs room (Phase.Delivering value) wants has = has
+room_made pairs room (Phase.Ended result) wants has = absurd (omega arith)
+
+room_ended : (pairs room : ℕ) (state : State) (result : Result Report RunFault) → state.phase ≡ Phase.Ended result → Room pairs room state
+room_ended pairs room state result is some =
+    let never : 0 < 0 = subst (λ (p : Phase). 0 < steps_in p) is some in absurd (omega arith)
+
 -- The machine as a whole
 
 abbrev pub core_with : RunCore → Vec Pair Global → State → RunCore
@@ -191,7 +272,7 @@ core_with core pairs state = record { alloc = core.alloc; setting = core.setting
 
 module _ (core : RunCore) (answer : HostAnswer) (pairs : Vec Pair Global) (state : State) (stands : Stands core)
     (may : MayAnswer core.state.asks core.state.flying answer) (longer : pairs.items ≡ core.pairs.items ++ pair core.state.asks answer ∷ []) where
-  pub stands_next : FollowsFrom core.setting core.state.asks core.state.flying core.state.phase answer state → vec_len pairs < vec_capacity pairs →
+  pub stands_next : FollowsFrom core.setting core.state.asks core.state.flying core.state.phase answer state → Room (vec_len pairs) (vec_capacity pairs) state →
       Stands (core_with core pairs state)
   stands_next follows room =
       let a : Advances core.setting (core.pairs.items ++ pair core.state.asks answer ∷ []) state =
@@ -203,14 +284,14 @@ module _ (core : RunCore) (answer : HostAnswer) (pairs : Vec Pair Global) (state
         at = a.at;
         blames = subst (λ (t : List Pair). Blames (entries_of t) state) (sym longer)
             (blames_after core.setting core.pairs.items core.state.asks core.state.flying core.state.phase answer state may stands.blames.flying follows);
-        room = λ some. room;
+        room = room;
       }
 
   pub stands_lost : state ≡ ends (Err RunFault.OutOfMemory) → Stands (core_with core pairs state)
   stands_lost is =
       let r = reach core.setting core.pairs.items answer stands.at stands.goes may in
-      let none : (some : 0 < steps_in state.phase) → vec_len pairs < vec_capacity pairs =
-      λ some. let never : 0 < 0 = subst (λ (st : State). 0 < steps_in st.phase) is some in absurd (omega arith) in
+      let none : Room (vec_len pairs) (vec_capacity pairs) state =
+      room_ended (vec_len pairs) (vec_capacity pairs) state (Err RunFault.OutOfMemory) (ap (λ (st : State). st.phase) is) in
       record {
         happened = r.happened;
         marks = r.marks;
@@ -219,6 +300,96 @@ module _ (core : RunCore) (answer : HostAnswer) (pairs : Vec Pair Global) (state
         blames = subst (λ (st : State). Blames (entries_of pairs.items) st) (sym is) (record { flying = none_started (entries_of pairs.items); rightly = tt });
         room = none;
       }
+
+-- an answer taken
+
+not_lost_is_ok : (phase : Phase) → (phase ≡ Phase.Ended (Err RunFault.OutOfMemory) → ⊥) → told_of phase ≡ Ok tt
+not_lost_is_ok Phase.Staging not_lost = refl
+not_lost_is_ok (Phase.Starting seat) not_lost = refl
+not_lost_is_ok Phase.Running not_lost = refl
+not_lost_is_ok Phase.Scanning not_lost = refl
+not_lost_is_ok (Phase.Delivering value) not_lost = refl
+not_lost_is_ok (Phase.Ended (Ok report)) not_lost = refl
+not_lost_is_ok (Phase.Ended (Err (RunFault.Host fault left))) not_lost = refl
+not_lost_is_ok (Phase.Ended (Err RunFault.OutOfMemory)) not_lost = absurd (not_lost refl)
+
+module _ (core : RunCore) (answer : HostAnswer) (pairs : Vec Pair Global) (stands : Stands core)
+    (may : MayAnswer core.state.asks core.state.flying answer) (longer : pairs.items ≡ core.pairs.items ++ pair core.state.asks answer ∷ []) where
+  more_entries : entries_of pairs.items ≡ entries_of core.pairs.items ++ entries_of (pair core.state.asks answer ∷ [])
+  more_entries = ap entries_of longer ∙ filter_map-append entry_of core.pairs.items (pair core.state.asks answer ∷ [])
+
+  took_lost : flying_after core.state.flying answer ≡ [] → Took core answer (Err RunFault.OutOfMemory) (core_with core pairs (ends (Err RunFault.OutOfMemory)))
+  took_lost none = record {
+    stands = stands_lost core answer pairs (ends (Err RunFault.OutOfMemory)) stands may longer refl;
+    setting = refl;
+    pair = longer;
+    entries = more_entries;
+    flying = tt;
+    steps = still_asks core.setting answer stands.at may;
+    ok = tt;
+    err = refl;
+    lost = refl;
+    landed = none;
+  }
+
+  took_next : (next : State) → FollowsFrom core.setting core.state.asks core.state.flying core.state.phase answer next →
+      Room (vec_len pairs) (vec_capacity pairs) next → Took core answer (Ok tt) (core_with core pairs next)
+  took_next next follows room =
+      let leaves : Leaves (steps_in core.state.phase) (flying_after core.state.flying answer) next =
+      step_leaves core.setting answer next stands.at may follows in
+      record {
+        stands = stands_next core answer pairs next stands may longer follows room;
+        setting = refl;
+        pair = longer;
+        entries = more_entries;
+        flying = leaves.flies;
+        steps = leaves.falls;
+        ok = leaves.not_lost;
+        err = tt;
+        lost = tt;
+        landed = tt;
+      }
+
+  took_on : (next : State) → FollowsFrom core.setting core.state.asks core.state.flying core.state.phase answer next →
+      Room (vec_len pairs) (vec_capacity pairs) next → Took core answer (told_of next.phase) (core_with core pairs next)
+  took_on next follows room =
+      let leaves : Leaves (steps_in core.state.phase) (flying_after core.state.flying answer) next =
+      step_leaves core.setting answer next stands.at may follows in
+      subst (λ (r : Result (Unit {0}) RunFault). Took core answer r (core_with core pairs next)) (sym (not_lost_is_ok next.phase leaves.not_lost))
+      (took_next next follows room)
+
+  took_with_room : (next state : State) → FollowsFrom core.setting core.state.asks core.state.flying core.state.phase answer next →
+      MakesRoom (vec_len pairs) (vec_capacity pairs) next state → Took core answer (told_of state.phase) (core_with core pairs state)
+  took_with_room next state follows (has_room wants room) = took_on next follows (λ some. room_made _ _ next.phase wants room)
+  took_with_room next state follows (wants_none none room) = took_on next follows (room_left _ _ next.phase none room)
+  took_with_room next state follows (no_room needs) =
+      let leaves : Leaves (steps_in core.state.phase) (flying_after core.state.flying answer) next =
+      step_leaves core.setting answer next stands.at may follows in
+      took_lost (leaves.landed needs)
+
+  took_by : (next state : State) → Moves core.setting core.state answer next → MakesRoom (vec_len pairs) (vec_capacity pairs) next state →
+      Took core answer (told_of state.phase) (core_with core pairs state)
+  took_by next state (moves other follows) made = took_with_room next state follows made
+  took_by next state (gives_up needs) (has_room wants room) = took_lost (none_in_flight core.setting answer stands.at may needs)
+  took_by next state (gives_up needs) (wants_none none room) = took_lost (none_in_flight core.setting answer stands.at may needs)
+  took_by next state (gives_up needs) (no_room wants) = took_lost (none_in_flight core.setting answer stands.at may needs)
+
+  pub took : (next state : State) (result : Result (Unit {0}) RunFault) → Moves core.setting core.state answer next → MakesRoom (vec_len pairs) (vec_capacity pairs) next state →
+      result ≡ told_of state.phase → Took core answer result (core_with core pairs state)
+  took next state result moved made is =
+      subst (λ (r : Result (Unit {0}) RunFault). Took core answer r (core_with core pairs state)) (sym is) (took_by next state moved made)
+
+-- once the pair is noted, a child that was started has room for its end
+pub keeps_room : (core : RunCore) (answer : HostAnswer) (next : State) (pairs room : ℕ) → Stands core → MayAnswer core.state.asks core.state.flying answer →
+    Moves core.setting core.state answer next → pairs ≡ vec_len core.pairs + 1 → vec_capacity core.pairs ≤ room → HasRoom pairs room next.phase
+keeps_room core answer next pairs room stands may (moves other follows) longer wider =
+    let leaves : Leaves (steps_in core.state.phase) (flying_after core.state.flying answer) next =
+    step_leaves core.setting answer next stands.at may follows in
+    by_phase pairs room next.phase (λ is.
+    let fits : vec_len core.pairs + 2 ≤ vec_capacity core.pairs =
+    two_fit (vec_len core.pairs) (vec_capacity core.pairs) core.state.phase (leaves.runs is)
+    (stands.room (still_asks core.setting answer stands.at may)) in omega arith)
+keeps_room core answer next pairs room stands may (gives_up needs) longer wider = tt
 
 -- Before any answer
 
@@ -237,6 +408,9 @@ module _ (core : RunCore) (limits : IsWithinLimits core.setting.options) (empty 
       walker core.setting.process core.setting.inputs ≡ tool_walk (tool_of core.setting.process) [] r
   scene_is r is = walker_tool core.setting.process core.setting.inputs ∙ ap (λ (x : Result Fields Cause). tool_walk (tool_of core.setting.process) [] x) is
 
+  first_fits : core.state.phase ≡ Phase.Staging → vec_len core.pairs + pairs_ahead core.state.phase ≤ vec_capacity core.pairs
+  first_fits is = subst (λ (p : Phase). vec_len core.pairs + pairs_ahead p ≤ vec_capacity core.pairs) (sym is) (omega arith)
+
   begins_well : misfit ≡ None → core.state ≡ stages its_inputs → Begins core.setting.process core.setting.inputs core.setting.options core
   begins_well fits is =
       let l : IsLone core.setting its_inputs = record { fit = ap (λ (r : Option ToolInput). unless_misfit r its_inputs) fits; limits = limits } in
@@ -249,7 +423,7 @@ module _ (core : RunCore) (limits : IsWithinLimits core.setting.options) (empty 
           goes = subst (λ (t : List Pair). IsRunSoFar core.setting t at_first (Compute ∷ [])) (sym empty) (begins (Compute ∷ []) plans);
           at = subst (λ (st : State). IsAt core.setting at_first (Compute ∷ []) st) (sym is) (staging its_inputs l);
           blames = subst (λ (st : State). Blames (entries_of core.pairs.items) st) (sym is) (record { flying = none_started (entries_of core.pairs.items); rightly = tt });
-          room = λ some. room;
+          room = λ some. first_fits (ap (λ (st : State). st.phase) is);
         };
         setting = refl;
         nothing_asked = empty;
@@ -277,7 +451,7 @@ module _ (core : RunCore) (limits : IsWithinLimits core.setting.options) (empty 
               (ended at_first [] (Fails_for_good [] (Cause.Kind input.id))
               (record { idle = refl; ended = ended_so }));
           blames = subst (λ (st : State). Blames (entries_of core.pairs.items) st) (sym is) (record { flying = none_started (entries_of core.pairs.items); rightly = tt });
-          room = λ some. room;
+          room = room_ended (vec_len core.pairs) (vec_capacity core.pairs) core.state _ (ap (λ (st : State). st.phase) is);
         };
         setting = refl;
         nothing_asked = empty;

@@ -1,20 +1,23 @@
 -- What callers see of the machine.
-use Rattle.std.specs.Prelude.{◌≡◌, ℕ, ◌<◌, List, [], Err, vec_len, vec_capacity}
+use Rattle.std.specs.Prelude.{◌≡◌, ◌≢◌, ℕ, ◌+◌, ◌<◌, ◌≤◌, List, [], ◌∷◌, ◌++◌, Result, Err, IfErr, OnOk, OnErr, vec_len, vec_capacity}
 use Rattle.cwl_document.specs.declared.process.Process.{Process}
-use Rattle.run_core.specs.declared.outcome.RunFault.{RunFault}
-use Rattle.run_core.specs.declared.request.Request.{Request}
-use Rattle.run_core.specs.declared.request.Pair.{Pair}
-use Rattle.run_core.specs.declared.setting.Options.{Options}
-use Rattle.run_core.specs.declared.setting.Setting.{Setting}
+use Rattle.proc_host.specs.declared.call.HostAnswer.{HostAnswer}
+use Rattle.run_rules.specs.declared.outcome.RunFault.{RunFault}
+use Rattle.run_rules.specs.declared.request.Request.{Request}
+use Rattle.run_rules.specs.declared.request.Pair.{Pair}
+use Rattle.run_rules.specs.declared.setting.Options.{Options}
+use Rattle.run_rules.specs.declared.setting.Setting.{Setting}
 use Rattle.run_core.specs.declared.state.Phase.{Phase}
 use Rattle.run_core.specs.declared.runner.RunCore.{RunCore}
-use Rattle.run_core.specs.Words.{Fields}
-use Rattle.run_core.specs.Events.{So_far}
-use Rattle.run_core.specs.Plans.{Mark}
-use Rattle.run_core.specs.Scene.{scene_of}
-use Rattle.run_core.specs.Allowed.{Allowed}
-use Rattle.run_core.specs.Run.{IsRunSoFar}
-use Rattle.run_core.specs.Reports.{entries_of}
+use Rattle.run_rules.specs.Words.{Fields}
+use Rattle.run_rules.specs.Events.{So_far}
+use Rattle.run_rules.specs.Plans.{Mark}
+use Rattle.run_rules.specs.Answers.{flying_after}
+use Rattle.run_rules.specs.Scene.{scene_of}
+use Rattle.run_rules.specs.Allowed.{Allowed}
+use Rattle.run_rules.specs.Run.{IsRunSoFar}
+use Rattle.run_rules.specs.Reports.{entries_of}
+use Rattle.run_core.specs.Machine.{pairs_ahead}
 use Rattle.run_core.specs.Standing.{IsAt, Blames}
 
 abbrev pub setting_of : RunCore → Setting
@@ -34,7 +37,7 @@ flying core = core.state.flying
 
 abbrev pub steps_in : Phase → ℕ
 steps_in Phase.Staging = 5
-steps_in Phase.Starting = 4
+steps_in (Phase.Starting seat) = 4
 steps_in Phase.Running = 3
 steps_in Phase.Scanning = 2
 steps_in (Phase.Delivering value) = 1
@@ -60,7 +63,7 @@ pub record Stands (core : RunCore) : Type 0 where
   pub goes : IsRunSoFar core.setting core.pairs.items happened marks
   pub at : IsAt core.setting happened marks core.state
   pub blames : Blames (entries_of core.pairs.items) core.state
-  pub room : 0 < steps_in core.state.phase → vec_len core.pairs < vec_capacity core.pairs
+  pub room : 0 < steps_in core.state.phase → vec_len core.pairs + pairs_ahead core.state.phase ≤ vec_capacity core.pairs
 
 -- what it asked and was answered is a run so far, after which it may ask what it asks
 pub record MayAsk (core : RunCore) : Type 0 where
@@ -76,3 +79,17 @@ pub record Begins (process : Process) (inputs : Fields) (options : Options) (cor
   pub nothing_asked : core.pairs.items ≡ []
   pub none_in_flight : core.state.flying ≡ []
   pub not_lost : IsLost core → ⊥
+
+-- one answer taken: the pair is noted, the machine stands in the longer run, and it is one of at most so many. An error
+-- is that memory ran out, and the machine then asks nothing more; it comes only where no child is in flight
+pub record Took (old : RunCore) (answer : HostAnswer) (result : Result (Unit {0}) RunFault) (new : RunCore) : Type 0 where
+  pub stands : Stands new
+  pub setting : setting_of new ≡ setting_of old
+  pub pair : transcript new ≡ transcript old ++ record { request = asked old; answer = answer } ∷ []
+  pub entries : entries_of (transcript new) ≡ entries_of (transcript old) ++ entries_of (record { request = asked old; answer = answer } ∷ [])
+  pub landed : OnErr result (flying_after (flying old) answer ≡ [])
+  pub flying : OnOk result (asked new ≢ Request.Finished → flying new ≡ flying_after (flying old) answer)
+  pub steps : steps_left new < steps_left old
+  pub ok : OnOk result (IsLost new → ⊥)
+  pub err : IfErr result (λ fault. fault ≡ RunFault.OutOfMemory)
+  pub lost : OnErr result (IsLost new)

@@ -1,6 +1,6 @@
 -- What a run's options may be.
 use Rattle.std.specs.Prelude.{◌≡◌, ◌≤◌, ◌^◌}
-use Rattle.run_core.specs.declared.setting.Options.{Options}
+use Rattle.run_rules.specs.declared.setting.Options.{Options}
 
 pub record IsWithinLimits (options : Options) : Type 0 where
   -- one child at a time, which is never started again

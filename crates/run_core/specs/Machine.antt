@@ -1,5 +1,5 @@
 -- What the machine waits for after each answer. That all this makes a run is a law above it.
-use Rattle.std.specs.Prelude.{◌≡◌, ℕ, ℤ, cond, List, [], ◌∷◌, ◌++◌, Option, Some, None, Result, Err, map, find, codes}
+use Rattle.std.specs.Prelude.{◌≡◌, ◌+◌, ◌<◌, ◌≤◌, ℕ, ℤ, cond, List, [], ◌∷◌, ◌++◌, Option, Some, None, Result, Ok, Err, map, find, codes}
 use Rattle.command_line.specs.declared.launch.Launch.{Launch}
 use Rattle.command_line.specs.declared.fault.BuildFault.{BuildFault}
 use Rattle.command_line.specs.Launch.{IsLaunch, IsRefused, stream_name}
@@ -16,26 +16,24 @@ use Rattle.proc_host.specs.declared.found.Found.{Found}
 use Rattle.proc_host.specs.declared.plan.StagePlan.{StagePlan}
 use Rattle.proc_host.specs.declared.child.ExitClass.{ExitClass}
 use Rattle.proc_host.specs.ExitClass.{class_of}
-use Rattle.run_core.specs.declared.outcome.Cause.{Cause}
-use Rattle.run_core.specs.declared.outcome.CollectFault.{CollectFault}
-use Rattle.run_core.specs.declared.outcome.Outcome.{Outcome}
-use Rattle.run_core.specs.declared.outcome.Report.{Report}
-use Rattle.run_core.specs.declared.outcome.RunFault.{RunFault}
-use Rattle.run_core.specs.declared.request.Request.{Request}
-use Rattle.run_core.specs.declared.setting.Options.{Options}
-use Rattle.run_core.specs.declared.setting.Setting.{Setting}
+use Rattle.run_rules.specs.declared.outcome.Cause.{Cause}
+use Rattle.run_rules.specs.declared.outcome.CollectFault.{CollectFault}
+use Rattle.run_rules.specs.declared.outcome.Outcome.{Outcome}
+use Rattle.run_rules.specs.declared.outcome.Report.{Report}
+use Rattle.run_rules.specs.declared.outcome.RunFault.{RunFault}
+use Rattle.run_rules.specs.declared.request.Request.{Request}
+use Rattle.run_rules.specs.declared.setting.Options.{Options}
+use Rattle.run_rules.specs.declared.setting.Setting.{Setting}
 use Rattle.run_core.specs.declared.state.Phase.{Phase}
 use Rattle.run_core.specs.declared.state.State.{State}
-use Rattle.run_core.specs.Words.{Name, Fields, by_name}
-use Rattle.run_core.specs.Inputs.{is_misfit, named_inputs}
-use Rattle.run_core.specs.Collected.{file_at, found_under}
-use Rattle.run_core.specs.Folders.{out_folder, runtime_of}
-use Rattle.run_core.specs.Location.{location_of}
-use Rattle.run_core.specs.Delivered.{target_of}
-use Rattle.run_core.specs.Reports.{reported}
-
-abbrev pub tool_of : Process → Tool
-tool_of (Process.Tool tool) = tool
+use Rattle.run_rules.specs.Words.{Name, Fields, by_name, null}
+use Rattle.run_rules.specs.Jobs.{tool_of}
+use Rattle.run_rules.specs.Inputs.{is_misfit, named_inputs}
+use Rattle.run_rules.specs.Collected.{file_at, found_under}
+use Rattle.run_rules.specs.Folders.{out_folder, runtime_of}
+use Rattle.run_rules.specs.Location.{location_of}
+use Rattle.run_rules.specs.Delivered.{target_of}
+use Rattle.run_rules.specs.Reports.{reported}
 
 abbrev pub waits : Request → Phase → State
 waits asks phase = record { asks = asks; phase = phase; flying = [] }
@@ -63,7 +61,7 @@ at_start setting =
     (find (is_misfit setting.inputs) (tool_of setting.process).inputs)
 
 abbrev pub starts : Launch → State
-starts launch = waits (Request.Start [] launch) Phase.Starting
+starts launch = waits (Request.Start [] launch) (Phase.Starting (0 ∷ []))
 
 -- the staged job has this launch, or none
 pub data Launches (setting : Setting) (inputs : Fields) : State → Type 0 where
@@ -115,27 +113,84 @@ abbrev pub after_scan : Setting → List Found → State
 after_scan setting found =
     after_listing setting.options (tool_of setting.process) found (tool_of setting.process).outputs
 
-abbrev pub staged_inputs : Request → Fields
-staged_inputs (Request.Stage place plan number) = plan.value
-staged_inputs request = []
+-- the children that nobody waits for any more where this call failed: those in flight after a collect
+abbrev pub left_by : Request → List ℕ → List ℕ
+left_by Request.Collect flying = flying
+left_by asks flying = []
+
+-- the outputs that are delivered
+abbrev pub delivered_in : Phase → Value
+delivered_in (Phase.Delivering value) = value
+delivered_in phase = null
+
+abbrev pub IsDelivering : Phase → Type 0
+IsDelivering (Phase.Delivering value) = Unit {0}
+IsDelivering phase = ⊥
+
+-- it has a place for a ticket
+abbrev pub HasSeat : Phase → Type 0
+HasSeat (Phase.Starting seat) = seat ≡ 0 ∷ []
+HasSeat phase = ⊥
+
+-- only what follows from these answers needs memory
+abbrev pub NeedsMemory : HostAnswer → Type 0
+NeedsMemory (HostAnswer.Started ticket) = ⊥
+NeedsMemory (HostAnswer.Failed fault) = ⊥
+NeedsMemory answer = Unit {0}
+
+-- how many pairs have to find room in a phase: a child that is started has its end noted too
+abbrev pub pairs_ahead : Phase → ℕ
+pairs_ahead (Phase.Starting seat) = 2
+pairs_ahead (Phase.Ended result) = 0
+pairs_ahead phase = 1
+
+-- and for how many of them room is made when the phase begins: a child's end has its room before the child is started
+abbrev pub pairs_wanted : Phase → ℕ
+pairs_wanted (Phase.Starting seat) = 2
+pairs_wanted Phase.Running = 0
+pairs_wanted (Phase.Ended result) = 0
+pairs_wanted phase = 1
+
+-- with so many pairs and room for so many, a child's end finds room
+abbrev pub HasRoom : ℕ → ℕ → Phase → Type 0
+HasRoom pairs room Phase.Running = pairs + 1 ≤ room
+HasRoom pairs room phase = Unit {0}
+
+-- the state after a call that is done: the job's folders are made, or the result's files are placed
+abbrev pub FollowsDone : Setting → Request → Phase → State → Type 0
+FollowsDone setting (Request.Stage place plan number) phase next = Launches setting plan.value next
+FollowsDone setting asks phase next = next ≡ ends (reported (Outcome.Success (delivered_in phase)))
 
 -- the state after an answer
 abbrev pub FollowsFrom : Setting → Request → List ℕ → Phase → HostAnswer → State → Type 0
-FollowsFrom setting asks flying Phase.Running (HostAnswer.Failed fault) next = next ≡ host_fails fault flying
-FollowsFrom setting asks flying phase (HostAnswer.Failed fault) next = next ≡ host_fails fault []
-FollowsFrom setting asks flying Phase.Staging HostAnswer.Done next = Launches setting (staged_inputs asks) next
-FollowsFrom setting asks flying Phase.Starting (HostAnswer.Started ticket) next = next ≡ after_ticket ticket
-FollowsFrom setting asks flying Phase.Running (HostAnswer.Ended ending) next = next ≡ after_exit setting.options ending.code
-FollowsFrom setting asks flying Phase.Scanning (HostAnswer.Listed found) next = next ≡ after_scan setting found
-FollowsFrom setting asks flying (Phase.Delivering value) HostAnswer.Done next = next ≡ ends (reported (Outcome.Success value))
-FollowsFrom setting asks flying phase answer next = ⊥
+FollowsFrom setting asks flying phase HostAnswer.Done next = FollowsDone setting asks phase next
+FollowsFrom setting asks flying phase (HostAnswer.Started ticket) next = next ≡ after_ticket ticket
+FollowsFrom setting asks flying phase (HostAnswer.Ended ending) next = next ≡ after_exit setting.options ending.code
+FollowsFrom setting asks flying phase (HostAnswer.Listed found) next = next ≡ after_scan setting found
+FollowsFrom setting asks flying phase (HostAnswer.Failed fault) next = next ≡ host_fails fault (left_by asks flying)
 
 -- what a phase asks
 abbrev pub AsksIn : Request → Phase → Type 0
 AsksIn (Request.Stage place plan number) Phase.Staging = Unit {0}
-AsksIn (Request.Start place launch) Phase.Starting = Unit {0}
+AsksIn (Request.Start place launch) (Phase.Starting seat) = seat ≡ 0 ∷ []
 AsksIn Request.Collect Phase.Running = Unit {0}
 AsksIn (Request.Scan place folder) Phase.Scanning = Unit {0}
 AsksIn (Request.Deliver plan) (Phase.Delivering value) = Unit {0}
 AsksIn Request.Finished (Phase.Ended result) = Unit {0}
 AsksIn asks phase = ⊥
+
+-- what an answer makes of the state: what follows from it, or nothing more where memory ran out
+pub data Moves (setting : Setting) (old : State) (answer : HostAnswer) : State → Type 0 where
+  moves : (next : State) → FollowsFrom setting old.asks old.flying old.phase answer next → Moves setting old answer next
+  gives_up : NeedsMemory answer → Moves setting old answer (ends (Err RunFault.OutOfMemory))
+
+-- with so many pairs and room for so many: there is room for those that come next in the same state, or nothing more is asked
+pub data MakesRoom (pairs room : ℕ) (old : State) : State → Type 0 where
+  has_room : 0 < pairs_wanted old.phase → pairs + pairs_wanted old.phase ≤ room → MakesRoom pairs room old old
+  wants_none : pairs_wanted old.phase ≡ 0 → HasRoom pairs room old.phase → MakesRoom pairs room old old
+  no_room : 0 < pairs_wanted old.phase → MakesRoom pairs room old (ends (Err RunFault.OutOfMemory))
+
+-- what `take` answers: an error where memory ran out
+abbrev pub told_of : Phase → Result (Unit {0}) RunFault
+told_of (Phase.Ended (Err RunFault.OutOfMemory)) = Err RunFault.OutOfMemory
+told_of phase = Ok tt

@@ -4,23 +4,24 @@ use Rattle.command_line.specs.declared.launch.Launch.{Launch}
 use Rattle.command_line.specs.Launch.{IsLaunch}
 use Rattle.proc_host.specs.declared.plan.StagePlan.{StagePlan}
 use Rattle.proc_host.specs.declared.call.Entry.{Entry}
-use Rattle.run_core.specs.declared.outcome.RunFault.{RunFault}
-use Rattle.run_core.specs.declared.request.Request.{Request}
-use Rattle.run_core.specs.declared.setting.Setting.{Setting}
+use Rattle.run_rules.specs.declared.outcome.RunFault.{RunFault}
+use Rattle.run_rules.specs.declared.request.Request.{Request}
+use Rattle.run_rules.specs.declared.setting.Setting.{Setting}
 use Rattle.run_core.specs.declared.state.Phase.{Phase}
 use Rattle.run_core.specs.declared.state.State.{State}
-use Rattle.run_core.specs.Words.{Fields}
-use Rattle.run_core.specs.Inputs.{inputs_for}
-use Rattle.run_core.specs.Delivered.{located}
-use Rattle.run_core.specs.Folders.{out_folder, runtime_of}
-use Rattle.run_core.specs.Events.{Staged, Began, Came_back, Succeeded, Idle, Starting, Scanning, So_far, at_first, unfolding_at}
-use Rattle.run_core.specs.Ending.{End, end_of, delivery_at}
-use Rattle.run_core.specs.Plans.{Mark, Load, Compute}
-use Rattle.run_core.specs.Scene.{scene_of}
-use Rattle.run_core.specs.Reports.{report_of}
-use Rattle.run_core.specs.Machine.{tool_of, waits, ends, stages, starts, after_ticket}
+use Rattle.run_rules.specs.Words.{Fields}
+use Rattle.run_rules.specs.Inputs.{inputs_for}
+use Rattle.run_rules.specs.Delivered.{located}
+use Rattle.run_rules.specs.Folders.{out_folder, runtime_of}
+use Rattle.run_rules.specs.Events.{Staged, Began, Came_back, Succeeded, Idle, Starting, Scanning, So_far, at_first, unfolding_at}
+use Rattle.run_rules.specs.Ending.{End, end_of, delivery_at}
+use Rattle.run_rules.specs.Plans.{Mark, Load, Compute}
+use Rattle.run_rules.specs.Scene.{scene_of}
+use Rattle.run_rules.specs.Reports.{report_of}
+use Rattle.run_core.specs.Machine.{waits, ends, stages, starts, after_ticket}
+use Rattle.run_rules.specs.Jobs.{tool_of}
 use Rattle.run_core.specs.Limits.{IsWithinLimits}
-use Rattle.run_core.specs.Blame.{WereStarted, BlamesRightly}
+use Rattle.run_rules.specs.Blame.{WereStarted, BlamesRightly}
 
 -- a lone tool whose inputs are all of their types
 pub record IsLone (setting : Setting) (inputs : Fields) : Type 0 where

@@ -1,5 +1,5 @@
 ghost use Rattle.std.specs.Prelude.{◌≡◌, ◌++◌, IfOk, codes};
-ghost use Rattle.run_core.specs.Folders.{out_folder, tmp_folder, runtime_of};
+ghost use Rattle.run_rules.specs.Folders.{out_folder, tmp_folder, runtime_of};
 
 use crate::Options;
 use command_line::Runtime;

@@ -1,8 +1,9 @@
 ghost use Rattle.std.specs.Prelude.{◌≡◌, IfOk, find, map};
 ghost use Rattle.std.specs.Option.{option_copied};
-ghost use Rattle.run_core.specs.Inputs.{fits, is_misfit, named_inputs};
-ghost use Rattle.run_core.specs.Words.{value_under};
+ghost use Rattle.run_rules.specs.Inputs.{fits, is_misfit, named_inputs};
+ghost use Rattle.run_rules.specs.Words.{value_under};
 
+use crate::fields::put;
 use cwl_document::{CwlType, ToolInput};
 use cwl_value::Value;
 use plain_data::{Keyed, Text};
@@ -65,7 +66,7 @@ pub(crate) fn named_inputs(
     let mut named = Keyed::new(alloc);
     for input in inputs {
         let value = value_under(alloc, &input.id, given)?;
-        named.insert(input.id.copied(alloc)?, value)?;
+        put(alloc, &mut named, &input.id, value)?;
     }
     Ok(named)
 }

@@ -1,5 +1,5 @@
 ghost use Rattle.std.specs.Prelude.{◌≡◌, ◌++◌, IfOk, codes};
-ghost use Rattle.run_core.specs.Location.{location_of, stays};
+ghost use Rattle.run_rules.specs.Location.{location_of, stays};
 
 use percent_encoding::percent_encode_byte;
 use plain_data::Text;

@@ -1,8 +1,9 @@
 ghost use Rattle.std.specs.Prelude.{◌≡◌, ◌++◌, IfOk, find, codes, Some};
 ghost use Rattle.std.specs.Option.{option_copied};
-ghost use Rattle.run_core.specs.Collected.{file_at, found_under};
+ghost use Rattle.run_rules.specs.Collected.{file_at, found_under};
 ghost use Rattle.run_core.specs.Machine.{outputs_at};
 
+use crate::fields::put;
 use cwl_document::ToolOutput;
 use cwl_value::{FileVal, Place, Value};
 use plain_data::{Items, Keyed, Text};
@@ -54,7 +55,7 @@ pub(crate) fn outputs_at(
     let mut named = Keyed::new(alloc);
     for output in outputs {
         let value = file_at(alloc, place, found)?;
-        named.insert(output.id.copied(alloc)?, value)?;
+        put(alloc, &mut named, &output.id, value)?;
     }
     Ok(named)
 }

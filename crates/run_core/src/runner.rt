@@ -1,12 +1,13 @@
-ghost use Rattle.std.specs.Prelude.{◌≡◌, ◌≢◌, ◌↔◌, ◌<◌, ◌∷◌, ◌++◌, [], Err, IfOk, IfErr, OnOk, OnErr, vec_len, vec_capacity};
-ghost use Rattle.run_core.specs.declared.outcome.RunFault.{RunFault};
-ghost use Rattle.run_core.specs.declared.request.Request.{Request};
+ghost use Rattle.std.specs.Prelude.{◌≡◌, ◌≢◌, ◌↔◌, ◌+◌, ◌<◌, ◌≤◌, ◌∷◌, ◌++◌, [], Err, IfOk, IfErr, OnOk, vec_len, vec_capacity};
+ghost use Rattle.run_rules.specs.declared.outcome.RunFault.{RunFault};
+ghost use Rattle.run_rules.specs.declared.request.Request.{Request};
 ghost use Rattle.run_core.specs.declared.state.Phase.{Phase};
-ghost use Rattle.run_core.specs.Core.{setting_of, transcript, asked, flying, steps_left, IsLost, IsEnded, Stands, MayAsk, Begins};
-ghost use Rattle.run_core.specs.Answers.{MayAnswer, flying_after};
-ghost use Rattle.run_core.specs.Blame.{BlamesRightly};
+ghost use Rattle.run_core.specs.Core.{setting_of, transcript, asked, flying, IsLost, IsEnded, Stands, MayAsk, Begins, Took};
+ghost use Rattle.run_core.specs.Machine.{AsksIn, HasRoom, MakesRoom, Moves, at_start, pairs_wanted, told_of};
+ghost use Rattle.run_rules.specs.Answers.{MayAnswer};
+ghost use Rattle.run_rules.specs.Blame.{BlamesRightly};
 ghost use Rattle.run_core.specs.Limits.{IsWithinLimits};
-ghost use Rattle.run_core.specs.Reports.{entries_of, Concludes};
+ghost use Rattle.run_rules.specs.Reports.{entries_of, Concludes};
 
 use crate::state::{Phase, State, ended};
 use crate::steps::{begun, follows};
@@ -41,19 +42,23 @@ impl RunCore {
         ensures ok { IfOk result (λ core. Begins process inputs options core) }
         ensures err { IfErr result (λ fault. fault ≡ RunFault.OutOfMemory) }
     {
-        let setting = Setting {
-            process,
-            inputs,
-            options,
-        };
-        let state = begun(alloc, &setting)?;
-        let pairs = Vec::with_capacity(alloc, 1)?;
-        Ok(RunCore {
+        let mut core = RunCore {
             alloc,
-            setting,
-            pairs,
-            state,
-        })
+            setting: Setting {
+                process,
+                inputs,
+                options,
+            },
+            pairs: Vec::new(alloc),
+            state: ended(alloc, Err(RunFault::OutOfMemory)),
+        };
+        match start(alloc, &core.setting, &mut core.pairs, &mut core.state) {
+            Ok(()) => Ok(core),
+            Err(AllocError) => {
+                mem::drop(core);
+                Err(RunFault::OutOfMemory)
+            }
+        }
     }
 
     /// What it asks now, which may be asked after the run so far; `Finished` where it has ended.
@@ -73,39 +78,17 @@ impl RunCore {
         self.state.flying.as_slice()
     }
 
-    /// Takes the answer to what it asks. Where memory is wanting for what comes next, the pair is kept, it asks
-    /// nothing more, and `finish` says so too.
+    /// Takes the answer to what it asks. Where memory runs out for what comes next, the pair is kept, it asks
+    /// nothing more, and `finish` says so too. That comes only where no child is in flight.
     pub fn take(&mut self, answer: HostAnswer) -> Result<(), RunFault>
         requires stands { Stands self.old }
         requires answers { MayAnswer (asked self.old) (flying self.old) answer }
-        ensures stands { Stands self.new }
-        ensures setting { setting_of self.new ≡ setting_of self.old }
-        ensures pair { transcript self.new ≡ transcript self.old ++ record { request = asked self.old; answer = answer } ∷ [] }
-        ensures entries { entries_of (transcript self.new) ≡ entries_of (transcript self.old)
-            ++ entries_of (record { request = asked self.old; answer = answer } ∷ []) }
-        ensures flying { OnOk result (asked self.new ≢ Request.Finished → flying self.new ≡ flying_after (flying self.old) answer) }
-        ensures steps { steps_left self.new < steps_left self.old }
-        ensures ok { OnOk result (IsLost self.new → ⊥) }
-        ensures err { IfErr result (λ fault. fault ≡ RunFault.OutOfMemory) }
-        ensures lost { OnErr result (IsLost self.new) }
+        ensures { Took self.old answer result self.new }
     {
-        let lost = ended(self.alloc, Err(RunFault::OutOfMemory));
-        let state = mem::replace(&mut self.state, lost);
-        let State {
-            asks,
-            phase,
-            flying,
-        } = state;
-        let next = follows(self.alloc, &self.setting, &asks, phase, flying, &answer);
-        let pair = Pair {
-            request: asks,
-            answer,
-        };
-        add(&mut self.pairs, pair);
-        let next = next?;
-        make_room(&mut self.pairs)?;
-        self.state = next;
-        Ok(())
+        let request = step(self.alloc, &self.setting, &mut self.state, &answer);
+        note(&mut self.pairs, request, answer);
+        make_room(self.alloc, &mut self.pairs, &mut self.state);
+        told_of(&self.state.phase)
     }
 
     /// What came of the run, where it has ended.
@@ -136,24 +119,110 @@ impl RunCore {
         ensures concluded { Concludes (setting_of self) (transcript self) result }
         ensures memory { result ≡ Err RunFault.OutOfMemory }
     {
+        mem::drop(self);
         Err(RunFault::OutOfMemory)
     }
 }
 
-/// Adds a pair where there is room for it.
-fn add(pairs: &mut Vec<Pair>, pair: Pair)
-    requires { vec_len pairs.old < vec_capacity pairs.old }
-    ensures { pairs.new.items ≡ pairs.old.items ++ pair ∷ [] }
-{
-    pairs.push(pair).unwrap();
-}
-
-/// Makes room for one more pair.
-fn make_room(pairs: &mut Vec<Pair>) -> Result<(), AllocError>
+/// Comes to the first state, with room for one pair.
+fn start(
+    alloc: Global,
+    setting: &Setting,
+    pairs: &mut Vec<Pair>,
+    state: &mut State,
+) -> Result<(), AllocError>
     ensures items { pairs.new.items ≡ pairs.old.items }
     ensures room { OnOk result (vec_len pairs.new < vec_capacity pairs.new) }
+    ensures state { OnOk result (state.new ≡ at_start setting.now) }
 {
-    pairs.reserve(1)
+    pairs.reserve(1)?;
+    mem::drop(mem::replace(state, begun(alloc, setting)?));
+    Ok(())
+}
+
+/// Moves to the state that follows from the answer, and gives back what was asked.
+fn step(alloc: Global, setting: &Setting, state: &mut State, answer: &HostAnswer) -> Request
+    requires answers { MayAnswer state.old.asks state.old.flying answer.now }
+    requires asks { AsksIn state.old.asks state.old.phase }
+    ensures asked { result ≡ state.old.asks }
+    ensures moved { Moves setting.now state.old answer.now state.new }
+{
+    let next = next_state(alloc, setting, state, answer);
+    let asked = mem::replace(&mut state.asks, Request::Finished);
+    mem::drop(mem::replace(state, next));
+    asked
+}
+
+/// The state that follows from the answer, or the one that asks nothing more where memory runs out.
+fn next_state(alloc: Global, setting: &Setting, state: &mut State, answer: &HostAnswer) -> State
+    requires answers { MayAnswer state.old.asks state.old.flying answer.now }
+    requires asks { AsksIn state.old.asks state.old.phase }
+    ensures asked { state.new.asks ≡ state.old.asks }
+    ensures moved { Moves setting.now state.old answer.now result }
+{
+    match follows(
+        alloc,
+        setting,
+        &state.asks,
+        &mut state.phase,
+        &mut state.flying,
+        answer,
+    ) {
+        Ok(next) => next,
+        Err(AllocError) => ended(alloc, Err(RunFault::OutOfMemory)),
+    }
+}
+
+/// Adds a pair where there is room for it.
+fn note(pairs: &mut Vec<Pair>, request: Request, answer: HostAnswer)
+    requires { vec_len pairs.old < vec_capacity pairs.old }
+    ensures items { pairs.new.items ≡ pairs.old.items ++ record { request = request; answer = answer } ∷ [] }
+    ensures len { vec_len pairs.new ≡ vec_len pairs.old + 1 }
+    ensures room { vec_capacity pairs.old ≤ vec_capacity pairs.new }
+{
+    pairs.push(Pair { request, answer }).unwrap();
+}
+
+/// Makes room for the pairs that come next; where there is none, nothing more is asked. Before a child is started it
+/// makes room for its end too, so that none runs where memory is refused.
+#[tactic(auto, using(crate::specs::Machine::has_room, crate::specs::Machine::wants_none, crate::specs::Machine::no_room))]
+fn make_room(alloc: Global, pairs: &mut Vec<Pair>, state: &mut State)
+    requires { HasRoom (vec_len pairs.old) (vec_capacity pairs.old) state.old.phase }
+    ensures items { pairs.new.items ≡ pairs.old.items }
+    ensures room { MakesRoom (vec_len pairs.new) (vec_capacity pairs.new) state.old state.new }
+{
+    let more = pairs_wanted(&state.phase);
+    if more == 0 {
+        return;
+    }
+    match pairs.reserve(more) {
+        Ok(()) => {}
+        Err(AllocError) => {
+            let lost = ended(alloc, Err(RunFault::OutOfMemory));
+            mem::drop(mem::replace(state, lost));
+        }
+    }
+}
+
+/// For how many pairs room is made in a phase.
+fn pairs_wanted(phase: &Phase) -> usize
+    ensures { result ≡ pairs_wanted phase.now }
+{
+    match phase {
+        Phase::Starting(_) => 2,
+        Phase::Running | Phase::Ended(_) => 0,
+        _ => 1,
+    }
+}
+
+/// What `take` answers: whether memory ran out.
+fn told_of(phase: &Phase) -> Result<(), RunFault>
+    ensures { result ≡ told_of phase.now }
+{
+    match phase {
+        Phase::Ended(Err(RunFault::OutOfMemory)) => Err(RunFault::OutOfMemory),
+        _ => Ok(()),
+    }
 }
 
 /// What `finish` answers, at the end.

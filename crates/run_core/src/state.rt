@@ -1,6 +1,6 @@
 ghost use Rattle.std.specs.Prelude.{◌≡◌, Err, []};
 ghost use Rattle.run_core.specs.Machine.{waits, ends, fails_for_good, host_fails};
-ghost use Rattle.run_core.specs.Reports.{reported};
+ghost use Rattle.run_rules.specs.Reports.{reported};
 
 use crate::{Cause, Outcome, Report, Request, RunFault};
 use cwl_value::Value;
@@ -13,8 +13,8 @@ use std::alloc::Global;
 pub(crate) enum Phase {
     /// The job's folders.
     Staging,
-    /// Its child's ticket.
-    Starting,
+    /// Its child's ticket, for which this list of one has a place.
+    Starting(Items<u64>),
     /// Its child's end.
     Running,
     /// What stands in its output folder.

@@ -1,7 +1,11 @@
 //! What the machine waits for after each answer, for a lone tool.
-ghost use Rattle.std.specs.Prelude.{◌≡◌, [], ◌∷◌, IfOk, length, ◌<◌};
-ghost use Rattle.run_core.specs.Machine.{Launches, FollowsFrom, AsksIn, after_ticket, after_exit, after_scan, delivers, plan_to, starts, tool_of, at_start};
-ghost use Rattle.run_core.specs.Answers.{MayAnswer};
+ghost use Rattle.std.specs.Prelude.{◌≡◌, ◌++◌, IfOk, OnErr, codes};
+ghost use Rattle.cwl_value.specs.declared.place.Place.{Place};
+ghost use Rattle.run_rules.specs.Folders.{out_folder};
+ghost use Rattle.run_core.specs.Machine.{Launches, FollowsFrom, AsksIn, HasSeat, IsDelivering, NeedsMemory, after_ticket, after_exit, after_scan, at_start, delivered_in, delivers, ends, host_fails, left_by, outputs_at, plan_to, starts};
+ghost use Rattle.run_rules.specs.Jobs.{tool_of};
+ghost use Rattle.run_rules.specs.Answers.{MayAnswer};
+ghost use Rattle.run_rules.specs.Reports.{reported};
 
 use crate::folders::{out_folder, path_in, runtime_of};
 use crate::inputs::{first_misfit, named_inputs};
@@ -14,8 +18,9 @@ use command_line::{BuildError, Launch, build, stdout_name};
 use cwl_document::{Process, Tool, ToolOutput};
 use cwl_value::{Place, Value};
 use plain_data::{Items, Keyed, Text};
-use proc_host::{Ending, ExitClass, Found, HostAnswer, Move, StagePlan, exit_class};
+use proc_host::{Ending, ExitClass, Found, HostAnswer, HostFault, Move, StagePlan, exit_class};
 use std::alloc::{AllocError, Global};
+use std::mem;
 
 /// The one tool of a process.
 fn tool_of(process: &Process) -> &Tool
@@ -53,23 +58,28 @@ fn launched(alloc: Global, setting: &Setting, inputs: &Keyed<Value>) -> Result<S
     let tool = tool_of(&setting.process);
     let runtime = runtime_of(alloc, &setting.options, 1)?;
     match build(alloc, tool, inputs, &runtime) {
-        Ok(launch) => Ok(starting(alloc, launch)),
+        Ok(launch) => starting(alloc, launch),
         Err(BuildError::Refused(fault)) => Ok(failed_for_good(alloc, Cause::Build(fault))),
         Err(BuildError::OutOfMemory) => Err(AllocError),
     }
 }
 
-/// The child runs: its end is waited for.
-fn running(alloc: Global, ticket: u64) -> Result<State, AllocError>
-    ensures { IfOk result (λ state. state ≡ after_ticket ticket) }
+/// The child runs: its end is waited for. The ticket takes the place that was made for it, so no memory is needed.
+fn running(alloc: Global, phase: &mut Phase, ticket: u64) -> State
+    requires { HasSeat phase.old }
+    ensures { result ≡ after_ticket ticket }
 {
-    let mut flying = Items::new(alloc);
-    flying.push(ticket)?;
-    Ok(State {
+    let seat = match phase {
+        Phase::Starting(seat) => mem::replace(seat, Items::new(alloc)),
+        _ => unreachable!(),
+    };
+    let mut held = seat.into_vec();
+    held[0] = ticket;
+    State {
         asks: Request::Collect,
         phase: Phase::Running,
-        flying,
-    })
+        flying: Items::from_vec(held),
+    }
 }
 
 /// The child has ended: a success is scanned.
@@ -144,52 +154,96 @@ fn plan_to(
 ) -> Result<StagePlan, AllocError>
     ensures { IfOk result (λ plan. plan ≡ plan_to work.now outputs.now file.now target) }
 {
-    let place = Place::Path(target.copied(alloc)?);
-    let value = outputs_at(alloc, outputs, &place, file)?;
-    let folder = out_folder(alloc, work, 1)?;
-    let source = path_in(alloc, &folder, &file.name)?;
+    let value = outputs_to(alloc, outputs, file, &target)?;
     let mut moves = Items::new(alloc);
-    moves.push(Move { source, target })?;
+    moves.push(Move {
+        source: path_of(alloc, work, &file.name)?,
+        target,
+    })?;
     Ok(StagePlan { moves, value })
 }
 
-/// The child is to be started.
-fn starting(alloc: Global, launch: Launch) -> State
-    ensures { result ≡ starts launch }
+/// The outputs with their file at its target.
+fn outputs_to(
+    alloc: Global,
+    outputs: &[ToolOutput],
+    file: &Found,
+    target: &Text,
+) -> Result<Keyed<Value>, AllocError>
+    ensures { IfOk result (λ value. value ≡ outputs_at outputs.now (Place.Path target.now) file.now) }
 {
-    State {
-        asks: Request::Start(Items::new(alloc), launch),
-        phase: Phase::Starting,
-        flying: Items::new(alloc),
-    }
+    let place = Place::Path(target.copied(alloc)?);
+    outputs_at(alloc, outputs, &place, file)
 }
 
-/// What the machine waits for after this answer to what it asks in this phase.
+/// The path of what has this name in the job's output folder.
+fn path_of(alloc: Global, work: &Text, name: &Text) -> Result<Text, AllocError>
+    ensures { IfOk result (λ path. path ≡ out_folder work.now 1 ++ codes "/" ++ name.now) }
+{
+    let folder = out_folder(alloc, work, 1)?;
+    path_in(alloc, &folder, name)
+}
+
+/// The child is to be started; its ticket has a place before it is asked for.
+fn starting(alloc: Global, launch: Launch) -> Result<State, AllocError>
+    ensures { IfOk result (λ state. state ≡ starts launch) }
+{
+    let mut seat = Items::new(alloc);
+    seat.push(0)?;
+    Ok(State {
+        asks: Request::Start(Items::new(alloc), launch),
+        phase: Phase::Starting(seat),
+        flying: Items::new(alloc),
+    })
+}
+
+/// The result's files are where they are wanted: the outputs that name them are the end.
+fn placed(alloc: Global, phase: &mut Phase) -> State
+    requires { IsDelivering phase.old }
+    ensures { result ≡ ends (reported (Outcome.Success (delivered_in phase.old))) }
+{
+    let outputs = match phase {
+        Phase::Delivering(outputs) => mem::replace(outputs, Value::Null),
+        _ => unreachable!(),
+    };
+    ended(alloc, reported(alloc, Outcome::Success(outputs)))
+}
+
+/// A call failed; after a failed collect nobody waits for the children in flight any more.
+fn failed(alloc: Global, asks: &Request, flying: &mut Items<u64>, fault: HostFault) -> State
+    ensures { result ≡ host_fails fault (left_by asks.now flying.old) }
+{
+    let left = match asks {
+        Request::Collect => mem::replace(flying, Items::new(alloc)),
+        _ => Items::new(alloc),
+    };
+    host_failed(alloc, fault, left)
+}
+
+/// What the machine waits for after this answer to what it asks. It takes what goes on out of the phase and the
+/// tickets.
+#[tactic(auto, using(crate::proofs::Seats::has_seat))]
 pub(crate) fn follows(
     alloc: Global,
     setting: &Setting,
     asks: &Request,
-    phase: Phase,
-    flying: Items<u64>,
+    phase: &mut Phase,
+    flying: &mut Items<u64>,
     answer: &HostAnswer,
 ) -> Result<State, AllocError>
-    requires answers { MayAnswer asks.now flying answer.now }
-    requires asks { AsksIn asks.now phase }
-    ensures { IfOk result (λ next. FollowsFrom setting.now asks.now flying phase answer.now next) }
+    requires answers { MayAnswer asks.now flying.old answer.now }
+    requires asks { AsksIn asks.now phase.old }
+    ensures next { IfOk result (λ next. FollowsFrom setting.now asks.now flying.old phase.old answer.now next) }
+    ensures err { OnErr result (NeedsMemory answer.now) }
 {
-    match (phase, answer) {
-        (Phase::Running, HostAnswer::Failed(fault)) => Ok(host_failed(alloc, *fault, flying)),
-        (_, HostAnswer::Failed(fault)) => Ok(host_failed(alloc, *fault, Items::new(alloc))),
-        (Phase::Staging, _) => match asks {
+    match answer {
+        HostAnswer::Done => match asks {
             Request::Stage(_, plan, _) => launched(alloc, setting, &plan.value),
-            _ => unreachable!(),
+            _ => Ok(placed(alloc, phase)),
         },
-        (Phase::Starting, HostAnswer::Started(ticket)) => running(alloc, *ticket),
-        (Phase::Running, HostAnswer::Ended(ending)) => judged(alloc, setting, ending),
-        (Phase::Scanning, HostAnswer::Listed(found)) => gathered(alloc, setting, found.as_slice()),
-        (Phase::Delivering(value), HostAnswer::Done) => {
-            Ok(ended(alloc, reported(alloc, Outcome::Success(value))))
-        }
-        _ => unreachable!(),
+        HostAnswer::Started(ticket) => Ok(running(alloc, phase, *ticket)),
+        HostAnswer::Ended(ending) => judged(alloc, setting, ending),
+        HostAnswer::Listed(found) => gathered(alloc, setting, found.as_slice()),
+        HostAnswer::Failed(fault) => Ok(failed(alloc, asks, flying, *fault)),
     }
 }

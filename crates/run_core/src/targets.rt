@@ -1,7 +1,7 @@
 ghost use Rattle.std.specs.Prelude.{◌≡◌, ◌++◌, IfOk, codes};
 ghost use Rattle.std.specs.List.{list_all};
-ghost use Rattle.run_core.specs.Delivered.{is_reserved, target_of};
-ghost use Rattle.run_core.specs.Location.{is_between};
+ghost use Rattle.run_rules.specs.Delivered.{is_reserved, target_of};
+ghost use Rattle.run_rules.specs.Location.{is_between};
 
 use plain_data::Text;
 use std::alloc::{AllocError, Global};

@@ -1,4 +1,5 @@
-pub mod Lengths
-pub mod Tuples
+pub mod Codes
 pub mod Gathered
 pub mod Laws
+pub mod Lengths
+pub mod Tuples

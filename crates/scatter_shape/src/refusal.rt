@@ -1,4 +1,5 @@
 ghost use Rattle.std.specs.Prelude.{◌≡◌};
+ghost use Rattle.scatter_shape.specs.Codes.{code_of};
 ghost use Rattle.scatter_shape.specs.declared.refusal.ScatterRefusal.TheVariants.{OutOfMemory};
 
 use std::alloc::AllocError;
@@ -18,6 +19,20 @@ pub enum ScatterRefusal {
     TooManyJobs,
     #[error("out of memory")]
     OutOfMemory,
+}
+
+impl ScatterRefusal {
+    /// The refusal's short name, from `S1` to `S3`, or `memory`.
+    pub fn code(&self) -> &'static str
+        ensures { result.now ≡ code_of self.now }
+    {
+        match self {
+            ScatterRefusal::UnequalLengths => "S1",
+            ScatterRefusal::NotAList => "S2",
+            ScatterRefusal::TooManyJobs => "S3",
+            ScatterRefusal::OutOfMemory => "memory",
+        }
+    }
 }
 
 impl From<AllocError> for ScatterRefusal {

@@ -6,9 +6,9 @@ use Rattle.proc_host.specs.declared.call.Entry.{Entry}
 use Rattle.proc_host.specs.declared.call.HostAnswer.{HostAnswer}
 use Rattle.proc_host.specs.declared.call.HostFault.{HostFault}
 use Rattle.proc_host.specs.Log.{failures, is_failure}
-use Rattle.run_core.specs.declared.outcome.Report.{Report}
-use Rattle.run_core.specs.declared.outcome.RunFault.{RunFault}
-use Rattle.run_core.specs.Blame.{answers, BlamesRightly}
+use Rattle.run_rules.specs.declared.outcome.Report.{Report}
+use Rattle.run_rules.specs.declared.outcome.RunFault.{RunFault}
+use Rattle.run_rules.specs.Blame.{answers, BlamesRightly}
 use Rattle.workflow_engine.specs.Blame.{IsHostsFault}
 
 failures-append : (before gained : List Entry) → failures (before ++ gained) ≡ failures before + failures gained

@@ -1,17 +1,17 @@
 -- A run of which nothing was asked, for want of memory.
 use Rattle.std.proofs.Common.{◌≡◌, Bool, true, false, List, [], Result, Ok, Err, MatchBool, refl, map, ap}
 use Rattle.std.specs.Result.{IsErrAnd}
-use Rattle.run_core.specs.declared.outcome.Report.{Report}
+use Rattle.run_rules.specs.declared.outcome.Report.{Report}
 use Rattle.cwl_document.specs.declared.process.Process.{Process}
-use Rattle.run_core.specs.declared.outcome.RunFault.{RunFault}
-use Rattle.run_core.specs.declared.setting.Options.{Options}
-use Rattle.run_core.specs.declared.setting.Setting.{Setting}
-use Rattle.run_core.specs.Words.{Fields}
-use Rattle.run_core.specs.Events.{at_first, is_held, unfolding_at}
-use Rattle.run_core.specs.Plans.{Mark, is_planning, mark_if_held}
-use Rattle.run_core.specs.Run.{begins}
-use Rattle.run_core.specs.Scene.{scene_of}
-use Rattle.run_core.specs.Reports.{GainsRun, lost}
+use Rattle.run_rules.specs.declared.outcome.RunFault.{RunFault}
+use Rattle.run_rules.specs.declared.setting.Options.{Options}
+use Rattle.run_rules.specs.declared.setting.Setting.{Setting}
+use Rattle.run_rules.specs.Words.{Fields}
+use Rattle.run_rules.specs.Events.{at_first, is_held, unfolding_at}
+use Rattle.run_rules.specs.Plans.{Mark, is_planning, mark_if_held}
+use Rattle.run_rules.specs.Run.{begins}
+use Rattle.run_rules.specs.Scene.{scene_of}
+use Rattle.run_rules.specs.Reports.{GainsRun, lost}
 
 some_plan : (planning : Bool) (marks : List Mark) → (first : List Mark) × MatchBool planning (first ≡ marks) (first ≡ [])
 some_plan true marks = (marks, refl)

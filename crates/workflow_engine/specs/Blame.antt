@@ -3,8 +3,8 @@ use Rattle.std.specs.Prelude.{ℕ, ◌≡◌, ◌<◌, ◌++◌, List}
 use Rattle.proc_host.specs.declared.call.Entry.{Entry}
 use Rattle.proc_host.specs.declared.call.HostFault.{HostFault}
 use Rattle.proc_host.specs.Log.{failures}
-use Rattle.run_core.specs.declared.outcome.RunFault.{RunFault}
-use Rattle.run_core.specs.Blame.{IsToBlame}
+use Rattle.run_rules.specs.declared.outcome.RunFault.{RunFault}
+use Rattle.run_rules.specs.Blame.{IsToBlame}
 
 -- the host's failures rose: among what its log gained stand a call that failed with this very fault and the starts
 -- of these children

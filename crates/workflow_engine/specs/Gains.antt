@@ -4,12 +4,12 @@ use Rattle.std.specs.declared.alloc.AllocError.{AllocError}
 use Rattle.cwl_document.specs.declared.process.Process.{Process}
 use Rattle.proc_host.specs.declared.call.HostAnswer.{HostAnswer}
 use Rattle.proc_host.specs.declared.call.Entry.{Entry}
-use Rattle.run_core.specs.declared.outcome.Report.{Report}
-use Rattle.run_core.specs.declared.outcome.RunFault.{RunFault}
-use Rattle.run_core.specs.declared.request.Request.{Request}
-use Rattle.run_core.specs.declared.setting.Options.{Options}
-use Rattle.run_core.specs.Reports.{entries_of, GainsRun}
-use Rattle.run_core.specs.Words.{Fields}
+use Rattle.run_rules.specs.declared.outcome.Report.{Report}
+use Rattle.run_rules.specs.declared.outcome.RunFault.{RunFault}
+use Rattle.run_rules.specs.declared.request.Request.{Request}
+use Rattle.run_rules.specs.declared.setting.Options.{Options}
+use Rattle.run_rules.specs.Reports.{entries_of, GainsRun}
+use Rattle.run_rules.specs.Words.{Fields}
 
 -- a fault is an answer too; want of memory is none
 abbrev pub answered : Option HostAnswer → Result HostAnswer AllocError

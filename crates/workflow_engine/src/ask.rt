@@ -1,8 +1,8 @@
 //! One question to the host.
 ghost use Rattle.std.specs.Prelude.{◌≡◌, ◌≢◌, ◌++◌, [], IfOk, OnErr};
 ghost use Rattle.proc_host.specs.Log.{told, told_error};
-ghost use Rattle.run_core.specs.Words.{JobPlace};
-ghost use Rattle.run_core.specs.Answers.{MayAnswer, flying_after};
+ghost use Rattle.run_rules.specs.Words.{JobPlace};
+ghost use Rattle.run_rules.specs.Answers.{MayAnswer, flying_after};
 ghost use Rattle.workflow_engine.specs.Held.{Covers};
 ghost use Rattle.workflow_engine.specs.Gains.{answered, gained_by};
 

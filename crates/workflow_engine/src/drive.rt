@@ -2,7 +2,7 @@
 ghost use Rattle.std.specs.Prelude.{◌≡◌, ◌≢◌, ◌++◌, [], OnOk, IfErr};
 ghost use Rattle.run_core.specs.Core.{setting_of, transcript, asked, flying, Stands};
 ghost use Rattle.run_core.specs.Limits.{IsWithinLimits};
-ghost use Rattle.run_core.specs.Reports.{entries_of};
+ghost use Rattle.run_rules.specs.Reports.{entries_of};
 ghost use Rattle.workflow_engine.specs.Blame.{IsHostsFault};
 ghost use Rattle.workflow_engine.specs.Held.{Covers};
 ghost use Rattle.workflow_engine.specs.Gains.{RunsOn};

@@ -1,7 +1,8 @@
 use Rattle.std.proofs.Common.{◌≡◌, ◌++◌, drop, map}
-use Rattle.command_line.specs.Order.{bound_from}
+use Rattle.std.specs.List.{filter_map}
+use Rattle.command_line.specs.Order.{bound_in}
 use Rattle.command_line.specs.View.{bound_of}
 use Rattle.command_line.proofs.order.as_listed.Given as goal
 
-abbrev pub invariant-loop-place : goal.invariant-loop-place
-invariant-loop-place l = map bound_of l.rows.items ++ bound_from l.place (drop l.place l.initial.tool.inputs) ≡ bound_from 0 l.initial.tool.inputs
+abbrev pub invariant-loop-input : goal.invariant-loop-input
+invariant-loop-input l = map bound_of l.rows.items ++ filter_map bound_in (drop l.input-index l.inputs) ≡ filter_map bound_in l.inputs

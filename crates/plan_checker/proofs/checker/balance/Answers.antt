@@ -1,6 +1,7 @@
 use Rattle.std.proofs.Common.{◌≡◌, ap, sum, ◌∙◌, arith}
 use Rattle.plan_checker.specs.Plan.{cost}
 use Rattle.plan_checker.specs.Claim.{graph_of, marks_of, charges_of}
+use Rattle.plan_checker.proofs.Duality.{certificate_is_cheapest}
 use Rattle.plan_checker.proofs.Settled.{value_is_small, valid_from_rules, fair_from_rules}
 use Rattle.plan_checker.proofs.checker.balance.Goals as goal
 
@@ -10,8 +11,8 @@ value-worth-requires c =
     let enters = ap sum c.as_slice-2.ensures in
     omega arith
 
-pub returns : goal.returns
-returns c =
+pub returns-clause-decided : goal.returns-clause-decided
+returns-clause-decided c =
     let total : c.plan_cost-total.result ≡ cost (graph_of c.args.claim.now) (marks_of c.args.claim.now) =
     c.plan_cost-total.ensures ∙ ap (λ graph. cost graph c.as_slice.result.now) c.vertices.ensures.list ∙ ap (cost (graph_of c.args.claim.now)) c.as_slice.ensures
     in
@@ -23,3 +24,16 @@ returns c =
       },
       total,
     )
+
+pub returns-clause-cheapest : goal.returns-clause-cheapest
+returns-clause-cheapest c =
+    let total : c.plan_cost-total.result ≡ cost (graph_of c.args.claim.now) (marks_of c.args.claim.now) =
+    c.plan_cost-total.ensures ∙ ap (λ graph. cost graph c.as_slice.result.now) c.vertices.ensures.list ∙ ap (cost (graph_of c.args.claim.now)) c.as_slice.ensures
+    in
+    let enters = ap sum c.as_slice-2.ensures in
+    certificate_is_cheapest (graph_of c.args.claim.now) (marks_of c.args.claim.now) (charges_of c.args.claim.now) c.vertices.ensures.within
+    (record {
+      valid = valid_from_rules c.args.claim.now c.requires;
+      fair = fair_from_rules c.args.claim.now c.requires;
+      balanced = omega arith;
+    })

@@ -1,5 +1,5 @@
 use Rattle.std.proofs.Common.{◌≡◌, drop, find}
-use Rattle.run_core.specs.Inputs.{is_misfit}
+use Rattle.run_rules.specs.Inputs.{is_misfit}
 use Rattle.run_core.proofs.inputs.first_misfit.Given as goal
 
 abbrev pub invariant-loop-input : goal.invariant-loop-input

@@ -1,5 +1,5 @@
 use Rattle.std.proofs.Common.{◌≡◌, take}
-use Rattle.run_core.specs.Inputs.{named_inputs}
+use Rattle.run_rules.specs.Inputs.{named_inputs}
 use Rattle.run_core.proofs.inputs.named_inputs.Given as goal
 
 abbrev pub invariant-loop-input : goal.invariant-loop-input

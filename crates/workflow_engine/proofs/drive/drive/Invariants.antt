@@ -1,7 +1,7 @@
 use Rattle.std.proofs.Common.{◌≡◌, ◌≢◌, ◌++◌}
 use Rattle.run_core.specs.Core.{setting_of, transcript, asked, flying, steps_left, Stands}
-use Rattle.run_core.specs.Reports.{entries_of}
-use Rattle.run_core.specs.declared.request.Request.{Request}
+use Rattle.run_rules.specs.Reports.{entries_of}
+use Rattle.run_rules.specs.declared.request.Request.{Request}
 use Rattle.workflow_engine.specs.Held.{Covers}
 use Rattle.workflow_engine.proofs.drive.drive.Given as goal
 

@@ -1,6 +1,6 @@
 use Rattle.std.proofs.Common.{◌≡◌, [], ◌++◌, Err, sym, append-nil, subst, Result, ◌∙◌}
-use Rattle.run_core.specs.declared.outcome.Report.{Report}
-use Rattle.run_core.specs.declared.outcome.RunFault.{RunFault}
+use Rattle.run_rules.specs.declared.outcome.Report.{Report}
+use Rattle.run_rules.specs.declared.outcome.RunFault.{RunFault}
 use Rattle.workflow_engine.specs.Gains.{RunsOn}
 use Rattle.workflow_engine.proofs.Nothing.{nothing_asked, err_is}
 use Rattle.workflow_engine.proofs.Blamed.{hosts_fault}

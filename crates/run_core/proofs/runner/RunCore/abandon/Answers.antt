@@ -1,4 +1,4 @@
-use Rattle.run_core.specs.Reports.{lost}
+use Rattle.run_rules.specs.Reports.{lost}
 use Rattle.run_core.proofs.runner.RunCore.abandon.Goals as goal
 
 pub returns-clause-concluded : goal.returns-clause-concluded

@@ -1,7 +1,7 @@
 use Rattle.std.proofs.Common.{sym, subst}
 use Rattle.run_core.specs.declared.state.Phase.{Phase}
 use Rattle.run_core.specs.Core.{IsEnded}
-use Rattle.run_core.specs.Reports.{entries_of}
+use Rattle.run_rules.specs.Reports.{entries_of}
 use Rattle.run_core.specs.Standing.{EndsRightly}
 use Rattle.run_core.proofs.Taken.{has_ended, concludes}
 use Rattle.run_core.proofs.runner.RunCore.finish.Goals as goal

@@ -1,0 +1,28 @@
+use Rattle.std.proofs.Common.{◌≡◌, map, Option, Some, codes, ap, ◌∙◌, subst, inr, OnOk, bytes_eq}
+use Rattle.std.specs.List.{IsDistinct}
+use Rattle.serde_json.specs.Data.{Data}
+use Rattle.serde_json.specs.Find.{get}
+use Rattle.serde_json.specs.View.{view}
+use Rattle.cwl_document.specs.Document.{ids_in}
+use Rattle.cwl_document.specs.Ids.{IsRepeat}
+use Rattle.cwl_document.specs.Values.{input_in, parameters}
+use Rattle.cwl_document.specs.declared.process.ToolInput.{ToolInput}
+use Rattle.cwl_document.proofs.Accepting.{ids-inputs}
+use Rattle.cwl_document.proofs.Causing.{IfErr-map}
+use Rattle.cwl_document.proofs.lists.read_inputs.Goals as goal
+
+pub returns-clause-ids : goal.returns-clause-ids
+returns-clause-ids c =
+    let o = get (codes "inputs") (view c.args.tool.now) in
+    let there : Some (view c.in-Some.found.now) ≡ o = c.in-Some.ensures in
+    let ids : map (λ (p : ToolInput). p.id) c.in_ok-inputs_in.field-0 ≡ ids_in o
+    = ap (map (λ (p : ToolInput). p.id)) (c.in_ok-inputs_in.ensures.value ∙ ap (λ (x : Option Data). map input_in (parameters x)) there) ∙ ids-inputs (parameters o) in
+    subst (λ xs. OnOk c.from_items.result (IsDistinct bytes_eq xs)) ids c.from_items.ensures.ids
+
+pub returns-clause-err : goal.returns-clause-err
+returns-clause-err c =
+    let o = get (codes "inputs") (view c.args.tool.now) in
+    let there : Some (view c.in-Some.found.now) ≡ o = c.in-Some.ensures in
+    let ids : map (λ (p : ToolInput). p.id) c.in_ok-inputs_in.field-0 ≡ ids_in o
+    = ap (map (λ (p : ToolInput). p.id)) (c.in_ok-inputs_in.ensures.value ∙ ap (λ (x : Option Data). map input_in (parameters x)) there) ∙ ids-inputs (parameters o) in
+    IfErr-map c.from_items.result (λ e repeats. inr (inr (subst (IsRepeat e) ids repeats))) c.from_items.ensures.err

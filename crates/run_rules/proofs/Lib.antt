@@ -1,0 +1,11 @@
+pub mod Lone
+pub mod Meaning
+pub mod Gathered
+pub mod Knows
+pub mod Succeeded
+pub mod Over
+pub mod AtRoot
+pub mod Rightly
+pub mod Moved
+pub mod Rows
+pub mod Reported

@@ -1,0 +1,212 @@
+-- In each world where a run is honest, its end is right.
+use Rattle.std.specs.Prelude.{◌&&◌, nat_lt, is_some}
+use Rattle.std.specs.List.{list_any}
+use Rattle.std.proofs.Common.{◌≡◌, ◌∙◌, ◌⊎◌, inl, inr, ◌==◌, Bool, true, false, cond, List, [], ◌∷◌, ◌++◌, length, filter, find, reverse, Option, Some, None, Result, Ok, Err, option_map, refl, sym, ap, subst}
+use Rattle.cwl_value.specs.Erased.{fields_erased}
+use Rattle.cwl_document.specs.declared.process.Tool.{Tool}
+use Rattle.proc_host.specs.declared.call.HostFault.{HostFault}
+use Rattle.proc_host.specs.declared.plan.StagePlan.{StagePlan}
+use Rattle.run_rules.specs.declared.outcome.Cause.{Cause}
+use Rattle.run_rules.specs.declared.request.Pair.{Pair}
+use Rattle.run_rules.specs.declared.setting.Options.{Options}
+use Rattle.run_rules.specs.declared.setting.Setting.{Setting}
+use Rattle.run_rules.specs.Words.{Fields, JobPlace, is_same_place}
+use Rattle.run_rules.specs.Inputs.{inputs_for}
+use Rattle.run_rules.specs.Jobs.{Walker, tool_walk, result, all_named, outs_of, output_names, tool_of}
+use Rattle.run_rules.specs.Made.{fields_made}
+use Rattle.run_rules.specs.Unfold.{Resolved, fault_after, or_else}
+use Rattle.run_rules.specs.Key.{key}
+use Rattle.run_rules.specs.Eval.{World, eval_by}
+use Rattle.run_rules.specs.Scene.{Scene, scene_of}
+use Rattle.run_rules.specs.Events.{Event, Staged, Began, Came_back, Succeeded, Broke, Gave_up, Delivered, Host_failed, Collect_failed, So_far, in_flight, tickets, resolved, unfolding_at, job_at}
+use Rattle.run_rules.specs.Ending.{End, Succeeds, Fails_for_good, Fails_for_now, Host_ends, fault_end, gives_up, is_delivery, is_lost_collect, settled_by, unfold_end, settled_from, settled, delivery_at, delivered_end, result_end, end_of}
+use Rattle.run_rules.specs.Plans.{Mark, Loads_what_is_held}
+use Rattle.run_rules.specs.Honest.{AgreesAt, AgreesFrom, IsHonest, Means}
+use Rattle.run_rules.specs.Run.{Goes, IsRun}
+use Rattle.run_rules.proofs.Lone.{lone, walker_tool}
+use Rattle.run_rules.proofs.Meaning.{fails, gives, misfit_fails}
+use Rattle.run_rules.proofs.AtRoot.{EventAtRoot, AllAtRoot, its_job, job_at_root, goes_at_root}
+use Rattle.run_rules.proofs.Succeeded.{IsNoSuccess, settled_failure}
+
+-- an end's meaning, by how its process walks
+abbrev MeansBy : Scene → World → End → Type 0
+MeansBy s world (Succeeds outputs) = eval_by world s.walker ≡ Some (fields_erased outputs)
+MeansBy s world (Fails_for_good place cause) = eval_by world s.walker ≡ None
+MeansBy s world _ = Unit {0}
+
+means_of : (setting : Setting) (world : World) (end : End) → MeansBy (scene_of setting) world end → Means setting world end
+means_of setting world (Succeeds outputs) m = m
+means_of setting world (Fails_for_good place cause) m = m
+means_of setting world (Fails_for_now place) m = tt
+means_of setting world (Host_ends fault running) m = tt
+
+-- What brings an end about
+
+or_cases : (a b : Option End) (end : End) → or_else a b ≡ Some end → (a ≡ Some end) ⊎ (b ≡ Some end)
+or_cases (Some x) b end is = inl is
+or_cases None b end is = inr is
+
+end_cases : (lost landed : Bool) (lost_end : End) (fault end : Option End) (x : End) →
+    cond lost (Some lost_end) (cond landed (or_else fault end) None) ≡ Some x → (lost_end ≡ x) ⊎ ((fault ≡ Some x) ⊎ (end ≡ Some x))
+end_cases true landed lost_end fault end x is = inl cc
+end_cases false true lost_end fault end x is = inr (or_cases fault end x is)
+end_cases false false lost_end fault end x is = absurd cc
+
+module _ (s : Scene) (es : List Event) where
+  delivered_succeeds : (outputs : Fields) (done : Bool) (end : End) → cond done (Some (Succeeds outputs)) None ≡ Some end → Succeeds outputs ≡ end
+  delivered_succeeds outputs true end is = cc
+  delivered_succeeds outputs false end is = absurd cc
+
+  planned_succeeds : (outputs : Fields) (plan : Option StagePlan) (end : End) → delivered_end s es outputs plan ≡ Some end → Succeeds outputs ≡ end
+  planned_succeeds outputs None end is = cc
+  planned_succeeds outputs (Some plan) end is = delivered_succeeds outputs (list_any is_delivery es) end is
+
+  result_succeeds : (r : Option Fields) (end : End) → result_end s es r ≡ Some end → (outputs : Fields) × ((r ≡ Some outputs) × (Succeeds outputs ≡ end))
+  result_succeeds None end is = absurd cc
+  result_succeeds (Some outputs) end is = (outputs, (refl, planned_succeeds outputs (delivery_at s es outputs) end is))
+
+  abbrev at_result : Option Fields
+  at_result = (unfolding_at s es).result
+
+  causes : (end : End) → end_of s es ≡ Some end →
+      (Host_ends HostFault.Collect (tickets es) ≡ end) ⊎ ((settled s es ≡ Some end) ⊎ (result_end s es at_result ≡ Some end))
+  causes end is = end_cases (list_any is_lost_collect es) (length (in_flight es) == 0) (Host_ends HostFault.Collect (tickets es)) (settled s es) (result_end s es at_result) end is
+
+  -- a success is the result
+  success_is_result : (outputs : Fields) → end_of s es ≡ Some (Succeeds outputs) → at_result ≡ Some outputs
+  success_is_result outputs is = elim (causes (Succeeds outputs) is) [
+    | inl lost ↦ absurd cc
+    | inr other ↦ elim other [
+      | inl failure ↦ absurd (subst IsNoSuccess failure (settled_failure s es))
+      | inr result ↦ let r = result_succeeds at_result (Succeeds outputs) result in
+          let named : at_result ≡ Some r.0 = r.1.0 in
+          let same : Succeeds r.0 ≡ Succeeds outputs = r.1.1 in cc
+    ]
+  ]
+
+  -- and a failure has settled the end
+  failure_settles : (place : JobPlace) (cause : Cause) → end_of s es ≡ Some (Fails_for_good place cause) → settled s es ≡ Some (Fails_for_good place cause)
+  failure_settles place cause is = elim (causes (Fails_for_good place cause) is) [
+    | inl lost ↦ absurd cc
+    | inr other ↦ elim other [
+      | inl failure ↦ failure
+      | inr result ↦ let r = result_succeeds at_result (Fails_for_good place cause) result in
+          let never : Succeeds r.0 ≡ Fails_for_good place cause = r.1.1 in absurd cc
+    ]
+  ]
+
+module _ (tool : Tool) (inputs : Fields) (options : Options) (world : World) where
+  abbrev s : Scene
+  s = lone tool inputs options
+
+  -- A failure is one of the world's
+
+  no_fault : (known : List Resolved) → fault_after (tool_walk tool [] (Ok inputs)) known ≡ None
+  no_fault [] = refl
+  no_fault (r ∷ earlier) = rw (no_fault earlier) refl
+
+  no_unfold_end : (es : List Event) → unfold_end s es ≡ None
+  no_unfold_end es = ap fault_end (no_fault (reverse (resolved es)))
+
+  now_is_not_for_good : (b : Bool) (at place : JobPlace) (cause : Cause) → cond b None (Some (Fails_for_now at)) ≡ Some (Fails_for_good place cause) → ⊥
+  now_is_not_for_good true at place cause is = cc
+  now_is_not_for_good false at place cause is = cc
+
+  breaks_rightly : (es : List Event) (e : Event) (place : JobPlace) (cause : Cause) → EventAtRoot e → AgreesAt s world es e →
+      settled_by s es e ≡ Some (Fails_for_good place cause) → world (key tool inputs) ≡ None
+  breaks_rightly es (Broke at why) place cause root agrees is =
+      agrees (its_job tool inputs options) (ap (job_at s es) root ∙ job_at_root tool inputs options es)
+  breaks_rightly es (Gave_up at) place cause root agrees is =
+      absurd (now_is_not_for_good (nat_lt (length (filter (gives_up at) es)) options.retries) at place cause is)
+  breaks_rightly es (Staged at number) place cause root agrees is = absurd cc
+  breaks_rightly es (Began at ticket) place cause root agrees is = absurd cc
+  breaks_rightly es (Came_back ticket) place cause root agrees is = absurd cc
+  breaks_rightly es (Succeeded at outputs) place cause root agrees is = absurd cc
+  breaks_rightly es Delivered place cause root agrees is = absurd cc
+  breaks_rightly es (Host_failed at fault) place cause root agrees is = absurd cc
+  breaks_rightly es Collect_failed place cause root agrees is = absurd cc
+
+  settles_rightly : (es later : List Event) (place : JobPlace) (cause : Cause) → AllAtRoot later → AgreesFrom s world es later →
+      settled_from s es later ≡ Some (Fails_for_good place cause) → world (key tool inputs) ≡ None
+  settles_rightly es [] place cause roots agrees is = absurd cc
+  settles_rightly es (e ∷ later) place cause roots agrees is =
+      elim (or_cases (settled_by s es e) (or_else (unfold_end s (es ++ e ∷ [])) (settled_from s (es ++ e ∷ []) later)) (Fails_for_good place cause) is) [
+        | inl by_it ↦ breaks_rightly es e place cause roots.0 agrees.0 by_it
+        | inr by_more ↦ settles_rightly (es ++ e ∷ []) later place cause roots.1 agrees.1
+            (sym (ap (λ (known : Option End). or_else known (settled_from s (es ++ e ∷ []) later)) (no_unfold_end (es ++ e ∷ []))) ∙ by_more)
+      ]
+
+  fails_rightly : (es : List Event) (place : JobPlace) (cause : Cause) → AllAtRoot es → AgreesFrom s world [] es →
+      end_of s es ≡ Some (Fails_for_good place cause) → eval_by world s.walker ≡ None
+  fails_rightly es place cause roots agrees is =
+      fails tool inputs world (settles_rightly [] es place cause roots agrees
+      (sym (ap (λ (known : Option End). or_else known (settled_from s [] es)) (no_unfold_end [])) ∙ failure_settles s es place cause is))
+
+  -- A success has the world's outputs
+
+  abbrev is_root : Resolved → Bool
+  is_root r = is_same_place r.place []
+
+  collects_rightly : (es later : List Event) (r : Resolved) → AgreesFrom s world es later → find is_root (resolved later) ≡ Some r →
+      world (key tool inputs) ≡ Some r.outputs
+  collects_rightly es [] r agrees is = absurd cc
+  collects_rightly es (Succeeded [] outputs ∷ later) r agrees is =
+      let found : Resolved = record { place = []; outputs = outputs } in
+      let same : found ≡ r = cc in
+      agrees.0 (its_job tool inputs options) (job_at_root tool inputs options es) ∙ ap (λ (x : Resolved). Some x.outputs) same
+  collects_rightly es (Succeeded (segment ∷ rest) outputs ∷ later) r agrees is = collects_rightly (es ++ Succeeded (segment ∷ rest) outputs ∷ []) later r agrees.1 is
+  collects_rightly es (Staged place number ∷ later) r agrees is = collects_rightly (es ++ Staged place number ∷ []) later r agrees.1 is
+  collects_rightly es (Began place ticket ∷ later) r agrees is = collects_rightly (es ++ Began place ticket ∷ []) later r agrees.1 is
+  collects_rightly es (Came_back ticket ∷ later) r agrees is = collects_rightly (es ++ Came_back ticket ∷ []) later r agrees.1 is
+  collects_rightly es (Broke place cause ∷ later) r agrees is = collects_rightly (es ++ Broke place cause ∷ []) later r agrees.1 is
+  collects_rightly es (Gave_up place ∷ later) r agrees is = collects_rightly (es ++ Gave_up place ∷ []) later r agrees.1 is
+  collects_rightly es (Delivered ∷ later) r agrees is = collects_rightly (es ++ Delivered ∷ []) later r agrees.1 is
+  collects_rightly es (Host_failed at fault ∷ later) r agrees is = collects_rightly (es ++ Host_failed at fault ∷ []) later r agrees.1 is
+  collects_rightly es (Collect_failed ∷ later) r agrees is = collects_rightly (es ++ Collect_failed ∷ []) later r agrees.1 is
+
+  -- the result, by what was collected at the root
+  abbrev result_by : Option Resolved → Option Fields
+  result_by r =
+      let made : Option Fields = option_map (λ (x : Resolved). fields_made [] x.outputs) r
+      in cond (is_some made && true) (all_named (outs_of (output_names tool) made)) None
+
+  by_resolved : (es : List Event) (outputs : Fields) (r : Option Resolved) → find is_root (resolved es) ≡ r → AgreesFrom s world [] es →
+      result_by (find is_root (resolved es)) ≡ Some outputs → eval_by world s.walker ≡ Some (fields_erased outputs)
+  by_resolved es outputs None found agrees is = let never : None ≡ Some outputs = sym (ap result_by found) ∙ is in absurd cc
+  by_resolved es outputs (Some r) found agrees is =
+      gives tool inputs world r.outputs outputs (collects_rightly [] es r agrees found) (sym (ap result_by found) ∙ is)
+
+  succeeds_rightly : (es : List Event) (outputs : Fields) → AgreesFrom s world [] es → end_of s es ≡ Some (Succeeds outputs) →
+      eval_by world s.walker ≡ Some (fields_erased outputs)
+  succeeds_rightly es outputs agrees is = by_resolved es outputs (find is_root (resolved es)) refl agrees (success_is_result s es outputs is)
+
+-- A lone tool, whether its inputs are of their types or not
+
+abbrev scene_by : Tool → Options → Result Fields Cause → Scene
+scene_by tool options inputs = record { walker = tool_walk tool [] inputs; options = options }
+
+means_rightly : (tool : Tool) (options : Options) (inputs : Result Fields Cause) (Plans : So_far → List Mark → Type 0) (t : List Pair) (f : So_far)
+    (marks : List Mark) (end : End) (world : World) → Goes (scene_by tool options inputs) Plans t f marks →
+    end_of (scene_by tool options inputs) f.events ≡ Some end → AgreesFrom (scene_by tool options inputs) world [] f.events →
+    MeansBy (scene_by tool options inputs) world end
+means_rightly tool options (Ok inputs) Plans t f marks (Succeeds outputs) world goes is agrees = succeeds_rightly tool inputs options world f.events outputs agrees is
+means_rightly tool options (Ok inputs) Plans t f marks (Fails_for_good place cause) world goes is agrees =
+    fails_rightly tool inputs options world f.events place cause (goes_at_root tool inputs options Plans goes).events agrees is
+means_rightly tool options (Err why) Plans t f marks (Succeeds outputs) world goes is agrees =
+    let never : None ≡ Some outputs = success_is_result (scene_by tool options (Err why)) f.events outputs is in absurd cc
+means_rightly tool options (Err why) Plans t f marks (Fails_for_good place cause) world goes is agrees = misfit_fails tool why world
+means_rightly tool options inputs Plans t f marks (Fails_for_now place) world goes is agrees = tt
+means_rightly tool options inputs Plans t f marks (Host_ends fault running) world goes is agrees = tt
+
+pub ends_rightly : (setting : Setting) (t : List Pair) (end : End) (run : IsRun setting t end) (world : World) →
+    IsHonest setting world run.happened.events → Means setting world end
+ends_rightly setting t end run world honest =
+    let its_inputs : Result Fields Cause = inputs_for (tool_of setting.process).inputs setting.inputs in
+    let its_scene : Scene = scene_by (tool_of setting.process) setting.options its_inputs in
+    let same : scene_of setting ≡ its_scene =
+    ap (λ (w : Walker). let s : Scene = record { walker = w; options = setting.options } in s) (walker_tool setting.process setting.inputs) in
+    means_of setting world end (subst (λ (x : Scene). MeansBy x world end) (sym same)
+    (means_rightly (tool_of setting.process) setting.options its_inputs (Loads_what_is_held (scene_of setting)) t run.happened run.marks end world
+    (subst (λ (x : Scene). Goes x (Loads_what_is_held (scene_of setting)) t run.happened run.marks) same run.goes)
+    (subst (λ (x : Scene). end_of x run.happened.events ≡ Some end) same run.ended)
+    (subst (λ (x : Scene). AgreesFrom x world [] run.happened.events) same honest)))

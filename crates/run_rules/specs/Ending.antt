@@ -1,0 +1,88 @@
+-- How a run ends: by the first event that settles it, and with none by the result, once it is delivered.
+use Rattle.std.specs.Prelude.{ℕ, ◌==◌, Bool, true, false, cond, List, [], ◌∷◌, ◌++◌, Option, Some, None, length, filter, nat_lt}
+use Rattle.std.specs.List.{list_any}
+use Rattle.proc_host.specs.declared.call.HostFault.{HostFault}
+use Rattle.proc_host.specs.declared.plan.StagePlan.{StagePlan}
+use Rattle.run_rules.specs.declared.outcome.Cause.{Cause}
+use Rattle.run_rules.specs.Words.{Fields, JobPlace, is_same_place}
+use Rattle.run_rules.specs.Unfold.{Fault, or_else}
+use Rattle.run_rules.specs.Delivered.{delivery}
+use Rattle.run_rules.specs.Events.{Event, Broke, Gave_up, Delivered, Host_failed, Collect_failed, in_flight, tickets, number_at, unfolding_at}
+use Rattle.run_rules.specs.Scene.{Scene}
+
+pub data End : Type 0 where
+  -- with these named outputs, before they are delivered
+  Succeeds : (outputs : Fields) → End
+  -- the job or the equation at this place fails, and would fail again
+  Fails_for_good : (place : JobPlace) (cause : Cause) → End
+  -- a signal ended the child of the job at this place
+  Fails_for_now : (place : JobPlace) → End
+  -- a call of the host's failed; the tickets of the children that nobody waits for any more
+  Host_ends : (fault : HostFault) (running : List ℕ) → End
+
+-- the end by the first fault
+abbrev pub fault_end : Option Fault → Option End
+fault_end None = None
+fault_end (Some fault) = Some (Fails_for_good fault.place fault.cause)
+
+-- whether an event is that a signal ended the child of the job at a place
+abbrev pub gives_up : JobPlace → Event → Bool
+gives_up place (Gave_up p) = is_same_place p place
+gives_up place _ = false
+
+-- whether it is that the result's files were delivered
+abbrev pub is_delivery : Event → Bool
+is_delivery Delivered = true
+is_delivery _ = false
+
+-- whether it is that a collect failed
+abbrev pub is_lost_collect : Event → Bool
+is_lost_collect Collect_failed = true
+is_lost_collect _ = false
+
+module _ (s : Scene) where
+  -- the end that an event is, after these: a child's end by a signal is none while its job may be started again
+  abbrev pub settled_by : List Event → Event → Option End
+  settled_by es (Broke place cause) = Some (Fails_for_good place cause)
+  settled_by es (Gave_up place) =
+      cond (nat_lt (length (filter (gives_up place) es)) s.options.retries) None (Some (Fails_for_now place))
+  settled_by es (Host_failed place fault) = Some (Host_ends fault [])
+  settled_by es _ = None
+
+  -- the end by the first fault of what is known
+  abbrev pub unfold_end : List Event → Option End
+  unfold_end es = fault_end (unfolding_at s es).fault
+
+  -- the first end that one of the later events is, or what is known after it
+  abbrev pub settled_from : List Event → List Event → Option End
+  settled_from es [] = None
+  settled_from es (e ∷ later) =
+      or_else (settled_by es e) (or_else (unfold_end (es ++ e ∷ [])) (settled_from (es ++ e ∷ []) later))
+
+  -- the failure that settled the end, if one did
+  abbrev pub settled : List Event → Option End
+  settled es = or_else (unfold_end []) (settled_from [] es)
+
+  -- a plan, where it has something to copy
+  abbrev pub if_any : StagePlan → Option StagePlan
+  if_any plan = cond (length plan.moves == 0) None (Some plan)
+
+  -- the copies of a result's files, where it has some
+  abbrev pub delivery_at : List Event → Fields → Option StagePlan
+  delivery_at es outputs = if_any (delivery (number_at es) s.options.work s.options.outdir outputs)
+
+  -- a result is the end at once where it has nothing to copy, and else once that is copied
+  abbrev pub delivered_end : List Event → Fields → Option StagePlan → Option End
+  delivered_end es outputs None = Some (Succeeds outputs)
+  delivered_end es outputs (Some plan) = cond (list_any is_delivery es) (Some (Succeeds outputs)) None
+
+  -- the end that the result is, where there is one
+  abbrev pub result_end : List Event → Option Fields → Option End
+  result_end es None = None
+  result_end es (Some outputs) = delivered_end es outputs (delivery_at es outputs)
+
+  -- how these events end; none where the run goes on
+  abbrev pub end_of : List Event → Option End
+  end_of es =
+      cond (list_any is_lost_collect es) (Some (Host_ends HostFault.Collect (tickets es)))
+      (cond (length (in_flight es) == 0) (or_else (settled es) (result_end es (unfolding_at s es).result)) None)

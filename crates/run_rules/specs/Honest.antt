@@ -1,0 +1,34 @@
+-- A run is honest in a world where each end of a job is what the world says of it.
+use Rattle.std.specs.Prelude.{◌≡◌, List, [], ◌∷◌, ◌++◌, Some, None}
+use Rattle.cwl_value.specs.Erased.{fields_erased}
+use Rattle.run_rules.specs.declared.setting.Setting.{Setting}
+use Rattle.run_rules.specs.Jobs.{Job}
+use Rattle.run_rules.specs.Key.{key}
+use Rattle.run_rules.specs.Eval.{World, eval}
+use Rattle.run_rules.specs.Events.{Event, Succeeded, Broke, job_at}
+use Rattle.run_rules.specs.Ending.{End, Succeeds, Fails_for_good}
+use Rattle.run_rules.specs.Scene.{Scene, scene_of}
+
+module _ (s : Scene) where
+  -- temporary ends and calls that fail are free
+  abbrev pub AgreesAt : World → List Event → Event → Type 0
+  AgreesAt world es (Succeeded place outputs) =
+      (job : Job) → job_at s es place ≡ Some job → world (key job.tool job.inputs) ≡ Some outputs
+  AgreesAt world es (Broke place cause) =
+      (job : Job) → job_at s es place ≡ Some job → world (key job.tool job.inputs) ≡ None
+  AgreesAt world es _ = Unit {0}
+
+  abbrev pub AgreesFrom : World → List Event → List Event → Type 0
+  AgreesFrom world es [] = Unit {0}
+  AgreesFrom world es (e ∷ later) = AgreesAt world es e × AgreesFrom world (es ++ e ∷ []) later
+
+-- all that happened is as the world says
+abbrev pub IsHonest : Setting → World → List Event → Type 0
+IsHonest setting world events = AgreesFrom (scene_of setting) world [] events
+
+-- what an end says of computing every job
+abbrev pub Means : Setting → World → End → Type 0
+Means setting world (Succeeds outputs) =
+    eval world setting.process setting.inputs ≡ Some (fields_erased outputs)
+Means setting world (Fails_for_good place cause) = eval world setting.process setting.inputs ≡ None
+Means setting world _ = Unit {0}

@@ -1,0 +1,74 @@
+-- What a run gains on its host, and what it reports.
+use Rattle.std.specs.Prelude.{◌≡◌, List, [], Option, Some, None, Result, Ok, Err, filter_map, option_map}
+use Rattle.cwl_document.specs.declared.process.Process.{Process}
+use Rattle.proc_host.specs.declared.call.HostRequest.{HostRequest}
+use Rattle.proc_host.specs.declared.call.Entry.{Entry}
+use Rattle.run_rules.specs.declared.request.Request.{Request}
+use Rattle.run_rules.specs.declared.request.Pair.{Pair}
+use Rattle.run_rules.specs.declared.outcome.Outcome.{Outcome}
+use Rattle.run_rules.specs.declared.outcome.Report.{Report}
+use Rattle.run_rules.specs.declared.outcome.RunFault.{RunFault}
+use Rattle.run_rules.specs.declared.setting.Options.{Options}
+use Rattle.run_rules.specs.declared.setting.Setting.{Setting}
+use Rattle.run_rules.specs.Words.{Fields}
+use Rattle.cwl_value.specs.Erased.{erased}
+use Rattle.run_rules.specs.Delivered.{located, object_of}
+use Rattle.run_rules.specs.Eval.{World, eval}
+use Rattle.run_rules.specs.Events.{So_far}
+use Rattle.run_rules.specs.Ending.{End, Succeeds, Fails_for_good, Fails_for_now, Host_ends}
+use Rattle.run_rules.specs.Plans.{Mark}
+use Rattle.run_rules.specs.Run.{IsRunSoFar, IsRun}
+use Rattle.run_rules.specs.Honest.{IsHonest}
+
+-- a request as its host is asked it, without the place of its job
+abbrev pub host_request : Request → Option HostRequest
+host_request (Request.Stage place plan number) = Some (HostRequest.Stage plan number)
+host_request (Request.Start place launch) = Some (HostRequest.Start launch)
+host_request Request.Collect = Some HostRequest.Collect
+host_request (Request.Scan place folder) = Some (HostRequest.Scan folder)
+host_request (Request.Deliver plan) = Some (HostRequest.Deliver plan)
+host_request Request.Finished = None
+
+abbrev pub entry_of : Pair → Option Entry
+entry_of pair = option_map (λ request. record { request = request; answer = pair.answer }) (host_request pair.request)
+
+-- what a host's log gains by these pairs
+abbrev pub entries_of : List Pair → List Entry
+entries_of t = filter_map entry_of t
+
+abbrev pub reported : Outcome → Result Report RunFault
+reported outcome = Ok (record { outcome = outcome; plans = []; notes = [] })
+
+-- what is reported of an end
+abbrev pub report_of : Options → End → Result Report RunFault
+report_of options (Succeeds outputs) = reported (Outcome.Success (located options.outdir outputs))
+report_of options (Fails_for_good place cause) = reported (Outcome.PermanentFail place cause)
+report_of options (Fails_for_now place) = reported (Outcome.TemporaryFail place)
+report_of options (Host_ends fault running) = Err (RunFault.Host fault running)
+
+-- what an outcome says of computing every job: a success is its value, both without places, and where a job fails
+-- permanently there is none
+abbrev pub IsRightOutcome : Setting → World → Outcome → Type 0
+IsRightOutcome setting world (Outcome.Success value) =
+    option_map object_of (eval world setting.process setting.inputs) ≡ Some (erased value)
+IsRightOutcome setting world (Outcome.PermanentFail place cause) = eval world setting.process setting.inputs ≡ None
+IsRightOutcome setting world (Outcome.TemporaryFail place) = Unit {0}
+
+abbrev pub IsRight : Setting → World → Result Report RunFault → Type 0
+IsRight setting world (Ok report) = IsRightOutcome setting world report.outcome
+IsRight setting world (Err fault) = Unit {0}
+
+-- how a transcript is reported
+pub data Concludes (setting : Setting) (t : List Pair) : Result Report RunFault → Type 0 where
+  -- memory was wanting, so there may be no end; it is a run as far as it goes
+  lost : (f : So_far) (marks : List Mark) → IsRunSoFar setting t f marks → Concludes setting t (Err RunFault.OutOfMemory)
+  -- it is a whole run, its end is reported, and in each world where it is honest the report is right
+  whole : (end : End) (run : IsRun setting t end) →
+      ((world : World) → IsHonest setting world run.happened.events → IsRight setting world (report_of setting.options end)) →
+      Concludes setting t (report_of setting.options end)
+
+-- a host's log gained these entries by a run of this process, which is reported so
+pub record GainsRun (process : Process) (inputs : Fields) (options : Options) (gained : List Entry) (result : Result Report RunFault) : Type 0 where
+  pub transcript : List Pair
+  pub entries : entries_of transcript ≡ gained
+  pub concluded : Concludes (record { process = process; inputs = inputs; options = options }) transcript result

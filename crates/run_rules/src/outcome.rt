@@ -1,0 +1,92 @@
+ghost use Rattle.std.specs.Prelude.{◌≡◌};
+ghost use Rattle.run_rules.specs.Codes.{code_of};
+
+use command_line::BuildFault;
+use cwl_value::{JobPlace, Value};
+use plain_data::{Items, Text};
+use proc_host::HostFault;
+
+/// Why a job gives no outputs, and would give none if it were started again.
+#[derive(Drop)]
+pub enum Cause {
+    /// The value of this input does not fit its type.
+    Kind(Text),
+    /// There is no launch for it.
+    Build(BuildFault),
+    /// Its child ended with this code.
+    Exit(Option<i32>),
+    /// What its child left is no output object.
+    Collect(CollectFault),
+}
+
+/// Why a scanned folder gives no output object; each has the id of the output.
+#[derive(Drop)]
+pub enum CollectFault {
+    /// No file has the name.
+    NoMatch(Text),
+    /// What has the name is no file.
+    NotTyped(Text),
+}
+
+impl CollectFault {
+    /// The refusal's short name, which no other refusal has.
+    pub fn code(&self) -> &'static str
+        ensures { result.now ≡ code_of self.now }
+    {
+        match self {
+            CollectFault::NoMatch(_) => "G2",
+            CollectFault::NotTyped(_) => "G5",
+        }
+    }
+}
+
+/// What came of a process (CWL v1.2, "Process status": success, permanentFailure, temporaryFailure).
+#[derive(Drop)]
+pub enum Outcome {
+    /// The output object, each file at the location that it was delivered to.
+    Success(Value),
+    PermanentFail(JobPlace, Cause),
+    TemporaryFail(JobPlace),
+}
+
+/// The cost of a plan, and how many answers came before it.
+#[derive(Clone, Copy, Debug, Drop, PartialEq, Eq)]
+pub struct PlanNote {
+    pub after: u64,
+    pub cost: u64,
+}
+
+/// What went wrong without changing the end.
+#[derive(Drop)]
+pub struct Note {
+    pub place: JobPlace,
+    pub fault: HostFault,
+}
+
+/// What a whole run says.
+#[derive(Drop)]
+pub struct Report {
+    pub outcome: Outcome,
+    pub plans: Items<PlanNote>,
+    pub notes: Items<Note>,
+}
+
+/// Why a run has no outcome.
+#[derive(Drop)]
+pub enum RunFault {
+    /// The host's call failed; the tickets of the children that nobody waits for any more.
+    Host(HostFault, Items<u64>),
+    /// Memory was wanting.
+    OutOfMemory,
+}
+
+impl From<std::alloc::AllocError> for RunFault {
+    ghost use Rattle.run_rules.specs.declared.outcome.RunFault.TheVariants.{OutOfMemory};
+    ghost use Rattle.std.specs.Prelude.{◌≡◌};
+
+    ghost from_gives = { λ _ fault. fault ≡ OutOfMemory };
+
+    fn from(_error: std::alloc::AllocError) -> RunFault {
+        RunFault::OutOfMemory
+    }
+}
