@@ -33,11 +33,18 @@ asked a words file rows is_it matches kinds chosen =
     subst (λ (b : App). is_simple_and_free b ≡ true → fault_of b words ≡ []) is_it kinds simple_and_free in
     subst (λ (f : Option Text). Asks words f) (sym (chosen ∙ ap (option_and_then file_named) rows_are)) (asks taken)
 
+abbrev got : {A : Type 0} → A → Option A → A
+got other None = other
+got other (Some x) = x
+
 both : {A B C : Type 0} (f : A → B) (g : A → C) (o : Option A) (b : B) (c : C)
     → option_map f o ≡ Some b → option_map (λ (p : B × C). p.1) (option_map (λ x. (f x, g x)) o) ≡ Some c
     → option_map (λ x. (f x, g x)) o ≡ Some (b, c)
 both f g None b c by_first by_second = cc
-both f g (Some x) b c by_first by_second = cc
+both f g (Some x) b c by_first by_second =
+    let first : f x ≡ b = ap (got b) by_first in
+    let second : g x ≡ c = ap (got c) by_second in
+    rw (first, second) refl
 
 or_empty : (given : Option (Bor (List ℕ))) (empty : Bor (List ℕ)) (o : Option Text)
     → option_map (λ s. s.now) given ≡ o → empty.now ≡ [] → (unwrap_or given empty).now ≡ unwrap_or o []

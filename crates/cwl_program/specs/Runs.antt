@@ -7,13 +7,13 @@ use Rattle.cwl_value.specs.Places.{job_text}
 use Rattle.cwl_value.specs.declared.value.Value.TheVariants as values
 use Rattle.cwl_value.specs.declared.place.Segment.{Segment}
 use Rattle.proc_host.specs.declared.call.Entry.{Entry}
-use Rattle.run_core.specs.Words.{Fields}
-use Rattle.run_core.specs.declared.outcome.Outcome.{Outcome}
-use Rattle.run_core.specs.declared.outcome.Outcome.TheVariants as outcomes
-use Rattle.run_core.specs.declared.outcome.Report.{Report}
-use Rattle.run_core.specs.declared.outcome.RunFault.{RunFault}
-use Rattle.run_core.specs.declared.outcome.RunFault.TheVariants as run_faults
-use Rattle.run_core.specs.declared.setting.Options.{Options}
+use Rattle.run_rules.specs.Words.{Fields}
+use Rattle.run_rules.specs.declared.outcome.Outcome.{Outcome}
+use Rattle.run_rules.specs.declared.outcome.Outcome.TheVariants as outcomes
+use Rattle.run_rules.specs.declared.outcome.Report.{Report}
+use Rattle.run_rules.specs.declared.outcome.RunFault.{RunFault}
+use Rattle.run_rules.specs.declared.outcome.RunFault.TheVariants as run_faults
+use Rattle.run_rules.specs.declared.setting.Options.{Options}
 use Rattle.workflow_engine.specs.Gains.{RunsOn}
 use Rattle.cwl_program.specs.declared.ending.Ending.{Ending}
 use Rattle.cwl_program.specs.declared.ending.Ending.TheVariants as endings

@@ -7,7 +7,7 @@ use Rattle.cwl_program.proofs.command.chosen.Goals as goal
 pub returns-in-Some-check-default : goal.returns-in-Some-check-default
 returns-in-Some-check-default c =
     let name : subcommand_name_of c.args.matches.now ≡ Some (codes "check") =
-        first_of (search (rules, c.in-Some-check-default.ensures.name, c.in-Some-check-default.is-check), cc, grind (arith, c.in-Some-check-default.ensures.name, c.in-Some-check-default.is-check)) in
+    first_of (search (rules, c.in-Some-check-default.ensures.name, c.in-Some-check-default.is-check), cc, grind (arith, c.in-Some-check-default.ensures.name, c.in-Some-check-default.is-check)) in
     let rows : option_map (λ (p : Text × List Row). p.1) (subcommand_rows (out-ArgMatches c.args.matches.now).subcommand) ≡ Some (rows_of (found_of c.in-Some-check-default.words.now)) =
-        first_of (search (rules, c.in-Some-check-default.ensures.rows, c.in-Some-check-default.words-is), cc, grind (arith, c.in-Some-check-default.ensures.rows, c.in-Some-check-default.words-is)) in
+    first_of (search (rules, c.in-Some-check-default.ensures.rows, c.in-Some-check-default.words-is), cc, grind (arith, c.in-Some-check-default.ensures.rows, c.in-Some-check-default.words-is)) in
     file_checked c.args.matches.now c.in-Some-check-default.words.now c.get_str.result c.unwrap_or.result _ name rows c.get_str.ensures c.unwrap_or.ensures refl
