@@ -1,3 +1,4 @@
+-- Charges as a flow under way: fair but for an amount that is missing at one node.
 use Rattle.std.specs.Prelude.{◌≡◌, ℕ, ◌+◌, ◌<◌, ◌≤◌, ◌==◌, List, [], replicate, length, sum, false, EachIndex, slice_index, slice_index_or, if◌then◌else◌}
 use Rattle.std.specs.Option.{ForSome}
 use Rattle.plan_checker.specs.declared.vertex.Vertex.{Vertex}

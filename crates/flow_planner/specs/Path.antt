@@ -1,3 +1,4 @@
+-- A path along which more is sent: at which node an amount is missing, and from where it is brought.
 use Rattle.std.specs.Prelude.{ℕ, ◌<◌, ◌≤◌, List}
 use Rattle.plan_checker.specs.declared.vertex.Vertex.{Vertex}
 use Rattle.plan_checker.specs.declared.charges.Charges.{Charges}

@@ -1,3 +1,4 @@
+-- What a search in the residual network has reached, by which arcs, and when no arc leads on.
 use Rattle.std.specs.Prelude.{◌≡◌, ℕ, ◌+◌, ◌<◌, ◌≤◌, ◌==◌, List, length, replicate, true, EachIndex, IsSomeAnd, slice_index, slice_index_or, if◌then◌else◌}
 use Rattle.std.specs.Option.{ForSome}
 use Rattle.plan_checker.specs.declared.vertex.Vertex.{Vertex}

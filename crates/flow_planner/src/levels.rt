@@ -1,6 +1,9 @@
 //! The level graph: how many open arcs lead to each node.
 
+ghost use Rattle.std.specs.Prelude.{◌≡◌, ◌+◌, ◌-◌, ◌<◌, ◌^◌};
+
 use crate::network::{Network, sink_of, source_of};
+use crate::phases::Phases;
 use std::alloc::{AllocError, Global};
 
 /// How far each node is from the source.
@@ -27,8 +30,17 @@ impl Levels {
         self.of.get(node).copied().unwrap_or(0)
     }
 
-    /// Counts open arcs from the source, as far as the sink's level; whether they lead to the sink.
-    pub fn build(&mut self, network: &Network, jobs: usize) -> Result<bool, AllocError> {
+    /// Counts open arcs from the source, as far as the sink's level; whether they lead to the sink. It is one phase.
+    pub fn build(
+        &mut self,
+        network: &Network,
+        jobs: usize,
+        phases: &mut Phases,
+    ) -> Result<bool, AllocError>
+        requires { phases.old.count < 2 ^ 64 - 1 }
+        ensures { phases.new.count ≡ phases.old.count + 1 }
+    {
+        phases.tick();
         let sink = sink_of(jobs);
         self.of.fill(0);
         self.queue.clear();

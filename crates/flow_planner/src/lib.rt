@@ -7,8 +7,12 @@
 //! The plan is read off a flow of greatest value. Each job is two nodes: one says that its outputs are there (`Kept`),
 //! the other that it is run (`Computed`). A unit of flow enters at a needed job's first node, goes through to its
 //! second, and there is paid by the compute cost or passed to the first node of a parent. The load cost bounds what goes
-//! through, the compute cost what is paid. `search` and `chase` look for a path along which more can flow, `augment`
-//! sends it.
+//! through, the compute cost what is paid.
+//!
+//! `greatest` finds the flow by level graphs: `levels` counts the open arcs to each node, `blocking` sends all that goes
+//! down them. No proof rests on these. Their charges are checked, as anybody could check them, and from fair ones
+//! (or, were they ever refused, from none) `search` and `chase` look for a path along which more can flow, and `augment`
+//! sends it. Where there is none, what they reached is the Least plan: that is what is proved.
 #![tactic(auto)]
 
 mod augment;
@@ -19,11 +23,14 @@ mod edit;
 mod error;
 mod greatest;
 mod levels;
+mod mend;
 mod network;
+mod phases;
 mod planner;
 mod search;
 #[cfg(test)]
 mod tests;
 
 pub use error::OutOfMemory;
-pub use planner::plan;
+pub use phases::Phases;
+pub use planner::{plan, plan_again, plan_by_paths, plan_counted};

@@ -1,6 +1,6 @@
 //! The planner.
 
-ghost use Rattle.std.specs.Prelude.{◌≡◌, ◌<◌, IfOk, length, vec_len};
+ghost use Rattle.std.specs.Prelude.{◌≡◌, ◌+◌, ◌*◌, ◌<◌, ◌≤◌, ◌^◌, IfOk, length, vec_len};
 ghost use Rattle.plan_checker.specs.Graph.{IsGraph};
 ghost use Rattle.plan_checker.specs.Least.{IsLeast};
 ghost use Rattle.plan_checker.specs.Certificate.{IsCertificate};
@@ -11,7 +11,9 @@ use crate::augment::augment;
 use crate::begin::no_charges;
 use crate::chase::{Chase, find_path};
 use crate::error::OutOfMemory;
-use crate::greatest::greatest;
+use crate::greatest::{greatest, greatest_from};
+use crate::mend::mended;
+use crate::phases::Phases;
 use crate::search::Search;
 use plain_data::Items;
 use plan_checker::{Charges, Graph, Mark, Plan, Vertex, check};
@@ -68,12 +70,38 @@ fn plan_from(
     }
 }
 
-/// The charges of a greatest flow; none, where they don't certify the plan beside them.
-fn fair_start(alloc: Global, graph: &Graph) -> Result<Charges, AllocError>
+/// The charges of a greatest flow, where they are fair.
+fn fair_start(alloc: Global, graph: &Graph, phases: &mut Phases) -> Result<Charges, AllocError>
+    requires { phases.old.count ≤ 2 ^ 63 }
+    ensures fair { IfOk result (λ charges. AreFairBut graph.now charges nothing nothing) }
+    ensures phases { phases.new.count ≤ phases.old.count + 2 * length graph.now + 1 }
+{
+    let vertices = graph.vertices();
+    let (plan, charges) = greatest(alloc, vertices, phases)?;
+    checked(alloc, graph, &plan, charges)
+}
+
+/// The same, from the charges of an earlier graph.
+fn fair_again(alloc: Global, graph: &Graph, last: &Charges) -> Result<Charges, AllocError>
     ensures { IfOk result (λ charges. AreFairBut graph.now charges nothing nothing) }
 {
-    let (plan, charges) = greatest(alloc, graph.vertices())?;
-    match check(graph, &plan, &charges) {
+    let vertices = graph.vertices();
+    let start = mended(alloc, vertices, last)?;
+    let mut phases = Phases::new();
+    let (plan, charges) = greatest_from(alloc, vertices, &start, &mut phases)?;
+    checked(alloc, graph, &plan, charges)
+}
+
+/// These charges where they certify this plan, and else none.
+fn checked(
+    alloc: Global,
+    graph: &Graph,
+    plan: &Plan,
+    charges: Charges,
+) -> Result<Charges, AllocError>
+    ensures { IfOk result (λ charges. AreFairBut graph.now charges nothing nothing) }
+{
+    match check(graph, plan, &charges) {
         Ok(_) => Ok(charges),
         Err(_) => no_charges(alloc, graph.vertices()),
     }
@@ -87,6 +115,51 @@ pub fn plan(alloc: Global, graph: &Graph) -> Result<(Plan, Charges), OutOfMemory
     ensures least { IfOk result (λ made. IsLeast graph.now made.0.marks) }
     ensures certified { IfOk result (λ made. IsCertificate graph.now made.0.marks made.1) }
 {
-    let start = fair_start(alloc, graph)?;
+    let mut phases = Phases::new();
+    plan_counted(alloc, graph, &mut phases)
+}
+
+/// The same, with a count of the phases: for each level graph that is built, `phases` counts one more.
+///
+/// There are at most two for each vertex, and one. After so many the search by paths would finish what is left; that
+/// nothing ever is left is not proved.
+pub fn plan_counted(
+    alloc: Global,
+    graph: &Graph,
+    phases: &mut Phases,
+) -> Result<(Plan, Charges), OutOfMemory>
+    requires { phases.old.count ≤ 2 ^ 63 }
+    ensures least { IfOk result (λ made. IsLeast graph.now made.0.marks) }
+    ensures certified { IfOk result (λ made. IsCertificate graph.now made.0.marks made.1) }
+    ensures phases { phases.new.count ≤ phases.old.count + 2 * length graph.now + 1 }
+{
+    let start = fair_start(alloc, graph, phases)?;
+    Ok(plan_from(alloc, graph.vertices(), start)?)
+}
+
+/// The Least plan of a graph, and charges that certify it, from the charges of an earlier graph.
+///
+/// The fewer vertices have changed since, the faster it is: vertices may have been added at the end, loads and needs
+/// may be others. The plan is that of `plan`, whatever the earlier charges are.
+pub fn plan_again(
+    alloc: Global,
+    graph: &Graph,
+    last: &Charges,
+) -> Result<(Plan, Charges), OutOfMemory>
+    ensures least { IfOk result (λ made. IsLeast graph.now made.0.marks) }
+    ensures certified { IfOk result (λ made. IsCertificate graph.now made.0.marks made.1) }
+{
+    let start = fair_again(alloc, graph, last)?;
+    Ok(plan_from(alloc, graph.vertices(), start)?)
+}
+
+/// The Least plan of a graph, and charges that certify it, found path by path from no charges.
+///
+/// It gives what `plan` gives, later: the plan to compare with.
+pub fn plan_by_paths(alloc: Global, graph: &Graph) -> Result<(Plan, Charges), OutOfMemory>
+    ensures least { IfOk result (λ made. IsLeast graph.now made.0.marks) }
+    ensures certified { IfOk result (λ made. IsCertificate graph.now made.0.marks made.1) }
+{
+    let start = no_charges(alloc, graph.vertices())?;
     Ok(plan_from(alloc, graph.vertices(), start)?)
 }

@@ -1,6 +1,6 @@
 -- Each graph has a Least plan: of the cheapest plans, one that does least. What it shares with another cheapest plan makes a cheapest plan too, so it does no more than that one.
 use Rattle.std.proofs.Common.{◌≡◌, ◌≢◌, ℕ, zero, suc, ◌+◌, ◌<◌, ◌≤◌, subst, List, [], ◌∷◌, Bool, true, false, cond, ltb, eqb, length, get_or, replicate, is_some, sym, refl, ap, ◌∙◌, inl, inr, ⊎_elim, ◌⊎◌, arith}
-use Rattle.std.proofs.lemmas.Bool.{cases_eq, cases_lt, lt-ltb, le-ltb, eq-eqb, ne_eqb, cond-true, cond-false, true≢false}
+use Rattle.std.proofs.lemmas.Bool.{cases_eq, cases_lt, lt-ltb, le-ltb, eq-eqb, ne_eqb, cond-true, true≢false}
 use Rattle.std.proofs.lemmas.List.{get_or_default, get_or-replicate, length-replicate}
 use Rattle.plan_checker.specs.declared.vertex.Vertex.{Vertex}
 use Rattle.plan_checker.specs.declared.plan.Mark.{Mark}
@@ -8,7 +8,7 @@ use Rattle.plan_checker.specs.declared.plan.Mark.TheVariants.{Load, Compute, Pru
 use Rattle.plan_checker.specs.Sums.{sum_below}
 use Rattle.plan_checker.specs.Graph.{vertex, IsGraph}
 use Rattle.plan_checker.specs.Plan.{mark, IsAllowed, IsValid, cost_of, cost}
-use Rattle.plan_checker.specs.Least.{IsCheapest, IsLeast}
+use Rattle.plan_checker.specs.Least.{IsLeast}
 use Rattle.plan_checker.specs.Laws.{HasLeast}
 use Rattle.plan_checker.proofs.SumsBelow.{sum_below_same, sum_below-add, sum_below_tight}
 
