@@ -1,0 +1,6 @@
+pub mod Texts
+pub mod Columns
+pub mod Statements
+pub mod RecordMap
+pub mod Log
+pub mod Opening

@@ -1,0 +1,104 @@
+//! The commands, from rows to the statements of their tables.
+
+ghost use Rattle.std.specs.Prelude.{◌≡◌, ◌+◌, ◌≤◌, [], Any, IfOk, IfErr, OnOk};
+ghost use Rattle.std.specs.Vec.{vec_len, vec_capacity};
+ghost use Rattle.sqlite.specs.State.{HasCleanDisk, Survives, CommitsBy, CommitsShowing};
+ghost use Rattle.sqlite.specs.Held.{state};
+ghost use Rattle.job_record.specs.Statements.{find_text, list_text, put_text, key_params, put_params};
+ghost use Rattle.job_record.specs.Columns.{IsRowOf, IsUnread, AreRowsOf, Misreads};
+ghost use Rattle.job_record.specs.RecordMap.{Finds, Puts, Lists, changed};
+
+use crate::fault::RecordFault;
+use crate::log::Entry;
+use crate::row::Row;
+use crate::tables;
+use crate::texts::{row_of, stored_of};
+use plain_data::{Items, Text};
+use sqlite::{Alter, Connection, Error, Row as Columns};
+use std::alloc::{AllocError, Global};
+
+/// A copy of the key, and room for an entry of the log.
+pub fn room(alloc: Global, log: &mut Vec<Entry>, key: &str) -> Result<Text, AllocError>
+    ensures key { IfOk result (λ copy. copy ≡ key.now) }
+    ensures room { OnOk result (vec_len log.new + 1 ≤ vec_capacity log.new) }
+    ensures same { log.new.items ≡ log.old.items }
+{
+    log.reserve(1)?;
+    Text::from_text(alloc, key)
+}
+
+/// The row of a key, if there is one.
+pub fn look_up<S: Alter>(
+    alloc: Global,
+    conn: &mut Connection<S>,
+    key: &str,
+) -> Result<Option<Row>, RecordFault>
+    ensures finds { HasCleanDisk (state S.Store conn.new) → Finds S.Store conn.old conn.new key.now result }
+    ensures survives { Survives (state S.Store conn.old) (state S.Store conn.new) (CommitsShowing find_text (key_params key.now) (state S.Store conn.old)) }
+{
+    match tables::find(conn, key) {
+        Ok(Some(columns)) => match read_row(alloc, &columns) {
+            Ok(row) => Ok(Some(row)),
+            Err(fault) => Err(fault),
+        },
+        Ok(None) => Ok(None),
+        Err(error) => Err(RecordFault::Store(error)),
+    }
+}
+
+/// Sets the row of its key.
+pub fn set<S: Alter>(alloc: Global, conn: &mut Connection<S>, row: &Row) -> Result<(), RecordFault>
+    ensures puts { HasCleanDisk (state S.Store conn.new) → Puts S.Store conn.old conn.new row.now result }
+    ensures survives { Survives (state S.Store conn.old) (state S.Store conn.new) (CommitsBy put_text (put_params row.now) (state S.Store conn.old)) }
+{
+    let Ok(stored) = stored_of(alloc, row) else {
+        return Err(RecordFault::OutOfMemory);
+    };
+    match tables::put(conn, &stored) {
+        Ok(_) => Ok(()),
+        Err(error) => Err(RecordFault::Store(error)),
+    }
+}
+
+/// What a change of the row with a key is answered: R3 where it met none.
+pub fn change_of(met: Result<usize, Error>) -> Result<(), RecordFault>
+    ensures { result ≡ changed met }
+{
+    match met {
+        Ok(0) => Err(RecordFault::NoRow),
+        Ok(_) => Ok(()),
+        Err(error) => Err(RecordFault::Store(error)),
+    }
+}
+
+/// All rows, by key.
+pub fn read_all<S: Alter>(
+    alloc: Global,
+    conn: &mut Connection<S>,
+) -> Result<Items<Row>, RecordFault>
+    ensures lists { HasCleanDisk (state S.Store conn.new) → Lists S.Store conn.old conn.new result }
+    ensures survives { Survives (state S.Store conn.old) (state S.Store conn.new) (CommitsShowing list_text [] (state S.Store conn.old)) }
+{
+    match tables::list(conn) {
+        Ok(columns) => read_rows(alloc, columns.as_slice()),
+        Err(error) => Err(RecordFault::Store(error)),
+    }
+}
+
+fn read_rows(alloc: Global, all: &[Columns]) -> Result<Items<Row>, RecordFault>
+    ensures ok { IfOk result (AreRowsOf all.now) }
+    ensures err { IfErr result (Misreads (Any IsUnread all.now)) }
+{
+    let mut rows = Vec::new(alloc);
+    for columns in all {
+        rows.push(read_row(alloc, columns)?)?;
+    }
+    Ok(Items::from_vec(rows))
+}
+
+fn read_row(alloc: Global, columns: &Columns) -> Result<Row, RecordFault>
+    ensures ok { IfOk result (IsRowOf columns.now) }
+    ensures err { IfErr result (Misreads (IsUnread columns.now)) }
+{
+    row_of(alloc, tables::stored_in(columns)?)
+}

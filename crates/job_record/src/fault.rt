@@ -1,0 +1,77 @@
+use sqlite::Error as StoreError;
+use std::alloc::{AllocError, AllocFailed};
+use std::fmt;
+
+/// Why a command of the record was refused.
+#[derive(Clone, Copy, Debug, PartialEq, Eq)]
+pub enum RecordFault {
+    /// R1: the store holds no record, or a text in it does not read.
+    NotARecord,
+    /// R2: the record is of another version.
+    WrongVersion,
+    /// R3: no row has this key.
+    NoRow,
+    /// R4: the store refused.
+    Store(StoreError),
+    OutOfMemory,
+}
+
+impl RecordFault {
+    /// The fault's short name, from `R1` to `R4`, or `OutOfMemory`.
+    pub fn code(&self) -> &'static str {
+        match self {
+            RecordFault::NotARecord => "R1",
+            RecordFault::WrongVersion => "R2",
+            RecordFault::NoRow => "R3",
+            RecordFault::Store(_) => "R4",
+            RecordFault::OutOfMemory => "OutOfMemory",
+        }
+    }
+}
+
+impl fmt::Display for RecordFault {
+    fn fmt<W: fmt::Write>(&self, f: &mut fmt::Formatter<W>) -> fmt::Result {
+        match self {
+            RecordFault::NotARecord => f.write_str("R1: the store is no record"),
+            RecordFault::WrongVersion => f.write_str("R2: the record has another version"),
+            RecordFault::NoRow => f.write_str("R3: no row has this key"),
+            RecordFault::Store(cause) => write!(f, "R4: {cause}"),
+            RecordFault::OutOfMemory => f.write_str("out of memory"),
+        }
+    }
+}
+
+impl std::error::Error for RecordFault {}
+
+impl From<AllocError> for RecordFault {
+    ghost use Rattle.std.specs.Prelude.{◌≡◌};
+    ghost use Rattle.job_record.specs.declared.fault.RecordFault.TheVariants.{OutOfMemory};
+
+    ghost from_gives = { λ _ e. e ≡ OutOfMemory };
+
+    fn from(_refused: AllocError) -> RecordFault {
+        RecordFault::OutOfMemory
+    }
+}
+
+impl<T: Drop> From<AllocFailed<T>> for RecordFault {
+    ghost use Rattle.std.specs.Prelude.{◌≡◌};
+    ghost use Rattle.job_record.specs.declared.fault.RecordFault.TheVariants.{OutOfMemory};
+
+    ghost from_gives = { λ _ e. e ≡ OutOfMemory };
+
+    fn from(_refused: AllocFailed<T>) -> RecordFault {
+        RecordFault::OutOfMemory
+    }
+}
+
+impl From<StoreError> for RecordFault {
+    ghost use Rattle.std.specs.Prelude.{◌≡◌};
+    ghost use Rattle.job_record.specs.declared.fault.RecordFault.TheVariants.{Store};
+
+    ghost from_gives = { λ cause e. e ≡ Store cause };
+
+    fn from(cause: StoreError) -> RecordFault {
+        RecordFault::Store(cause)
+    }
+}

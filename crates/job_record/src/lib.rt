@@ -1,0 +1,23 @@
+//! The record of jobs: for each key one row, with the outputs of the job, its files, its cost and whether an archive
+//! of its files is kept. It lasts in a SQLite database.
+//!
+//! `JobRecord` is a finite map from key to row. `find` looks a key up, `put` sets the whole row of a key,
+//! `drop_archive` says that its archive is gone, `forget` takes the row out, and `list` gives all rows by key.
+//! Each command is one SQL statement (`specs/Statements.antt`), and its contract is that statement's meaning with the
+//! command's arguments. A refused command changes nothing. A crash leaves what a crash could leave before the
+//! command, or what the command commits. The record keeps a log: each command adds one entry.
+#![tactic(auto)]
+
+mod commands;
+mod fault;
+mod log;
+mod making;
+mod record;
+mod row;
+mod tables;
+mod texts;
+
+pub use fault::RecordFault;
+pub use log::{Command, Entry};
+pub use record::JobRecord;
+pub use row::{Found, Row};

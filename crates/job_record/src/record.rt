@@ -1,0 +1,178 @@
+ghost use Rattle.std.specs.Prelude.{◌≡◌, [], false, IfOk};
+ghost use Rattle.sqlite.specs.State.{HasCleanDisk, Survives, CommitsBy, CommitsShowing};
+ghost use Rattle.sqlite.specs.Held.{state};
+ghost use Rattle.job_record.specs.Statements.{find_text, list_text, put_text, drop_archive_text, forget_text, key_params, put_params};
+ghost use Rattle.job_record.specs.RecordMap.{Finds, Puts, Changes, Lists};
+ghost use Rattle.job_record.specs.Log.{Logs};
+
+use crate::commands::{change_of, look_up, read_all, room, set};
+use crate::fault::RecordFault;
+use crate::log::{Command, Entry};
+use crate::making::open_tables;
+use crate::row::Row;
+use crate::tables;
+use plain_data::Items;
+use sqlite::{Alter, Connection};
+use std::alloc::Global;
+
+/// A record over a store.
+pub struct JobRecord<S: Alter> {
+    alloc: Global,
+    conn: Connection<S>,
+    log: Vec<Entry>,
+}
+
+// It is written out, so that a caller does not prove again how each part is dropped.
+impl<S: Alter + Drop> Drop for JobRecord<S> {
+    fn drop(self) {
+        let JobRecord {
+            alloc: _,
+            conn: _,
+            log: _,
+        } = self;
+    }
+}
+
+impl<S: Alter + Drop> JobRecord<S> {
+    /// Opens the record in a store, or makes one where the store has neither of its tables. Reads every row. A refusal
+    /// hands the connection back.
+    ///
+    /// # Errors
+    ///
+    /// R1 where the store has one table without the other, a table without a column, no version, or a row that does not
+    /// read; R2 where the version is another one; R4; want of memory.
+    pub fn open_record(
+        alloc: Global,
+        mut conn: Connection<S>,
+    ) -> Result<JobRecord<S>, (RecordFault, Connection<S>)>
+        requires { conn.in_transaction ≡ false }
+        ensures { IfOk result (λ opened. opened.log.items ≡ []) }
+    {
+        match open_tables(alloc, &mut conn) {
+            Ok(()) => Ok(JobRecord {
+                alloc,
+                conn,
+                log: Vec::new(alloc),
+            }),
+            Err(fault) => Err((fault, conn)),
+        }
+    }
+
+    /// The connection as it stands.
+    pub fn into_connection(self) -> Connection<S>
+        ensures { result ≡ self.conn }
+    {
+        let JobRecord {
+            alloc: _,
+            conn,
+            log: _,
+        } = self;
+        conn
+    }
+}
+
+impl<S: Alter> JobRecord<S> {
+    /// What was asked so far, oldest first.
+    pub fn log(&self) -> &[Entry]
+        ensures { result.now ≡ self.now.log.items }
+    {
+        self.log.as_slice()
+    }
+
+    /// The row of a key, if there is one.
+    ///
+    /// # Errors
+    ///
+    /// R1 where the row does not read; R4; want of memory.
+    pub fn find(&mut self, key: &str) -> Result<Option<Row>, RecordFault>
+        ensures finds { HasCleanDisk (state S.Store self.new.conn) → Finds S.Store self.old.conn self.new.conn key.now result }
+        ensures survives { Survives (state S.Store self.old.conn) (state S.Store self.new.conn) (CommitsShowing find_text (key_params key.now) (state S.Store self.old.conn)) }
+        ensures log { Logs Command.Find key.now result self.old.log.items self.new.log.items }
+    {
+        let noted = room(self.alloc, &mut self.log, key)?;
+        let answer = look_up(self.alloc, &mut self.conn, key);
+        let outcome = match &answer {
+            Ok(_) => Ok(()),
+            Err(fault) => Err(*fault),
+        };
+        self.log.push_reserved(Entry {
+            command: Command::Find,
+            key: noted,
+            answer: outcome,
+        });
+        answer
+    }
+
+    /// Sets the row of its key.
+    ///
+    /// # Errors
+    ///
+    /// R4, also where the cost is not from 1 to 10^12; want of memory.
+    pub fn put(&mut self, row: &Row) -> Result<(), RecordFault>
+        ensures puts { HasCleanDisk (state S.Store self.new.conn) → Puts S.Store self.old.conn self.new.conn row.now result }
+        ensures survives { Survives (state S.Store self.old.conn) (state S.Store self.new.conn) (CommitsBy put_text (put_params row.now) (state S.Store self.old.conn)) }
+        ensures log { Logs Command.Put row.now.key result self.old.log.items self.new.log.items }
+    {
+        let noted = room(self.alloc, &mut self.log, row.key.as_str())?;
+        let answer = set(self.alloc, &mut self.conn, row);
+        self.log.push_reserved(Entry {
+            command: Command::Put,
+            key: noted,
+            answer,
+        });
+        answer
+    }
+
+    /// Notes that the archive of a key is gone.
+    ///
+    /// # Errors
+    ///
+    /// R3 where no row has the key; R4; want of memory.
+    pub fn drop_archive(&mut self, key: &str) -> Result<(), RecordFault>
+        ensures changes { HasCleanDisk (state S.Store self.new.conn) → Changes S.Store self.old.conn self.new.conn drop_archive_text key.now result }
+        ensures survives { Survives (state S.Store self.old.conn) (state S.Store self.new.conn) (CommitsBy drop_archive_text (key_params key.now) (state S.Store self.old.conn)) }
+        ensures log { Logs Command.DropArchive key.now result self.old.log.items self.new.log.items }
+    {
+        let noted = room(self.alloc, &mut self.log, key)?;
+        let answer = change_of(tables::drop_archive(&mut self.conn, key));
+        self.log.push_reserved(Entry {
+            command: Command::DropArchive,
+            key: noted,
+            answer,
+        });
+        answer
+    }
+
+    /// Takes the row of a key out.
+    ///
+    /// # Errors
+    ///
+    /// R3 where no row has the key; R4; want of memory.
+    pub fn forget(&mut self, key: &str) -> Result<(), RecordFault>
+        ensures changes { HasCleanDisk (state S.Store self.new.conn) → Changes S.Store self.old.conn self.new.conn forget_text key.now result }
+        ensures survives { Survives (state S.Store self.old.conn) (state S.Store self.new.conn) (CommitsBy forget_text (key_params key.now) (state S.Store self.old.conn)) }
+        ensures log { Logs Command.Forget key.now result self.old.log.items self.new.log.items }
+    {
+        let noted = room(self.alloc, &mut self.log, key)?;
+        let answer = change_of(tables::forget(&mut self.conn, key));
+        self.log.push_reserved(Entry {
+            command: Command::Forget,
+            key: noted,
+            answer,
+        });
+        answer
+    }
+
+    /// All rows, in the order of the bytes of their keys.
+    ///
+    /// # Errors
+    ///
+    /// R1 where a row does not read; R4; want of memory.
+    pub fn list(&mut self) -> Result<Items<Row>, RecordFault>
+        ensures lists { HasCleanDisk (state S.Store self.new.conn) → Lists S.Store self.old.conn self.new.conn result }
+        ensures survives { Survives (state S.Store self.old.conn) (state S.Store self.new.conn) (CommitsShowing list_text [] (state S.Store self.old.conn)) }
+        ensures log { self.new.log ≡ self.old.log }
+    {
+        read_all(self.alloc, &mut self.conn)
+    }
+}

@@ -1,0 +1,161 @@
+//! The texts in which a row is kept.
+
+ghost use Rattle.std.specs.Prelude.{◌≡◌, Some, None, Ok, IfOk, IfErr, option_map};
+ghost use Rattle.serde_json.specs.View.{view, items_view};
+ghost use Rattle.serde_json.specs.Written.{compact_text};
+ghost use Rattle.cwl_value.specs.Texts.{ReadsAs};
+ghost use Rattle.job_record.specs.Texts.{found_json, files_json, found_in, list_in, text_at, flag_at, number_at, ReadsAsFiles, texts_of, ReadsAsRow};
+ghost use Rattle.job_record.specs.Columns.{Misreads};
+
+use crate::fault::RecordFault;
+use crate::row::{Found, Row};
+use cwl_value::{Value, ValueRefusal, canonical_text, read_value};
+use plain_data::{Items, Text};
+use serde_json::Value as Json;
+use std::alloc::{AllocError, Global};
+
+/// A row as the table has it.
+#[derive(Drop)]
+pub struct Stored {
+    pub key: Text,
+    pub outputs: Text,
+    pub files: Text,
+    pub cost: u64,
+    pub archived: bool,
+}
+
+/// The row's texts.
+pub fn stored_of(alloc: Global, row: &Row) -> Result<Stored, AllocError>
+    ensures { IfOk result (λ s. s ≡ texts_of row.now) }
+{
+    Ok(Stored {
+        key: row.key.copied(alloc)?,
+        outputs: canonical_text(alloc, &row.outputs)?,
+        files: files_text(alloc, &row.files)?,
+        cost: row.cost,
+        archived: row.archived,
+    })
+}
+
+/// The row that the texts stand for.
+pub fn row_of(alloc: Global, stored: Stored) -> Result<Row, RecordFault>
+    ensures ok { IfOk result (ReadsAsRow stored) }
+    ensures err { IfErr result (Misreads ((row : _) → ¬ ReadsAsRow stored row)) }
+{
+    let files = read_files(alloc, &stored.files)?;
+    match read_outputs(alloc, &stored.outputs) {
+        Ok(outputs) => Ok(Row {
+            key: stored.key,
+            outputs,
+            files,
+            cost: stored.cost,
+            archived: stored.archived,
+        }),
+        Err(fault) => Err(fault),
+    }
+}
+
+fn read_outputs(alloc: Global, text: &Text) -> Result<Value, RecordFault>
+    ensures ok { IfOk result (λ v. ReadsAs text.now (Ok v)) }
+    ensures err { IfErr result (Misreads ((v : _) → ¬ ReadsAs text.now (Ok v))) }
+{
+    match read_value(alloc, text.as_str().as_bytes()) {
+        Ok(outputs) => Ok(outputs),
+        Err(ValueRefusal::OutOfMemory) => Err(RecordFault::OutOfMemory),
+        Err(_) => Err(RecordFault::NotARecord),
+    }
+}
+
+/// A compact list of `[name, is_dir, size, sum]`.
+#[tactic(auto, using(crate::proofs::Files::exact))]
+fn files_text(alloc: Global, files: &Items<Found>) -> Result<Text, AllocError>
+    ensures { IfOk result (λ text. text ≡ compact_text (files_json files.now)) }
+{
+    Ok(Text::from_string(json_of_files(alloc, files)?.to_string(alloc)?))
+}
+
+fn json_of_files(alloc: Global, files: &Items<Found>) -> Result<Json, AllocError>
+    ensures { IfOk result (λ json. view json ≡ files_json files.now) }
+{
+    let mut list = Vec::new(alloc);
+    for found in files.as_slice() {
+        list.push(json_of_found(alloc, found)?)?;
+    }
+    Ok(Json::Array(list))
+}
+
+fn json_of_found(alloc: Global, found: &Found) -> Result<Json, AllocError>
+    ensures { IfOk result (λ json. view json ≡ found_json found.now) }
+{
+    let mut fields = Vec::with_capacity(alloc, 4)?;
+    fields.push(Json::try_from_str(alloc, found.name.as_str())?)?;
+    fields.push(Json::Bool(found.is_dir))?;
+    fields.push(Json::from(found.size))?;
+    fields.push(Json::try_from_str(alloc, found.sum.as_str())?)?;
+    Ok(Json::Array(fields))
+}
+
+fn read_files(alloc: Global, text: &Text) -> Result<Items<Found>, RecordFault>
+    ensures ok { IfOk result (ReadsAsFiles text.now) }
+    ensures err { IfErr result (Misreads ((files : _) → ¬ ReadsAsFiles text.now files)) }
+{
+    let json = match Json::from_str(alloc, text.as_str()) {
+        Ok(json) => json,
+        Err(error) if error.is_memory() => return Err(RecordFault::OutOfMemory),
+        Err(_) => return Err(RecordFault::NotARecord),
+    };
+    match &json {
+        Json::Array(list) => read_list(alloc, list.as_slice()),
+        _ => Err(RecordFault::NotARecord),
+    }
+}
+
+fn read_list(alloc: Global, list: &[Json]) -> Result<Items<Found>, RecordFault>
+    ensures ok { IfOk result (λ files. list_in (items_view list.now) ≡ Some files) }
+    ensures err { IfErr result (Misreads (list_in (items_view list.now) ≡ None)) }
+{
+    let mut files = Vec::new(alloc);
+    for entry in list {
+        files.push(read_found(alloc, entry)?)?;
+    }
+    Ok(Items::from_vec(files))
+}
+
+fn read_found(alloc: Global, entry: &Json) -> Result<Found, RecordFault>
+    ensures ok { IfOk result (λ found. found_in (view entry.now) ≡ Some found) }
+    ensures err { IfErr result (Misreads (found_in (view entry.now) ≡ None)) }
+{
+    let (Some(name), Some(is_dir), Some(size), Some(sum), None) = (
+        text_at(entry, 0),
+        flag_at(entry, 1),
+        number_at(entry, 2),
+        text_at(entry, 3),
+        entry.get(4),
+    ) else {
+        return Err(RecordFault::NotARecord);
+    };
+    Ok(Found {
+        name: Text::from_text(alloc, name)?,
+        is_dir,
+        size,
+        sum: Text::from_text(alloc, sum)?,
+    })
+}
+
+fn text_at(entry: &Json, at: usize) -> Option<&str>
+    ensures { option_map (λ text. text.now) result ≡ text_at at (view entry.now) }
+{
+    entry.get(at)?.as_str()
+}
+
+fn flag_at(entry: &Json, at: usize) -> Option<bool>
+    ensures { result ≡ flag_at at (view entry.now) }
+{
+    entry.get(at)?.as_bool()
+}
+
+fn number_at(entry: &Json, at: usize) -> Option<u64>
+    ensures { result ≡ number_at at (view entry.now) }
+{
+    entry.get(at)?.as_u64()
+}
