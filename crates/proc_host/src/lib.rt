@@ -28,5 +28,3 @@ pub use plan::{Move, StagePlan};
 pub use reply::Reply;
 pub use scripted::Scripted;
 
-#[cfg(test)]
-mod tests;
