@@ -23,8 +23,6 @@ mod place;
 mod print;
 mod read;
 mod refusal;
-#[cfg(test)]
-mod tests;
 mod value;
 mod write;
 

@@ -17,8 +17,6 @@ mod reader;
 mod refusal;
 mod resolution;
 mod sum;
-#[cfg(test)]
-mod tests;
 
 pub use cwl_value::name_parts;
 pub use laws::there_and_back;

@@ -22,8 +22,6 @@ mod opening;
 mod reading;
 mod scanner;
 mod template;
-#[cfg(test)]
-mod tests;
 
 pub use context::Context;
 pub use fault::RefFault;

@@ -16,8 +16,6 @@ mod lengths;
 mod nesting;
 mod refusal;
 mod shape;
-#[cfg(test)]
-mod tests;
 mod tuples;
 
 pub use gathering::Gathering;

@@ -1,5 +1,17 @@
-//! Rows of the values, files, scatters and references: each line of `stdin` is a call, and `stdout` has its answer.
+//! Rows of the values, their files, scatters and references: each line of `stdin` is a call, and the same line of
+//! `stdout` has its answer.
+//!
+//! A refusal is answered by its code, and a value by its canonical text.
 #![tactic(auto)]
+
+mod files;
+mod keys;
+mod names;
+mod places;
+mod references;
+mod scatters;
+mod sums;
+mod values;
 
 use row_io::{Answers, Row, RowFault, answer_rows};
 use std::alloc::Global;
@@ -10,14 +22,30 @@ struct Calls;
 
 impl Answers for Calls {
     fn answer(&self, alloc: Global, row: &Row) -> Result<String, RowFault> {
-        match row.call() {
-            "name_parts" => names::parts(alloc, row),
-            _ => Err(RowFault::UnknownCall),
+        match of_values(alloc, row) {
+            Err(RowFault::UnknownCall) => of_files(alloc, row),
+            answer => answer,
         }
     }
 }
 
-mod names;
+fn of_values(alloc: Global, row: &Row) -> Result<String, RowFault> {
+    match row.call() {
+        "read_value" | "clone_in" | "from_json" | "erased" => values::answer(alloc, row),
+        "place_text" | "clone_place" => places::answer(alloc, row),
+        "template_value" => references::answer(alloc, row),
+        _ => scatters::answer(alloc, row),
+    }
+}
+
+fn of_files(alloc: Global, row: &Row) -> Result<String, RowFault> {
+    match row.call() {
+        "name_parts" | "secondary_name" => names::answer(alloc, row),
+        "sum_of" => sums::answer(alloc, row),
+        "order" | "from_entries" | "insert" | "get" => keys::answer(alloc, row),
+        _ => files::answer(alloc, row),
+    }
+}
 
 fn main(rt: HostRuntime) -> io::Result<ExitCode> {
     answer_rows(&rt, &Calls)
