@@ -7,26 +7,44 @@
 
 use anyhow::{Result, anyhow};
 use flow_planner::plan;
-use plan_checker::{check, read_certificate};
+use plan_checker::{Charges, Graph, Plan, check, read_certificate};
 use std::env;
 use std::io::Read;
 use std::time::Instant;
 
 fn main(rt: HostRuntime) -> Result<()> {
+    let graph = graph_of(&rt)?;
+    measured(&rt, &graph)
+}
+
+fn graph_of(rt: &HostRuntime) -> Result<Graph> {
     let mut text = Vec::new(rt.alloc());
     rt.stdin().read_to_end(&mut text)?;
     let (graph, _, _) = read_certificate(rt.alloc(), text.as_slice())?;
+    Ok(graph)
+}
 
-    let start = Instant::now(&rt)?;
-    let (plan, charges) = plan(rt.alloc(), &graph)?;
-    let planned = start.elapsed(&rt)?;
+fn measured(rt: &HostRuntime, graph: &Graph) -> Result<()> {
+    let start = Instant::now(rt)?;
+    let (plan, charges) = plan(rt.alloc(), graph)?;
+    report(rt, graph, &plan, &charges, start)
+}
 
-    let start = Instant::now(&rt)?;
-    let cost = check(&graph, &plan, &charges).map_err(|broken| anyhow!("{broken:?}"))?;
-    let checked = start.elapsed(&rt)?;
+// Prints what a plan that was begun at `start` costs.
+fn report(
+    rt: &HostRuntime,
+    graph: &Graph,
+    plan: &Plan,
+    charges: &Charges,
+    start: Instant,
+) -> Result<()> {
+    let planned = start.elapsed(rt)?;
+    let start = Instant::now(rt)?;
+    let cost = check(graph, plan, charges).map_err(|broken| anyhow!("{broken:?}"))?;
+    let checked = start.elapsed(rt)?;
 
     println!(rt; "cost {cost}")?;
-    if env::args(&rt)?.any(|word| word.as_str() == "times") {
+    if env::args(rt)?.any(|word| word.as_str() == "times") {
         let (plan, check) = (planned.as_micros(), checked.as_micros());
         println!(rt; "plan {plan}\ncheck {check}")?;
     }
