@@ -28,8 +28,6 @@ mod network;
 mod phases;
 mod planner;
 mod search;
-#[cfg(test)]
-mod tests;
 
 pub use error::OutOfMemory;
 pub use phases::Phases;

@@ -1,7 +1,7 @@
 //! The check of a certificate.
 
 use crate::texts::{Given, bad_line, certificate_in, certificate_of};
-use plan_checker::{Broken, check};
+use plan_checker::{Broken, Graph, Plan, check};
 use row_io::{Row, RowFault};
 use std::alloc::{AllocError, Global};
 
@@ -17,16 +17,26 @@ pub(crate) fn checked(alloc: Global, row: &Row) -> Result<String, RowFault> {
 
 /// What the check says of the graph of one text, the plan of another and the charges of a third.
 pub(crate) fn checked_parts(alloc: Global, row: &Row) -> Result<String, RowFault> {
-    let Given::Certificate(graph, _, _) = part(alloc, row, "graph")? else {
-        return Err(RowFault::BadArgument);
-    };
-    let Given::Certificate(_, plan, _) = part(alloc, row, "plan")? else {
-        return Err(RowFault::BadArgument);
-    };
-    let Given::Certificate(_, _, charges) = part(alloc, row, "charges")? else {
-        return Err(RowFault::BadArgument);
-    };
-    Ok(answer_of(alloc, check(&graph, &plan, &charges))?)
+    match part(alloc, row, "graph")? {
+        Given::Certificate(graph, _, _) => checked_with(alloc, row, &graph),
+        Given::BadLine(line) => bad_line(alloc, line),
+    }
+}
+
+/// The same, of this graph.
+fn checked_with(alloc: Global, row: &Row, graph: &Graph) -> Result<String, RowFault> {
+    match part(alloc, row, "plan")? {
+        Given::Certificate(_, plan, _) => checked_by(alloc, row, graph, &plan),
+        Given::BadLine(line) => bad_line(alloc, line),
+    }
+}
+
+/// The same, of this graph and plan.
+fn checked_by(alloc: Global, row: &Row, graph: &Graph, plan: &Plan) -> Result<String, RowFault> {
+    match part(alloc, row, "charges")? {
+        Given::Certificate(_, _, charges) => Ok(answer_of(alloc, check(graph, plan, &charges))?),
+        Given::BadLine(line) => bad_line(alloc, line),
+    }
 }
 
 /// Reads the certificate of one argument.
@@ -35,7 +45,7 @@ fn part(alloc: Global, row: &Row, argument: &str) -> Result<Given, RowFault> {
 }
 
 /// What a check says.
-fn answer_of(alloc: Global, checked: Result<u64, Broken>) -> Result<String, AllocError> {
+pub(crate) fn answer_of(alloc: Global, checked: Result<u64, Broken>) -> Result<String, AllocError> {
     match checked {
         Ok(cost) => format!(in alloc; "{cost}"),
         Err(broken) => format!(in alloc; "{broken:?}"),

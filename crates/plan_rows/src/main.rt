@@ -29,6 +29,8 @@ impl Answers for Calls {
             "plan" => plans::certified(alloc, row),
             "plan_marks" => plans::marked(alloc, row),
             "plan_cost" => plans::cost(alloc, row),
+            "plan_phases" => plans::phases(alloc, row),
+            "plan_again" => plans::again(alloc, row),
             _ => Err(RowFault::UnknownCall),
         }
     }

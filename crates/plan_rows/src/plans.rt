@@ -1,8 +1,9 @@
 //! The plan of a graph. The graph is that of a certificate, whose own plan and charges are ignored.
 
+use crate::checks::answer_of;
 use crate::reads::checked_text;
-use crate::texts::{Given, certificate_of};
-use flow_planner::plan;
+use crate::texts::{Given, bad_line, certificate_of};
+use flow_planner::{Phases, plan, plan_again, plan_counted};
 use plan_checker::{Charges, Graph, Mark, Plan, check};
 use row_io::{Row, RowFault};
 use std::alloc::{AllocError, Global};
@@ -24,10 +25,41 @@ pub(crate) fn marked(alloc: Global, row: &Row) -> Result<String, RowFault> {
 /// What a graph's plan costs, as its charges show.
 pub(crate) fn cost(alloc: Global, row: &Row) -> Result<String, RowFault> {
     let graph = graph_of(alloc, row)?;
-    let (plan, charges) = planned(alloc, &graph)?;
-    match check(&graph, &plan, &charges) {
-        Ok(cost) => Ok(format!(in alloc; "{cost}")?),
-        Err(_) => Err(RowFault::BadArgument),
+    cost_of(alloc, &graph)
+}
+
+/// What the plan of a graph costs.
+fn cost_of(alloc: Global, graph: &Graph) -> Result<String, RowFault> {
+    let (plan, charges) = planned(alloc, graph)?;
+    Ok(answer_of(alloc, check(graph, &plan, &charges))?)
+}
+
+/// How many level graphs were built for a graph's plan.
+pub(crate) fn phases(alloc: Global, row: &Row) -> Result<String, RowFault> {
+    let graph = graph_of(alloc, row)?;
+    let mut phases = Phases::new();
+    match plan_counted(alloc, &graph, &mut phases) {
+        Ok(_) => {
+            let count = phases.count();
+            Ok(format!(in alloc; "{count}")?)
+        }
+        Err(_) => Err(RowFault::OutOfMemory),
+    }
+}
+
+/// The certificate of a graph's plan that was found from the charges of the certificate that is given for it.
+pub(crate) fn again(alloc: Global, row: &Row) -> Result<String, RowFault> {
+    match certificate_of(alloc, row)? {
+        Given::Certificate(graph, _, last) => found_again(alloc, &graph, &last),
+        Given::BadLine(line) => bad_line(alloc, line),
+    }
+}
+
+/// The certificate of a graph's plan that was found from these charges.
+fn found_again(alloc: Global, graph: &Graph, last: &Charges) -> Result<String, RowFault> {
+    match plan_again(alloc, graph, last) {
+        Ok((plan, charges)) => checked_text(alloc, graph, &plan, &charges),
+        Err(_) => Err(RowFault::OutOfMemory),
     }
 }
 
