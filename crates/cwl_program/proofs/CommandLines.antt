@@ -1,5 +1,5 @@
 -- What `clap`'s contracts say of the program's command and of its words.
-use Rattle.std.proofs.Common.{◌≡◌, ◌∙◌, ap, refl, subst, sym, true, false, ℕ, List, [], Option, Some, None, Bor, codes, option_map, option_and_then}
+use Rattle.std.proofs.Common.{◌≡◌, ◌∙◌, ap, ap₂, refl, subst, sym, true, false, ℕ, List, [], Option, Some, None, Bor, codes, option_map, option_and_then}
 use Rattle.std.specs.Prelude.{unwrap_or}
 use Rattle.clap.specs.Words.{App, Row, Rule, Text, app_of, fault_of, first_of, first_value, found_of, is_simple, is_simple_and_free, rows_of, subcommand_name_of, subcommand_of, subcommand_rows, subcommand_rows_of}
 use Rattle.clap.specs.Simple.{app_of_fields}
@@ -37,14 +37,17 @@ abbrev got : {A : Type 0} → A → Option A → A
 got other None = other
 got other (Some x) = x
 
+abbrev paired : {A B C : Type 0} → (A → B) → (A → C) → A → B × C
+paired f g x = (f x, g x)
+
+abbrev some_pair : {B C : Type 0} → B → C → Option (B × C)
+some_pair b c = Some (b, c)
+
 both : {A B C : Type 0} (f : A → B) (g : A → C) (o : Option A) (b : B) (c : C)
-    → option_map f o ≡ Some b → option_map (λ (p : B × C). p.1) (option_map (λ x. (f x, g x)) o) ≡ Some c
-    → option_map (λ x. (f x, g x)) o ≡ Some (b, c)
+    → option_map f o ≡ Some b → option_map (λ (p : B × C). p.1) (option_map (paired f g) o) ≡ Some c
+    → option_map (paired f g) o ≡ some_pair b c
 both f g None b c by_first by_second = cc
-both f g (Some x) b c by_first by_second =
-    let first : f x ≡ b = ap (got b) by_first in
-    let second : g x ≡ c = ap (got c) by_second in
-    rw (first, second) refl
+both f g (Some x) b c by_first by_second = ap₂ some_pair (ap (got b) by_first) (ap (got c) by_second)
 
 or_empty : (given : Option (Bor (List ℕ))) (empty : Bor (List ℕ)) (o : Option Text)
     → option_map (λ s. s.now) given ≡ o → empty.now ≡ [] → (unwrap_or given empty).now ≡ unwrap_or o []
@@ -59,7 +62,7 @@ pub file_checked : (m words : ArgMatches) (given : Option (Bor (List ℕ))) (fil
     → file ≡ unwrap_or given empty → empty.now ≡ []
     → Some file.now ≡ option_and_then file_named (subcommand_rows_of m)
 file_checked m words given file empty name rows value is_file none =
-    let named : subcommand_rows_of m ≡ Some (codes "check", rows_of (found_of words)) =
+    let named : subcommand_rows_of m ≡ some_pair (codes "check") (rows_of (found_of words)) =
     both (λ b. (out-SubCommand (box_value b)).name.now) (λ b. rows_of (found_of (out-SubCommand (box_value b)).matches))
     (out-ArgMatches m).subcommand (codes "check") (rows_of (found_of words)) name rows in
     let text : file.now ≡ unwrap_or (first_of (codes "CERTIFICATE") (rows_of (found_of words))) [] =
