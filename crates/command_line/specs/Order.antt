@@ -1,4 +1,4 @@
--- The bindings of a tool, and the order that their words stand in (CWL v1.2, Command Line Tool, "Input binding").
+-- The bindings of a tool, and the order of their words (CWL v1.2, Command Line Tool, "Input binding").
 use Rattle.std.specs.Prelude.{ℕ, ℤ, Bool, List, Option, ◌↔◌, Contains}
 use Rattle.std.specs.List.{filter_map}
 use Rattle.std.specs.Option.{option_map}

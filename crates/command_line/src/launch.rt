@@ -13,7 +13,7 @@ pub struct Variable {
 /// What a host is to start: one child, whole (CWL v1.2, Command Line Tool, "Runtime environment").
 #[derive(Debug, Drop)]
 pub struct Launch {
-    /// The program, and then its arguments: each word is one argument, whatever is in it.
+    /// The program, and then its arguments: each word is one argument, with any text in it.
     pub words: Items<Text>,
     /// The whole environment: the child sees no other variable.
     pub env: Items<Variable>,

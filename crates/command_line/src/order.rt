@@ -22,7 +22,7 @@ pub(crate) struct BoundInput<'t> {
     pub separate: bool,
 }
 
-/// The inputs of `tool` that have a binding, in the order that their words stand in.
+/// The inputs of `tool` that have a binding, in the order of their words.
 pub(crate) fn in_order(alloc: Global, tool: &Tool) -> Result<Vec<BoundInput<'_>>, AllocError>
     ensures { IfOk result (λ rows. AreInOrder tool.now (map bound_of rows.items)) }
 {

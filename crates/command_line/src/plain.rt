@@ -8,7 +8,7 @@ use crate::{BuildError, BuildFault, TextPlace};
 use plain_data::Text;
 use std::alloc::Global;
 
-/// Whether an operating system takes the text: whether the zero character is not in it.
+/// Checks that an operating system takes the text: that it has no zero character.
 pub(crate) fn is_plain(text: &str) -> bool
     ensures { result ≡ is_plain text.now }
 {

@@ -1,4 +1,4 @@
--- What may stand at a field: each form as a test of the JSON value there.
+-- What a field may have: each form as a test of the JSON value there.
 use Rattle.std.specs.Prelude.{ℕ, ◌==◌, ◌&&◌, ◌||◌, List, [], ◌∷◌, length, Bool, true, false, not, Option, Some, None, is_some, option_and_then, if◌then◌else◌, codes, pos, negsuc, ℤ, int_le}
 use Rattle.std.specs.List.{list_all, list_any}
 use Rattle.std.specs.Option.{option_map_or}
@@ -25,7 +25,7 @@ is_boolean d = is_some (as_bool d)
 abbrev pub is_object : Data → Bool
 is_object d = is_some (as_object d)
 
--- parameters stand in a list, or in a map by their ids
+-- parameters are in a list, or in a map by their ids
 abbrev pub is_parameters : Data → Bool
 is_parameters null = false
 is_parameters (boolean b) = false
@@ -43,7 +43,7 @@ is_words (string s) = true
 is_words (array ds) = list_all is_text (elements ds)
 is_words (object ms) = false
 
--- `$(` or `${` stands somewhere in the text
+-- the text has `$(` or `${`
 abbrev pub holds_reference : List ℕ → Bool
 holds_reference [] = false
 holds_reference (x ∷ []) = false

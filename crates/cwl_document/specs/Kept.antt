@@ -14,7 +14,7 @@ is_left_out ParameterLevel name = is_read_over name
 is_left_out BindingLevel name = is_read_over name
 is_left_out PlainLevel name = false
 
--- what stands under a name
+-- the level of the value under a name
 abbrev pub level_under : Level → List ℕ → Level
 level_under ToolLevel name = if bytes_eq name (codes "inputs") || bytes_eq name (codes "outputs") then ParametersLevel else PlainLevel
 level_under ParametersLevel name = ParameterLevel
@@ -22,7 +22,7 @@ level_under ParameterLevel name = if bytes_eq name (codes "inputBinding") then B
 level_under BindingLevel name = PlainLevel
 level_under PlainLevel name = PlainLevel
 
--- what stands in a list
+-- the level of the items of a list
 abbrev pub level_within : Level → Level
 level_within ToolLevel = PlainLevel
 level_within ParametersLevel = ParameterLevel

@@ -17,7 +17,7 @@ use Rattle.cwl_document.specs.declared.kept.Level.TheVariants.{ToolLevel}
 use Rattle.cwl_document.specs.declared.refusal.DocumentRefusal.{DocumentRefusal}
 use Rattle.cwl_document.specs.declared.refusal.DocumentRefusal.TheVariants.{NotJson, WrongVersion, WrongClass, MissingField, UnknownField, WrongShape, RepeatedId, TooDeep, OutOfMemory}
 
--- the field that such an object stands at
+-- the field that has such an object
 abbrev pub place_of : ObjectKind → List ℕ
 place_of ToolObject = []
 place_of InputObject = codes "inputs"
@@ -82,7 +82,7 @@ OutputsBreak e d =
     Breaks e ToolObject d
     ⊎ (SomeOf (OutputBreaks e) (parameters (get (codes "outputs") d)) ⊎ IsRepeat e (ids_in (get (codes "outputs") d)))
 
--- another value than that text stands there
+-- there is another value than that text
 abbrev pub IsOther : List ℕ → Option Data → Type 0
 IsOther text o = IsSomeAnd o (λ v. is_named text v ≡ false)
 

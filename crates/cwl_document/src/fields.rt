@@ -15,7 +15,7 @@ pub enum ObjectKind {
     OutputObject,
 }
 
-/// Whether a name may stand at such an object.
+/// Checks that an object of this kind may have this name.
 pub fn is_known(kind: ObjectKind, name: &str) -> bool
     ensures { result ≡ is_known kind name.now }
 {

@@ -116,7 +116,7 @@ pub fn is_named(value: &Value, text: &str) -> bool
     }
 }
 
-/// Whether parameters may stand so: in a list, or in a map.
+/// Checks that a value has the form of parameters: a list, or a map.
 pub fn is_parameters(value: &Value) -> bool
     ensures { result ≡ is_parameters (view value.now) }
 {

@@ -10,7 +10,7 @@ use plain_data::Text;
 use serde_json::{Map, Value};
 use std::alloc::{AllocError, Global};
 
-/// Where in a tool's object a value stands, which says the names that are left out there.
+/// Where in a tool's object a value is. This decides which names are left out there.
 #[derive(Clone, Copy, Drop)]
 pub enum Level {
     ToolLevel,
@@ -81,7 +81,7 @@ fn level_within(level: Level) -> Level
     }
 }
 
-/// What stands before a further item or member.
+/// What separates an item or member from the one before it.
 fn comma(later: bool) -> &'static str
     ensures { result.now ≡ comma_if later }
 {

@@ -14,7 +14,7 @@ use plain_data::Text;
 use serde_json::{Map, Value};
 use std::alloc::Global;
 
-/// The field that such an object stands at.
+/// The field that has such an object.
 fn place_of(kind: ObjectKind) -> &'static str
     ensures { result.now ≡ place_of kind }
 {

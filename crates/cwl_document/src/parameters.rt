@@ -18,7 +18,7 @@ use plain_data::Text;
 use serde_json::Value;
 use std::alloc::Global;
 
-/// The type of a parameter, which stands alone in a map where no object does.
+/// The type of a parameter: in a map, a value that is not an object is the type.
 fn type_field<'v>(key: Option<&str>, value: &'v Value) -> Option<&'v Value>
     ensures { option_map (λ v. view v.now) result
         ≡ get (codes "type") (parameter (option_copied key.entry) (view value.now)) }
@@ -30,7 +30,7 @@ fn type_field<'v>(key: Option<&str>, value: &'v Value) -> Option<&'v Value>
     }
 }
 
-/// The binding of a parameter; a type that stands alone has none.
+/// The binding of a parameter; a type alone has none.
 fn binding_field<'v>(key: Option<&str>, value: &'v Value) -> Option<&'v Value>
     ensures { option_map (λ v. view v.now) result
         ≡ get (codes "inputBinding") (parameter (option_copied key.entry) (view value.now)) }

@@ -18,7 +18,7 @@ pub enum DocumentRefusal {
     MissingField(Text),
     /// A field of this name is none of its object's.
     UnknownField(Text),
-    /// What stands at the field of this name has another form than the field's; empty for the
+    /// The field of this name has a value of another form; the name is empty for the
     /// document itself.
     WrongShape(Text),
     /// Two inputs, or two outputs, have this id.

@@ -9,7 +9,7 @@ is_period c = c == 46
 abbrev pub has_other : List ℕ → Bool
 has_other = list_any (λ c. not (is_period c))
 
--- what stands before the last period, where that is more than periods, else the whole name
+-- what is before the last period, where that has more than periods, else the whole name
 abbrev pub nameroot : List ℕ → List ℕ
 nameroot name = if has_other (before_last is_period name) then before_last is_period name else name
 

@@ -44,7 +44,7 @@ whole_form None false = Err OutOfRange
 abbrev pub whole_read : Num → Reads Value
 whole_read n = whole_form (as_i64 n) (is_float n)
 
--- The fields of a File or Directory. What is not named here is read over.
+-- The fields of a File or Directory. Every other field is ignored.
 
 -- a text, or V3 for the field
 abbrev pub text_form : FileField → Data → Reads (List ℕ)

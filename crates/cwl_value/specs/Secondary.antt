@@ -1,4 +1,4 @@
--- Which files may stand beside a File, and which in a Directory (CWL v1.2, "File": secondaryFiles; "Directory": listing).
+-- Which files may be beside a File, and which in a Directory (CWL v1.2, "File": secondaryFiles; "Directory": listing).
 use Rattle.std.specs.Prelude.{ℕ, Bool, true, false, not, ◌&&◌, List, [], ◌∷◌, Option, Some, None, bytes_eq}
 use Rattle.std.specs.Option.{option_map_or}
 use Rattle.std.specs.List.{list_all, list_any}
@@ -51,10 +51,10 @@ abbrev pub are_distinct : List Value → Bool
 are_distinct [] = true
 are_distinct (v ∷ vs) = is_new (name_of v) vs && are_distinct vs
 
--- they may stand beside a File of this name
+-- they may be beside a File of this name
 abbrev pub fit_beside : Option (List ℕ) → List Value → Bool
 fit_beside name vs = list_all is_secondary vs && (is_new name vs && are_distinct vs)
 
--- they may stand in a Directory
+-- they may be in a Directory
 abbrev pub fit_inside : List Value → Bool
 fit_inside vs = list_all is_file vs && are_distinct vs

@@ -1,4 +1,4 @@
-//! Which files may stand beside a File, and which in a Directory.
+//! Which files may be beside a File, and which in a Directory.
 ghost use Rattle.std.specs.Prelude.{◌≡◌};
 ghost use Rattle.std.specs.List.{list_any, list_all};
 ghost use Rattle.cwl_value.specs.Reading.{secondary_read, listing_read};

@@ -9,7 +9,7 @@
 //! - `texts_tell_json_apart` is one too: JSON without fractions that has one text is one. So are
 //!   `json_tells_values_apart` and `texts_tell_values_apart`, of values without places.
 //!
-//! Each call that takes memory may also refuse for want of it.
+//! Each call that allocates may also fail as out of memory.
 #![tactic(auto)]
 
 mod beside;

@@ -8,7 +8,7 @@ pub struct Segment {
     pub index: Items<usize>,
 }
 
-/// Where a job stands in its workflow: the steps that lead to it. The job at the root has no segment.
+/// The place of a job in its workflow: the steps that lead to it. The job at the root has no segment.
 pub type JobPlace = Items<Segment>;
 
 /// Where the contents of a File or Directory are.

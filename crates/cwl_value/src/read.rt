@@ -22,7 +22,7 @@ const GREATEST_DEPTH: usize = 100;
 
 /// Reads a value from JSON text (CWL v1.2, "Data concepts", File and Directory).
 ///
-/// Where an object repeats a key, its last value stands.
+/// Where an object repeats a key, its last value counts.
 ///
 /// # Errors
 ///

@@ -62,7 +62,7 @@ joined base location = if_parsed (parse_url (Some base) location)
 abbrev pub located : Parts → List ℕ → Finds (List ℕ)
 located base location = and_then (joined base location) path_of
 
--- the folder that the base stands in, with a slash at its end
+-- the folder of the base, with a slash at its end
 abbrev pub folder_of : Parts → Finds (List ℕ)
 folder_of base = located base (codes ".")
 
@@ -70,7 +70,7 @@ folder_of base = located base (codes ".")
 abbrev pub is_absolute : List ℕ → Bool
 is_absolute path = slice_index path 0 == 47
 
--- a path as it stands, joined to the base's folder unless it is absolute
+-- a path as it is written, added to the base's folder unless it is absolute
 abbrev pub placed : Parts → List ℕ → Finds (List ℕ)
 placed base path = if is_absolute path then Ok path else and_map (λ folder. folder ++ path) (folder_of base)
 
@@ -78,6 +78,6 @@ placed base path = if is_absolute path then Ok path else and_map (λ folder. fol
 abbrev pub is_long : Parts → List ℕ → Bool
 is_long base location = nat_le (2 ^ 24) (length (serialize base) + length location)
 
--- F2 comes where the definition says so or the text is that long, every other refusal where the definition says so; want of memory comes at any time
+-- F2 comes where the definition says so or the text is that long, every other refusal where the definition says so; out of memory may come at any time
 abbrev pub Refuses : {T : Type 0} → Finds T → Bool → FileRefusal → Type 0
 Refuses found long e = (e ≡ OutOfMemory) ⊎ ((found ≡ Err e) ⊎ ((e ≡ NotAFileUrl) × (long ≡ true)))

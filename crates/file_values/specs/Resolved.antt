@@ -1,4 +1,4 @@
--- A value whose Files and Directories stand at paths and have names (CWL v1.2, "File", "Directory").
+-- A value whose Files and Directories have paths and names (CWL v1.2, "File", "Directory").
 use Rattle.std.specs.Prelude.{ℕ, Bool, false, ◌||◌, ◌&&◌, if◌then◌else◌, List, [], ◌∷◌, map, codes, Option, Some, None, Ok, Err}
 use Rattle.std.specs.List.{list_any}
 use Rattle.std.specs.Option.{option_map_or}
@@ -39,7 +39,7 @@ path_at (place.Made job name) = name
 abbrev pub name_in : List ℕ → Finds (List ℕ)
 name_in path = if is_name (last_component path) then Ok (last_component path) else Err NotAFileUrl
 
--- the basename as it stands, or that of the place
+-- the basename as it is written, or that of the place
 abbrev pub named : Option (List ℕ) → Place → Finds (List ℕ)
 named (Some name) place = Ok name
 named None place = name_in (path_at place)

@@ -29,7 +29,7 @@ most_bytes = 2 ^ 61 - 1
 abbrev pub ReadsMost : Option (List ℕ) → Option (List ℕ) → Type 0
 ReadsMost before after = (bytes : List ℕ) × Consumes before after bytes × (length bytes ≡ most_bytes)
 
--- why there is no sum: the reader failed, or it gave as many bytes as SHA-1 takes; want of memory comes at any time
+-- why there is no sum: the reader failed, or it gave as many bytes as SHA-1 takes; out of memory may come at any time
 abbrev pub SumRefuses : Option (List ℕ) → Option (List ℕ) → Bool → FileRefusal → Type 0
 SumRefuses before after failed e = (e ≡ OutOfMemory) ⊎ ((e ≡ Read) × ((failed ≡ true) ⊎ ReadsMost before after))
 

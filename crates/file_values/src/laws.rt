@@ -9,7 +9,7 @@ use std::alloc::Global;
 use url::Url;
 
 /// The path that a path's location names. Where the path begins with a slash and has no component `.` or `..`, that is
-/// the same path, whatever the base.
+/// the same path, on every base.
 pub fn there_and_back(alloc: Global, path: &str, base: &Url) -> Result<String, FileRefusal>
     ensures ok { IsPlainPath path.now → IfOk result (λ back. string_bytes back ≡ path.now) }
     ensures err { IsPlainPath path.now → IfErr result (Refuses (Ok path.now) (is_long base.now (location_of path.now))) }

@@ -6,7 +6,7 @@
 //!   path (`there_and_back`).
 //! - `resolve` puts each File and Directory of a value at a path, and gives each a name.
 //!
-//! Each refusal comes only where its cause holds, want of memory apart, which any call that takes memory may meet.
+//! Each refusal comes only where its cause holds. Any call that allocates may also fail as out of memory.
 #![tactic(auto)]
 
 mod distinct;

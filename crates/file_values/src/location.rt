@@ -48,8 +48,8 @@ pub fn location_to_path(alloc: Global, location: &str, base: &Url) -> Result<Str
     path_of(alloc, &url)
 }
 
-// The location on the base. `url` says that it has no room where memory is wanting and where the URL comes to 4 GB,
-// which no short one does.
+// The location on the base. `url` reports out of memory and a URL of 4 GB in the same way,
+// and no short one is that long.
 fn joined(location: &str, base: &Url) -> Result<Url, FileRefusal>
     ensures ok { IfOk result (λ url. spec.joined base.now location.now ≡ Ok url) }
     ensures err { IfErr result (spec.Refuses (spec.joined base.now location.now) (spec.is_long base.now location.now)) }
@@ -119,7 +119,7 @@ fn decoded(alloc: Global, path: &str) -> Result<String, FileRefusal>
     }
 }
 
-/// A path as it stands, joined to the folder of the base unless it is absolute.
+/// A path as it is written, added to the folder of the base unless it is absolute.
 pub(crate) fn path_on(alloc: Global, path: &str, base: &Url) -> Result<String, FileRefusal>
     ensures ok { IfOk result (λ whole. spec.placed base.now path.now ≡ Ok (string_bytes whole)) }
     ensures err { IfErr result (spec.Refuses (spec.placed base.now path.now) (spec.is_long base.now (codes "."))) }

@@ -19,7 +19,7 @@ pub struct FileSum {
     pub size: u64,
 }
 
-/// The bytes that are asked for at once.
+/// The bytes that one read asks for.
 const BLOCK: usize = 65_536;
 
 /// SHA-1 takes no message of 2^64 bits.
@@ -27,7 +27,7 @@ const MOST_BYTES: u64 = (1 << 61) - 1;
 
 /// Reads to the end, and sums what was read.
 ///
-/// The memory that this takes is one block of 64 KB, whatever the reader gives.
+/// This takes one block of 64 KB of memory, for every reader.
 ///
 /// # Errors
 ///

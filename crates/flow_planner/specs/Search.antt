@@ -140,7 +140,7 @@ pub record IsSettled (graph : List Vertex) (charges : Charges) (search : Search)
 abbrev pub AreSettled : List Vertex → Charges → Search → Type 0
 AreSettled graph charges search = EachIndex graph (IsSettled graph charges search)
 
--- a search went on from one state to another; where it reached nothing more, it stands as it stood, and the fact holds
+-- a search went on from one state to another; where it reached nothing more, it is unchanged, and the fact holds
 pub record Advances (before after : Search) (fact : Type 0) : Type 0 where
   pub grows : before.reached ≤ after.reached
   pub idle : after.reached ≡ before.reached → (after ≡ before) × fact

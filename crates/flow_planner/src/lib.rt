@@ -2,7 +2,7 @@
 //!
 //! `plan` answers, for every graph, the one plan that is Least: no valid plan costs less, and what it computes, and what
 //! it doesn't prune, is so in every cheapest plan. With it come charges that make it a certificate, which
-//! `plan_checker::check` takes. It fails only for want of memory.
+//! `plan_checker::check` takes. It fails only as out of memory.
 //!
 //! The plan is read off a flow of greatest value. Each job is two nodes: one says that its outputs are there (`Kept`),
 //! the other that it is run (`Computed`). A unit of flow enters at a needed job's first node, goes through to its

@@ -109,7 +109,7 @@ fn checked(
 
 /// The Least plan of a graph, and charges that certify it.
 ///
-/// It fails only for want of memory. Since a graph has one Least plan, the plan is one function of the graph; the
+/// It fails only as out of memory. Since a graph has one Least plan, the plan is one function of the graph; the
 /// charges are some that certify it.
 pub fn plan(alloc: Global, graph: &Graph) -> Result<(Plan, Charges), OutOfMemory>
     ensures least { IfOk result (λ made. IsLeast graph.now made.0.marks) }

@@ -43,11 +43,11 @@ AreRowsOf [] [] = Unit {0}
 AreRowsOf (c ∷ cs) (row ∷ rows) = IsRowOf c row × AreRowsOf cs rows
 AreRowsOf _ _ = ⊥
 
--- Memory was wanting, in the record or in the store, or else R1 for this cause.
+-- Out of memory, in the record or in the store, or else R1 for this cause.
 abbrev pub Misreads : Type 0 → RecordFault → Type 0
 Misreads cause fault = (fault ≡ OutOfMemory) ⊎ ((fault ≡ Store (SqliteFailure code.OutOfMemory)) ⊎ ((fault ≡ NotARecord) × cause))
 
--- a column of another kind is R1, and want of memory is the store's
+-- a column of another kind is R1, and out of memory is the store's
 abbrev pub misread_as : Error → RecordFault
 misread_as (SqliteFailure code.OutOfMemory) = Store (SqliteFailure code.OutOfMemory)
 misread_as _ = NotARecord

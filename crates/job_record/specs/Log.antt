@@ -10,7 +10,7 @@ abbrev pub outcome : {T : Type 0} → Result T RecordFault → Result (Unit {0})
 outcome (Ok value) = Ok tt
 outcome (Err fault) = Err fault
 
--- A command that is refused for want of memory may add none.
+-- A command that runs out of memory may add none.
 abbrev pub Logs : {T : Type 0} → Command → List ℕ → Result T RecordFault → List Entry → List Entry → Type 0
 Logs command key result old new =
     (new ≡ old ++ record { command = command; key = key; answer = outcome result } ∷ [])

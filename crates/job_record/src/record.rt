@@ -40,7 +40,7 @@ impl<S: Alter + Drop> JobRecord<S> {
     /// # Errors
     ///
     /// R1 where the store has one table without the other, a table without a column, no version, or a row that does not
-    /// read; R2 where the version is another one; R4; want of memory.
+    /// read; R2 where the version is another one; R4; out of memory.
     pub fn open_record(
         alloc: Global,
         mut conn: Connection<S>,
@@ -58,7 +58,7 @@ impl<S: Alter + Drop> JobRecord<S> {
         }
     }
 
-    /// The connection as it stands.
+    /// Gives the connection back, unchanged.
     pub fn into_connection(self) -> Connection<S>
         ensures { result ≡ self.conn }
     {
@@ -107,7 +107,7 @@ impl<S: Alter> JobRecord<S> {
     ///
     /// # Errors
     ///
-    /// R4, also where the cost is not from 1 to 10^12; want of memory.
+    /// R4, also where the cost is not from 1 to 10^12; out of memory.
     pub fn put(&mut self, row: &Row) -> Result<(), RecordFault>
         ensures puts { HasCleanDisk (state S.Store self.new.conn) → Puts S.Store self.old.conn self.new.conn row.now result }
         ensures survives { Survives (state S.Store self.old.conn) (state S.Store self.new.conn) (CommitsBy put_text (put_params row.now) (state S.Store self.old.conn)) }

@@ -17,7 +17,7 @@ pub struct Found {
 #[derive(Drop)]
 pub struct Row {
     pub key: Text,
-    /// Each File and Directory stands at a `Url`, which is its name below the job's output folder.
+    /// Each File and Directory has a `Url` as its place: its name below the job's output folder.
     pub outputs: Value,
     /// What stood in the job's output folder.
     pub files: Items<Found>,

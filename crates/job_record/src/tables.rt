@@ -136,7 +136,7 @@ fn flag_at(columns: &Columns, at: usize) -> Result<bool, RecordFault>
     }
 }
 
-/// A column of another kind is R1, and want of memory is the store's.
+/// A column of another kind is R1, and out of memory is the store's.
 pub fn misread(error: Error) -> RecordFault
     ensures { result ≡ misread_as error }
 {

@@ -24,7 +24,7 @@ abbrev pub unless_empty : List Value → Option Value
 unless_empty [] = None
 unless_empty (v ∷ vs) = Some (value.List (v ∷ vs))
 
--- the path that it stands at, where the reference may see it
+-- its path, where the reference may see it
 abbrev pub path_of : Bool → Place → Option (List ℕ)
 path_of true (Path path) = Some path
 path_of true Nowhere = None
@@ -36,7 +36,7 @@ path_of false place = None
 abbrev pub dirname : List ℕ → List ℕ
 dirname path = before_last (λ b. b == 47) path
 
--- those of its JSON form, and where `with_places` and it stands at a path, that path in three forms
+-- those of its JSON form; with `with_places`, where it is at a path, also that path in three forms
 abbrev pub file_keys : Bool → FileVal-F Value DirVal FileVal → List (List ℕ × Option Value)
 file_keys with_places f = (codes "basename", text_of f.basename)
     ∷ (codes "checksum", text_of f.checksum)

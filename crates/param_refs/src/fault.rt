@@ -26,7 +26,7 @@ pub enum RefFault {
     /// P6: an index past the end of a list or text.
     #[error("P6: the index is past the end")]
     IndexOut,
-    /// Memory was wanting; nothing is said of the text or the values.
+    /// Out of memory; this says nothing of the text or the values.
     #[error("out of memory")]
     OutOfMemory,
 }

@@ -4,9 +4,9 @@
 //! `specs/Grammar.antt` has it, and `Template::value` gives the value that the references have in a `Context`.
 //! - What is read is the one reading of the text; a refusal comes exactly where the grammar has that cause.
 //! - A reference's value is the descent of `specs/Descent.antt`, and of several refusals the leftmost is answered.
-//! - A text that is one reference, but for white space around it, has the reference's value; any other is a text.
+//! - A text that is one reference, with white space around it or not, has the reference's value; any other is a text.
 //!
-//! Each call that takes memory may also refuse for want of it.
+//! Each call that allocates may also fail as out of memory.
 #![tactic(auto)]
 
 mod context;

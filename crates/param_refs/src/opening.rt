@@ -17,7 +17,7 @@ pub(crate) fn opening(text: &str) -> usize
     bytes.len()
 }
 
-/// Whether a backslash stands in a text with `$(` or `${`.
+/// Checks whether a text with `$(` or `${` has a backslash.
 pub(crate) fn is_escaped(text: &str) -> bool
     ensures { result ≡ is_escaped text.now }
 {

@@ -58,7 +58,7 @@ fn part(alloc: Global, text: &str) -> Result<(Part, &str), RefFault>
     Ok((Part::Referred(reference), rest))
 }
 
-// What stands after the `$(` that a text begins with.
+// What follows the `$(` that a text begins with.
 fn inside(text: &str) -> Option<&str>
     ensures { MatchOption result ((rest : List ℕ) → text.now ≢ 36 ∷ 40 ∷ rest) (λ inside. text.now ≡ 36 ∷ 40 ∷ inside.now) }
 {

@@ -1,4 +1,4 @@
-//! What stands at the front of a text: symbols, segments and references.
+//! What is at the front of a text: symbols, segments and references.
 ghost use Rattle.std.specs.Prelude.{◌≡◌, ◌<◌, ◌≢◌, ◌++◌, ◌∷◌, true, false, codes, IfOk, IfErr, MatchOption};
 ghost use Rattle.std.specs.Char.{is_ascii_digit};
 ghost use Rattle.std.specs.List.{list_all};
@@ -28,7 +28,7 @@ pub(crate) fn reference(alloc: Global, text: &str) -> Result<(Reference, &str), 
     Ok((Reference { symbol, segments }, rest))
 }
 
-// As many segments as stand at the front of a text.
+// All segments at the front of a text.
 fn segments(alloc: Global, text: &str) -> Result<(Items<Segment>, &str), AllocError>
     ensures { IfOk result (λ taken. SegmentsThen text.now taken.0 taken.1.now) }
 {
@@ -94,7 +94,7 @@ fn bracketed(text: &str) -> Option<(Piece<'_>, &str)>
     Some((Piece::Index(digits), rest))
 }
 
-// The same where a text between quotes stands in the brackets.
+// The same for a text between quotes in the brackets.
 fn in_quotes(text: &str, quote: char) -> Option<(Piece<'_>, &str)>
     requires { IsQuote quote }
     ensures { MatchOption result (NoQuotes quote text.now) (λ t. SegmentThen (91 ∷ text.now) (segment_of t.0) t.1.now) }

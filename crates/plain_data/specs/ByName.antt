@@ -17,7 +17,7 @@ module _ {X : Type 0} where
   abbrev pub names : List (List ℕ × X) → List (List ℕ)
   names entries = keys_of entries
 
-  -- each name is below all that come after it, so each stands once
+  -- each name is below all that come after it, so no name repeats
   abbrev pub IsByName : List (List ℕ × X) → Type 0
   IsByName entries = IsStrictlySortedBy name_cmp (names entries)
 
@@ -34,11 +34,11 @@ module _ {X : Type 0} where
   by_name [] = []
   by_name (e ∷ es) = with_value e.0 e.1 (by_name es)
 
-  -- how often the name stands among the entries
+  -- how often the name is among the entries
   abbrev pub times : List ℕ → List (List ℕ × X) → ℕ
   times name entries = count_by (bytes_eq name) (names entries)
 
-  -- each name stands at most once
+  -- no name repeats
   abbrev pub IsOnce : List (List ℕ × X) → Type 0
   IsOnce entries = (name : List ℕ) → times name entries ≤ 1
 
@@ -53,7 +53,7 @@ module _ {X : Type 0} where
   abbrev pub IsUnrepeatedBelow : List (List ℕ × X) → ℕ → Type 0
   IsUnrepeatedBelow entries bound = (k : ℕ) → k + 1 < bound → slice_get (names entries) k ≢ slice_get (names entries) (k + 1)
 
-  -- a name that no entry has would stand at index: all before it are less, and the one there is greater
+  -- where a name that no entry has would be inserted: all before it are less, and the one there is greater
   pub record IsGapFor (name : List ℕ) (entries : List (List ℕ × X)) (index : ℕ) : Type 0 where
     pub fits : index ≤ length entries
     pub past : (k : ℕ) (e : List ℕ × X) → k < index → slice_get entries k ≡ Some e → name_cmp name e.0 ≡ Greater

@@ -76,7 +76,7 @@ impl<T> Items<T> {
         self.held.get(index)
     }
 
-    /// Takes the last element off.
+    /// Removes the last element and returns it.
     pub fn pop(&mut self) -> Option<T>
         ensures { MatchOption result ((self.old ≡ []) × (self.new ≡ [])) (λ last. self.old ≡ self.new ++ last ∷ []) }
     {
@@ -85,7 +85,7 @@ impl<T> Items<T> {
 }
 
 impl<T: Drop> Items<T> {
-    /// Puts an element at the end. Where memory is wanting, nothing changes.
+    /// Adds an element at the end. Where this is out of memory, nothing changes.
     pub fn push(&mut self, item: T) -> Result<(), AllocError>
         ensures ok { OnOk result (self.new ≡ self.old ++ item ∷ []) }
         ensures err { OnErr result (self.new ≡ self.old) }

@@ -43,7 +43,7 @@ impl<T> Keyed<T> {
         }
     }
 
-    /// Takes over entries that already stand in the order of their names, without memory.
+    /// Takes over entries that are already in the order of their names, without memory.
     pub fn from_sorted(entries: Vec<(Text, T)>) -> Keyed<T>
         requires { IsByName entries.items }
         ensures { result ≡ entries.items }
@@ -83,7 +83,7 @@ impl<T> Keyed<T> {
         self.get(name).is_some()
     }
 
-    // Where the name stands, or where it would stand.
+    // The index of the name, or the index where it would be inserted.
     fn place(&self, name: &str) -> Result<usize, usize>
         ensures { IsPlaceOf name.now self.now result }
     {
@@ -108,7 +108,7 @@ impl<T> Keyed<T> {
 }
 
 impl<T: Drop> Keyed<T> {
-    /// Puts entries in the order of their names, without memory. A name that stands more than once is refused.
+    /// Puts entries in the order of their names, without memory. Refuses a name that repeats.
     pub fn from_entries(entries: Vec<(Text, T)>) -> Result<Keyed<T>, RepeatedName>
         ensures ok { IfOk result (λ keyed. keyed ≡ by_name entries.items) }
         ensures once { IfOk result (λ _. IsOnce entries.items) }
@@ -124,8 +124,8 @@ impl<T: Drop> Keyed<T> {
         }
     }
 
-    /// Puts a value under a name, and gives back the one that was there. Only a new name needs memory;
-    /// where that is wanting, nothing changes.
+    /// Puts a value under a name, and returns the one that was there. Only a new name needs memory;
+    /// out of memory, nothing changes.
     pub fn insert(&mut self, name: Text, value: T) -> Result<Option<T>, AllocError>
         ensures old { IfOk result (λ old. old ≡ value_at name self.old) }
         ensures new { OnOk result (self.new ≡ with_value name value self.old) }
@@ -186,7 +186,7 @@ fn repeat<T>(entries: &[(Text, T)]) -> Option<usize>
     None
 }
 
-/// A name that stands more than once where each may stand once.
+/// A name that repeats where each may be there once.
 #[derive(Debug, Drop)]
 pub struct RepeatedName {
     pub name: Text,

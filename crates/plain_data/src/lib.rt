@@ -1,5 +1,5 @@
-//! Owners of text, items and named values that contracts see as plain data, so that `≡` on whatever
-//! holds them is equality of data and speaks of no pointer and no capacity.
+//! Owners of text, items and named values that contracts see as plain data, so that `≡` on anything
+//! that holds them compares data alone, and never pointers or capacities.
 //!
 //! | Type | Holds | Contracts see |
 //! |---|---|---|

@@ -29,7 +29,7 @@ pub record IsCounted (graph : List Vertex) (charges : Charges) : Type 0 where
   pub each_pass : EachIndex graph (λ i. length (passes charges i) ≡ length (vertex graph i).parents)
 
 -- the five rules at vertex i: only what is needed is charged for its own sake; what goes through is at most the load
--- cost; what it pays is at most its compute cost; all that comes in goes through; all that goes through comes out
+-- cost; what it pays is at most its compute cost; `through` = `enter` + what the children pass; `through` = `pay` + what is passed to the parents
 pub record IsFair (graph : List Vertex) (charges : Charges) (i : ℕ) : Type 0 where
   pub entering : (vertex graph i).needed ≡ false → slice_index charges.enter i ≡ 0
   pub loading : ForSome (vertex graph i).load (λ load. slice_index charges.through i ≤ load)

@@ -17,7 +17,7 @@ pub record IsThere (graph : List Vertex) (child : Child) : Type 0 where
   pub placed : child.place < length (vertex graph child.vertex).parents
 
 -- for each vertex its children among the vertices below n: summing over them gives what the vertex receives from
--- those, whatever the charges
+-- those, for all charges
 pub record AreChildrenBelow (graph : List Vertex) (children : List (List Child)) (n : ℕ) : Type 0 where
   pub one_each : length children ≡ length graph
   pub there : (p : ℕ) → All (IsThere graph) (slice_index_or children p [])

@@ -127,7 +127,7 @@ pub record IsFirstBad (text : List ℕ) (number : ℕ) : Type 0 where
   pub good_before : (n : ℕ) → n < number → HasGoodLines text n
   pub bad : ¬ HasGoodLines text number
 
--- why a text is refused: it has a bad line, or memory is wanting
+-- why a text is refused: it has a bad line, or out of memory
 abbrev pub IsRefusedText : List ℕ → CertificateError → Type 0
 IsRefusedText text (NotACertificate number) = IsFirstBad text number
 IsRefusedText text OutOfMemory = Unit {0}

@@ -20,7 +20,7 @@ vertex graph i = slice_index_or graph i no_vertex
 abbrev pub entries_below : List Vertex → ℕ → ℕ
 entries_below graph n = sum_below n (λ i. length (vertex graph i).parents)
 
--- a vertex of this number, with this many parent entries up to its own, is within the limits; its parents stand below
+-- a vertex of this number, with this many parent entries up to its own, is within the limits; its parents are below
 -- it, in rising order
 pub record Fits (number entries : ℕ) (job : Vertex) : Type 0 where
   pub few_vertices : number < MOST_VERTICES
@@ -43,7 +43,7 @@ pub record IsFirstMisfit (graph : List Vertex) (i : ℕ) : Type 0 where
   pub fit_before : (k : ℕ) → k < i → FitsAt graph k
   pub misfit : ¬ FitsAt graph i
 
--- why a list of vertices is refused: it is no graph, or memory is wanting
+-- why a list of vertices is refused: it is no graph, or out of memory
 abbrev pub IsRefused : List Vertex → GraphError → Type 0
 IsRefused graph (BadGraph i) = IsFirstMisfit graph i
 IsRefused graph OutOfMemory = Unit {0}

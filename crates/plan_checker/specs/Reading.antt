@@ -103,7 +103,7 @@ pub record BeginsWithRow (text : List ℕ) (row : Row) (rest : List ℕ) : Type 
 abbrev pub NoRow : List ℕ → Type 0
 NoRow text = (row : Row) (rest : List ℕ) → ¬ BeginsWithRow text row rest
 
--- the row's vertex may stand behind these vertices
+-- the row's vertex may follow these vertices
 abbrev pub FitsNext : List Vertex → Row → Type 0
 FitsNext graph row = Fits (length graph) (entries_below graph (length graph) + length row.job.parents) row.job
 

@@ -42,7 +42,7 @@ impl Model for Graph {
 }
 
 impl Graph {
-    /// The graph of these vertices, or the first of them that may not stand in a graph (X2).
+    /// Makes the graph of these vertices, or names the first of them that doesn't fit (X2).
     pub fn new(alloc: Global, vertices: Vec<Vertex>) -> Result<Graph, GraphError>
         ensures ok { IfOk result (λ graph. graph ≡ vertices.items) }
         ensures within { OnOk result (IsGraph vertices.items) }
@@ -95,7 +95,7 @@ fn amount_from(charges: &Charges, child: Child) -> u64
     charges.pass.as_slice()[child.vertex].as_slice()[child.place]
 }
 
-/// The first vertex that may not stand in a graph.
+/// The first vertex that doesn't fit in a graph.
 fn first_misfit(vertices: &[Vertex]) -> Option<usize>
     ensures { MatchOption result (IsGraph vertices.now) (IsFirstMisfit vertices.now) }
 {
@@ -109,7 +109,7 @@ fn first_misfit(vertices: &[Vertex]) -> Option<usize>
     None
 }
 
-/// Whether a vertex may stand at this place, behind vertices with this many parent entries.
+/// Checks that a vertex fits at this number, after vertices with this many parent entries.
 pub(crate) fn fits(number: usize, entries: usize, vertex: &Vertex) -> bool
     requires { entries ≤ MOST_ENTRIES }
     ensures { IsTrue result ↔ Fits number (entries + length vertex.now.parents) vertex.now }

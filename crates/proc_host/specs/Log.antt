@@ -8,7 +8,7 @@ use Rattle.proc_host.specs.declared.call.HostError.{HostError}
 use Rattle.proc_host.specs.declared.call.HostError.TheVariants.{Fault, OutOfMemory}
 use Rattle.proc_host.specs.declared.call.Entry.{Entry}
 
--- the answer behind an error: the fault, or none where memory was wanting
+-- the answer behind an error: the fault, or none for out of memory
 abbrev pub told_error : HostError → Option HostAnswer
 told_error (Fault fault) = Some (Failed fault)
 told_error OutOfMemory = None

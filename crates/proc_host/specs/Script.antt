@@ -70,7 +70,7 @@ abbrev pub IsAnswer : HostAnswer → Option HostAnswer → Type 0
 IsAnswer answer None = Unit {0}
 IsAnswer answer (Some told) = told ≡ answer
 
--- a call is answered from the script, unless memory was wanting, and leaves the state that goes with its answer
+-- a call is answered from the script, unless it is out of memory, and leaves the state that belongs to its answer
 pub record Answers (old : ScriptState) (request : HostRequest) (told : Option HostAnswer) (new : ScriptState) : Type 0 where
   pub answer : IsAnswer (answer_of old request) told
   pub state : new ≡ after old request told

@@ -2,7 +2,7 @@
 use Rattle.std.specs.Prelude.{◌≡◌, ◌≤◌, ℕ, ◌==◌, not, List, [], ◌∷◌, ◌++◌, filter, Result, Ok, Err}
 use Rattle.proc_host.specs.declared.call.HostError.{HostError}
 
--- the tickets that run, but for this one
+-- the tickets that run, without this one
 abbrev pub without : ℕ → List ℕ → List ℕ
 without ticket running = filter (λ n. not (n == ticket)) running
 

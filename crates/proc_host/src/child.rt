@@ -3,7 +3,7 @@ ghost use Rattle.proc_host.specs.ExitClass.{class_of};
 
 use std::marker::Model;
 
-/// The right to a started child. It is no `Drop`: whoever holds one has to spend it, by `Host::close`.
+/// The right to a started child. It can't be dropped: it has to be spent, by `Host::close`.
 pub struct Ticket {
     number: u64,
 }

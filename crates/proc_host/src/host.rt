@@ -9,7 +9,7 @@ use plain_data::{Items, Text};
 
 /// The world of a run: its files and its children.
 ///
-/// Each call makes room for its entry in the log, acts, and adds the entry. One that is refused for want of
+/// Each call makes room for its entry in the log, acts, and adds the entry. One that runs out of
 /// memory adds none and changes nothing that is told of here.
 pub trait Host {
     /// What was asked and answered so far, oldest first.

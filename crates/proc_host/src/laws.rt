@@ -1,4 +1,4 @@
-//! What follows from the definitions alone, for whoever drives a host.
+//! What follows from the definitions alone, for code that drives a host.
 ghost use Rattle.std.specs.Prelude.{◌≡◌, ◌+◌, ◌∷◌, ◌++◌, [], ℕ, List, Option};
 ghost use Rattle.proc_host.specs.declared.call.Entry.{Entry};
 ghost use Rattle.proc_host.specs.declared.call.HostAnswer.{HostAnswer};
@@ -12,7 +12,7 @@ pub fn failures_count_faults()
         → failures (log ++ entries_of request answer) ≡ failures log + faults_in answer }
 {}
 
-/// To close the ticket that a start has added leaves the children that ran before.
+/// Closing the ticket that a start has added leaves the children that ran before.
 pub fn closing_undoes_starting()
     ensures { (ticket : ℕ) (running : List ℕ) → IsFresh ticket running → without ticket (running ++ ticket ∷ []) ≡ running }
 {}

@@ -1,8 +1,8 @@
 //! The world as a run meets it: which calls there are, and how each can be answered.
 //!
 //! A `Host` stages files, starts children, collects their ends, scans folders and delivers outputs. It keeps a
-//! log: each call adds exactly one entry, of what was asked and what was answered, or none where memory was
-//! wanting, and the log never shrinks. A call fails only by its own fault, and the fault stands in the log. It
+//! log: each call adds exactly one entry, of what was asked and what was answered, or none where it ran out of
+//! memory, and the log never shrinks. A call fails only by its own fault, and the log has the fault. It
 //! also keeps the tickets of the children that run: a start adds a fresh one, numbered from 1 by the starts that
 //! the log tells of, `close` alone takes one out, and a collect answers one of them. `exit_class` says what an
 //! exit code means.
@@ -27,4 +27,3 @@ pub use laws::{closing_undoes_starting, failures_count_faults};
 pub use plan::{Move, StagePlan};
 pub use reply::Reply;
 pub use scripted::Scripted;
-

@@ -4,7 +4,7 @@ use cwl_value::{Value, copy_fields};
 use plain_data::{Items, Keyed, Text};
 use std::alloc::{AllocError, Global};
 
-/// A file to copy, by the path where it stands and the path where it is wanted.
+/// A file to copy: from one path to another.
 #[derive(Drop)]
 pub struct Move {
     pub source: Text,

@@ -51,7 +51,7 @@ abbrev pub IsEnded : Phase → Type 0
 IsEnded (Phase.Ended result) = Unit {0}
 IsEnded phase = ⊥
 
--- it gave up for want of memory
+-- it gave up as out of memory
 abbrev pub IsLost : RunCore → Type 0
 IsLost core = core.state.phase ≡ Phase.Ended (Err RunFault.OutOfMemory)
 

@@ -1,4 +1,4 @@
--- Where the machine can stand, with what has happened and the plan in force there.
+-- The states that the machine can be in, with what has happened and the plan in force there.
 use Rattle.std.specs.Prelude.{◌≡◌, ℕ, List, [], ◌∷◌, Some, Ok, Err, IfErr}
 use Rattle.command_line.specs.declared.launch.Launch.{Launch}
 use Rattle.command_line.specs.Launch.{IsLaunch}

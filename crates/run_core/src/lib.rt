@@ -1,6 +1,6 @@
 //! The machine that makes a run of a process (`run_rules` says what a run is).
 //!
-//! `RunCore` asks one request at a time and takes one answer; it touches nothing itself. Whatever the answers are,
+//! `RunCore` asks one request at a time and takes one answer; it touches nothing itself. For every sequence of answers
 //! what it asked and was told is a run, and it ends as that run does.
 //!
 //! `specs/Machine.antt` and `specs/Standing.antt` say what the machine does and where it is. Of what a caller sees

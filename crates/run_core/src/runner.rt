@@ -21,7 +21,7 @@ use std::mem;
 
 /// A run of a process as a machine: it asks one request, is told one answer, and so on until it asks nothing more.
 ///
-/// It touches nothing but memory. Whatever it is told, what it asked and was told is a run of the process.
+/// It touches nothing but memory. For every sequence of answers, what it asked and was answered is a run of the process.
 #[derive(Drop)]
 pub struct RunCore {
     alloc: Global,
@@ -113,7 +113,7 @@ impl RunCore {
         outcome_of(phase)
     }
 
-    /// Leaves the run where it stands, for want of memory somewhere else.
+    /// Leaves the run as it is, since memory ran out somewhere else.
     pub fn abandon(self) -> Result<Report, RunFault>
         requires { Stands self }
         ensures concluded { Concludes (setting_of self) (transcript self) result }

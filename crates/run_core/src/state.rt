@@ -17,7 +17,7 @@ pub(crate) enum Phase {
     Starting(Items<u64>),
     /// Its child's end.
     Running,
-    /// What stands in its output folder.
+    /// The entries of its output folder.
     Scanning,
     /// The result's files at their targets, which this output object names.
     Delivering(Value),
@@ -25,7 +25,7 @@ pub(crate) enum Phase {
     Ended(Result<Report, RunFault>),
 }
 
-/// Where the machine stands.
+/// The state of the machine.
 #[derive(Drop)]
 pub(crate) struct State {
     pub asks: Request,

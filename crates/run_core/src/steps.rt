@@ -51,7 +51,7 @@ pub(crate) fn begun(alloc: Global, setting: &Setting) -> Result<State, AllocErro
     })
 }
 
-/// The job's folders stand: it is started, unless it has no launch.
+/// The job's folders are made: it is started, unless it has no launch.
 fn launched(alloc: Global, setting: &Setting, inputs: &Keyed<Value>) -> Result<State, AllocError>
     ensures { IfOk result (λ state. Launches setting.now inputs.now state) }
 {

@@ -36,9 +36,9 @@ fn answered(
     let asked = requests(alloc, host.log())?;
     let left = numbers(alloc, host.running())?;
     let unsaid = host.script_left().len();
-    Ok(
-        format!(in alloc; "{{\"answers\":{answers},\"asked\":{asked},\"left\":{left},\"unsaid\":{unsaid}}}")?,
-    )
+    Ok(format!(in alloc;
+        "{{\"answers\":{answers},\"asked\":{asked},\"left\":{left},\"unsaid\":{unsaid}}}"
+    )?)
 }
 
 fn answers(
@@ -88,11 +88,7 @@ fn done(alloc: Global, answer: Result<(), HostError>) -> Result<String, RowFault
     }
 }
 
-fn started(
-    alloc: Global,
-    host: &mut Scripted,
-    held: &mut Vec<Ticket>,
-) -> Result<String, RowFault> {
+fn started(alloc: Global, host: &mut Scripted, held: &mut Vec<Ticket>) -> Result<String, RowFault> {
     let launch = echo(alloc)?;
     held.reserve(1)?;
     match host.start(&launch) {
@@ -134,11 +130,7 @@ fn scanned(alloc: Global, host: &mut Scripted) -> Result<String, RowFault> {
     }
 }
 
-fn closed(
-    alloc: Global,
-    host: &mut Scripted,
-    held: &mut Vec<Ticket>,
-) -> Result<String, RowFault> {
+fn closed(alloc: Global, host: &mut Scripted, held: &mut Vec<Ticket>) -> Result<String, RowFault> {
     match held.pop() {
         Some(ticket) => {
             host.close(ticket);

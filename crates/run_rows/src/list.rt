@@ -1,5 +1,4 @@
-use row_io::quoted;
-use row_io::RowFault;
+use row_io::{RowFault, quoted};
 use std::alloc::{AllocError, Global};
 
 /// The text of a JSON list that grows.

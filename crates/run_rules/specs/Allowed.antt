@@ -15,7 +15,7 @@ use Rattle.run_rules.specs.Plans.{Mark, Compute, mark_at}
 use Rattle.run_rules.specs.Scene.{Scene}
 
 module _ (s : Scene) where
-  -- nothing follows at once, no collect has failed, and the end is not settled
+  -- nothing is due, no collect has failed, and the end is not settled
   pub record IsFree (f : So_far) : Type 0 where
     pub idle : f.work ≡ Idle
     pub collects : list_any is_lost_collect f.events ≡ false
@@ -32,7 +32,7 @@ module _ (s : Scene) where
     pub staged : plan ≡ record { moves = []; value = job.inputs }
     pub next_number : number ≡ length (filter is_staging f.events) + 1
 
-  -- a job is started at once when it is staged, by its launch
+  -- a job is started directly after it is staged, by its launch
   pub record MayStart (f : So_far) (place : JobPlace) (launch : Launch) : Type 0 where
     pub follows : f.work ≡ Starting place
     pub job : Job
@@ -46,7 +46,7 @@ module _ (s : Scene) where
     pub known : job_at s f.events place ≡ Some job
     pub refused : IsRefused job.tool job.inputs (runtime_of s.options (number_at f.events place)) fault
 
-  -- a job's output folder is scanned at once when its child has ended well
+  -- a job's output folder is scanned directly after its child has ended well
   pub record MayScan (f : So_far) (place : JobPlace) (folder : Name) : Type 0 where
     pub follows : f.work ≡ Scanning place
     pub its_folder : folder ≡ out_folder s.options.work (number_at f.events place)

@@ -1,4 +1,4 @@
--- The outputs of a job, from what stands in its output folder after its child has ended
+-- The outputs of a job, from what is in its output folder after its child has ended
 -- (CWL v1.2, Command Line Tool, "Output binding" and the output type `stdout`).
 use Rattle.std.specs.Prelude.{cond, List, [], ◌∷◌, ◌++◌, Option, Some, None, Result, Ok, Err, find, codes, bytes_eq}
 use Rattle.cwl_value.specs.declared.value.Value.{Value, roll-Value}

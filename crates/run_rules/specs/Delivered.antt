@@ -43,7 +43,7 @@ abbrev pub file_move : (JobPlace → ℕ) → Name → Name → Value-F Value Di
 file_move number work outdir (Value-F.FileVal file) = move_at number work outdir (out-FileVal file).place
 file_move number work outdir value = None
 
--- a file that stands in several outputs is put in one place: a lone tool has one file, its stream's
+-- a file that is in several outputs is copied once: a lone tool has one file, its stream's
 abbrev pub shared : List Move → List Move
 shared [] = []
 shared (m ∷ moves) = m ∷ []

@@ -71,7 +71,7 @@ module _ (s : Scene) where
   abbrev pub delivery_at : List Event → Fields → Option StagePlan
   delivery_at es outputs = if_any (delivery (number_at es) s.options.work s.options.outdir outputs)
 
-  -- a result is the end at once where it has nothing to copy, and else once that is copied
+  -- a result is the end directly where it has nothing to copy, and else once that is copied
   abbrev pub delivered_end : List Event → Fields → Option StagePlan → Option End
   delivered_end es outputs None = Some (Succeeds outputs)
   delivered_end es outputs (Some plan) = cond (list_any is_delivery es) (Some (Succeeds outputs)) None

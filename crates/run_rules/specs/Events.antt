@@ -1,4 +1,4 @@
--- What has happened in a transcript, pair by pair, and what follows at once.
+-- What has happened in a transcript, pair by pair, and what is due next.
 use Rattle.std.specs.Prelude.{ℕ, ℤ, ◌==◌, ◌||◌, not, Bool, true, false, cond, List, [], ◌∷◌, ◌++◌, Option, Some, None, Result, Ok, Err, filter, filter_map, find, fold, map}
 use Rattle.std.specs.List.{list_any}
 use Rattle.command_line.specs.declared.fault.BuildFault.{BuildFault}
@@ -16,7 +16,7 @@ use Rattle.run_rules.specs.Collected.{collected}
 use Rattle.run_rules.specs.Scene.{Scene}
 
 pub data Event : Type 0 where
-  -- the job's folders, of this number, stand
+  -- the job's folders, of this number, are made
   Staged : (place : JobPlace) (number : ℕ) → Event
   -- its child runs
   Began : (place : JobPlace) (ticket : ℕ) → Event
@@ -28,14 +28,14 @@ pub data Event : Type 0 where
   Broke : (place : JobPlace) (cause : Cause) → Event
   -- its child was ended by a signal
   Gave_up : (place : JobPlace) → Event
-  -- the result's files stand where they are wanted
+  -- the result's files are copied to where they are wanted
   Delivered : Event
   -- a call for the job at this place, other than a collect, failed; the root's where it is for the whole run
   Host_failed : (place : JobPlace) (fault : HostFault) → Event
   -- a collect failed
   Collect_failed : Event
 
--- the work that follows at once
+-- the work that is due next
 pub data Work : Type 0 where
   -- none
   Idle : Work
@@ -57,7 +57,7 @@ place_due Idle = []
 place_due (Starting place) = place
 place_due (Scanning place) = place
 
--- what a transcript has brought about: what follows at once, and what has happened
+-- what a transcript has brought about: what is due next, and what has happened
 pub record So_far : Type 0 where
   pub work : Work
   pub events : List Event
@@ -125,15 +125,15 @@ module _ (s : Scene) where
 
   -- What a pair is: the work after it, and what has happened
 
-  -- what follows at once after a pair, and what it adds to what has happened
+  -- what is due after a pair, and what it adds to what has happened
   abbrev pub Step : Type 0
   Step = Work × List Event
 
-  -- nothing happens, and nothing follows at once
+  -- nothing happens, and nothing is due
   abbrev pub nothing : Step
   nothing = (Idle, [])
 
-  -- one event, after which nothing follows at once
+  -- one event, after which nothing is due
   abbrev pub happened : Event → Step
   happened e = (Idle, e ∷ [])
 
@@ -142,13 +142,13 @@ module _ (s : Scene) where
   with_job None f = nothing
   with_job (Some job) f = f job
 
-  -- a child of a place has ended with this code: a success is scanned at once
+  -- a child of a place has ended with this code: a success is scanned next
   abbrev pub judged : JobPlace → ℕ → Option ℤ → ExitClass → Step
   judged place ticket code ExitClass.Success = (Scanning place, Came_back ticket ∷ [])
   judged place ticket code ExitClass.Temporary = (Idle, Came_back ticket ∷ Gave_up place ∷ [])
   judged place ticket code ExitClass.Permanent = (Idle, Came_back ticket ∷ Broke place (Cause.Exit code) ∷ [])
 
-  -- the child with this ticket has ended, which stands so among those in flight
+  -- the child with this ticket has ended; this is its entry among those in flight
   abbrev pub came_back : ℕ → Option ℤ → Option (ℕ × JobPlace) → Step
   came_back ticket code None = nothing
   came_back ticket code (Some flight) = judged flight.1 ticket code (class_of code)

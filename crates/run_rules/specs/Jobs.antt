@@ -29,7 +29,7 @@ pub record Walk : Type 0 where
 abbrev pub Made : Type 0
 Made = Job → Option Fields
 
--- a process on its inputs, whichever outputs are known
+-- a process on its inputs, for any outputs that are known
 abbrev pub Walker : Type 0
 Walker = Made → Walk
 

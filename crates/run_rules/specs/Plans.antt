@@ -33,7 +33,7 @@ abbrev pub mark_if_held : Bool → Mark
 mark_if_held held = cond held Load Compute
 
 module _ (s : Scene) where
-  -- nothing follows at once, the end isn't settled, and some known job is not at hand
+  -- nothing is due, the end isn't settled, and some known job is not at hand
   abbrev pub is_planning : So_far → Bool
   is_planning f = is_idle f.work && is_none (settled s f.events)
       && list_any (λ job. not (is_at_hand f.events job.place)) (unfolding_at s f.events).jobs

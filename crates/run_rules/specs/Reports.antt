@@ -60,7 +60,7 @@ IsRight setting world (Err fault) = Unit {0}
 
 -- how a transcript is reported
 pub data Concludes (setting : Setting) (t : List Pair) : Result Report RunFault → Type 0 where
-  -- memory was wanting, so there may be no end; it is a run as far as it goes
+  -- out of memory, so there may be no end; it is a valid prefix of a run
   lost : (f : So_far) (marks : List Mark) → IsRunSoFar setting t f marks → Concludes setting t (Err RunFault.OutOfMemory)
   -- it is a whole run, its end is reported, and in each world where it is honest the report is right
   whole : (end : End) (run : IsRun setting t end) →

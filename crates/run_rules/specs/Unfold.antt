@@ -16,7 +16,7 @@ pub record Fault : Type 0 where
   pub place : JobPlace
   pub cause : Cause
 
--- whether a job stands at a place
+-- whether a job is at a place
 abbrev pub is_at : JobPlace → Job → Bool
 is_at place job = is_same_place job.place place
 
@@ -35,11 +35,11 @@ abbrev pub fault_met : Met → Option Fault
 fault_met (A_job job) = None
 fault_met (A_fault place cause) = Some (record { place = place; cause = cause })
 
--- whether one of these jobs stands at the job's place
+-- whether one of these jobs is at the job's place
 abbrev pub is_known : List Job → Job → Bool
 is_known jobs job = list_any (is_at job.place) jobs
 
--- the jobs that are met at places where none of these jobs stands
+-- the jobs that are met at places where none of these jobs is
 abbrev pub new_in : List Job → List Met → List Job
 new_in jobs met = filter (λ job. not (is_known jobs job)) (filter_map job_met met)
 

@@ -13,7 +13,7 @@ Name = List ℕ
 abbrev pub Fields : Type 0
 Fields = List (Name × Value)
 
--- where a job stands: the steps that lead to it, none for the job at the root (`main`)
+-- the place of a job: the steps that lead to it, none for the job at the root (`main`)
 abbrev pub JobPlace : Type 0
 JobPlace = List Segment
 

@@ -1,4 +1,4 @@
-//! What follows from the definitions alone, for any run, whoever made it: each law is the contract of a function that
+//! What follows from the definitions alone, for any run: each law is the contract of a function that
 //! does nothing.
 ghost use Rattle.std.specs.Prelude.{◌≡◌, List, Some};
 ghost use Rattle.run_rules.specs.declared.request.Pair.{Pair};
@@ -32,7 +32,7 @@ pub fn nothing_follows_the_end()
 {}
 
 /// In each world where all that happened in a run is as the world says, its end is right: a success is the value of
-/// the process there, and where it failed for good the process has none.
+/// the process there, and where it failed permanently the process has none.
 pub fn an_honest_run_ends_rightly()
     ensures { (setting : Setting) (t : List Pair) (end : End) (run : IsRun setting t end) (world : World)
         → IsHonest setting world run.happened.events → Means setting world end }

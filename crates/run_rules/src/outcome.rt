@@ -76,7 +76,7 @@ pub struct Report {
 pub enum RunFault {
     /// The host's call failed; the tickets of the children that nobody waits for any more.
     Host(HostFault, Items<u64>),
-    /// Memory was wanting.
+    /// Out of memory.
     OutOfMemory,
 }
 

@@ -11,7 +11,7 @@ use Rattle.scatter_shape.specs.Tuples.{below, cross, tuples_of}
 abbrev pub list_of : List Value → Value
 list_of values = roll-Value (Value-F.List values)
 
--- Lists in lists, one level for each length: the value at the tuple (i, j, ..) stands at i, in that at j, and so on.
+-- Lists in lists, one level for each length: the value at the tuple (i, j, ..) is at index i, in that at index j, and so on.
 unfoldable pub nested : List ℕ → (List ℕ → Value) → Value
 nested [] at = at []
 nested (n ∷ ns) at = list_of (map (λ index. nested ns (λ tuple. at (index ∷ tuple))) (below n))
@@ -22,7 +22,7 @@ filled NestedCrossproduct lengths at = nested lengths at
 filled Dotproduct lengths at = list_of (map at (tuples_of Dotproduct lengths))
 filled FlatCrossproduct lengths at = list_of (map at (tuples_of FlatCrossproduct lengths))
 
--- the value that stands at the place of a tuple; null where the tuple has none
+-- the value beside a tuple; null where the tuple has none
 unfoldable pub value_beside : List (List ℕ) → List Value → List ℕ → Value
 value_beside (t ∷ ts) (v ∷ vs) tuple = cond (bytes_eq t tuple) v (value_beside ts vs tuple)
 value_beside _ _ tuple = roll-Value Value-F.Null
@@ -39,7 +39,7 @@ values_in slots = filter_map (λ slot. slot) slots
 abbrev pub HasAllBelow : List ℕ → List Value → Type 0
 HasAllBelow lengths values = (at : List ℕ → Value) × (left : List Value) × (values ≡ map at (cross lengths) ++ left)
 
--- whatever the values at the tuples are: where the first values are those, they are nested, and the others are left
+-- for all values at the tuples: where the first values are those, they are nested, and the others are left
 abbrev pub IsNested : List ℕ → List Value → List Value → Value → Type 0
 IsNested lengths values left value =
     (at : List ℕ → Value) (others : List Value) → values ≡ map at (cross lengths) ++ others →

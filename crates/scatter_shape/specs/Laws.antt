@@ -16,7 +16,7 @@ abbrev pub IsBefore : List ℕ → List ℕ → Type 0
 IsBefore (i ∷ is) (j ∷ js) = (i < j) ⊎ ((i ≡ j) × IsBefore is js)
 IsBefore _ _ = ⊥
 
--- exactly the tuples below the lengths; each once, since they rise and no tuple stands before itself
+-- exactly the tuples below the lengths; each once, since they rise and no tuple is before itself
 pub record AreAllBelow (lengths : List ℕ) (tuples : List (List ℕ)) : Type 0 where
   pub all_below : (tuple : List ℕ) → Contains tuples tuple ↔ IsBelow tuple lengths
   pub rising : AllPairs IsBefore tuples
@@ -24,7 +24,7 @@ pub record AreAllBelow (lengths : List ℕ) (tuples : List (List ℕ)) : Type 0 
 abbrev pub TuplesAreAllBelow : Type 0
 TuplesAreAllBelow = (lengths : List ℕ) → AreAllBelow lengths (cross lengths)
 
--- values that stand in the order of their tuples are gathered with each at its own tuple
+-- values in the order of their tuples are gathered with each at its own tuple
 abbrev pub EachValueAtItsTuple : Type 0
 EachValueAtItsTuple =
     (method : Method) (lengths : List ℕ) (at : List ℕ → Value) →

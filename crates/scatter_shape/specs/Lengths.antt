@@ -15,7 +15,7 @@ form_length _ = None
 abbrev pub list_length : Value → Option ℕ
 list_length value = form_length (out-Value value)
 
--- why values have no lengths: one of them is no list, or memory is wanting
+-- why values have no lengths: one of them is no list, or out of memory
 abbrev pub IsUnmeasured : List Value → ScatterRefusal → Type 0
 IsUnmeasured values NotAList = Any (λ value. list_length value ≡ None) values
 IsUnmeasured values OutOfMemory = Unit {0}

@@ -43,7 +43,7 @@ pub record IsTaken (method : Method) (lengths : List ℕ) : Type 0 where
   pub in_step : AreInStep method lengths
   pub few : length (tuples_of method lengths) ≤ MOST_TUPLES
 
--- why lengths have no tuples: a dotproduct's differ, there are too many tuples, or memory is wanting
+-- why lengths have no tuples: a dotproduct's differ, there are too many tuples, or out of memory
 abbrev pub IsRefused : Method → List ℕ → ScatterRefusal → Type 0
 IsRefused method lengths UnequalLengths = ¬ AreInStep method lengths
 IsRefused method lengths TooManyJobs = AreInStep method lengths × (MOST_TUPLES < length (tuples_of method lengths))

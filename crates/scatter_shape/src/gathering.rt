@@ -11,8 +11,8 @@ use std::alloc::{AllocError, Global};
 use std::marker::Model;
 use std::mem;
 
-/// For each tuple of a scattered step, in the order of `jobs_of`, its job's value once that is there. Jobs may end in
-/// whatever order: what is gathered goes by the numbers of their tuples alone.
+/// For each tuple of a scattered step, in the order of `jobs_of`, its job's value once it is there. Jobs may end in
+/// any order: what is gathered depends on the numbers of their tuples alone.
 #[derive(Drop)]
 pub struct Gathering {
     slots: Vec<Option<Value>>,

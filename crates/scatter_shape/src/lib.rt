@@ -5,9 +5,9 @@
 //! - `jobs_of` gives one tuple of indexes for each job, in the order of the tuples' first differing entry, or says
 //!   that there are none by this method (S1) or too many (S3).
 //! - `gather` puts the values of the jobs, given in the order of the tuples, into nested lists or one list.
-//! - `Gathering` takes the values in whatever order the jobs end, each under its tuple's number.
+//! - `Gathering` takes the values in the order in which the jobs end, each under its tuple's number.
 //!
-//! The laws in `laws` hold of all lengths. Each call that takes memory may also refuse for want of it.
+//! The laws in `laws` hold of all lengths. Each call that allocates may also fail as out of memory.
 #![tactic(auto)]
 
 mod gathering;

@@ -91,7 +91,7 @@ fn has_zero(lengths: &[usize]) -> bool
     lengths.iter().any(|length| *length == 0)
 }
 
-/// Whether no more tuples than `MOST_TUPLES` stand below these lengths.
+/// Checks that there are at most `MOST_TUPLES` tuples below these lengths.
 fn are_few(lengths: &[usize]) -> bool
     requires { All (λ n. n ≢ 0) lengths.now }
     ensures { IsTrue result ↔ (length (cross lengths.now) ≤ MOST_TUPLES) }

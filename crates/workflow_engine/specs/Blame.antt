@@ -6,7 +6,7 @@ use Rattle.proc_host.specs.Log.{failures}
 use Rattle.run_rules.specs.declared.outcome.RunFault.{RunFault}
 use Rattle.run_rules.specs.Blame.{IsToBlame}
 
--- the host's failures rose: among what its log gained stand a call that failed with this very fault and the starts
+-- the host's failures rose: what its log gained has a call that failed with this very fault and the starts
 -- of these children
 pub record HasFailed (before after : List Entry) (fault : HostFault) (running : List ℕ) : Type 0 where
   pub gained : List Entry

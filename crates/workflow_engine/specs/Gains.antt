@@ -11,12 +11,12 @@ use Rattle.run_rules.specs.declared.setting.Options.{Options}
 use Rattle.run_rules.specs.Reports.{entries_of, GainsRun}
 use Rattle.run_rules.specs.Words.{Fields}
 
--- a fault is an answer too; want of memory is none
+-- a fault is an answer too; out of memory is none
 abbrev pub answered : Option HostAnswer → Result HostAnswer AllocError
 answered (Some answer) = Ok answer
 answered None = Err alloc_error
 
--- a question adds its entry, or none where memory was wanting
+-- a question adds its entry, or none where it ran out of memory
 abbrev pub gained_by : Request → Result HostAnswer AllocError → List Entry
 gained_by request (Ok answer) = entries_of (record { request = request; answer = answer } ∷ [])
 gained_by request (Err error) = []

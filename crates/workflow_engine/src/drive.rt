@@ -19,9 +19,9 @@ use std::alloc::Global;
 /// Runs a process on an input object.
 ///
 /// What the host's log gains is a run of the process, and the report is what that run comes to: the delivered output
-/// object, a failure for good with its place and cause, a failure for now, or the host's fault with the tickets that
-/// nobody waits for any more. An `Err` of `OutOfMemory` tells nothing but that memory was wanting; what was asked
-/// until then is a run as far as it goes.
+/// object, a permanent failure with its place and cause, a temporary failure, or the host's fault with the tickets that
+/// nobody waits for any more. `Err(OutOfMemory)` says only that an allocation failed; what was asked
+/// until then is a valid prefix of a run.
 pub fn run<H: Host>(
     alloc: Global,
     host: &mut H,
@@ -46,7 +46,7 @@ pub fn run<H: Host>(
     }
 }
 
-/// Asks the host what the machine asks, until it asks nothing more or memory is wanting.
+/// Asks the host what the machine asks, until it asks nothing more or runs out of memory.
 fn drive<H: Host>(host: &mut H, core: &mut RunCore, held: &mut Vec<Ticket>) -> Result<(), RunFault>
     requires stands { Stands core.old }
     requires first { transcript core.old ≡ [] }

@@ -3,7 +3,7 @@
 //! `run` asks the host what a `RunCore` asks, until it asks nothing more. So what the host's log gained is a run
 //! of the process, without the places of its jobs, and what is answered is what that run comes to
 //! (`run_core`'s `GainsRun`): its end, and where the run is honest in a world, the value of the process there.
-//! Where the answer is the host's fault, the host's failures rose by this very fault. Whatever is answered, no child
+//! Where the answer is the host's fault, the host's failures rose by this very fault. For every answer, no child
 //! runs on under a ticket of the run.
 #![tactic(auto)]
 
