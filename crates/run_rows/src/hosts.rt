@@ -90,8 +90,17 @@ fn done(alloc: Global, answer: Result<(), HostError>) -> Result<String, RowFault
 
 fn started(alloc: Global, host: &mut Scripted, held: &mut Vec<Ticket>) -> Result<String, RowFault> {
     let launch = echo(alloc)?;
+    start(alloc, &launch, host, held)
+}
+
+fn start(
+    alloc: Global,
+    launch: &Launch,
+    host: &mut Scripted,
+    held: &mut Vec<Ticket>,
+) -> Result<String, RowFault> {
     held.reserve(1)?;
-    match host.start(&launch) {
+    match host.start(launch) {
         Ok(ticket) => {
             let number = ticket.number();
             held.push(ticket).unwrap();

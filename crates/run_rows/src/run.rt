@@ -12,30 +12,49 @@ use proc_host::Scripted;
 use row_io::{Row, RowFault, json_text};
 use run_core::Options;
 use std::alloc::{AllocError, Global};
+use std::mem;
 use workflow_engine::run;
 
 /// How a run of the row's document on its inputs ends over its script, what was asked, and the tickets left.
 pub fn answer(alloc: Global, row: &Row) -> Result<String, RowFault> {
-    let process = process_of(alloc, row)?;
-    let inputs = inputs_of(alloc, row)?;
-    let host = host_of(alloc, row)?;
-    answer_of(alloc, process, inputs, host)
+    let mut host = host_of(alloc, row)?;
+    let answer = answer_on(alloc, row, &mut host);
+    mem::drop(host);
+    answer
 }
 
-fn answer_of(
-    alloc: Global,
-    process: Process,
-    inputs: Keyed<Value>,
-    mut host: Scripted,
-) -> Result<String, RowFault>
-    requires { host.running ≡ [] }
+fn answer_on(alloc: Global, row: &Row, host: &mut Scripted) -> Result<String, RowFault>
+    requires { host.old.running ≡ [] }
 {
-    let options = options(alloc)?;
-    let end = run(alloc, &mut host, process, inputs, options);
-    let end = end_json(alloc, &end)?;
+    let end = end_on(alloc, row, host)?;
     let asked = requests(alloc, host.log())?;
     let left = numbers(alloc, host.running())?;
     Ok(format!(in alloc; "{{\"end\":{end},\"asked\":{asked},\"left\":{left}}}")?)
+}
+
+fn end_on(alloc: Global, row: &Row, host: &mut Scripted) -> Result<String, RowFault>
+    requires { host.old.running ≡ [] }
+{
+    let options = options(alloc)?;
+    let inputs = inputs_of(alloc, row)?;
+    let process = process_of(alloc, row)?;
+    end_of(alloc, host, process, inputs, options)
+}
+
+fn end_of(
+    alloc: Global,
+    host: &mut Scripted,
+    process: Process,
+    inputs: Keyed<Value>,
+    options: Options,
+) -> Result<String, RowFault>
+    requires idle { host.old.running ≡ [] }
+    requires limits { IsWithinLimits options }
+{
+    let end = run(alloc, host, process, inputs, options);
+    let text = end_json(alloc, &end);
+    mem::drop(end);
+    text
 }
 
 fn host_of(alloc: Global, row: &Row) -> Result<Scripted, RowFault>
