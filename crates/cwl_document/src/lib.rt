@@ -14,6 +14,7 @@ mod distinct;
 mod fields;
 mod forms;
 mod kept;
+mod links;
 mod lists;
 mod objects;
 mod parameters;
@@ -23,6 +24,7 @@ mod refusal;
 mod tool;
 
 pub use distinct::{Distinct, Identified};
+pub use links::{Merge, Pick};
 pub use process::{Binding, CwlType, OutputSource, Process, Tool, ToolInput, ToolOutput};
 pub use read::read_process;
 pub use refusal::DocumentRefusal;

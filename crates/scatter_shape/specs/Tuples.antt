@@ -3,8 +3,10 @@ use Rattle.std.specs.Prelude.{◌≡◌, ◌<◌, ◌≤◌, ◌++◌, ℕ, List
 use Rattle.std.specs.List.{flat_map, range_with_len}
 use Rattle.scatter_shape.specs.declared.shape.Method.{Method}
 use Rattle.scatter_shape.specs.declared.shape.Method.TheVariants.{Dotproduct, NestedCrossproduct, FlatCrossproduct}
-use Rattle.scatter_shape.specs.declared.refusal.ScatterRefusal.{ScatterRefusal}
-use Rattle.scatter_shape.specs.declared.refusal.ScatterRefusal.TheVariants.{UnequalLengths, NotAList, TooManyJobs, OutOfMemory}
+use Rattle.scatter_shape.specs.declared.refusal.ScatterError.{ScatterError}
+use Rattle.scatter_shape.specs.declared.refusal.ScatterError.TheVariants.{Refused, OutOfMemory}
+use Rattle.scatter_shape.specs.declared.refusal.ScatterFault.{ScatterFault}
+use Rattle.scatter_shape.specs.declared.refusal.ScatterFault.TheVariants.{UnequalLengths, NotAList, TooManyJobs}
 use Rattle.scatter_shape.specs.declared.tuples.TheConstants.{MOST_TUPLES}
 
 -- 0, 1, .. below n
@@ -43,12 +45,16 @@ pub record IsTaken (method : Method) (lengths : List ℕ) : Type 0 where
   pub in_step : AreInStep method lengths
   pub few : length (tuples_of method lengths) ≤ MOST_TUPLES
 
--- why lengths have no tuples: a dotproduct's differ, there are too many tuples, or out of memory
-abbrev pub IsRefused : Method → List ℕ → ScatterRefusal → Type 0
+-- why lengths have no tuples: a dotproduct's differ, or there are too many tuples
+abbrev pub IsRefused : Method → List ℕ → ScatterFault → Type 0
 IsRefused method lengths UnequalLengths = ¬ AreInStep method lengths
 IsRefused method lengths TooManyJobs = AreInStep method lengths × (MOST_TUPLES < length (tuples_of method lengths))
-IsRefused method lengths OutOfMemory = Unit {0}
 IsRefused method lengths NotAList = ⊥
+
+-- an answer in place of tuples: a fault that holds, or out of memory
+abbrev pub IsNoTuples : Method → List ℕ → ScatterError → Type 0
+IsNoTuples method lengths (Refused fault) = IsRefused method lengths fault
+IsNoTuples method lengths OutOfMemory = Unit {0}
 
 -- each tuple with each index below n after it
 abbrev pub extensions : List (List ℕ) → ℕ → List (List ℕ)

@@ -22,6 +22,6 @@ pub use gathering::Gathering;
 pub use laws::{any_order_of_ends, each_value_at_its_tuple, tuples_are_all_below};
 pub use lengths::lengths_of;
 pub use nesting::gather;
-pub use refusal::ScatterRefusal;
+pub use refusal::{ScatterError, ScatterFault};
 pub use shape::{Method, Shape};
 pub use tuples::{MOST_TUPLES, jobs_of};

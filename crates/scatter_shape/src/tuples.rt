@@ -2,10 +2,10 @@
 
 ghost use Rattle.std.specs.Prelude.{◌≡◌, ◌≢◌, ◌<◌, ◌≤◌, ◌++◌, ◌∷◌, [], ◌↔◌, length, map, IsTrue, IfOk, IfErr, OnOk, All, Contains};
 ghost use Rattle.std.specs.Bool.{OnTrue, OnFalse};
-ghost use Rattle.scatter_shape.specs.Tuples.{AreEqual, below, cross, extensions, tuples_of, IsRefused, IsTaken};
+ghost use Rattle.scatter_shape.specs.Tuples.{AreEqual, below, cross, extensions, tuples_of, IsNoTuples, IsTaken};
 ghost use Rattle.scatter_shape.specs.declared.shape.Method.TheVariants.{Dotproduct, FlatCrossproduct};
 
-use crate::refusal::ScatterRefusal;
+use crate::refusal::{ScatterError, ScatterFault};
 use crate::shape::Method;
 use plain_data::Items;
 use std::alloc::{AllocError, Global};
@@ -20,11 +20,11 @@ pub fn jobs_of(
     alloc: Global,
     method: Method,
     lengths: &[usize],
-) -> Result<Items<Items<usize>>, ScatterRefusal>
+) -> Result<Items<Items<usize>>, ScatterError>
     requires { lengths.now ≢ [] }
     ensures ok { IfOk result (λ tuples. tuples ≡ tuples_of method lengths.now) }
     ensures taken { OnOk result (IsTaken method lengths.now) }
-    ensures err { IfErr result (IsRefused method lengths.now) }
+    ensures err { IfErr result (IsNoTuples method lengths.now) }
 {
     match method {
         Method::Dotproduct => together(alloc, lengths),
@@ -33,18 +33,18 @@ pub fn jobs_of(
 }
 
 /// The tuples of a dotproduct.
-fn together(alloc: Global, lengths: &[usize]) -> Result<Items<Items<usize>>, ScatterRefusal>
+fn together(alloc: Global, lengths: &[usize]) -> Result<Items<Items<usize>>, ScatterError>
     requires { lengths.now ≢ [] }
     ensures ok { IfOk result (λ tuples. tuples ≡ tuples_of Dotproduct lengths.now) }
     ensures taken { OnOk result (IsTaken Dotproduct lengths.now) }
-    ensures err { IfErr result (IsRefused Dotproduct lengths.now) }
+    ensures err { IfErr result (IsNoTuples Dotproduct lengths.now) }
 {
     if !are_equal(lengths) {
-        return Err(ScatterRefusal::UnequalLengths);
+        return Err(ScatterError::Refused(ScatterFault::UnequalLengths));
     }
     let common = lengths[0];
     if common > MOST_TUPLES {
-        return Err(ScatterRefusal::TooManyJobs);
+        return Err(ScatterError::Refused(ScatterFault::TooManyJobs));
     }
     let mut tuples = Items::new(alloc);
     for index in 0..common {
@@ -55,16 +55,16 @@ fn together(alloc: Global, lengths: &[usize]) -> Result<Items<Items<usize>>, Sca
 }
 
 /// The tuples of a crossproduct. What has too many is refused before any tuple is made.
-fn crossed(alloc: Global, lengths: &[usize]) -> Result<Items<Items<usize>>, ScatterRefusal>
+fn crossed(alloc: Global, lengths: &[usize]) -> Result<Items<Items<usize>>, ScatterError>
     ensures ok { IfOk result (λ tuples. tuples ≡ tuples_of FlatCrossproduct lengths.now) }
     ensures taken { OnOk result (IsTaken FlatCrossproduct lengths.now) }
-    ensures err { IfErr result (IsRefused FlatCrossproduct lengths.now) }
+    ensures err { IfErr result (IsNoTuples FlatCrossproduct lengths.now) }
 {
     if has_zero(lengths) {
         return Ok(Items::new(alloc));
     }
     if !are_few(lengths) {
-        return Err(ScatterRefusal::TooManyJobs);
+        return Err(ScatterError::Refused(ScatterFault::TooManyJobs));
     }
     let mut tuples = Items::new(alloc);
     tuples.push(Items::new(alloc))?;

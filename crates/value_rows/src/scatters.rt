@@ -6,7 +6,7 @@ use crate::values::{coded, value_in, written};
 use cwl_value::Value;
 use plain_data::Items;
 use row_io::{Row, RowFault};
-use scatter_shape::{Gathering, Method, Shape, gather, jobs_of, lengths_of};
+use scatter_shape::{Gathering, Method, ScatterError, Shape, gather, jobs_of, lengths_of};
 use serde_json::Value as Json;
 use std::alloc::Global;
 
@@ -55,7 +55,7 @@ fn listed(alloc: Global, shape: &Shape) -> Result<String, RowFault>
 {
     match jobs_of(alloc, shape.method, shape.lengths.as_slice()) {
         Ok(tuples) => listed_text(alloc, &tuples),
-        Err(refusal) => coded(alloc, refusal.code()),
+        Err(error) => coded(alloc, code_of(&error)),
     }
 }
 
@@ -68,7 +68,7 @@ fn counted(alloc: Global, shape: &Shape) -> Result<String, RowFault>
 {
     match jobs_of(alloc, shape.method, shape.lengths.as_slice()) {
         Ok(tuples) => Ok(format!(in alloc; "{}", tuples.len())?),
-        Err(refusal) => coded(alloc, refusal.code()),
+        Err(error) => coded(alloc, code_of(&error)),
     }
 }
 
@@ -77,7 +77,7 @@ fn gathered(alloc: Global, shape: &Shape) -> Result<String, RowFault>
 {
     match jobs_of(alloc, shape.method, shape.lengths.as_slice()) {
         Ok(tuples) => gathered_numbers(alloc, shape, &tuples),
-        Err(refusal) => coded(alloc, refusal.code()),
+        Err(error) => coded(alloc, code_of(&error)),
     }
 }
 
@@ -112,7 +112,7 @@ fn put_in_order(alloc: Global, shape: &Shape, order: &[Json]) -> Result<String, 
 {
     match jobs_of(alloc, shape.method, shape.lengths.as_slice()) {
         Ok(tuples) => put_all(alloc, shape, &tuples, order),
-        Err(refusal) => coded(alloc, refusal.code()),
+        Err(error) => coded(alloc, code_of(&error)),
     }
 }
 
@@ -163,6 +163,13 @@ fn measured(alloc: Global, values: &[Json]) -> Result<String, RowFault> {
 fn lengths(alloc: Global, values: &[Value]) -> Result<String, RowFault> {
     match lengths_of(alloc, values) {
         Ok(lengths) => Ok(format!(in alloc; "{lengths:?}")?),
-        Err(refusal) => coded(alloc, refusal.code()),
+        Err(error) => coded(alloc, code_of(&error)),
+    }
+}
+
+fn code_of(error: &ScatterError) -> &'static str {
+    match error {
+        ScatterError::Refused(fault) => fault.code(),
+        ScatterError::OutOfMemory => "memory",
     }
 }

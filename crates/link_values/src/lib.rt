@@ -1,0 +1,16 @@
+//! Links values to the inputs of steps and to the outputs of workflows (CWL v1.2, Workflow, "WorkflowStepInput").
+//!
+//! - `merge` makes one value of the values of all links.
+//! - `pick` takes those that are not null, or says why none is the right one (L1, L2).
+//!
+//! `Ok` is exactly the value of the tables in `specs/`; a refusal comes only with its cause. Each call that allocates
+//! may also fail as out of memory.
+#![tactic(auto)]
+
+mod fault;
+mod merging;
+mod picking;
+
+pub use fault::{LinkError, LinkFault};
+pub use merging::merge;
+pub use picking::pick;
