@@ -1,5 +1,5 @@
 -- What a pick takes of a value (CWL v1.2, Workflow, "PickValueMethod"). A value that is no list counts as a list of one.
-use Rattle.std.specs.Prelude.{◌≡◌, ◌<◌, ℕ, List, [], ◌∷◌, length, Bool, true, false, Option, Some, None}
+use Rattle.std.specs.Prelude.{◌≡◌, ◌<◌, List, [], ◌∷◌, length, Bool, true, false, Option, Some, None}
 use Rattle.std.specs.List.{filter}
 use Rattle.cwl_value.specs.declared.value.DirVal.{DirVal}
 use Rattle.cwl_value.specs.declared.value.FileVal.{FileVal}
@@ -33,14 +33,21 @@ IsPicked (Some FirstNonNull) value picked = IsFirst (choices value) picked
 IsPicked (Some TheOnlyNonNull) value picked = choices value ≡ picked ∷ []
 IsPicked (Some AllNonNull) value picked = picked ≡ list_of (choices value)
 
--- why nothing is picked: one has to be taken and there is none, or only one may be and there are more
-pub data IsRefused : Pick → Value → LinkFault → Type 0 where
-  no_first : (value : Value) → choices value ≡ [] → IsRefused FirstNonNull value NoneNonNull
-  no_only : (value : Value) → choices value ≡ [] → IsRefused TheOnlyNonNull value NoneNonNull
-  several : (value : Value) → 1 < length (choices value) → IsRefused TheOnlyNonNull value SeveralNonNull
+-- why none of the values is the first: there is none
+abbrev pub IsNotFirst : List Value → LinkError → Type 0
+IsNotFirst values (Refused NoneNonNull) = values ≡ []
+IsNotFirst values (Refused SeveralNonNull) = ⊥
+IsNotFirst values OutOfMemory = Unit {0}
 
--- an answer in place of a value: a fault that holds, or out of memory
+-- why none of the values is the only one: there is none, or there are more
+abbrev pub IsNotOne : List Value → LinkError → Type 0
+IsNotOne values (Refused NoneNonNull) = values ≡ []
+IsNotOne values (Refused SeveralNonNull) = 1 < length values
+IsNotOne values OutOfMemory = Unit {0}
+
+-- why nothing is picked; without a pick and for a list of all there is no cause but memory
 abbrev pub IsNoPick : Option Pick → Value → LinkError → Type 0
-IsNoPick (Some method) value (Refused fault) = IsRefused method value fault
-IsNoPick None value (Refused fault) = ⊥
-IsNoPick method value OutOfMemory = Unit {0}
+IsNoPick (Some FirstNonNull) value error = IsNotFirst (choices value) error
+IsNoPick (Some TheOnlyNonNull) value error = IsNotOne (choices value) error
+IsNoPick (Some AllNonNull) value error = error ≡ OutOfMemory
+IsNoPick None value error = ⊥

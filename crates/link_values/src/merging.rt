@@ -11,11 +11,7 @@ use std::alloc::{AllocError, Global};
 
 /// The value of links with these values (CWL v1.2, Workflow, `linkMerge`). Without a method no link gives null, one
 /// link gives its value, and several links are nested.
-pub fn merge(
-    alloc: Global,
-    method: Option<Merge>,
-    values: Vec<Value>,
-) -> Result<Value, AllocError>
+pub fn merge(alloc: Global, method: Option<Merge>, values: Vec<Value>) -> Result<Value, AllocError>
     ensures value { IfOk result (λ value. value ≡ merged method values.items) }
 
     // Only items that move need memory.
@@ -56,12 +52,16 @@ fn push_items(items: &mut Vec<Value>, value: Value) -> Result<(), AllocError>
     ensures { OnOk result (items.new.items ≡ items.old.items ++ items_or_one value) }
 {
     match value {
-        Value::List(list) => {
-            for item in list.into_vec() {
-                items.push(item)?;
-            }
-            Ok(())
-        }
-        other => items.push(other),
+        Value::List(list) => push_all(items, list.into_vec()),
+        other => Ok(items.push(other)?),
     }
+}
+
+fn push_all(items: &mut Vec<Value>, more: Vec<Value>) -> Result<(), AllocError>
+    ensures { OnOk result (items.new.items ≡ items.old.items ++ more.items) }
+{
+    for item in more {
+        items.push(item)?;
+    }
+    Ok(())
 }

@@ -1,8 +1,9 @@
 //! The values that are not null.
 
-ghost use Rattle.std.specs.Prelude.{◌≡◌, IfOk, IfErr, IsTrue, ◌↔◌};
-ghost use Rattle.cwl_document.specs.declared.links.Pick.TheVariants.{FirstNonNull, TheOnlyNonNull};
-ghost use Rattle.link_values.specs.Picked.{choices, is_null, IsPicked, IsNoPick};
+ghost use Rattle.std.specs.Prelude.{◌≡◌, ◌∷◌, [], IfOk, IfErr};
+ghost use Rattle.std.specs.List.{filter};
+ghost use Rattle.link_values.specs.Merged.{items_or_one};
+ghost use Rattle.link_values.specs.Picked.{is_something, IsFirst, IsPicked, IsNoPick, IsNotFirst, IsNotOne};
 
 use crate::fault::{LinkError, LinkFault};
 use cwl_document::Pick;
@@ -18,7 +19,7 @@ pub fn pick(alloc: Global, method: Option<Pick>, value: Value) -> Result<Value, 
     let Some(method) = method else {
         return Ok(value);
     };
-    let values = not_null(alloc, value)?;
+    let values = not_null(values_of(alloc, value)?);
     match method {
         Pick::AllNonNull => Ok(Value::List(Items::from_vec(values))),
         Pick::FirstNonNull => first(values),
@@ -26,22 +27,32 @@ pub fn pick(alloc: Global, method: Option<Pick>, value: Value) -> Result<Value, 
     }
 }
 
-fn not_null(alloc: Global, value: Value) -> Result<Vec<Value>, AllocError>
-    ensures { IfOk result (λ values. values.items ≡ choices value) }
+fn not_null(values: Vec<Value>) -> Vec<Value>
+    ensures { result.items ≡ filter is_something values.items }
 {
-    let mut values = match value {
-        Value::List(items) => items.into_vec(),
-        other => vec![in alloc; other]?,
-    };
+    let mut values = values;
     values.retain(|value| !matches!(value, Value::Null));
-    Ok(values)
+    values
+}
+
+// The items of a list, or a value that is no list alone.
+fn values_of(alloc: Global, value: Value) -> Result<Vec<Value>, AllocError>
+    ensures { IfOk result (λ values. values.items ≡ items_or_one value) }
+{
+    match value {
+        Value::List(items) => Ok(items.into_vec()),
+        other => Ok(vec![in alloc; other]?),
+    }
 }
 
 fn first(values: Vec<Value>) -> Result<Value, LinkError>
     ensures value { IfOk result (IsFirst values.items) }
-    ensures err { IfErr result (λ e. e ≡ Refused NoneNonNull × values.items ≡ []) }
+    ensures err { IfErr result (IsNotFirst values.items) }
 {
-    values.into_iter().next().ok_or(LinkError::Refused(LinkFault::NoneNonNull))
+    values
+        .into_iter()
+        .next()
+        .ok_or(LinkError::Refused(LinkFault::NoneNonNull))
 }
 
 fn only(values: Vec<Value>) -> Result<Value, LinkError>

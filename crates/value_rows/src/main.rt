@@ -6,6 +6,7 @@
 
 mod files;
 mod keys;
+mod links;
 mod names;
 mod places;
 mod references;
@@ -34,6 +35,7 @@ fn of_values(alloc: Global, row: &Row) -> Result<String, RowFault> {
         "read_value" | "clone_in" | "from_json" | "erased" => values::answer(alloc, row),
         "place_text" | "clone_place" => places::answer(alloc, row),
         "template_value" => references::answer(alloc, row),
+        "merge" | "pick" => links::answer(alloc, row),
         _ => scatters::answer(alloc, row),
     }
 }
