@@ -1,4 +1,5 @@
 pub mod AllRead
+pub mod Differing
 pub mod Induction
 pub mod JsonDepths
 pub mod JsonOf
