@@ -1,14 +1,15 @@
 pub mod AllRead
+pub mod Differing
 pub mod Induction
 pub mod JsonDepths
 pub mod JsonOf
 pub mod JsonReads
-pub mod Listing
 pub mod NoFloat
 pub mod Periods
 pub mod ReadText
 pub mod Rows
 pub mod Sorting
+pub mod Stable
 pub mod Texts
 pub mod Told
 pub mod Whole

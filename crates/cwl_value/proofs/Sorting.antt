@@ -78,7 +78,7 @@ module _ {X : Type 0} (lt : X → X → Bool) where
       | inr none ↦ none
     ]
 
-    none_left : (q : X → Bool) (xs : List X) → ((k : ℕ) (d : X) → k < length xs → q (get_or xs k d) ≡ false) → filter q xs ≡ []
+    pub none_left : (q : X → Bool) (xs : List X) → ((k : ℕ) (d : X) → k < length xs → q (get_or xs k d) ≡ false) → filter q xs ≡ []
     none_left q [] h = refl
     none_left q (x ∷ xs) h = rw (h 0 x (omega arith), none_left q xs (λ k d high. h (suc k) d (omega arith))) refl
 

@@ -119,14 +119,18 @@ summed_read ms =
     and_then (text_read Checksum (field (codes "checksum") ms)) (λ checksum.
     and_map (λ size. (checksum, size)) (size_read (field (codes "size") ms)))
 
+-- a File of what was read, where its secondary files fit beside it
+abbrev pub file_form : Place × Option (List ℕ) → Option (List ℕ) × Option ℕ → Option (List Value) → Reads FileVal
+file_form placed summed listed =
+    and_map (λ secondary. roll-FileVal (record { place = placed.0; basename = placed.1; checksum = summed.0; size = summed.1; contents = None; secondary = secondary }))
+    (secondary_read placed.1 listed)
+
 -- a File, from its members and what each of them reads as
 abbrev pub file_read : Members → List (List ℕ × Reads Value) → Reads FileVal
 file_read ms reads =
     and_then (placed_read ms) (λ placed.
     and_then (summed_read ms) (λ summed.
-    and_then (list_read SecondaryFiles (value_at (codes "secondaryFiles") reads)) (λ listed.
-    and_map (λ secondary. roll-FileVal (record { place = placed.0; basename = placed.1; checksum = summed.0; size = summed.1; contents = None; secondary = secondary }))
-    (secondary_read placed.1 listed))))
+    and_then (list_read SecondaryFiles (value_at (codes "secondaryFiles") reads)) (file_form placed summed)))
 
 -- a Directory, likewise
 abbrev pub dir_read : Members → List (List ℕ × Reads Value) → Reads DirVal

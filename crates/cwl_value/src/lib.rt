@@ -15,6 +15,7 @@
 mod beside;
 mod copy;
 mod depth;
+mod distinct;
 mod erase;
 mod laws;
 mod members;
@@ -27,6 +28,7 @@ mod value;
 mod write;
 
 pub use copy::{copy_fields, copy_items, copy_job};
+pub use distinct::{is_taken, names_differ};
 pub use erase::{erased, erased_fields, erased_items};
 pub use laws::{
     json_tells_values_apart, listings_are_in_order, texts_tell_json_apart, texts_tell_values_apart,

@@ -3,7 +3,7 @@ ghost use Rattle.std.specs.Prelude.{◌≡◌, ◌≢◌, Ok, Err, IfOk, IfErr};
 ghost use Rattle.plain_data.specs.ByName.{value_at};
 ghost use Rattle.serde_json.specs.Find.{as_i64, is_float};
 ghost use Rattle.serde_json.specs.View.{view, number_view, items_view, members_view};
-ghost use Rattle.cwl_value.specs.Reading.{reading, value_read, whole_read, all_read, items_read, members_read, fields_read, object_read, file_read, dir_read, list_read, list_form};
+ghost use Rattle.cwl_value.specs.Reading.{reading, value_read, whole_read, all_read, items_read, members_read, fields_read, object_read, file_read, file_form, dir_read, list_read, list_form};
 ghost use Rattle.cwl_value.specs.Texts.{ReadsAs};
 ghost use Rattle.cwl_value.specs.declared.value.Value.{out-Value};
 ghost use Rattle.cwl_value.specs.declared.refusal.ValueRefusal.TheVariants.{OutOfMemory};
@@ -11,6 +11,7 @@ ghost use Rattle.cwl_value.specs.declared.refusal.ValueRefusal.TheVariants.{OutO
 use crate::beside::{listing_of, secondary_of};
 use crate::depth::nests_within;
 use crate::members::{class_of, placed_in, summed_in};
+use crate::place::Place;
 use crate::refusal::{FileField, ValueRefusal};
 use crate::value::{DirVal, FileVal, Value};
 use plain_data::{Items, Keyed, Text};
@@ -117,18 +118,10 @@ fn read_file(alloc: Global, members: &Map<String, Json>) -> Result<FileVal, Valu
     ensures err { IfErr result (λ e. e ≢ OutOfMemory
         → file_read (members_view members.now.entries) (members_read (members_view members.now.entries)) ≡ Err e) }
 {
-    let (place, basename) = placed_in(alloc, members)?;
-    let (checksum, size) = summed_in(alloc, members)?;
+    let placed = placed_in(alloc, members)?;
+    let summed = summed_in(alloc, members)?;
     let listed = read_list(alloc, members, "secondaryFiles", FileField::SecondaryFiles)?;
-    let secondary = secondary_of(alloc, &basename, listed)?;
-    Ok(FileVal {
-        place,
-        basename,
-        checksum,
-        size,
-        contents: None,
-        secondary,
-    })
+    Ok(file_of(alloc, placed, summed, listed)?)
 }
 
 #[cycle(read)]
@@ -139,11 +132,34 @@ fn read_dir(alloc: Global, members: &Map<String, Json>) -> Result<DirVal, ValueR
 {
     let (place, basename) = placed_in(alloc, members)?;
     let listed = read_list(alloc, members, "listing", FileField::Listing)?;
-    let listing = listing_of(listed)?;
+    let listing = listing_of(alloc, listed)?;
     Ok(DirVal {
         place,
         basename,
         listing,
+    })
+}
+
+// The File of what was read, unless its secondary files don't fit beside it.
+fn file_of(
+    alloc: Global,
+    placed: (Place, Option<Text>),
+    summed: (Option<Text>, Option<u64>),
+    listed: Option<Items<Value>>,
+) -> Result<FileVal, ValueRefusal>
+    ensures ok { IfOk result (λ f. file_form placed summed listed ≡ Ok f) }
+    ensures err { IfErr result (λ e. e ≢ OutOfMemory → file_form placed summed listed ≡ Err e) }
+{
+    let (place, basename) = placed;
+    let (checksum, size) = summed;
+    let secondary = secondary_of(alloc, &basename, listed)?;
+    Ok(FileVal {
+        place,
+        basename,
+        checksum,
+        size,
+        contents: None,
+        secondary,
     })
 }
 
@@ -169,6 +185,9 @@ fn listed_in(value: Value, field: FileField) -> Result<Option<Items<Value>>, Val
 {
     match value {
         Value::List(values) => Ok(Some(values)),
-        _ => Err(ValueRefusal::BadFile(field)),
+        other => {
+            drop(other);
+            Err(ValueRefusal::BadFile(field))
+        }
     }
 }

@@ -4,7 +4,7 @@ ghost use Rattle.serde_json.specs.Data.{array, string};
 ghost use Rattle.serde_json.specs.View.{view, items_of, members_view};
 ghost use Rattle.serde_json.specs.Written.{compact_text};
 ghost use Rattle.cwl_value.specs.NameParts.{nameroot, nameext};
-ghost use Rattle.cwl_value.specs.Json.{json_of, file_data, dir_data, items_json, fields_json, with_member, with_entry, by_name, name_in, text_json, location_json, size_json, unless_empty};
+ghost use Rattle.cwl_value.specs.Json.{json_of, file_data, dir_data, items_json, fields_json, with_member, by_name, name_in, text_json, location_json, size_json, unless_empty};
 
 use crate::names::name_parts;
 use crate::place::Place;
@@ -59,7 +59,7 @@ fn dir_to_json(alloc: Global, dir: &DirVal) -> Result<Json, AllocError>
 {
     let listing = match &dir.listing {
         None => None,
-        Some(items) => Some(sorted_array(alloc, items_to_json(alloc, items)?)?),
+        Some(items) => Some(sorted_array(items_to_json(alloc, items)?)?),
     };
     let mut members = Map::new(alloc);
     put_text(&mut members, alloc, "basename", &dir.basename)?;
@@ -224,32 +224,19 @@ fn some_array(items: Vec<Json>) -> Option<Json>
 }
 
 // An array in the order of the basenames.
-fn sorted_array(alloc: Global, listing: Vec<Json>) -> Result<Json, AllocError>
+fn sorted_array(listing: Vec<Json>) -> Result<Json, AllocError>
     ensures { IfOk result (λ json. view json ≡ array (items_of (by_name (map view listing.items)))) }
 {
-    Ok(Json::Array(sorted(alloc, listing)?))
+    Ok(Json::Array(sorted(listing)?))
 }
 
 // In the order of the basenames.
-fn sorted(alloc: Global, listing: Vec<Json>) -> Result<Vec<Json>, AllocError>
+fn sorted(listing: Vec<Json>) -> Result<Vec<Json>, AllocError>
     ensures { IfOk result (λ found. map view found.items ≡ by_name (map view listing.items)) }
 {
-    let mut found = Vec::with_capacity(alloc, listing.len())?;
-    for entry in listing {
-        insert_entry(&mut found, entry)?;
-    }
+    let mut found = listing;
+    found.sort_by(|one, other| name_of(one).cmp(name_of(other)))?;
     Ok(found)
-}
-
-// From the end on, so that a list which is in order already costs one look for each entry.
-fn insert_entry(found: &mut Vec<Json>, entry: Json) -> Result<(), AllocError>
-    ensures { OnOk result (map view found.new.items ≡ with_entry (map view found.old.items) (view entry)) }
-{
-    let mut at = found.len();
-    while at > 0 && name_of(&entry) < name_of(&found[at - 1]) {
-        at -= 1;
-    }
-    Ok(found.insert(at, entry)?)
 }
 
 fn name_of(entry: &Json) -> &str

@@ -10,22 +10,20 @@ use Rattle.cwl_value.specs.declared.value.FileVal.{FileVal, out-FileVal, roll-Fi
 use Rattle.cwl_value.specs.declared.value.DirVal.{DirVal, out-DirVal, roll-DirVal}
 use Rattle.file_values.specs.declared.refusal.FileRefusal.{FileRefusal}
 use Rattle.file_values.specs.Location.{Finds, and_map, and_then, Refuses}
-use Rattle.file_values.specs.Resolved.{all_found, any_of, place_resolved, named, distinct_beside, listing_resolved, resolved, file_resolved, dir_resolved, has_long, file_has_long, dir_has_long, is_long_place}
+use Rattle.file_values.specs.Resolved.{all_found, any_of, place_resolved, named, file_at, listing_resolved, resolved, file_resolved, dir_resolved, has_long, file_has_long, dir_has_long, is_long_place}
 use Rattle.file_values.proofs.Finding.{refused_here, refused_after, refused_left, refused_right, refused_any, moved}
 
 module _ (base : Parts) where
   -- ---- Files
 
-  abbrev made_file : FileVal-F Value DirVal FileVal → Place → List ℕ → List Value → FileVal
-  made_file f place name secondary =
-      roll-FileVal (record { place = place; basename = Some name; checksum = f.checksum; size = f.size; contents = f.contents; secondary = secondary })
+  abbrev at : FileVal-F Value DirVal FileVal → Place → List ℕ → List Value → Finds FileVal
+  at f = file_at f.checksum f.size f.contents
 
   abbrev file_steps : FileVal-F Value DirVal FileVal → Finds FileVal
   file_steps f =
       and_then (place_resolved base f.place) (λ place.
       and_then (named f.basename place) (λ name.
-      and_then (all_found (map (resolved base) f.secondary)) (λ found.
-      and_map (λ secondary. made_file f place name secondary) (distinct_beside name found))))
+      and_then (all_found (map (resolved base) f.secondary)) (at f place name)))
 
   abbrev file_long : FileVal-F Value DirVal FileVal → Bool
   file_long f = is_long_place base f.place || any_of (map (has_long base) f.secondary)
@@ -55,6 +53,12 @@ module _ (base : Parts) where
   file_at_items f place name e placed has_name h =
       moved _ _ _ _ e (file_resolved-out f) (file_long-out f)
       (refused_right _ _ _ e (refused_after (place_resolved base (out-FileVal f).place) _ place _ e placed (refused_after (named (out-FileVal f).basename place) _ name _ e has_name (refused_here (all_found (map (resolved base) (out-FileVal f).secondary)) _ _ e h))))
+
+  pub file_at_beside : (f : FileVal) (place : Place) (name : List ℕ) (found : List Value) (e : FileRefusal) → place_resolved base (out-FileVal f).place ≡ Ok place → named (out-FileVal f).basename place ≡ Ok name
+      → all_found (map (resolved base) (out-FileVal f).secondary) ≡ Ok found → Refuses (at (out-FileVal f) place name found) false e → Refuses (file_resolved base f) (file_has_long base f) e
+  file_at_beside f place name found e placed has_name has_found h =
+      moved _ _ _ _ e (file_resolved-out f) (file_long-out f)
+      (refused_any _ _ e (refused_after (place_resolved base (out-FileVal f).place) _ place _ e placed (refused_after (named (out-FileVal f).basename place) _ name _ e has_name (refused_after (all_found (map (resolved base) (out-FileVal f).secondary)) _ found _ e has_found h))))
 
   -- ---- Directories
 

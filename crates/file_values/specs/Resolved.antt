@@ -44,9 +44,13 @@ abbrev pub named : Option (List ℕ) → Place → Finds (List ℕ)
 named (Some name) place = Ok name
 named None place = name_in (path_at place)
 
--- the values, where their names differ from this one and from each other
+-- whether the names of the values differ from this one and from each other
+abbrev pub differ_beside : List ℕ → List Value → Bool
+differ_beside name vs = is_new (Some name) vs && are_distinct vs
+
+-- the values, where their names differ so
 abbrev pub distinct_beside : List ℕ → List Value → Finds (List Value)
-distinct_beside name vs = if is_new (Some name) vs && are_distinct vs then Ok vs else Err NotAFileUrl
+distinct_beside name vs = if differ_beside name vs then Ok vs else Err NotAFileUrl
 
 -- the values, where their names differ
 abbrev pub distinct_inside : List Value → Finds (List Value)
@@ -56,13 +60,17 @@ abbrev pub listing_resolved : Option (List (Finds Value)) → Finds (Option (Lis
 listing_resolved None = Ok None
 listing_resolved (Some rs) = and_map Some (and_then (all_found rs) distinct_inside)
 
+-- a File at a place, with a name, where the names of its secondary files differ
+abbrev pub file_at : Option (List ℕ) → Option ℕ → Option (List ℕ) → Place → List ℕ → List Value → Finds FileVal
+file_at checksum size contents place name found =
+    and_map (λ secondary. roll-FileVal (record { place = place; basename = Some name; checksum = checksum; size = size; contents = contents; secondary = secondary }))
+    (distinct_beside name found)
+
 abbrev pub file_level : Parts → FileVal-F (Finds Value) (Finds DirVal) (Finds FileVal) → Finds FileVal
 file_level base f =
     and_then (place_resolved base f.place) (λ place.
     and_then (named f.basename place) (λ name.
-    and_then (all_found f.secondary) (λ found.
-    and_map (λ secondary. roll-FileVal (record { place = place; basename = Some name; checksum = f.checksum; size = f.size; contents = f.contents; secondary = secondary }))
-    (distinct_beside name found))))
+    and_then (all_found f.secondary) (file_at f.checksum f.size f.contents place name)))
 
 abbrev pub dir_level : Parts → DirVal-F (Finds Value) (Finds DirVal) (Finds FileVal) → Finds DirVal
 dir_level base d =

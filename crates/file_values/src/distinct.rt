@@ -1,81 +1,48 @@
 //! Whether names differ, of values whose names are filled in.
-ghost use Rattle.std.specs.Prelude.{◌≡◌, Some};
-ghost use Rattle.std.specs.List.{list_any};
-ghost use Rattle.std.specs.Option.{option_copied};
-ghost use Rattle.cwl_value.specs.Secondary.{name_of, has_name, is_new, are_distinct};
+ghost use Rattle.std.specs.Prelude.{◌≡◌, false, Ok, IfOk, IfErr};
+ghost use Rattle.file_values.specs.Location.{Refuses};
 ghost use Rattle.file_values.specs.Resolved as spec;
 
 use crate::refusal::FileRefusal;
-use cwl_value::Value;
+use cwl_value::{Value, is_taken, names_differ};
 use plain_data::{Items, Text};
+use std::alloc::{AllocError, Global};
 
 /// The values, where their names differ from this one and from each other.
 pub(crate) fn distinct_beside(
+    alloc: Global,
     name: &Text,
     values: Items<Value>,
 ) -> Result<Items<Value>, FileRefusal>
-    ensures { result ≡ spec.distinct_beside name.now values }
+    ensures ok { IfOk result (λ vs. spec.distinct_beside name.now values ≡ Ok vs) }
+    ensures err { IfErr result (Refuses (spec.distinct_beside name.now values) false) }
 {
-    if !taken(name, values.as_slice()) && distinct(values.as_slice()) {
+    if differ_beside(alloc, name, values.as_slice())? {
         Ok(values)
     } else {
+        drop(values);
         Err(FileRefusal::NotAFileUrl)
     }
 }
 
 /// The values, where their names differ.
-pub(crate) fn distinct_inside(values: Items<Value>) -> Result<Items<Value>, FileRefusal>
-    ensures { result ≡ spec.distinct_inside values }
+pub(crate) fn distinct_inside(
+    alloc: Global,
+    values: Items<Value>,
+) -> Result<Items<Value>, FileRefusal>
+    ensures ok { IfOk result (λ vs. spec.distinct_inside values ≡ Ok vs) }
+    ensures err { IfErr result (Refuses (spec.distinct_inside values) false) }
 {
-    if distinct(values.as_slice()) {
+    if names_differ(alloc, values.as_slice())? {
         Ok(values)
     } else {
+        drop(values);
         Err(FileRefusal::NotAFileUrl)
     }
 }
 
-fn distinct(values: &[Value]) -> bool
-    ensures { result ≡ are_distinct values.now }
+fn differ_beside(alloc: Global, name: &Text, values: &[Value]) -> Result<bool, AllocError>
+    ensures { IfOk result (λ differ. differ ≡ spec.differ_beside name.now values.now) }
 {
-    for i in 0..values.len() {
-        if !is_new_before(&values[i], &values[i + 1..]) {
-            return false;
-        }
-    }
-    true
-}
-
-// Whether none of the values has the name of this one.
-fn is_new_before(value: &Value, values: &[Value]) -> bool
-    ensures { result ≡ is_new (name_of value.now) values.now }
-{
-    match name(value) {
-        Some(name) => !taken(name, values),
-        None => true,
-    }
-}
-
-fn taken(wanted: &Text, values: &[Value]) -> bool
-    ensures { result ≡ list_any (has_name wanted.now) values.now }
-{
-    values.iter().any(|value| is_named(wanted, value))
-}
-
-fn is_named(wanted: &Text, value: &Value) -> bool
-    ensures { result ≡ has_name wanted.now value.now }
-{
-    match name(value) {
-        Some(name) => wanted.equals(name),
-        None => false,
-    }
-}
-
-fn name(value: &Value) -> Option<&Text>
-    ensures { option_copied result ≡ name_of value.now }
-{
-    match value {
-        Value::FileVal(file) => file.basename.as_ref(),
-        Value::DirVal(dir) => dir.basename.as_ref(),
-        _ => None,
-    }
+    Ok(!is_taken(name, values) && names_differ(alloc, values)?)
 }

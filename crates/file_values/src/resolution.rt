@@ -3,6 +3,7 @@ ghost use Rattle.std.specs.Prelude.{◌≡◌, ◌==◌, false, Ok, IfOk, IfErr,
 ghost use Rattle.std.specs.List.{list_any};
 ghost use Rattle.plain_data.specs.ByName.{map_values};
 ghost use Rattle.cwl_value.specs.Reading.{is_name};
+ghost use Rattle.cwl_value.specs.declared.value.FileVal.{out-FileVal};
 ghost use Rattle.file_values.specs.Location.{Refuses};
 ghost use Rattle.file_values.specs.Resolved as spec;
 
@@ -54,17 +55,7 @@ fn resolved_file(alloc: Global, file: &FileVal, base: &Url) -> Result<FileVal, F
     let place = resolved_place(alloc, &file.place, base)?;
     let name = named(alloc, &file.basename, &place)?;
     let found = resolved_items(alloc, &file.secondary, base)?;
-    let secondary = distinct_beside(&name, found)?;
-    let checksum = copy_if_any(alloc, &file.checksum)?;
-    let contents = copy_if_any(alloc, &file.contents)?;
-    Ok(FileVal {
-        place,
-        basename: Some(name),
-        checksum,
-        size: file.size,
-        contents,
-        secondary,
-    })
+    Ok(file_at(alloc, file, place, name, found)?)
 }
 
 #[cycle(resolve)]
@@ -82,7 +73,7 @@ fn resolved_dir(alloc: Global, dir: &DirVal, base: &Url) -> Result<DirVal, FileR
         }),
         Some(items) => {
             let found = resolved_items(alloc, items, base)?;
-            let listing = distinct_inside(found)?;
+            let listing = distinct_inside(alloc, found)?;
             Ok(DirVal {
                 place,
                 basename: Some(name),
@@ -123,6 +114,37 @@ fn resolved_fields(
         found.push((name, resolved(alloc, &field.1, base)?))?;
     }
     Ok(Keyed::from_sorted(found))
+}
+
+// The File at this place and with this name, unless the names of its secondary files don't differ.
+fn file_at(
+    alloc: Global,
+    file: &FileVal,
+    place: Place,
+    name: Text,
+    found: Items<Value>,
+) -> Result<FileVal, FileRefusal>
+    ensures ok { IfOk result (λ f. spec.file_at (out-FileVal file.now).checksum (out-FileVal file.now).size (out-FileVal file.now).contents place name found ≡ Ok f) }
+    ensures err { IfErr result (Refuses (spec.file_at (out-FileVal file.now).checksum (out-FileVal file.now).size (out-FileVal file.now).contents place name found) false) }
+{
+    let secondary = distinct_beside(alloc, &name, found)?;
+    let (checksum, contents) = texts_of(alloc, file)?;
+    Ok(FileVal {
+        place,
+        basename: Some(name),
+        checksum,
+        size: file.size,
+        contents,
+        secondary,
+    })
+}
+
+// The checksum and the contents.
+fn texts_of(alloc: Global, file: &FileVal) -> Result<(Option<Text>, Option<Text>), AllocError>
+    ensures { IfOk result (λ texts. texts ≡ ((out-FileVal file.now).checksum, (out-FileVal file.now).contents)) }
+{
+    let checksum = copy_if_any(alloc, &file.checksum)?;
+    Ok((checksum, copy_if_any(alloc, &file.contents)?))
 }
 
 // A location as the path that it names, and a path joined to the base's folder.

@@ -2,7 +2,7 @@ use Rattle.std.proofs.Common.{[], ◌∷◌, ◌++◌, Ok, sym, ap, ◌∙◌}
 use Rattle.std.proofs.lemmas.Result.{err_from_is_err_and}
 use Rattle.file_values.specs.Resolved.{resolved, has_long}
 use Rattle.file_values.proofs.Finding.{items_more, items_stop, fields_more_at, fields_stop_at, fields_by_name}
-use Rattle.file_values.proofs.Levels.{file_at_place, file_at_name, file_at_items, dir_at_place, dir_at_name}
+use Rattle.file_values.proofs.Levels.{file_at_place, file_at_name, file_at_items, file_at_beside, dir_at_place, dir_at_name}
 use Rattle.file_values.proofs.resolution.+resolve.Goals as goal
 
 pub resolved_items-loop-item-preserved : goal.resolved_items-loop-item-preserved
@@ -48,6 +48,11 @@ pub resolved_file-returns-in_err-found-clause-err : goal.resolved_file-returns-i
 resolved_file-returns-in_err-found-clause-err t c =
     let p = err_from_is_err_and c.from_residual-in_err-found.result c.from_residual-in_err-found.ensures.1 in
     rw (p.1, p.2) (file_at_items c.args.base.now c.args.file.now _ _ _ c.in_ok-place.ensures.ok c.in_ok-name.ensures.ok c.in_err-found.ensures.err)
+
+pub resolved_file-returns-in_err-file_at-clause-err : goal.resolved_file-returns-in_err-file_at-clause-err
+resolved_file-returns-in_err-file_at-clause-err t c =
+    let p = err_from_is_err_and c.from_residual-in_err-file_at.result c.from_residual-in_err-file_at.ensures.1 in
+    rw (p.1, p.2) (file_at_beside c.args.base.now c.args.file.now _ _ _ _ c.in_ok-place.ensures.ok c.in_ok-name.ensures.ok c.in_ok-found.ensures.ok c.in_err-file_at.ensures.err)
 
 pub resolved_dir-returns-in_err-place-clause-err : goal.resolved_dir-returns-in_err-place-clause-err
 resolved_dir-returns-in_err-place-clause-err t c =
