@@ -27,7 +27,7 @@ chosen Less a b c p q r = p
 chosen Equal a b c p q r = q
 chosen Greater a b c p q r = r
 
-put-whole : (k : List ℕ) (d : Data) (ms : Members) → HasWholeNumbers d → MembersHaveWholeNumbers ms → MembersHaveWholeNumbers (put k d ms)
+pub put-whole : (k : List ℕ) (d : Data) (ms : Members) → HasWholeNumbers d → MembersHaveWholeNumbers ms → MembersHaveWholeNumbers (put k d ms)
 put-whole k d no_members p q = (p, tt)
 put-whole k d (member l e ms) p q =
     chosen (slice_cmp nat_cmp k l) (member k d (member l e ms)) (member l d ms) (member l e (put k d ms)) (p, q) (p, q.1) (q.0, put-whole k d ms p q.1)
@@ -61,7 +61,7 @@ abbrev Whole : Data → Type 0
 Whole d = HasWholeNumbers d
 
 mutual
-  json_of-whole : (v : Value) → IsPlain v → HasWholeNumbers (json_of v)
+  pub json_of-whole : (v : Value) → IsPlain v → HasWholeNumbers (json_of v)
   json_of-whole _ IsPlain.null = subst Whole (sym json_of-Null) tt
   json_of-whole _ (IsPlain.boolean b) = subst Whole (sym (json_of-Bool b)) tt
   json_of-whole _ (IsPlain.whole n fits) = subst Whole (sym (json_of-Whole n)) (of_integer-whole n fits)

@@ -1,8 +1,11 @@
 //! The key of a job: one text that tells its tool, its inputs and its environment.
 //!
-//! `key_text` gives exactly the text that `specs/Key.antt` defines.
+//! `key_text` gives exactly the text that `specs/Key.antt` defines. `keys_tell_jobs_apart` is the law that equal keys
+//! come only from equal tools and equal inputs, places apart.
 #![tactic(auto)]
 
 mod key;
+mod laws;
 
 pub use key::key_text;
+pub use laws::keys_tell_jobs_apart;
