@@ -12,6 +12,7 @@ use crate::number::{after, read_number};
 use crate::plan::Plan;
 use crate::row::Row;
 use std::alloc::Global;
+use std::mem;
 
 /// Reads a certificate: the one whose text these very bytes are. Where they are no certificate's text, the refusal
 /// names the first line that no certificate has behind the lines before it, counted from 1.
@@ -76,9 +77,12 @@ fn read_rows(alloc: Global, count: usize, text: &[u8]) -> Result<(Draft, &[u8]),
     let mut rest = text;
     for i in 0..count {
         let Some((row, after)) = Row::read(alloc, rest)? else {
+            mem::drop(draft);
             return Err(CertificateError::NotACertificate(i + 3));
         };
         if !fits(i, entries, &row.job) {
+            mem::drop(row);
+            mem::drop(draft);
             return Err(CertificateError::NotACertificate(i + 3));
         }
         entries += row.job.parents.len();
