@@ -16,12 +16,12 @@ pub(crate) fn environment(alloc: Global, runtime: &Runtime) -> Result<Items<Vari
     ensures plain { IfOk result (AllPass (λ v. is_plain v.text)) }
     ensures refused { IfErr result (EnvError (environment_of runtime.now)) }
 {
-    let home = variable(alloc, "HOME", runtime.outdir.as_str())?;
-    let scratch = variable(alloc, "TMPDIR", runtime.tmpdir.as_str())?;
-    let programs = variable(alloc, "PATH", runtime.path_env.as_str())?;
     let mut env = Vec::with_capacity(alloc, 3)?;
+    let home = variable(alloc, "HOME", runtime.outdir.as_str())?;
     env.push(home)?;
+    let scratch = variable(alloc, "TMPDIR", runtime.tmpdir.as_str())?;
     env.push(scratch)?;
+    let programs = variable(alloc, "PATH", runtime.path_env.as_str())?;
     env.push(programs)?;
     Ok(Items::from_vec(env))
 }

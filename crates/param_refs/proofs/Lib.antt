@@ -4,7 +4,6 @@ pub mod Cut
 pub mod Descents
 pub mod Folders
 pub mod Joined
-pub mod Placing
 pub mod Readings
 pub mod Scanned
 pub mod Settled

@@ -34,7 +34,11 @@ pub(crate) fn descend(
     };
     match step(alloc, value, segment, rest.is_empty(), with_places)? {
         Reached::Inside(inner) => descend(alloc, inner, rest, with_places),
-        Reached::Made(inner) => descend(alloc, &inner, rest, with_places),
+        Reached::Made(inner) => {
+            let found = descend(alloc, &inner, rest, with_places);
+            drop(inner);
+            found
+        }
     }
 }
 

@@ -3,6 +3,9 @@ ghost use Rattle.std.specs.Prelude.{◌≡◌, ◌≢◌, Ok, Err, IfOk, IfErr};
 ghost use Rattle.std.specs.Option.{option_copied};
 ghost use Rattle.std.specs.List.{list_all};
 ghost use Rattle.std.specs.Char.{is_ascii_whitespace};
+ghost use Rattle.serde_json.specs.Written.{compact_text};
+ghost use Rattle.cwl_value.specs.Erased.{erased};
+ghost use Rattle.cwl_value.specs.Json.{json_of};
 ghost use Rattle.param_refs.specs.Descent.{root};
 ghost use Rattle.param_refs.specs.Reached.{reached};
 ghost use Rattle.param_refs.specs.Evaluation.{template_value, reference_value, part_text, joined, alone, is_blank, is_all_blank, text_of_value};
@@ -93,7 +96,9 @@ fn part_text(alloc: Global, context: &Context<'_>, part: &Part) -> Result<Text, 
         Part::Plain(plain) => Ok(plain.copied(alloc)?),
         Part::Referred(reference) => {
             let value = reference_value(alloc, context, reference)?;
-            Ok(text_of_value(alloc, &value)?)
+            let text = text_of_value(alloc, &value);
+            drop(value);
+            Ok(text?)
         }
     }
 }
@@ -103,8 +108,18 @@ fn text_of_value(alloc: Global, value: &Value) -> Result<Text, AllocError>
 {
     match value {
         Value::Text(text) => text.copied(alloc),
-        _ => canonical_text(alloc, &erased(alloc, value)?),
+        _ => bare_text(alloc, value),
     }
+}
+
+// The JSON of a value, without places.
+fn bare_text(alloc: Global, value: &Value) -> Result<Text, AllocError>
+    ensures { IfOk result (λ text. text ≡ compact_text (json_of (erased value.now))) }
+{
+    let bare = erased(alloc, value)?;
+    let text = canonical_text(alloc, &bare);
+    drop(bare);
+    text
 }
 
 fn reference_value(
@@ -119,7 +134,11 @@ fn reference_value(
     let with_places = has_outdir(context.runtime);
     match root(context, reference.symbol.as_str())? {
         Reached::Inside(value) => descend(alloc, value, segments, with_places),
-        Reached::Made(value) => descend(alloc, &value, segments, with_places),
+        Reached::Made(value) => {
+            let found = descend(alloc, &value, segments, with_places);
+            drop(value);
+            found
+        }
     }
 }
 

@@ -1,7 +1,7 @@
-ghost use Rattle.std.specs.Prelude.{◌≡◌, IfOk, OnOk};
-ghost use Rattle.param_refs.specs.Listings.{entry_name, with_entry, in_order};
+ghost use Rattle.std.specs.Prelude.{◌≡◌, IfOk};
+ghost use Rattle.param_refs.specs.Listings.{entry_name, in_order};
 
-use cwl_value::Value;
+use cwl_value::{Value, copy_items};
 use plain_data::Items;
 use std::alloc::{AllocError, Global};
 
@@ -9,22 +9,10 @@ use std::alloc::{AllocError, Global};
 pub(crate) fn in_order(alloc: Global, listing: &Items<Value>) -> Result<Items<Value>, AllocError>
     ensures { IfOk result (λ found. found ≡ in_order listing.now) }
 {
-    let mut found = Vec::with_capacity(alloc, listing.len())?;
-    for entry in listing.as_slice() {
-        insert_entry(&mut found, entry.clone_in(alloc)?)?;
-    }
+    let copy = copy_items(alloc, listing)?;
+    let mut found = copy.into_vec();
+    found.sort_by(|one, other| name_of(one).cmp(name_of(other)))?;
     Ok(Items::from_vec(found))
-}
-
-// From the end on, so that a listing which is in order already costs one look for each entry.
-fn insert_entry(found: &mut Vec<Value>, entry: Value) -> Result<(), AllocError>
-    ensures { OnOk result (found.new.items ≡ with_entry found.old.items entry) }
-{
-    let mut at = found.len();
-    while at > 0 && name_of(&entry) < name_of(&found[at - 1]) {
-        at -= 1;
-    }
-    Ok(found.insert(at, entry)?)
 }
 
 fn name_of(entry: &Value) -> &str

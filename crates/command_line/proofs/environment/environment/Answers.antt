@@ -9,7 +9,7 @@ use Rattle.command_line.proofs.environment.environment.Goals as goal
 
 pub returns-in_err-home-clause-refused : goal.returns-in_err-home-clause-refused
 returns-in_err-home-clause-refused c =
-    let p = err_from_is_err_and c.from_residual.result c.from_residual.ensures.1 in
+    let p = err_from_is_err_and c.from_residual-in_err-home.result c.from_residual-in_err-home.ensures.1 in
     rw (p.1, p.2) (env_error_at (environment_of c.args.runtime.now) (record { name = codes "HOME"; text = c.args.runtime.now.outdir }) c.in_err-home.field-0.0 (0, omega arith, refl)
     (subst (λ (text : List ℕ). NotTextAt (EnvVariable (codes "HOME")) (is_plain text ≡ false) c.in_err-home.field-0.0) c.as_str.ensures.bytes c.in_err-home.ensures.refused))
 
