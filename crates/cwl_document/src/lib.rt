@@ -9,7 +9,6 @@
 //! That no two inputs, and no two outputs, have the same id is a fact of their type, `Distinct`.
 #![tactic(auto)]
 
-mod depth;
 mod distinct;
 mod fields;
 mod forms;

@@ -1,7 +1,7 @@
 use Rattle.std.proofs.Common.{◌≤◌, drop}
 use Rattle.serde_json.specs.Data.{items_depth, members_depth}
 use Rattle.serde_json.specs.View.{items_view, members_view}
-use Rattle.cwl_document.proofs.depth.+nesting.Given as goal
+use Rattle.document_table.proofs.depth.+nesting.Given as goal
 
 abbrev pub invariant-items_nest_within-loop-item : goal.invariant-items_nest_within-loop-item
 invariant-items_nest_within-loop-item l =

@@ -1,0 +1,103 @@
+//! The objects of a document, and the forms that a value in it may have to have.
+
+/// The objects of a document, each with fields of its own.
+#[derive(Clone, Copy, Drop)]
+pub enum Kind {
+    Tool,
+    Workflow,
+    ToolInput,
+    ToolOutput,
+    WorkflowInput,
+    WorkflowOutput,
+    Step,
+    StepInput,
+    StepOutput,
+    InputBinding,
+    Argument,
+    OutputBinding,
+    ItemBinding,
+    ArrayType,
+    EnumType,
+    SecondaryFile,
+    /// A requirement with no field but its class.
+    PlainRequirement,
+    EnvVarRequirement,
+    WorkReuse,
+    /// An entry of `envDef`.
+    Variable,
+}
+
+/// What a value of a document has to be.
+#[derive(Clone, Copy, Drop)]
+pub enum Form {
+    /// Any JSON: a field that is ignored.
+    Anything,
+    /// A value of the input object: JSON whose numbers are whole and have at most 64 bits.
+    Value,
+    /// A whole document: a process that says its version.
+    Document,
+    /// A process in a step, or the name of its document, without `#`.
+    Run,
+    /// The text `v1.2`.
+    Version,
+    /// A text that isn't empty and has neither `/` nor `#`.
+    Id,
+    /// An id without `[`.
+    StepId,
+    Text,
+    /// A text, or a list of texts.
+    Words,
+    Texts,
+    Bool,
+    /// The value `false` alone.
+    OnlyFalse,
+    /// A whole number of 32 bits.
+    Int,
+    Ints,
+    ScatterMethod,
+    LinkMerge,
+    PickValue,
+    /// `name`, or `step/name`.
+    Source,
+    /// A source, or a list of sources.
+    Sources,
+    /// A type of values.
+    Type,
+    /// A type, or `stdin`.
+    InputType,
+    /// A type, or `stdout`, or `stderr`.
+    OutputType,
+    /// A text, or the object of an argument.
+    Argument,
+    Arguments,
+    /// A text without `/`, or the object of a secondary file.
+    SecondaryFile,
+    /// A secondary file, or a list of them.
+    SecondaryFiles,
+    /// A text without `/`.
+    Pattern,
+    /// An id, or the object of a step's output.
+    StepOutput,
+    StepOutputs,
+    Object(Kind),
+    /// A list of such objects, or a map of them by their subject.
+    Objects(Kind),
+    /// What is under a key of such a map: the object, or the one field that may stand for it.
+    Keyed(Kind),
+    /// An object with a class that this runner knows.
+    Requirement,
+    /// A list of requirements, or a map of them by their class.
+    Requirements,
+    /// An object with a class.
+    Hint,
+    /// A list of hints, or a map of them by their class.
+    Hints,
+}
+
+/// A row of the table: a field, whether it has to be there, and its form where it is.
+#[derive(Clone, Copy, Drop)]
+pub struct FieldRow {
+    pub name: &'static str,
+    pub required: bool,
+    pub form: Form,
+}

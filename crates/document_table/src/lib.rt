@@ -1,0 +1,22 @@
+//! Checks whole documents of CWL v1.2 against the standard's tables of fields.
+//!
+//! `read_document` takes a `CommandLineTool` or a `Workflow`, with everything inside it. An `Ok` is its JSON, in which each value
+//! has the form that the one table (`specs/Table.antt`) asks of it. A refusal is the first fault of the document
+//! (`specs/Walk.antt`): its cause, and the place where it is.
+#![tactic(auto)]
+
+mod depth;
+mod document;
+mod fault;
+mod form;
+mod layout;
+mod leaf;
+mod table;
+mod texts;
+mod walk;
+
+pub use depth::nests_within;
+pub use document::{MOST_NESTING, first_fault, read_document};
+pub use fault::{Cause, DocumentError, DocumentFault, Way};
+pub use form::{Form, Kind};
+pub use walk::fault_in;
