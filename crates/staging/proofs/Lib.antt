@@ -1,0 +1,3 @@
+pub mod Greedy
+pub mod Names
+pub mod Standing

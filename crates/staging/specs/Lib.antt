@@ -1,0 +1,3 @@
+pub mod Glob
+pub mod Laws
+pub mod inner

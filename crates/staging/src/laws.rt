@@ -1,0 +1,19 @@
+//! What holds of all patterns and names: each law is the contract of a function that does nothing.
+
+ghost use Rattle.staging.specs.Laws.{TextMatchesItself, TextMatchesNoOther, SameComponents, HiddenByPeriodAlone};
+
+/// A pattern without `*`, `?` and brackets matches its own text and no other name.
+pub fn text_matches_itself_alone()
+    ensures itself { TextMatchesItself }
+    ensures alone { TextMatchesNoOther }
+{}
+
+/// Only a `/` of the pattern matches a `/`: a name has as many components as each pattern that matches it.
+pub fn same_components()
+    ensures { SameComponents }
+{}
+
+/// A name that begins with a period is matched only by a pattern that begins with one.
+pub fn hidden_by_a_period_alone()
+    ensures { HiddenByPeriodAlone }
+{}
