@@ -1,2 +1,4 @@
 mod Files
+mod Opens
+mod Refused
 mod RowsRead

@@ -1,18 +1,23 @@
 //! Opening a record, and making one where the store has none.
 
-ghost use Rattle.std.specs.Prelude.{◌≡◌, false};
-ghost use Rattle.job_record.specs.Opening.{VersionIn};
+ghost use Rattle.std.specs.Prelude.{◌≡◌, ◌⊎◌, false, IfOk, IfErr, OnOk};
+ghost use Rattle.sqlite.specs.State.{HasCleanDisk, IsUnchanged};
+ghost use Rattle.sqlite.specs.Held.{state};
+ghost use Rattle.job_record.specs.declared.fault.RecordFault.TheVariants.{NotARecord, Store};
+ghost use Rattle.job_record.specs.Log.{outcome};
+ghost use Rattle.job_record.specs.Opening.{HasTable, HasTables, LacksColumn, both_of, VersionIn, ReadsVersion, MakesTables, IsReady, ReadsRecord, IsUnready, Opens};
 
 use crate::commands::read_all;
 use crate::fault::RecordFault;
-use crate::tables::{LIST, misread};
+use crate::row::Row;
+use crate::tables::{self, LIST, VERSION_TEXT, misread};
+use plain_data::Items;
 use sqlite::{Alter, Connection, Error, Row as Columns};
 use sqlite_resolve::CompileError;
 use std::alloc::Global;
+use std::mem;
 
 const VERSION: i64 = 1;
-
-const VERSION_TEXT: &str = "SELECT value FROM meta WHERE name = 'version'";
 
 const MAKE_META: &str = "CREATE TABLE meta (name TEXT PRIMARY KEY, value INTEGER NOT NULL) STRICT";
 
@@ -24,31 +29,57 @@ const NOTE_VERSION: &str = "INSERT INTO meta (name, value) VALUES ('version', 1)
 /// Makes the tables where the store has neither, and reads what they hold.
 pub fn open_tables<S: Alter>(alloc: Global, conn: &mut Connection<S>) -> Result<(), RecordFault>
     requires { conn.old.in_transaction ≡ false }
+    ensures { HasCleanDisk (state S.Store conn.new) → Opens S.Store conn.old conn.new result }
 {
-    if !has_tables(conn)? {
-        make_tables(conn)?;
+    make_ready(conn)?;
+    read_record(alloc, conn)
+}
+
+// Makes both tables where there is neither.
+fn make_ready<S: Alter>(conn: &mut Connection<S>) -> Result<(), RecordFault>
+    requires { conn.old.in_transaction ≡ false }
+    ensures ok { HasCleanDisk (state S.Store conn.new) → OnOk result (IsReady S.Store conn.old conn.new) }
+    ensures err { HasCleanDisk (state S.Store conn.new) → IfErr result (IsUnready S.Store conn.old conn.new) }
+    ensures clean { HasCleanDisk (state S.Store conn.new) → HasCleanDisk (state S.Store conn.old) }
+{
+    if has_tables(conn)? {
+        return Ok(());
     }
-    check_version(conn)?;
-    read_all(alloc, conn)?;
-    Ok(())
+    match make_tables(conn) {
+        Ok(()) => Ok(()),
+        Err(error) => Err(RecordFault::Store(error)),
+    }
 }
 
 // Both tables, or neither.
 fn has_tables<S: Alter>(conn: &mut Connection<S>) -> Result<bool, RecordFault>
-    ensures { conn.old.in_transaction ≡ false → conn.new.in_transaction ≡ false }
+    ensures ok { HasCleanDisk (state S.Store conn.new) → IfOk result (λ both. HasTables (state S.Store conn.old).now.schema both × IsUnchanged (state S.Store conn.old) (state S.Store conn.new)) }
+    ensures err { HasCleanDisk (state S.Store conn.new) → IfErr result (IsUnready S.Store conn.old conn.new) }
+    ensures clean { HasCleanDisk (state S.Store conn.new) → HasCleanDisk (state S.Store conn.old) }
+    ensures mode { conn.old.in_transaction ≡ false → conn.new.in_transaction ≡ false }
 {
     let meta = has_table(conn, VERSION_TEXT)?;
     let job = has_table(conn, LIST)?;
-    if meta == job {
-        Ok(meta)
-    } else {
-        Err(RecordFault::NotARecord)
+    both_of(meta, job)
+}
+
+fn both_of(meta: bool, job: bool) -> Result<bool, RecordFault>
+    ensures { result ≡ both_of meta job }
+{
+    match (meta, job) {
+        (true, true) => Ok(true),
+        (false, false) => Ok(false),
+        (true, false) => Err(RecordFault::NotARecord),
+        (false, true) => Err(RecordFault::NotARecord),
     }
 }
 
 // Whether there is the table that the query reads. One without a column is R1.
 fn has_table<S: Alter>(conn: &mut Connection<S>, query: &str) -> Result<bool, RecordFault>
-    ensures { conn.old.in_transaction ≡ false → conn.new.in_transaction ≡ false }
+    ensures ok { HasCleanDisk (state S.Store conn.new) → IfOk result (λ there. HasTable (state S.Store conn.old).now.schema query.now there × IsUnchanged (state S.Store conn.old) (state S.Store conn.new)) }
+    ensures err { HasCleanDisk (state S.Store conn.new) → IfErr result (λ fault. ((fault ≡ NotARecord) × LacksColumn (state S.Store conn.old).now.schema query.now × IsUnchanged (state S.Store conn.old) (state S.Store conn.new)) ⊎ ((e : _) × (fault ≡ Store e))) }
+    ensures clean { HasCleanDisk (state S.Store conn.new) → HasCleanDisk (state S.Store conn.old) }
+    ensures mode { conn.old.in_transaction ≡ false → conn.new.in_transaction ≡ false }
 {
     match conn.prepare(query) {
         Ok(_) => Ok(true),
@@ -61,6 +92,8 @@ fn has_table<S: Alter>(conn: &mut Connection<S>, query: &str) -> Result<bool, Re
 // Both tables and the version, in one transaction.
 fn make_tables<S: Alter>(conn: &mut Connection<S>) -> Result<(), Error>
     requires { conn.old.in_transaction ≡ false }
+    ensures made { HasCleanDisk (state S.Store conn.new) → OnOk result (MakesTables S.Store conn.old (state S.Store conn.new).committed) }
+    ensures clean { HasCleanDisk (state S.Store conn.new) → HasCleanDisk (state S.Store conn.old) }
 {
     let mut making = conn.transaction();
     making.execute(MAKE_META, &[])?;
@@ -69,11 +102,36 @@ fn make_tables<S: Alter>(conn: &mut Connection<S>) -> Result<(), Error>
     making.commit()
 }
 
+// The version, and each row where it is 1.
+fn read_record<S: Alter>(alloc: Global, conn: &mut Connection<S>) -> Result<(), RecordFault>
+    ensures reads { HasCleanDisk (state S.Store conn.new) → ReadsRecord S.Store conn.old conn.new result }
+    ensures clean { HasCleanDisk (state S.Store conn.new) → HasCleanDisk (state S.Store conn.old) }
+{
+    check_version(conn)?;
+    outcome_of(read_all(alloc, conn))
+}
+
+fn outcome_of(rows: Result<Items<Row>, RecordFault>) -> Result<(), RecordFault>
+    ensures { result ≡ outcome rows }
+{
+    match rows {
+        Ok(rows) => {
+            mem::drop(rows);
+            Ok(())
+        }
+        Err(fault) => Err(fault),
+    }
+}
+
 // R2 for another version, and R1 where there is none.
-fn check_version<S: Alter>(conn: &mut Connection<S>) -> Result<(), RecordFault> {
-    match conn.query_row(VERSION_TEXT, &[]) {
-        Ok(columns) => version_in(&columns),
-        Err(Error::QueryReturnedNoRows) => Err(RecordFault::NotARecord),
+#[tactic(auto, using(crate::proofs::Opens::version_reads))]
+fn check_version<S: Alter>(conn: &mut Connection<S>) -> Result<(), RecordFault>
+    ensures reads { HasCleanDisk (state S.Store conn.new) → ReadsVersion (state S.Store conn.old) (state S.Store conn.new) result }
+    ensures clean { HasCleanDisk (state S.Store conn.new) → HasCleanDisk (state S.Store conn.old) }
+{
+    match tables::version(conn) {
+        Ok(Some(columns)) => version_in(&columns),
+        Ok(None) => Err(RecordFault::NotARecord),
         Err(error) => Err(RecordFault::Store(error)),
     }
 }

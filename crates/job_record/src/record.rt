@@ -1,9 +1,11 @@
-ghost use Rattle.std.specs.Prelude.{◌≡◌, [], false, IfOk};
-ghost use Rattle.sqlite.specs.State.{HasCleanDisk, Survives, CommitsBy, CommitsShowing};
+ghost use Rattle.std.specs.Prelude.{◌≡◌, ◌≢◌, [], false, Ok, Err, IfOk, IfErr};
+ghost use Rattle.sqlite.specs.State.{HasCleanDisk, KeepsCommit, Survives, CommitsBy, CommitsShowing};
 ghost use Rattle.sqlite.specs.Held.{state};
 ghost use Rattle.job_record.specs.Statements.{find_text, list_text, put_text, drop_archive_text, forget_text, key_params, put_params};
+ghost use Rattle.job_record.specs.declared.fault.RecordFault.TheVariants.{NoRow};
 ghost use Rattle.job_record.specs.RecordMap.{Finds, Puts, Changes, Lists};
 ghost use Rattle.job_record.specs.Log.{Logs};
+ghost use Rattle.job_record.specs.Opening.{Opens};
 
 use crate::commands::{change_of, look_up, read_all, room, set};
 use crate::fault::RecordFault;
@@ -46,7 +48,9 @@ impl<S: Alter + Drop> JobRecord<S> {
         mut conn: Connection<S>,
     ) -> Result<JobRecord<S>, (RecordFault, Connection<S>)>
         requires { conn.in_transaction ≡ false }
-        ensures { IfOk result (λ opened. opened.log.items ≡ []) }
+        ensures opens { IfOk result (λ opened. HasCleanDisk (state S.Store opened.conn) → Opens S.Store conn opened.conn (Ok tt)) }
+        ensures refused { IfErr result (λ left. HasCleanDisk (state S.Store left.1) → Opens S.Store conn left.1 (Err left.0)) }
+        ensures log { IfOk result (λ opened. opened.log.items ≡ []) }
     {
         match open_tables(alloc, &mut conn) {
             Ok(()) => Ok(JobRecord {
@@ -103,13 +107,15 @@ impl<S: Alter> JobRecord<S> {
         answer
     }
 
-    /// Sets the row of its key.
+    /// Sets the row of its key. A refusal commits nothing.
     ///
     /// # Errors
     ///
     /// R4, also where the cost is not from 1 to 10^12; out of memory.
+    #[tactic(auto, using(crate::proofs::Refused::put_keeps))]
     pub fn put(&mut self, row: &Row) -> Result<(), RecordFault>
         ensures puts { HasCleanDisk (state S.Store self.new.conn) → Puts S.Store self.old.conn self.new.conn row.now result }
+        ensures kept { HasCleanDisk (state S.Store self.new.conn) → IfErr result (λ _. KeepsCommit (state S.Store self.old.conn) (state S.Store self.new.conn)) }
         ensures survives { Survives (state S.Store self.old.conn) (state S.Store self.new.conn) (CommitsBy put_text (put_params row.now) (state S.Store self.old.conn)) }
         ensures log { Logs Command.Put row.now.key result self.old.log.items self.new.log.items }
     {
@@ -130,6 +136,7 @@ impl<S: Alter> JobRecord<S> {
     /// R3 where no row has the key; R4; want of memory.
     pub fn drop_archive(&mut self, key: &str) -> Result<(), RecordFault>
         ensures changes { HasCleanDisk (state S.Store self.new.conn) → Changes S.Store self.old.conn self.new.conn drop_archive_text key.now result }
+        ensures kept { HasCleanDisk (state S.Store self.new.conn) → IfErr result (λ fault. fault ≢ NoRow → KeepsCommit (state S.Store self.old.conn) (state S.Store self.new.conn)) }
         ensures survives { Survives (state S.Store self.old.conn) (state S.Store self.new.conn) (CommitsBy drop_archive_text (key_params key.now) (state S.Store self.old.conn)) }
         ensures log { Logs Command.DropArchive key.now result self.old.log.items self.new.log.items }
     {
@@ -150,6 +157,7 @@ impl<S: Alter> JobRecord<S> {
     /// R3 where no row has the key; R4; want of memory.
     pub fn forget(&mut self, key: &str) -> Result<(), RecordFault>
         ensures changes { HasCleanDisk (state S.Store self.new.conn) → Changes S.Store self.old.conn self.new.conn forget_text key.now result }
+        ensures kept { HasCleanDisk (state S.Store self.new.conn) → IfErr result (λ fault. fault ≢ NoRow → KeepsCommit (state S.Store self.old.conn) (state S.Store self.new.conn)) }
         ensures survives { Survives (state S.Store self.old.conn) (state S.Store self.new.conn) (CommitsBy forget_text (key_params key.now) (state S.Store self.old.conn)) }
         ensures log { Logs Command.Forget key.now result self.old.log.items self.new.log.items }
     {

@@ -7,7 +7,7 @@ ghost use Rattle.sqlite.specs.declared.types.Value.TheVariants.{Int};
 ghost use Rattle.sqlite.specs.declared.error.Error.TheVariants.{QueryReturnedNoRows};
 ghost use Rattle.sqlite.specs.State.{HasCleanDisk, Survives, Executes, QueriesRow, Shown, FailsToQuery, CommitsBy, CommitsShowing};
 ghost use Rattle.sqlite.specs.Held.{state};
-ghost use Rattle.job_record.specs.Statements.{find_text, list_text, put_text, drop_archive_text, forget_text, key_params};
+ghost use Rattle.job_record.specs.Statements.{version_text, find_text, list_text, put_text, drop_archive_text, forget_text, key_params};
 ghost use Rattle.job_record.specs.Columns.{columns_of, IsText, AreColumnsOf, Misreads, misread_as};
 
 use crate::fault::RecordFault;
@@ -25,6 +25,24 @@ const DROP_ARCHIVE: &str = "UPDATE job SET archived = 0 WHERE key = ?1";
 const FORGET: &str = "DELETE FROM job WHERE key = ?1";
 
 pub const LIST: &str = "SELECT key, outputs, files, cost, archived FROM job ORDER BY key";
+
+pub const VERSION_TEXT: &str = "SELECT value FROM meta WHERE name = 'version'";
+
+/// The columns of the row with the version, if there is one.
+pub fn version<S: Alter>(conn: &mut Connection<S>) -> Result<Option<Columns>, Error>
+    ensures ok { HasCleanDisk (state S.Store conn.new) → IfOk result (λ o. MatchOption o
+        (QueriesRow version_text [] (state S.Store conn.old) (state S.Store conn.new) (Err QueryReturnedNoRows))
+        (λ c. QueriesRow version_text [] (state S.Store conn.old) (state S.Store conn.new) (Ok c))) }
+    ensures err { HasCleanDisk (state S.Store conn.new) → IfErr result (λ e. (e ≢ QueryReturnedNoRows)
+        × QueriesRow version_text [] (state S.Store conn.old) (state S.Store conn.new) (Err e)) }
+    ensures clean { HasCleanDisk (state S.Store conn.new) → HasCleanDisk (state S.Store conn.old) }
+{
+    match conn.query_row(VERSION_TEXT, &[]) {
+        Ok(columns) => Ok(Some(columns)),
+        Err(Error::QueryReturnedNoRows) => Ok(None),
+        Err(error) => Err(error),
+    }
+}
 
 /// The columns of the row with a key, if there is one.
 pub fn find<S: Alter>(conn: &mut Connection<S>, key: &str) -> Result<Option<Columns>, Error>
