@@ -1,5 +1,5 @@
 #!/usr/bin/env bash
-# Measures `plan` and `check` beside a plain maximum flow (dinic.cpp) and a careful one (levels.cpp) on generated graphs,
+# Measures `plan`, `plan_again` where nothing has changed, and `check` beside a plain maximum flow (dinic.cpp) and a careful one (levels.cpp) on generated graphs,
 # and prints a table.
 #
 # usage: bench/plan/run.sh [VERTICES..]      64 256 1024 4096 where none is given
@@ -42,7 +42,7 @@ value() {
     awk -v word="$2" '$1 == word { print $2 }' "$work/$1.said"
 }
 
-row='%-7s %-7s %8s %8s %10s %9s %9s %9s %7s %9s %9s\n'
+row='%-7s %-7s %8s %8s %10s %9s %9s %9s %9s %7s %9s %9s\n'
 
 # compare SHAPE COSTS VERTICES: prints a row of the table
 compare() {
@@ -58,12 +58,12 @@ compare() {
     done
     entries=$(awk 'NF > 8 { entries += $8 } END { print entries + 0 }' "$work/graph")
     awk -v row="$row" -v shape="$1" -v costs="$2" -v vertices="$3" -v entries="$entries" \
-        -v plan="$(value ours plan)" -v check="$(value ours check)" -v dinic="$(value dinic plan)" -v levels="$(value levels plan)" \
+        -v plan="$(value ours plan)" -v again="$(value ours again)" -v check="$(value ours check)" -v dinic="$(value dinic plan)" -v levels="$(value levels plan)" \
         -v ours_peak="$(value ours peak)" -v dinic_peak="$(value dinic peak)" \
         'function to(amount, unit, digits) { return sprintf("%.*f", digits, amount / unit) }
         BEGIN {
             ratio = to(plan, levels > 0 ? levels : 1, 1)
-            printf row, shape, costs, vertices, entries, to(plan, 1000, 2), to(check, 1000, 2), to(dinic, 1000, 2),
+            printf row, shape, costs, vertices, entries, to(plan, 1000, 2), to(again, 1000, 2), to(check, 1000, 2), to(dinic, 1000, 2),
                 to(levels, 1000, 2), ratio, to(ours_peak, 1024, 1), to(dinic_peak, 1024, 1)
         }'
 }
@@ -71,7 +71,7 @@ compare() {
 if [ $# -eq 0 ]; then
     set -- 64 256 1024 4096
 fi
-printf "$row" shape costs vertices entries 'plan ms' 'check ms' 'dinic ms' 'levels ms' ratio 'plan MiB' 'dinic MiB'
+printf "$row" shape costs vertices entries 'plan ms' 'again ms' 'check ms' 'dinic ms' 'levels ms' ratio 'plan MiB' 'dinic MiB'
 for vertices in "$@"; do
     for shape in chain tree layers scatter; do
         compare "$shape" even "$vertices"

@@ -2,12 +2,13 @@
 //!
 //! No contract rests on what it comes to: `plan_checker::check` looks at the charges before the planner goes on from them.
 
-ghost use Rattle.std.specs.Prelude.{◌+◌, ◌*◌, ◌≤◌, ◌^◌, length};
+ghost use Rattle.std.specs.Prelude.{◌≡◌, ◌+◌, ◌*◌, ◌<◌, ◌≤◌, ◌^◌, length, vec_len};
+ghost use Rattle.plan_checker.specs.Graph.{IsGraph};
+ghost use Rattle.level_graphs.specs.Arcs.{IsNetwork};
+ghost use Rattle.flow_planner.specs.Network.{IsFlowNetwork};
 
-use crate::blocking::Blocking;
-use crate::levels::Levels;
-use crate::network::{Network, computed};
-use crate::phases::Phases;
+use crate::network::{flow, network_of, push_within};
+use level_graphs::{Levels, Network, Phases, send_all};
 use plain_data::Items;
 use plan_checker::{Charges, MOST_VERTICES, Mark, Plan, Vertex};
 use std::alloc::{AllocError, Global};
@@ -18,11 +19,12 @@ pub fn greatest(
     vertices: &[Vertex],
     phases: &mut Phases,
 ) -> Result<(Plan, Charges), AllocError>
+    requires graph { IsGraph vertices.now }
     requires few { length vertices.now ≤ MOST_VERTICES }
     requires room { phases.old.count ≤ 2 ^ 63 }
     ensures { phases.new.count ≤ phases.old.count + 2 * length vertices.now + 1 }
 {
-    let mut network = Network::new(alloc, vertices)?;
+    let mut network = network_of(alloc, vertices)?;
     filled(alloc, &mut network, vertices, phases)
 }
 
@@ -33,36 +35,58 @@ pub fn greatest_from(
     start: &Charges,
     phases: &mut Phases,
 ) -> Result<(Plan, Charges), AllocError>
+    requires graph { IsGraph vertices.now }
     requires few { length vertices.now ≤ MOST_VERTICES }
     requires room { phases.old.count ≤ 2 ^ 63 }
     ensures { phases.new.count ≤ phases.old.count + 2 * length vertices.now + 1 }
 {
-    let mut network = Network::new(alloc, vertices)?;
-    carry(&mut network, vertices, start);
+    let mut network = network_of(alloc, vertices)?;
+    carry(&mut network, vertices.len(), start);
     filled(alloc, &mut network, vertices, phases)
 }
 
 /// Lets charges flow in a network in which nothing flows. A job's arcs come in the order in which they were added.
-fn carry(network: &mut Network, vertices: &[Vertex], start: &Charges) {
+fn carry(network: &mut Network, jobs: usize, start: &Charges)
+    requires { IsNetwork network.old }
+    ensures network { IsNetwork network.new }
+    ensures nodes { network.new.last ≡ network.old.last }
+{
     let mut arc = 0_usize;
-    for job in 0..vertices.len() {
-        network.push(arc, start.enter.get(job).copied().unwrap_or(0));
-        network.push(
-            arc.saturating_add(2),
-            start.through.get(job).copied().unwrap_or(0),
-        );
-        network.push(
-            arc.saturating_add(4),
-            start.pay.get(job).copied().unwrap_or(0),
-        );
-        arc = arc.saturating_add(6);
-        if let Some(row) = start.pass.get(job) {
-            for amount in row.as_slice() {
-                network.push(arc, *amount);
-                arc = arc.saturating_add(2);
-            }
-        }
+    for job in 0..jobs {
+        arc = carry_job(network, start, job, arc);
     }
+}
+
+/// Lets the charges of a job flow, whose first arc this is, and gives the first arc of the next job.
+fn carry_job(network: &mut Network, start: &Charges, job: usize, arc: usize) -> usize
+    requires { IsNetwork network.old }
+    ensures network { IsNetwork network.new }
+    ensures nodes { network.new.last ≡ network.old.last }
+{
+    let enter = start.enter.get(job).copied().unwrap_or(0);
+    let through = start.through.get(job).copied().unwrap_or(0);
+    let pay = start.pay.get(job).copied().unwrap_or(0);
+    push_within(network, arc, enter);
+    push_within(network, arc.saturating_add(2), through);
+    push_within(network, arc.saturating_add(4), pay);
+    let Some(row) = start.pass.get(job) else {
+        return arc.saturating_add(6);
+    };
+    carry_passes(network, row.as_slice(), arc.saturating_add(6))
+}
+
+/// Lets amounts flow along arcs from this one on, and gives the arc behind them.
+fn carry_passes(network: &mut Network, amounts: &[u64], first: usize) -> usize
+    requires { IsNetwork network.old }
+    ensures network { IsNetwork network.new }
+    ensures nodes { network.new.last ≡ network.old.last }
+{
+    let mut arc = first;
+    for amount in amounts {
+        push_within(network, arc, *amount);
+        arc = arc.saturating_add(2);
+    }
+    arc
 }
 
 /// Sends all that can flow: the charges, and the plan that the last level graph shows.
@@ -72,39 +96,22 @@ fn filled(
     vertices: &[Vertex],
     phases: &mut Phases,
 ) -> Result<(Plan, Charges), AllocError>
+    requires network { IsNetwork network.old }
+    requires nodes { vec_len network.old.last ≡ 2 * length vertices.now + 2 }
     requires few { length vertices.now ≤ MOST_VERTICES }
     requires room { phases.old.count ≤ 2 ^ 63 }
     ensures { phases.new.count ≤ phases.old.count + 2 * length vertices.now + 1 }
 {
-    let levels = fill(alloc, network, vertices.len(), phases)?;
+    let levels = send_all(alloc, network, phases)?;
     let plan = plan_of(alloc, &levels, vertices.len())?;
     Ok((plan, charges_of(alloc, network, vertices)?))
 }
 
-/// Sends all that can flow, in at most so many phases, and gives the level graph that doesn't reach the sink then.
-fn fill(
-    alloc: Global,
-    network: &mut Network,
-    jobs: usize,
-    phases: &mut Phases,
-) -> Result<Levels, AllocError>
-    requires few { jobs ≤ MOST_VERTICES }
-    requires room { phases.old.count ≤ 2 ^ 63 }
-    ensures { phases.new.count ≤ phases.old.count + 2 * jobs + 1 }
-{
-    let mut levels = Levels::new(alloc, jobs)?;
-    let mut blocking = Blocking::new(alloc, jobs)?;
-    for _ in 0..2 * jobs + 1 {
-        if !levels.build(network, jobs, phases)? {
-            break;
-        }
-        blocking.block(network, &levels, jobs)?;
-    }
-    Ok(levels)
-}
-
 /// The plan that levels show.
-fn plan_of(alloc: Global, levels: &Levels, jobs: usize) -> Result<Plan, AllocError> {
+fn plan_of(alloc: Global, levels: &Levels, jobs: usize) -> Result<Plan, AllocError>
+    requires nodes { vec_len levels.now.of ≡ 2 * jobs + 2 }
+    requires few { jobs ≤ MOST_VERTICES }
+{
     let mut marks = Items::new(alloc);
     for job in 0..jobs {
         marks.push(mark_at(levels, jobs, job))?;
@@ -113,8 +120,12 @@ fn plan_of(alloc: Global, levels: &Levels, jobs: usize) -> Result<Plan, AllocErr
 }
 
 /// What is done with a job, by which of its nodes have a level.
-fn mark_at(levels: &Levels, jobs: usize, job: usize) -> Mark {
-    if levels.at(computed(jobs, job)) != 0 {
+fn mark_at(levels: &Levels, jobs: usize, job: usize) -> Mark
+    requires nodes { vec_len levels.now.of ≡ 2 * jobs + 2 }
+    requires few { jobs ≤ MOST_VERTICES }
+    requires job { job < jobs }
+{
+    if levels.at(jobs + job) != 0 {
         Mark::Compute
     } else if levels.at(job) != 0 {
         Mark::Load
@@ -147,9 +158,9 @@ fn charges_of(
 
 /// Adds what enters a job, goes through and is paid: what flows along its first three arcs.
 fn add_flows(charges: &mut Charges, network: &Network, arc: usize) -> Result<(), AllocError> {
-    charges.enter.push(network.flow(arc))?;
-    charges.through.push(network.flow(arc.saturating_add(2)))?;
-    charges.pay.push(network.flow(arc.saturating_add(4)))
+    charges.enter.push(flow(network, arc))?;
+    charges.through.push(flow(network, arc.saturating_add(2)))?;
+    charges.pay.push(flow(network, arc.saturating_add(4)))
 }
 
 /// What flows along so many arcs from this one on, and the arc behind them.
@@ -162,7 +173,7 @@ fn passes_of(
     let mut row = Vec::with_capacity(alloc, count)?;
     let mut arc = first;
     for _ in 0..count {
-        row.push(network.flow(arc))?;
+        row.push(flow(network, arc))?;
         arc = arc.saturating_add(2);
     }
     Ok((Items::from_vec(row), arc))

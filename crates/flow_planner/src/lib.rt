@@ -9,26 +9,23 @@
 //! second, and there is paid by the compute cost or passed to the first node of a parent. The load cost bounds what goes
 //! through, the compute cost what is paid.
 //!
-//! `greatest` finds the flow by level graphs: `levels` counts the open arcs to each node, `blocking` sends all that goes
-//! down them. No proof rests on these. Their charges are checked, as anybody could check them, and from fair ones
+//! `greatest` finds the flow by the level graphs of `level_graphs`. No proof of a plan rests on what it comes to. Its
+//! charges are checked, as anybody could check them, and from fair ones
 //! (or, were they ever refused, from none) `search` and `chase` look for a path along which more can flow, and `augment`
 //! sends it. Where there is none, what they reached is the Least plan: that is what is proved.
 #![tactic(auto)]
 
 mod augment;
 mod begin;
-mod blocking;
 mod chase;
 mod edit;
 mod error;
 mod greatest;
-mod levels;
 mod mend;
 mod network;
-mod phases;
 mod planner;
 mod search;
 
 pub use error::OutOfMemory;
-pub use phases::Phases;
+pub use level_graphs::Phases;
 pub use planner::{plan, plan_again, plan_by_paths, plan_counted};

@@ -1,125 +1,81 @@
-//! The network in which the flow runs, and how much more can flow along each arc.
+//! The network in which the flow of a graph runs.
 //!
-//! Nodes are numbered: first each job's first node, then each job's second node, then the source and the sink. Each arc
-//! lies beside its reverse, which has room for what flows along the arc, so the number of one tells the other.
+//! Nodes are numbered: first each job's first node, then each job's second node, then the source and the sink.
 
-use plan_checker::Vertex;
+ghost use Rattle.std.specs.Prelude.{◌≡◌, ◌+◌, ◌*◌, ◌<◌, ◌≤◌, IfOk, OnOk, length, vec_len};
+ghost use Rattle.plan_checker.specs.Graph.{IsGraph};
+ghost use Rattle.level_graphs.specs.Arcs.{IsNetwork};
+ghost use Rattle.flow_planner.specs.Network.{IsFlowNetwork};
+
+use level_graphs::{Network, reverse};
+use plan_checker::{MOST_VERTICES, Vertex};
 use std::alloc::{AllocError, Global};
 
 /// More than all that can flow.
 pub const NO_BOUND: u64 = 1_000_000_000_000_000_000;
 
-/// An arc of the network.
-#[derive(Clone, Copy, Debug)]
-pub struct Arc {
-    /// The node that it leads to.
-    pub to: usize,
-    /// How much more can flow along it.
-    pub room: u64,
-    /// The arc before it from the same node, counted from 1; 0 where there is none.
-    pub next: usize,
+/// The network of a graph, in which nothing flows.
+pub fn network_of(alloc: Global, vertices: &[Vertex]) -> Result<Network, AllocError>
+    requires graph { IsGraph vertices.now }
+    requires few { length vertices.now ≤ MOST_VERTICES }
+    ensures { IfOk result (IsFlowNetwork (length vertices.now)) }
+{
+    let jobs = vertices.len();
+    let mut network = Network::new(alloc, 2 * jobs + 2, 2 * jobs, 2 * jobs + 1)?;
+    for job in 0..jobs {
+        add_job(&mut network, vertices, job)?;
+        add_passes(&mut network, vertices, job)?;
+    }
+    Ok(network)
 }
 
-/// What is read past the last arc.
-const NO_ARC: Arc = Arc {
-    to: 0,
-    room: 0,
-    next: 0,
-};
-
-/// Arcs, each beside its reverse, and the last arc from each node, counted from 1.
-#[derive(Debug, Drop)]
-pub struct Network {
-    pub arcs: Vec<Arc>,
-    pub last: Vec<usize>,
+/// Adds the arcs of a job, but for what it passes on: what enters, what goes through and what is paid.
+fn add_job(network: &mut Network, vertices: &[Vertex], job: usize) -> Result<(), AllocError>
+    requires few { length vertices.now ≤ MOST_VERTICES }
+    requires job { job < length vertices.now }
+    requires network { IsFlowNetwork (length vertices.now) network.old }
+    ensures { OnOk result (IsFlowNetwork (length vertices.now) network.new) }
+{
+    let jobs = vertices.len();
+    let vertex = &vertices[job];
+    let enter = if vertex.needed { NO_BOUND } else { 0 };
+    let through = vertex.load.unwrap_or(NO_BOUND);
+    let pay = vertex.compute;
+    network.join(2 * jobs, job, enter)?;
+    network.join(job, jobs + job, through)?;
+    network.join(jobs + job, 2 * jobs + 1, pay)?;
+    Ok(())
 }
 
-/// The arc beside an arc: an even number and the next one are a pair.
-pub fn reverse(arc: usize) -> usize {
-    arc ^ 1
+/// Adds an arc to each parent of a job.
+fn add_passes(network: &mut Network, vertices: &[Vertex], job: usize) -> Result<(), AllocError>
+    requires graph { IsGraph vertices.now }
+    requires few { length vertices.now ≤ MOST_VERTICES }
+    requires job { job < length vertices.now }
+    requires network { IsFlowNetwork (length vertices.now) network.old }
+    ensures { OnOk result (IsFlowNetwork (length vertices.now) network.new) }
+{
+    let computed = vertices.len() + job;
+    let parents = vertices[job].parents.as_slice();
+    for slot in 0..parents.len() {
+        let parent = parents[slot];
+        network.join(computed, parent, NO_BOUND)?;
+    }
+    Ok(())
 }
 
-impl Network {
-    /// The network of a graph, in which nothing flows.
-    pub fn new(alloc: Global, vertices: &[Vertex]) -> Result<Network, AllocError> {
-        let jobs = vertices.len();
-        let mut network = Network {
-            arcs: Vec::with_capacity(alloc, jobs.saturating_mul(8))?,
-            last: vec![in alloc; 0; sink_of(jobs).saturating_add(1)]?,
-        };
-        for (job, vertex) in vertices.iter().enumerate() {
-            network.add_job(jobs, job, vertex)?;
-        }
-        Ok(network)
-    }
-
-    /// Adds the arcs of a job: what enters, what goes through, what is paid, and what is passed to each parent.
-    fn add_job(&mut self, jobs: usize, job: usize, vertex: &Vertex) -> Result<(), AllocError> {
-        let computed = computed(jobs, job);
-        let enter = if vertex.needed { NO_BOUND } else { 0 };
-        self.join(source_of(jobs), job, enter)?;
-        self.join(job, computed, vertex.load.unwrap_or(NO_BOUND))?;
-        self.join(computed, sink_of(jobs), vertex.compute)?;
-        for parent in vertex.parents.as_slice() {
-            self.join(computed, *parent, NO_BOUND)?;
-        }
-        Ok(())
-    }
-
-    /// Adds an arc with so much room, and its reverse, along which nothing can flow yet.
-    fn join(&mut self, from: usize, to: usize, room: u64) -> Result<(), AllocError> {
-        self.lead(from, to, room)?;
-        self.lead(to, from, 0)
-    }
-
-    /// Adds one arc.
-    fn lead(&mut self, from: usize, to: usize, room: u64) -> Result<(), AllocError> {
-        let next = self.last_from(from);
-        self.arcs.push(Arc { to, room, next })?;
-        let number = self.arcs.len();
-        if let Some(last) = self.last.get_mut(from) {
-            *last = number;
-        }
-        Ok(())
-    }
-
-    /// The arc of this number.
-    pub fn arc(&self, number: usize) -> Arc {
-        self.arcs.get(number).copied().unwrap_or(NO_ARC)
-    }
-
-    /// The last arc from a node, counted from 1.
-    pub fn last_from(&self, node: usize) -> usize {
-        self.last.get(node).copied().unwrap_or(0)
-    }
-
-    /// Sends so much more along an arc.
-    pub fn push(&mut self, arc: usize, amount: u64) {
-        if let Some(forward) = self.arcs.get_mut(arc) {
-            forward.room = forward.room.saturating_sub(amount);
-        }
-        if let Some(back) = self.arcs.get_mut(reverse(arc)) {
-            back.room = back.room.saturating_add(amount);
-        }
-    }
-
-    /// What flows along an arc.
-    pub fn flow(&self, arc: usize) -> u64 {
-        self.arc(reverse(arc)).room
+/// Sends so much more along an arc, where there is one of this number.
+pub fn push_within(network: &mut Network, arc: usize, amount: u64)
+    requires { IsNetwork network.old }
+    ensures network { IsNetwork network.new }
+    ensures nodes { network.new.last ≡ network.old.last }
+{
+    if arc < network.arcs.len() {
+        network.push(arc, amount);
     }
 }
 
-/// The second node of a job.
-pub fn computed(jobs: usize, job: usize) -> usize {
-    jobs.saturating_add(job)
-}
-
-/// Where all that enters comes from.
-pub fn source_of(jobs: usize) -> usize {
-    jobs.saturating_mul(2)
-}
-
-/// Where all that is paid goes to.
-pub fn sink_of(jobs: usize) -> usize {
-    source_of(jobs).saturating_add(1)
+/// What flows along an arc.
+pub fn flow(network: &Network, arc: usize) -> u64 {
+    network.arcs.get(reverse(arc)).map_or(0, |held| held.room)
 }

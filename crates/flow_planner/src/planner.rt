@@ -13,8 +13,8 @@ use crate::chase::{Chase, find_path};
 use crate::error::OutOfMemory;
 use crate::greatest::{greatest, greatest_from};
 use crate::mend::mended;
-use crate::phases::Phases;
 use crate::search::Search;
+use level_graphs::Phases;
 use plain_data::Items;
 use plan_checker::{Charges, Graph, Mark, Plan, Vertex, check};
 use std::alloc::{AllocError, Global};
@@ -139,8 +139,8 @@ pub fn plan_counted(
 
 /// The Least plan of a graph, and charges that certify it, from the charges of an earlier graph.
 ///
-/// The fewer vertices have changed since, the faster it is: vertices may have been added at the end, loads and needs
-/// may be others. The plan is that of `plan`, whatever the earlier charges are.
+/// Vertices may have been added at the end, loads and needs may be others. The plan is that of `plan`, whatever the
+/// earlier charges are.
 pub fn plan_again(
     alloc: Global,
     graph: &Graph,

@@ -1,0 +1,4 @@
+pub mod Rounds
+pub mod Nearest
+pub mod Lists
+pub mod Pushed

@@ -1,0 +1,3 @@
+pub mod Arcs
+pub mod Levels
+pub mod inner

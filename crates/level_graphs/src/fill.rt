@@ -1,0 +1,35 @@
+//! All that can flow, by phases: a level graph, and all that goes down it.
+
+ghost use Rattle.std.specs.Prelude.{◌≡◌, ◌+◌, ◌≤◌, ◌^◌, IfOk, vec_len};
+ghost use Rattle.level_graphs.specs.Arcs.{IsNetwork};
+
+use crate::blocking::Blocking;
+use crate::levels::Levels;
+use crate::network::Network;
+use crate::phases::Phases;
+use std::alloc::{AllocError, Global};
+
+/// Sends all that can flow, in fewer phases than there are nodes, and gives the level graph that doesn't reach the sink
+/// then.
+pub fn send_all(
+    alloc: Global,
+    network: &mut Network,
+    phases: &mut Phases,
+) -> Result<Levels, AllocError>
+    requires network { IsNetwork network.old }
+    requires count { phases.old.count ≤ 2 ^ 63 }
+    ensures network { IsNetwork network.new }
+    ensures nodes { IfOk result (λ levels. vec_len levels.of ≡ vec_len network.old.last) }
+    ensures phases { phases.new.count + 1 ≤ phases.old.count + vec_len network.old.last }
+{
+    let nodes = network.last.len();
+    let mut levels = Levels::new(alloc, nodes)?;
+    let mut blocking = Blocking::new(alloc, nodes)?;
+    for _ in 0..nodes - 1 {
+        if !levels.build(network, phases)? {
+            break;
+        }
+        blocking.block(network, &levels)?;
+    }
+    Ok(levels)
+}

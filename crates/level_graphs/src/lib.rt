@@ -1,0 +1,16 @@
+//! Level graphs and blocking flows in a network of arcs.
+//!
+//! A `Network` has nodes and arcs, each beside its reverse. `Levels` counts, for each node, the fewest open arcs that
+//! lead there from the source.
+#![tactic(auto)]
+
+mod blocking;
+mod fill;
+mod levels;
+mod network;
+mod phases;
+
+pub use fill::send_all;
+pub use levels::Levels;
+pub use network::{Arc, Network, reverse};
+pub use phases::Phases;
