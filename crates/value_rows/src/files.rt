@@ -50,7 +50,9 @@ fn location(alloc: Global, row: &Row) -> Result<String, RowFault> {
 
 fn resolved(alloc: Global, row: &Row) -> Result<String, RowFault> {
     let found = resolved_value(alloc, row)?;
-    shown(alloc, &found)
+    let answer = shown(alloc, &found);
+    drop(found);
+    answer
 }
 
 fn resolved_value(alloc: Global, row: &Row) -> Result<Result<Value, FileRefusal>, RowFault> {

@@ -1,37 +1,19 @@
-//! Texts and what is kept under them.
-use crate::values::{coded, value_in, value_of, written};
+//! What is kept under texts.
+use crate::values::{coded, value_in, value_of, written, written_last};
 use cwl_value::Value;
 use plain_data::{Keyed, RepeatedName, Text};
-use row_io::{Row, RowFault, quoted};
+use row_io::{Row, RowFault};
 use serde_json::Value as Json;
 use std::alloc::Global;
-use std::cmp::Ordering;
 
-/// `order` compares two texts, `from_entries` puts entries in order, `insert` puts a value under a name and answers with
-/// the value that was there, and `get` looks a name up.
+/// `from_entries` puts entries in order, `insert` puts a value under a name and answers with the value that was there,
+/// and `get` looks a name up.
 pub(crate) fn answer(alloc: Global, row: &Row) -> Result<String, RowFault> {
     match row.call() {
-        "order" => compared(alloc, row),
         "from_entries" => keyed(alloc, row.list("entries")?),
         "insert" => inserted(alloc, row),
         "get" => got(alloc, row),
         _ => Err(RowFault::UnknownCall),
-    }
-}
-
-// The order, and whether the texts are equal.
-fn compared(alloc: Global, row: &Row) -> Result<String, RowFault> {
-    let one = Text::from_text(alloc, row.text("one")?)?;
-    let other = Text::from_text(alloc, row.text("other")?)?;
-    coded(alloc, order_word(&one, &other))
-}
-
-fn order_word(one: &Text, other: &Text) -> &'static str {
-    match (one.cmp(other), one.equals(other)) {
-        (Ordering::Less, false) => "less",
-        (Ordering::Equal, true) => "equal",
-        (Ordering::Greater, false) => "greater",
-        _ => "?",
     }
 }
 
@@ -44,7 +26,7 @@ fn keyed(alloc: Global, entries: &[Json]) -> Result<String, RowFault> {
 }
 
 fn fields_text(alloc: Global, fields: Keyed<Value>) -> Result<String, RowFault> {
-    written(alloc, &Value::Fields(fields))
+    written_last(alloc, Value::Fields(fields))
 }
 
 fn refused_text(alloc: Global, refused: &RepeatedName) -> Result<String, RowFault> {
@@ -71,7 +53,7 @@ fn entry_of(alloc: Global, entry: &Json) -> Result<(Text, Value), RowFault> {
 fn inserted(alloc: Global, row: &Row) -> Result<String, RowFault> {
     let mut fields = fields_of(value_of(alloc, row, "fields")?)?;
     let before = put(alloc, &mut fields, row)?;
-    pair_text(alloc, &before, fields)
+    pair_text(alloc, before, fields)
 }
 
 fn put(alloc: Global, fields: &mut Keyed<Value>, row: &Row) -> Result<Value, RowFault> {
@@ -88,16 +70,19 @@ fn fields_of(value: Value) -> Result<Keyed<Value>, RowFault> {
 }
 
 // The value that was there, and the fields.
-fn pair_text(alloc: Global, before: &Value, fields: Keyed<Value>) -> Result<String, RowFault> {
+fn pair_text(alloc: Global, before: Value, fields: Keyed<Value>) -> Result<String, RowFault> {
+    let before = written_last(alloc, before);
     let fields = fields_text(alloc, fields)?;
-    let before = written(alloc, before)?;
+    let before = before?;
     Ok(format!(in alloc; "[{before},{fields}]")?)
 }
 
 fn got(alloc: Global, row: &Row) -> Result<String, RowFault> {
     let name = row.text("name")?;
     let fields = value_of(alloc, row, "fields")?;
-    found(alloc, &fields, name)
+    let answer = found(alloc, &fields, name);
+    drop(fields);
+    answer
 }
 
 fn found(alloc: Global, value: &Value, name: &str) -> Result<String, RowFault> {

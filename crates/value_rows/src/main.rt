@@ -12,6 +12,8 @@ mod places;
 mod references;
 mod scatters;
 mod sums;
+mod texts;
+mod tree;
 mod values;
 
 use row_io::{Answers, Row, RowFault, answer_rows};
@@ -44,7 +46,9 @@ fn of_files(alloc: Global, row: &Row) -> Result<String, RowFault> {
     match row.call() {
         "name_parts" | "secondary_name" => names::answer(alloc, row),
         "sum_of" => sums::answer(alloc, row),
-        "order" | "from_entries" | "insert" | "get" => keys::answer(alloc, row),
+        "from_entries" | "insert" | "get" => keys::answer(alloc, row),
+        "order" | "texts" => texts::answer(alloc, row),
+        "tree" => tree::answer(alloc, row),
         _ => files::answer(alloc, row),
     }
 }

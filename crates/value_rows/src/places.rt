@@ -22,7 +22,15 @@ fn printed(alloc: Global, job: &JobPlace) -> Result<String, RowFault> {
 fn copied(alloc: Global, steps: &[Json], name: &str) -> Result<String, RowFault> {
     let name = Text::from_text(alloc, name)?;
     let place = Place::Made(job_of(alloc, steps)?, name);
-    shown(alloc, &place.clone_in(alloc)?)
+    let copy = place.clone_in(alloc);
+    drop(place);
+    shown_last(alloc, copy?)
+}
+
+fn shown_last(alloc: Global, place: Place) -> Result<String, RowFault> {
+    let answer = shown(alloc, &place);
+    drop(place);
+    answer
 }
 
 fn shown(alloc: Global, place: &Place) -> Result<String, RowFault> {

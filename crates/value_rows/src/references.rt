@@ -1,4 +1,4 @@
-use crate::values::{coded, value_of, written};
+use crate::values::{coded, value_of, written_last};
 use cwl_value::Value;
 use param_refs::{Context, RefFault, Template};
 use plain_data::Items;
@@ -43,9 +43,8 @@ fn evaluated<'a>(
     runtime: Option<&'a Value>,
     own: &'a Value,
 ) -> Result<String, RowFault> {
-    let found = value_in(alloc, text, inputs, runtime, own);
-    match &found {
-        Ok(value) => written(alloc, value),
+    match value_in(alloc, text, inputs, runtime, own) {
+        Ok(value) => written_last(alloc, value),
         Err(fault) => coded(alloc, fault.code()),
     }
 }

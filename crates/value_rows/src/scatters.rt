@@ -1,8 +1,8 @@
-ghost use Rattle.std.specs.Prelude.{◌≡◌, ◌≢◌, ◌<◌, [], IfOk};
+ghost use Rattle.std.specs.Prelude.{◌≡◌, ◌≢◌, ◌<◌, [], length, IfOk};
 ghost use Rattle.scatter_shape.specs.Tuples.{tuples_of, IsTaken};
 
 use crate::places::numbers_of;
-use crate::values::{coded, value_in, written};
+use crate::values::{coded, value_in, written_last};
 use cwl_value::Value;
 use plain_data::Items;
 use row_io::{Row, RowFault};
@@ -95,7 +95,7 @@ fn gathered_numbers(
     if values.len() != tuples.len() {
         return Err(RowFault::BadArgument);
     }
-    written(alloc, &gather(alloc, shape, values)?)
+    written_last(alloc, gather(alloc, shape, values)?)
 }
 
 fn numbers(alloc: Global, count: usize) -> Result<Vec<Value>, RowFault> {
@@ -127,17 +127,23 @@ fn put_all(
     requires taken { IsTaken shape.now.method shape.now.lengths }
     requires tuples { tuples.now ≡ tuples_of shape.now.method shape.now.lengths }
 {
-    let mut gathering = Gathering::new(alloc, tuples.len())?;
+    let gathering = put_each(alloc, tuples.len(), order)?;
+    if !gathering.is_full() {
+        drop(gathering);
+        return coded(alloc, "null");
+    }
+    written_last(alloc, gathering.gather(alloc, shape)?)
+}
+
+fn put_each(alloc: Global, count: usize, order: &[Json]) -> Result<Gathering, RowFault>
+    ensures { IfOk result (λ gathering. length gathering ≡ count) }
+{
+    let mut gathering = Gathering::new(alloc, count)?;
     for json in order {
-        let tuple = tuple_in(json, tuples.len())?;
-        let value = value_in(alloc, json)?;
-        drop(gathering.put(tuple, value));
+        let tuple = tuple_in(json, count)?;
+        drop(gathering.put(tuple, value_in(alloc, json)?));
     }
-    if gathering.is_full() {
-        written(alloc, &gathering.gather(alloc, shape)?)
-    } else {
-        coded(alloc, "null")
-    }
+    Ok(gathering)
 }
 
 // The number of a tuple, of so many.

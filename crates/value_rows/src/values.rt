@@ -9,10 +9,12 @@ use std::alloc::{AllocError, Global};
 pub(crate) fn answer(alloc: Global, row: &Row) -> Result<String, RowFault> {
     let text = row.text("text")?;
     let read = read_value(alloc, text.as_bytes());
-    match &read {
+    let answer = match &read {
         Ok(value) => written_after(alloc, row.call(), value),
         Err(refusal) => refused(alloc, refusal),
-    }
+    };
+    drop(read);
+    answer
 }
 
 fn written_after(alloc: Global, call: &str, value: &Value) -> Result<String, RowFault> {
@@ -34,20 +36,28 @@ fn text_of(alloc: Global, value: &Value) -> Result<String, AllocError> {
     Ok(canonical_text(alloc, value)?.into_string())
 }
 
+/// The canonical text of a value that ends here: what is handed to `drop` is dropped by one call, at one place.
+pub(crate) fn written_last(alloc: Global, value: Value) -> Result<String, RowFault> {
+    let text = text_of(alloc, &value);
+    drop(value);
+    Ok(text?)
+}
+
 fn copied(alloc: Global, value: &Value) -> Result<String, RowFault> {
-    written(alloc, &value.clone_in(alloc)?)
+    written_last(alloc, value.clone_in(alloc)?)
 }
 
 fn without_places(alloc: Global, value: &Value) -> Result<String, RowFault> {
-    written(alloc, &erased(alloc, value)?)
+    written_last(alloc, erased(alloc, value)?)
 }
 
 fn read_again(alloc: Global, value: &Value) -> Result<String, RowFault> {
     let json = to_json(alloc, value)?;
     let again = from_json(alloc, &json);
-    match &again {
-        Ok(value) => written(alloc, value),
-        Err(refusal) => refused(alloc, refusal),
+    drop(json);
+    match again {
+        Ok(value) => written_last(alloc, value),
+        Err(refusal) => refused(alloc, &refusal),
     }
 }
 

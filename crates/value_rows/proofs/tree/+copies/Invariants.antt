@@ -1,5 +1,5 @@
 use Rattle.std.proofs.Common.{◌≡◌, take}
-use Rattle.plain_data.proofs.tree.+copies.Given as goal
+use Rattle.value_rows.proofs.tree.+copies.Given as goal
 
 abbrev pub invariant-items_copied-loop-item : goal.invariant-items_copied-loop-item
 invariant-items_copied-loop-item l = l.copies.items ≡ take l.item-index l.item-items
