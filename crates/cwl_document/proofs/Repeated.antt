@@ -1,14 +1,12 @@
 -- Ids that are looked at one by one, each beside those before it.
 use Rattle.std.proofs.Common.{◌≡◌, ℕ, ◌+◌, ◌<◌, ◌≤◌, List, [], ◌∷◌, ◌++◌, length, map, get_or, take, drop, Bool, true, false, cond, ◌||◌, refl, sym, ap, ◌∙◌, subst, inl, inr, arith, bytes_eq}
-use Rattle.std.specs.Cmp.Lexicographic.{nat_list_eq_equiv, bytes_decides, slice_cmp}
+use Rattle.std.specs.Cmp.Lexicographic.{nat_list_eq_equiv, bytes_decides}
 use Rattle.std.specs.List.{AllByRecursion, IsDistinct, list_any, count_by}
-use Rattle.std.specs.Ordering.{is_eq, nat_cmp}
 use Rattle.std.proofs.lemmas.Bool.{true≢false, or_cases, or_left}
 use Rattle.std.proofs.lemmas.List.{drop_more, take_more, map-append, take-append-drop}
 use Rattle.std.proofs.lemmas.List.Folds.{list_any-append}
 use Rattle.std.proofs.lemmas.List.Sums.{sum_by-cons}
 use Rattle.std.proofs.lemmas.Map.Keys.{IsDistinct-push, IsDistinct-head, IsDistinct-tail}
-use Rattle.std.proofs.lemmas.Map.Text.{is_eq-slice_cmp}
 use Rattle.cwl_document.specs.Ids.{Repeats}
 
 not_both : {b : Bool} → b ≡ true → b ≡ false → ⊥
@@ -68,21 +66,6 @@ Repeats-at id before after ids is among = subst (Repeats id) (sym is) (any, many
 -- one more id, which none before it is
 pub Distinct-next : (before : List (List ℕ)) (id : List ℕ) → IsDistinct bytes_eq before → list_any (bytes_eq id) before ≡ false → IsDistinct bytes_eq (before ++ id ∷ [])
 Distinct-next before id distinct new = IsDistinct-push nat_list_eq_equiv before id distinct new
-
-same_test : (id other : List ℕ) → bytes_eq id other ≡ bytes_eq other id
-same_test id other = nat_list_eq_equiv.symm id other
-
-joined : (test old : Bool) → cond test true old ≡ (old || (test || false))
-joined true true = refl
-joined true false = refl
-joined false true = refl
-joined false false = refl
-
--- a set that had the ids before, and one more
-pub seen-more : (id other : List ℕ) (before : List (List ℕ)) (old new : Bool) → old ≡ list_any (bytes_eq other) before → new ≡ cond (is_eq (slice_cmp nat_cmp id other)) true old → new ≡ list_any (bytes_eq other) (before ++ id ∷ [])
-seen-more id other before old new was is =
-    is ∙ ap (λ test. cond test true old) (is_eq-slice_cmp id other ∙ same_test id other) ∙ joined (bytes_eq other id) old
-    ∙ ap (λ b. b || (bytes_eq other id || false)) was ∙ sym (list_any-append (bytes_eq other) before (id ∷ []))
 
 -- the ids up to one, and all of them round it
 module _ {A : Type 0} (f : A → List ℕ) (xs : List A) (i : ℕ) (x : A) (within : i < length xs) (is : x ≡ get_or xs i x) where

@@ -5,10 +5,10 @@ ghost use Rattle.cwl_document.specs.Refusals.{Refuses};
 ghost use Rattle.cwl_document.specs.declared.process.Process.{Process};
 ghost use Rattle.cwl_document.specs.declared.refusal.DocumentRefusal.TheVariants.{OutOfMemory};
 
-use document_table::nests_within;
 use crate::process::Process;
 use crate::refusal::DocumentRefusal;
 use crate::tool::read_tool;
+use document_table::nests_within;
 use serde_json::{Category, Value};
 use std::alloc::Global;
 

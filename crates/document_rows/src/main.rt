@@ -1,7 +1,7 @@
 //! Rows of documents: each line of `stdin` has one, and `stdout` what is wrong with it first.
 //!
 //! A document is given as JSON, under `document`, or as a text of any bytes, under `text`. The answer is `ok`, or the code of the
-//! fault with its place and its cause in words.
+//! fault with its place and its cause in words. A type is given as JSON, under `type`; the answer is the list of its members.
 #![tactic(auto)]
 
 use document_table::{DocumentError, DocumentFault, read_document};
@@ -10,6 +10,8 @@ use std::alloc::{AllocError, Global};
 use std::io;
 use std::process::ExitCode;
 
+mod types;
+
 struct Calls;
 
 impl Answers for Calls {
@@ -17,6 +19,7 @@ impl Answers for Calls {
         match row.call() {
             "read_document" => read(alloc, row),
             "read_nested_list" => read_nested_list(alloc, row),
+            "read_type" => types::read(alloc, row),
             _ => Err(RowFault::UnknownCall),
         }
     }
@@ -55,7 +58,7 @@ fn answer(alloc: Global, text: &str) -> Result<String, RowFault> {
     }
 }
 
-fn told(alloc: Global, fault: &DocumentFault) -> Result<String, AllocError> {
+pub(crate) fn told(alloc: Global, fault: &DocumentFault) -> Result<String, AllocError> {
     format!(in alloc; "{} {fault}", fault.code())
 }
 

@@ -35,6 +35,7 @@ abbrev pub item_form : Form → Option Form
 item_form form.Anything = Some form.Anything
 item_form form.Value = Some form.Value
 item_form form.Words = Some form.Text
+item_form form.Names = Some form.Text
 item_form form.Texts = Some form.Text
 item_form form.Ints = Some form.Int
 item_form form.Sources = Some form.Source
@@ -70,6 +71,7 @@ takes_text form.Anything text = true
 takes_text form.Value text = true
 takes_text form.Text text = true
 takes_text form.Words text = true
+takes_text form.Names text = true
 takes_text form.Argument text = true
 takes_text form.Version text = bytes_eq text (codes "v1.2")
 takes_text form.Run text = not (has_byte 35 text)

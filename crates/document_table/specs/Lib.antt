@@ -3,6 +3,7 @@ pub mod Documents
 pub mod Faults
 pub mod Layouts
 pub mod Leaves
+pub mod Repeats
 pub mod Table
 pub mod Texts
 pub mod Walk

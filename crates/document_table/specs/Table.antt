@@ -3,6 +3,7 @@
 use Rattle.std.specs.Prelude.{ℕ, List, [], ◌∷◌, Option, Some, None, Bool, true, false, if◌then◌else◌, codes}
 use Rattle.std.specs.Str.{bytes_eq}
 use Rattle.document_table.specs.declared.form.FieldRow.{FieldRow}
+use Rattle.document_table.specs.declared.form.FieldRow.TheVariants.{Must, May}
 use Rattle.document_table.specs.declared.form.Form.{Form}
 use Rattle.document_table.specs.declared.form.Form.TheVariants as form
 use Rattle.document_table.specs.declared.form.Kind.{Kind}
@@ -14,14 +15,16 @@ pub record Row : Type 0 where
   pub required : Bool
   pub form : Form
 
-abbrev pub row_seen : FieldRow → Row
-row_seen r = record { name = r.name.now; required = r.required; form = r.form }
-
 abbrev pub must : List ℕ → Form → Row
 must name form = record { name = name; required = true; form = form }
 
 abbrev pub may : List ℕ → Form → Row
 may name form = record { name = name; required = false; form = form }
+
+-- what a row of the code says
+abbrev pub row_seen : FieldRow → Row
+row_seen (Must name form) = must name.now form
+row_seen (May name form) = may name.now form
 
 abbrev pub rows_of : Kind → List Row
 rows_of kind.Tool =
@@ -86,7 +89,7 @@ rows_of kind.Step =
     ∷ must (codes "in") (form.Objects kind.StepInput)
     ∷ must (codes "out") form.StepOutputs
     ∷ must (codes "run") form.Run
-    ∷ may (codes "scatter") form.Words
+    ∷ may (codes "scatter") form.Names
     ∷ may (codes "scatterMethod") form.ScatterMethod
     ∷ may (codes "when") form.Text
     ∷ may (codes "requirements") form.Requirements

@@ -4,6 +4,7 @@ use Rattle.serde_json.specs.Data.{Data, null, boolean, number, string, array, ob
 use Rattle.document_table.specs.Faults.{here, under, at}
 use Rattle.document_table.specs.Layouts.{layout_of, member_form, missing_field}
 use Rattle.document_table.specs.Leaves.{item_form, short_form, takes_leaf, wrong}
+use Rattle.document_table.specs.Repeats.{repeated_name}
 use Rattle.document_table.specs.declared.fault.Cause.{Cause}
 use Rattle.document_table.specs.declared.fault.Cause.TheVariants as cause
 use Rattle.document_table.specs.declared.fault.DocumentFault.{DocumentFault}
@@ -34,13 +35,17 @@ abbrev pub listed : Form → Option Form → (Form → Option DocumentFault) →
 listed form (Some each) fault_of = fault_of each
 listed form None fault_of = Some (here (wrong form))
 
+-- a list in which two items have one name
+abbrev pub repeat_fault : Form → Items → Option DocumentFault
+repeat_fault form ds = option_map (λ name. under name (here cause.RepeatedId)) (repeated_name form ds)
+
 abbrev mutual
   pub fault_in : Form → Data → Option DocumentFault
   fault_in form null = leaf_fault (short_form form) null
   fault_in form (boolean b) = leaf_fault (short_form form) (boolean b)
   fault_in form (number n) = leaf_fault (short_form form) (number n)
   fault_in form (string s) = leaf_fault (short_form form) (string s)
-  fault_in form (array ds) = listed form (item_form (short_form form)) (λ each. fault_in_items each 0 ds)
+  fault_in form (array ds) = listed form (item_form (short_form form)) (λ each. or_else (fault_in_items each 0 ds) (repeat_fault (short_form form) ds))
   fault_in form (object ms) = or_else (fault_in_members (layout_of form (object ms)) ms) (own_fault (layout_of form (object ms)) (object ms))
 
   -- the items from that index on

@@ -27,6 +27,8 @@ pub enum Cause {
     WrongForm,
     /// The runner doesn't know this requirement.
     UnknownRequirement,
+    /// Two items of the list have this name.
+    RepeatedId,
 }
 
 /// A step from a value of a document to one in it.
@@ -66,6 +68,7 @@ impl Cause {
             Cause::UnknownField => "C5",
             Cause::WrongForm => "C6",
             Cause::UnknownRequirement => "C7",
+            Cause::RepeatedId => "C8",
             Cause::TooDeep => "C9",
         }
     }
@@ -80,6 +83,7 @@ impl Cause {
             Cause::UnknownField => "no such field",
             Cause::WrongForm => "a value of another form",
             Cause::UnknownRequirement => "a requirement that is not met",
+            Cause::RepeatedId => "a name that stands twice",
             Cause::TooDeep => "nested over 100 deep",
         }
     }

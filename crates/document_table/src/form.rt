@@ -47,6 +47,8 @@ pub enum Form {
     Text,
     /// A text, or a list of texts.
     Words,
+    /// The same, where no text stands twice.
+    Names,
     Texts,
     Bool,
     /// The value `false` alone.
@@ -94,10 +96,9 @@ pub enum Form {
     Hints,
 }
 
-/// A row of the table: a field, whether it has to be there, and its form where it is.
+/// A row of the table: a field that has to be there or may be, with its form.
 #[derive(Clone, Copy, Drop)]
-pub struct FieldRow {
-    pub name: &'static str,
-    pub required: bool,
-    pub form: Form,
+pub enum FieldRow {
+    Must(&'static str, Form),
+    May(&'static str, Form),
 }

@@ -198,7 +198,7 @@ fn is_read_over(name: &str) -> bool
 }
 
 /// The field that the key of a map stands for.
-fn subject_of(kind: Kind) -> &'static str
+pub(crate) fn subject_of(kind: Kind) -> &'static str
     ensures { result.now ≡ subject_of kind }
 {
     match kind {
@@ -282,8 +282,10 @@ fn missing(rows: &'static [FieldRow], given: &str, object: &Value) -> Option<&'s
         ≡ missing given.now (view object.now) (map row_seen rows.now) }
 {
     for row in rows {
-        if row.required && row.name != given && object.get(row.name).is_none() {
-            return Some(row.name);
+        if let FieldRow::Must(field, _) = *row {
+            if field != given && object.get(field).is_none() {
+                return Some(field);
+            }
         }
     }
     None

@@ -11,6 +11,7 @@ mod fault;
 mod form;
 mod layout;
 mod leaf;
+mod repeats;
 mod table;
 mod texts;
 mod walk;

@@ -3,540 +3,153 @@
 ghost use Rattle.std.specs.Prelude.{◌≡◌, map, Option};
 ghost use Rattle.document_table.specs.Table.{rows_of, row_seen, form_named, form_of};
 
+use crate::form::FieldRow::{May, Must};
 use crate::form::{FieldRow, Form, Kind};
 
-// A field that has to be there.
-
 static TOOL: [FieldRow; 15] = [
-    FieldRow {
-        name: "cwlVersion",
-        required: false,
-        form: Form::Version,
-    },
-    FieldRow {
-        name: "class",
-        required: true,
-        form: Form::Anything,
-    },
-    FieldRow {
-        name: "id",
-        required: false,
-        form: Form::Id,
-    },
-    FieldRow {
-        name: "inputs",
-        required: true,
-        form: Form::Objects(Kind::ToolInput),
-    },
-    FieldRow {
-        name: "outputs",
-        required: true,
-        form: Form::Objects(Kind::ToolOutput),
-    },
-    FieldRow {
-        name: "baseCommand",
-        required: false,
-        form: Form::Words,
-    },
-    FieldRow {
-        name: "arguments",
-        required: false,
-        form: Form::Arguments,
-    },
-    FieldRow {
-        name: "stdin",
-        required: false,
-        form: Form::Text,
-    },
-    FieldRow {
-        name: "stdout",
-        required: false,
-        form: Form::Text,
-    },
-    FieldRow {
-        name: "stderr",
-        required: false,
-        form: Form::Text,
-    },
-    FieldRow {
-        name: "requirements",
-        required: false,
-        form: Form::Requirements,
-    },
-    FieldRow {
-        name: "hints",
-        required: false,
-        form: Form::Hints,
-    },
-    FieldRow {
-        name: "successCodes",
-        required: false,
-        form: Form::Ints,
-    },
-    FieldRow {
-        name: "temporaryFailCodes",
-        required: false,
-        form: Form::Ints,
-    },
-    FieldRow {
-        name: "permanentFailCodes",
-        required: false,
-        form: Form::Ints,
-    },
+    May("cwlVersion", Form::Version),
+    Must("class", Form::Anything),
+    May("id", Form::Id),
+    Must("inputs", Form::Objects(Kind::ToolInput)),
+    Must("outputs", Form::Objects(Kind::ToolOutput)),
+    May("baseCommand", Form::Words),
+    May("arguments", Form::Arguments),
+    May("stdin", Form::Text),
+    May("stdout", Form::Text),
+    May("stderr", Form::Text),
+    May("requirements", Form::Requirements),
+    May("hints", Form::Hints),
+    May("successCodes", Form::Ints),
+    May("temporaryFailCodes", Form::Ints),
+    May("permanentFailCodes", Form::Ints),
 ];
 
 static WORKFLOW: [FieldRow; 8] = [
-    FieldRow {
-        name: "cwlVersion",
-        required: false,
-        form: Form::Version,
-    },
-    FieldRow {
-        name: "class",
-        required: true,
-        form: Form::Anything,
-    },
-    FieldRow {
-        name: "id",
-        required: false,
-        form: Form::Id,
-    },
-    FieldRow {
-        name: "inputs",
-        required: true,
-        form: Form::Objects(Kind::WorkflowInput),
-    },
-    FieldRow {
-        name: "outputs",
-        required: true,
-        form: Form::Objects(Kind::WorkflowOutput),
-    },
-    FieldRow {
-        name: "steps",
-        required: true,
-        form: Form::Objects(Kind::Step),
-    },
-    FieldRow {
-        name: "requirements",
-        required: false,
-        form: Form::Requirements,
-    },
-    FieldRow {
-        name: "hints",
-        required: false,
-        form: Form::Hints,
-    },
+    May("cwlVersion", Form::Version),
+    Must("class", Form::Anything),
+    May("id", Form::Id),
+    Must("inputs", Form::Objects(Kind::WorkflowInput)),
+    Must("outputs", Form::Objects(Kind::WorkflowOutput)),
+    Must("steps", Form::Objects(Kind::Step)),
+    May("requirements", Form::Requirements),
+    May("hints", Form::Hints),
 ];
 
 static TOOL_INPUT: [FieldRow; 6] = [
-    FieldRow {
-        name: "id",
-        required: true,
-        form: Form::Id,
-    },
-    FieldRow {
-        name: "type",
-        required: true,
-        form: Form::InputType,
-    },
-    FieldRow {
-        name: "default",
-        required: false,
-        form: Form::Value,
-    },
-    FieldRow {
-        name: "inputBinding",
-        required: false,
-        form: Form::Object(Kind::InputBinding),
-    },
-    FieldRow {
-        name: "loadContents",
-        required: false,
-        form: Form::Bool,
-    },
-    FieldRow {
-        name: "secondaryFiles",
-        required: false,
-        form: Form::SecondaryFiles,
-    },
+    Must("id", Form::Id),
+    Must("type", Form::InputType),
+    May("default", Form::Value),
+    May("inputBinding", Form::Object(Kind::InputBinding)),
+    May("loadContents", Form::Bool),
+    May("secondaryFiles", Form::SecondaryFiles),
 ];
 
 static TOOL_OUTPUT: [FieldRow; 4] = [
-    FieldRow {
-        name: "id",
-        required: true,
-        form: Form::Id,
-    },
-    FieldRow {
-        name: "type",
-        required: true,
-        form: Form::OutputType,
-    },
-    FieldRow {
-        name: "outputBinding",
-        required: false,
-        form: Form::Object(Kind::OutputBinding),
-    },
-    FieldRow {
-        name: "secondaryFiles",
-        required: false,
-        form: Form::SecondaryFiles,
-    },
+    Must("id", Form::Id),
+    Must("type", Form::OutputType),
+    May("outputBinding", Form::Object(Kind::OutputBinding)),
+    May("secondaryFiles", Form::SecondaryFiles),
 ];
 
 static WORKFLOW_INPUT: [FieldRow; 6] = [
-    FieldRow {
-        name: "id",
-        required: true,
-        form: Form::Id,
-    },
-    FieldRow {
-        name: "type",
-        required: true,
-        form: Form::Type,
-    },
-    FieldRow {
-        name: "default",
-        required: false,
-        form: Form::Value,
-    },
-    FieldRow {
-        name: "secondaryFiles",
-        required: false,
-        form: Form::SecondaryFiles,
-    },
-    FieldRow {
-        name: "inputBinding",
-        required: false,
-        form: Form::Anything,
-    },
-    FieldRow {
-        name: "loadContents",
-        required: false,
-        form: Form::OnlyFalse,
-    },
+    Must("id", Form::Id),
+    Must("type", Form::Type),
+    May("default", Form::Value),
+    May("secondaryFiles", Form::SecondaryFiles),
+    May("inputBinding", Form::Anything),
+    May("loadContents", Form::OnlyFalse),
 ];
 
 static WORKFLOW_OUTPUT: [FieldRow; 6] = [
-    FieldRow {
-        name: "id",
-        required: true,
-        form: Form::Id,
-    },
-    FieldRow {
-        name: "type",
-        required: true,
-        form: Form::Type,
-    },
-    FieldRow {
-        name: "outputSource",
-        required: false,
-        form: Form::Sources,
-    },
-    FieldRow {
-        name: "linkMerge",
-        required: false,
-        form: Form::LinkMerge,
-    },
-    FieldRow {
-        name: "pickValue",
-        required: false,
-        form: Form::PickValue,
-    },
-    FieldRow {
-        name: "secondaryFiles",
-        required: false,
-        form: Form::Anything,
-    },
+    Must("id", Form::Id),
+    Must("type", Form::Type),
+    May("outputSource", Form::Sources),
+    May("linkMerge", Form::LinkMerge),
+    May("pickValue", Form::PickValue),
+    May("secondaryFiles", Form::Anything),
 ];
 
 static STEP: [FieldRow; 9] = [
-    FieldRow {
-        name: "id",
-        required: true,
-        form: Form::StepId,
-    },
-    FieldRow {
-        name: "in",
-        required: true,
-        form: Form::Objects(Kind::StepInput),
-    },
-    FieldRow {
-        name: "out",
-        required: true,
-        form: Form::StepOutputs,
-    },
-    FieldRow {
-        name: "run",
-        required: true,
-        form: Form::Run,
-    },
-    FieldRow {
-        name: "scatter",
-        required: false,
-        form: Form::Words,
-    },
-    FieldRow {
-        name: "scatterMethod",
-        required: false,
-        form: Form::ScatterMethod,
-    },
-    FieldRow {
-        name: "when",
-        required: false,
-        form: Form::Text,
-    },
-    FieldRow {
-        name: "requirements",
-        required: false,
-        form: Form::Requirements,
-    },
-    FieldRow {
-        name: "hints",
-        required: false,
-        form: Form::Hints,
-    },
+    Must("id", Form::StepId),
+    Must("in", Form::Objects(Kind::StepInput)),
+    Must("out", Form::StepOutputs),
+    Must("run", Form::Run),
+    May("scatter", Form::Names),
+    May("scatterMethod", Form::ScatterMethod),
+    May("when", Form::Text),
+    May("requirements", Form::Requirements),
+    May("hints", Form::Hints),
 ];
 
 static STEP_INPUT: [FieldRow; 7] = [
-    FieldRow {
-        name: "id",
-        required: true,
-        form: Form::Id,
-    },
-    FieldRow {
-        name: "source",
-        required: false,
-        form: Form::Sources,
-    },
-    FieldRow {
-        name: "linkMerge",
-        required: false,
-        form: Form::LinkMerge,
-    },
-    FieldRow {
-        name: "pickValue",
-        required: false,
-        form: Form::PickValue,
-    },
-    FieldRow {
-        name: "default",
-        required: false,
-        form: Form::Value,
-    },
-    FieldRow {
-        name: "valueFrom",
-        required: false,
-        form: Form::Text,
-    },
-    FieldRow {
-        name: "loadContents",
-        required: false,
-        form: Form::OnlyFalse,
-    },
+    Must("id", Form::Id),
+    May("source", Form::Sources),
+    May("linkMerge", Form::LinkMerge),
+    May("pickValue", Form::PickValue),
+    May("default", Form::Value),
+    May("valueFrom", Form::Text),
+    May("loadContents", Form::OnlyFalse),
 ];
 
-static STEP_OUTPUT: [FieldRow; 1] = [FieldRow {
-    name: "id",
-    required: true,
-    form: Form::Id,
-}];
+static STEP_OUTPUT: [FieldRow; 1] = [Must("id", Form::Id)];
 
 static INPUT_BINDING: [FieldRow; 7] = [
-    FieldRow {
-        name: "position",
-        required: false,
-        form: Form::Int,
-    },
-    FieldRow {
-        name: "prefix",
-        required: false,
-        form: Form::Text,
-    },
-    FieldRow {
-        name: "separate",
-        required: false,
-        form: Form::Bool,
-    },
-    FieldRow {
-        name: "itemSeparator",
-        required: false,
-        form: Form::Text,
-    },
-    FieldRow {
-        name: "valueFrom",
-        required: false,
-        form: Form::Text,
-    },
-    FieldRow {
-        name: "shellQuote",
-        required: false,
-        form: Form::Anything,
-    },
-    FieldRow {
-        name: "loadContents",
-        required: false,
-        form: Form::Bool,
-    },
+    May("position", Form::Int),
+    May("prefix", Form::Text),
+    May("separate", Form::Bool),
+    May("itemSeparator", Form::Text),
+    May("valueFrom", Form::Text),
+    May("shellQuote", Form::Anything),
+    May("loadContents", Form::Bool),
 ];
 
 static ARGUMENT: [FieldRow; 6] = [
-    FieldRow {
-        name: "position",
-        required: false,
-        form: Form::Int,
-    },
-    FieldRow {
-        name: "prefix",
-        required: false,
-        form: Form::Text,
-    },
-    FieldRow {
-        name: "separate",
-        required: false,
-        form: Form::Bool,
-    },
-    FieldRow {
-        name: "itemSeparator",
-        required: false,
-        form: Form::Text,
-    },
-    FieldRow {
-        name: "valueFrom",
-        required: false,
-        form: Form::Text,
-    },
-    FieldRow {
-        name: "shellQuote",
-        required: false,
-        form: Form::Anything,
-    },
+    May("position", Form::Int),
+    May("prefix", Form::Text),
+    May("separate", Form::Bool),
+    May("itemSeparator", Form::Text),
+    May("valueFrom", Form::Text),
+    May("shellQuote", Form::Anything),
 ];
 
 static OUTPUT_BINDING: [FieldRow; 3] = [
-    FieldRow {
-        name: "glob",
-        required: false,
-        form: Form::Words,
-    },
-    FieldRow {
-        name: "loadContents",
-        required: false,
-        form: Form::Bool,
-    },
-    FieldRow {
-        name: "outputEval",
-        required: false,
-        form: Form::Text,
-    },
+    May("glob", Form::Words),
+    May("loadContents", Form::Bool),
+    May("outputEval", Form::Text),
 ];
 
-static ITEM_BINDING: [FieldRow; 2] = [
-    FieldRow {
-        name: "prefix",
-        required: false,
-        form: Form::Text,
-    },
-    FieldRow {
-        name: "separate",
-        required: false,
-        form: Form::Bool,
-    },
-];
+static ITEM_BINDING: [FieldRow; 2] = [May("prefix", Form::Text), May("separate", Form::Bool)];
 
 static ARRAY_TYPE: [FieldRow; 3] = [
-    FieldRow {
-        name: "type",
-        required: true,
-        form: Form::Anything,
-    },
-    FieldRow {
-        name: "items",
-        required: true,
-        form: Form::Type,
-    },
-    FieldRow {
-        name: "inputBinding",
-        required: false,
-        form: Form::Object(Kind::ItemBinding),
-    },
+    Must("type", Form::Anything),
+    Must("items", Form::Type),
+    May("inputBinding", Form::Object(Kind::ItemBinding)),
 ];
 
 static ENUM_TYPE: [FieldRow; 3] = [
-    FieldRow {
-        name: "type",
-        required: true,
-        form: Form::Anything,
-    },
-    FieldRow {
-        name: "symbols",
-        required: true,
-        form: Form::Texts,
-    },
-    FieldRow {
-        name: "name",
-        required: false,
-        form: Form::Text,
-    },
+    Must("type", Form::Anything),
+    Must("symbols", Form::Texts),
+    May("name", Form::Text),
 ];
 
 static SECONDARY_FILE: [FieldRow; 2] = [
-    FieldRow {
-        name: "pattern",
-        required: true,
-        form: Form::Pattern,
-    },
-    FieldRow {
-        name: "required",
-        required: false,
-        form: Form::Bool,
-    },
+    Must("pattern", Form::Pattern),
+    May("required", Form::Bool),
 ];
 
-static PLAIN_REQUIREMENT: [FieldRow; 1] = [FieldRow {
-    name: "class",
-    required: true,
-    form: Form::Anything,
-}];
+static PLAIN_REQUIREMENT: [FieldRow; 1] = [Must("class", Form::Anything)];
 
 static ENV_VAR_REQUIREMENT: [FieldRow; 2] = [
-    FieldRow {
-        name: "class",
-        required: true,
-        form: Form::Anything,
-    },
-    FieldRow {
-        name: "envDef",
-        required: true,
-        form: Form::Objects(Kind::Variable),
-    },
+    Must("class", Form::Anything),
+    Must("envDef", Form::Objects(Kind::Variable)),
 ];
 
 static WORK_REUSE: [FieldRow; 2] = [
-    FieldRow {
-        name: "class",
-        required: true,
-        form: Form::Anything,
-    },
-    FieldRow {
-        name: "enableReuse",
-        required: false,
-        form: Form::Bool,
-    },
+    Must("class", Form::Anything),
+    May("enableReuse", Form::Bool),
 ];
 
-static VARIABLE: [FieldRow; 2] = [
-    FieldRow {
-        name: "envName",
-        required: true,
-        form: Form::Text,
-    },
-    FieldRow {
-        name: "envValue",
-        required: true,
-        form: Form::Text,
-    },
-];
+static VARIABLE: [FieldRow; 2] = [Must("envName", Form::Text), Must("envValue", Form::Text)];
 
 /// The rows of an object's fields.
 pub(crate) fn rows_of(kind: Kind) -> &'static [FieldRow]
@@ -577,8 +190,12 @@ fn form_named(rows: &[FieldRow], name: &str) -> Option<Form>
     ensures { result ≡ form_named name.now (map row_seen rows.now) }
 {
     for row in rows {
-        if row.name == name {
-            return Some(row.form);
+        let (field, form) = match *row {
+            Must(field, form) => (field, form),
+            May(field, form) => (field, form),
+        };
+        if field == name {
+            return Some(form);
         }
     }
     None

@@ -1,12 +1,13 @@
 //! The walk over a document: each value beside the form that the table asks of it.
 ghost use Rattle.std.specs.Prelude.{◌≡◌, IfOk};
 ghost use Rattle.serde_json.specs.View.{view, items_view, members_view};
-ghost use Rattle.document_table.specs.Walk.{fault_in, fault_in_items, fault_in_members, leaf_fault, own_fault};
+ghost use Rattle.document_table.specs.Walk.{fault_in, fault_in_items, fault_in_members, leaf_fault, own_fault, repeat_fault};
 
 use crate::fault::{Cause, DocumentFault, at, here, under};
 use crate::form::Form;
 use crate::layout::{Layout, layout_of, member_form, missing_field};
 use crate::leaf::{item_form, short_form, takes_leaf, wrong};
+use crate::repeats::repeated_name;
 use serde_json::{Map, Value};
 use std::alloc::{AllocError, Global};
 
@@ -23,7 +24,10 @@ pub fn fault_in(
     match value {
         Value::Array(items) => match item_form(short_form(form)) {
             None => Ok(Some(here(alloc, wrong(form)))),
-            Some(each) => fault_in_items(alloc, each, items),
+            Some(each) => match fault_in_items(alloc, each, items)? {
+                Some(fault) => Ok(Some(fault)),
+                None => repeat_fault(alloc, short_form(form), items),
+            },
         },
         Value::Object(members) => {
             let layout = layout_of(form, value);
@@ -45,6 +49,20 @@ fn leaf_fault(alloc: Global, form: Form, value: &Value) -> Option<DocumentFault>
         None
     } else {
         Some(here(alloc, wrong(form)))
+    }
+}
+
+/// The fault of a list itself, where its items have none: two of one name.
+fn repeat_fault(
+    alloc: Global,
+    form: Form,
+    items: &Vec<Value>,
+) -> Result<Option<DocumentFault>, AllocError>
+    ensures { IfOk result (λ found. found ≡ repeat_fault form (items_view items.now.items)) }
+{
+    match repeated_name(alloc, form, items)? {
+        None => Ok(None),
+        Some(name) => Ok(Some(under(alloc, name, here(alloc, Cause::RepeatedId))?)),
     }
 }
 

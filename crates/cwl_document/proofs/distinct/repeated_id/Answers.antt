@@ -1,7 +1,8 @@
 use Rattle.std.proofs.Common.{◌≡◌, ◌+◌, [], ◌∷◌, ◌++◌, map, take, drop, true, false, refl, sym, ap, ◌∙◌, subst, arith, bytes_eq}
 use Rattle.std.specs.List.{IsDistinct, list_any}
 use Rattle.std.proofs.lemmas.Bool.{not-false, not-true}
-use Rattle.cwl_document.proofs.Repeated.{Repeats-at, Distinct-next, seen-more, ids_more, ids_round}
+use Rattle.cwl_document.proofs.Repeated.{Repeats-at, Distinct-next, ids_more, ids_round}
+use Rattle.document_table.proofs.Seen.{seen-more}
 use Rattle.cwl_document.proofs.distinct.repeated_id.Goals as goal
 
 pub loop-named-init : goal.loop-named-init

@@ -1,0 +1,75 @@
+//! Names that stand twice in a list.
+ghost use Rattle.std.specs.Prelude.{◌≡◌, [], IfOk, map, option_map};
+ghost use Rattle.serde_json.specs.View.{items_view, view};
+ghost use Rattle.document_table.specs.Repeats.{name_in, named_kind, names_in, repeat_after, repeated_name};
+
+use crate::form::{Form, Kind};
+use crate::layout::subject_of;
+use serde_json::Value;
+use std::alloc::{AllocError, Global};
+use std::collections::BTreeSet;
+
+/// The first name of an item that stands before it too.
+pub(crate) fn repeated_name(
+    alloc: Global,
+    form: Form,
+    items: &Vec<Value>,
+) -> Result<Option<&str>, AllocError>
+    ensures { IfOk result (λ found. option_map (λ name. name.now) found
+        ≡ repeated_name form (items_view items.now.items)) }
+{
+    match named_kind(form) {
+        None => Ok(None),
+        Some(kind) => {
+            let names = names_in(alloc, kind, items)?;
+            first_repeat(alloc, names.as_slice())
+        }
+    }
+}
+
+fn named_kind(form: Form) -> Option<Kind>
+    ensures { result ≡ named_kind form }
+{
+    match form {
+        Form::Objects(kind) => Some(kind),
+        Form::StepOutputs => Some(Kind::StepOutput),
+        Form::Names => Some(Kind::StepOutput),
+        _ => None,
+    }
+}
+
+fn names_in(alloc: Global, kind: Kind, items: &Vec<Value>) -> Result<Vec<&str>, AllocError>
+    ensures { IfOk result (λ names. map (λ name. name.now) names.items
+        ≡ names_in kind (items_view items.now.items)) }
+{
+    let mut names = Vec::new(alloc);
+    for item in items {
+        if let Some(name) = name_in(kind, item) {
+            names.push(name)?;
+        }
+    }
+    Ok(names)
+}
+
+fn name_in(kind: Kind, item: &Value) -> Option<&str>
+    ensures { option_map (λ name. name.now) result ≡ name_in kind (view item.now) }
+{
+    match item {
+        Value::String(text) => Some(text.as_str()),
+        Value::Object(_) => item.get(subject_of(kind))?.as_str(),
+        _ => None,
+    }
+}
+
+fn first_repeat<'n>(alloc: Global, names: &[&'n str]) -> Result<Option<&'n str>, AllocError>
+    ensures { IfOk result (λ found. option_map (λ name. name.now) found
+        ≡ repeat_after [] (map (λ name. name.now) names.now)) }
+{
+    let mut seen = BTreeSet::new(alloc);
+    for name in names {
+        if !seen.insert(*name)? {
+            return Ok(Some(*name));
+        }
+    }
+    Ok(None)
+}
