@@ -6,8 +6,9 @@ mod generator;
 use every_plan::{cheapest, cost_of};
 use flow_planner::{plan, plan_again, plan_by_paths};
 use generator::{changed, larger, small};
-use plan_checker::{Graph, check};
+use plan_checker::{Charges, Graph, Plan, check};
 use std::alloc::Global;
+use std::mem;
 use std::test::Fail;
 
 /// Whether the plan of a small graph is what all its cheapest plans do.
@@ -23,28 +24,50 @@ fn is_least_of_all(alloc: Global, number: u64) -> Result<bool, Fail> {
     )
 }
 
-/// Whether the plan of a graph is the one that the planner by paths finds.
-fn is_plan_by_paths(alloc: Global, graph: &Graph) -> Result<bool, Fail> {
-    let (plan, charges) = plan(alloc, graph)?;
-    let (other, others) = plan_by_paths(alloc, graph)?;
-    Ok(
-        plan.marks.as_slice() == other.marks.as_slice()
-            && check(graph, &plan, &charges) == check(graph, &other, &others),
-    )
+/// Whether a certified plan is the one that `plan` finds.
+fn is_plan(alloc: Global, graph: &Graph, other: &(Plan, Charges)) -> Result<bool, Fail> {
+    let made = plan(alloc, graph)?;
+    let is_same = made.0.marks.as_slice() == other.0.marks.as_slice()
+        && check(graph, &made.0, &made.1) == check(graph, &other.0, &other.1);
+    mem::drop(made);
+    Ok(is_same)
 }
 
 /// Whether the plan of a larger graph is the one that the planner by paths finds.
 fn is_by_paths(alloc: Global, number: u64) -> Result<bool, Fail> {
-    is_plan_by_paths(alloc, &larger(alloc, number)?)
+    let graph = larger(alloc, number)?;
+    let other = plan_by_paths(alloc, &graph)?;
+    let is_same = is_plan(alloc, &graph, &other);
+    mem::drop(other);
+    mem::drop(graph);
+    is_same
+}
+
+/// The charges of a larger graph's plan.
+fn charges_before(alloc: Global, number: u64) -> Result<Charges, Fail> {
+    let graph = larger(alloc, number)?;
+    let made = plan(alloc, &graph);
+    mem::drop(graph);
+    let (_, charges) = made?;
+    Ok(charges)
 }
 
 /// Whether a graph's plan is found from the charges of the graph that it was before it changed.
 fn is_found_again(alloc: Global, number: u64) -> Result<bool, Fail> {
-    let (_, last) = plan(alloc, &larger(alloc, number)?)?;
     let graph = changed(alloc, number)?;
-    let (again, charges) = plan_again(alloc, &graph, &last)?;
-    let (fresh, _) = plan(alloc, &graph)?;
-    Ok(again.marks.as_slice() == fresh.marks.as_slice() && check(&graph, &again, &charges).is_ok())
+    let again = plan_from_last(alloc, &graph, number)?;
+    let is_same = is_plan(alloc, &graph, &again);
+    mem::drop(again);
+    mem::drop(graph);
+    is_same
+}
+
+/// A graph's plan from the charges of the graph that it was before it changed.
+fn plan_from_last(alloc: Global, graph: &Graph, number: u64) -> Result<(Plan, Charges), Fail> {
+    let last = charges_before(alloc, number)?;
+    let again = plan_again(alloc, graph, &last);
+    mem::drop(last);
+    Ok(again?)
 }
 
 #[test]
