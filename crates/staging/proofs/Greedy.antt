@@ -1,6 +1,6 @@
 -- Why it is enough to go back to the last `*`: what the rest of a pattern can match from a later place of the one before, it can match
 -- from the first place that was found.
-use Rattle.std.proofs.Common.{◌≡◌, ℕ, ◌+◌, ◌<◌, ◌≤◌, Bool, true, false, true≢false, not, ◌&&◌, ◌==◌, List, [], ◌∷◌, ◌++◌, append_assoc, refl, sym, ap, subst, ◌∙◌, ◌⊎◌, inl, inr, eqb-true, arith}
+use Rattle.std.proofs.Common.{◌≡◌, ℕ, Bool, true, false, true≢false, not, ◌&&◌, ◌==◌, List, [], ◌∷◌, ◌++◌, append_assoc, refl, sym, ap, subst, ◌∙◌, ◌⊎◌, inl, inr, eqb-true}
 use Rattle.std.specs.List.{list_all}
 use Rattle.staging.specs.Glob.{Glob, takes, may_take, may_begin, is_member}
 use Rattle.staging.specs.declared.item.PatternItem.{PatternItem}
@@ -23,7 +23,7 @@ not-true : (a : Bool) → not a ≡ true → a ≡ false
 not-true true h = absurd (true≢false (sym h))
 not-true false h = refl
 
-true-or_false : (a : Bool) → (a ≡ true) ⊎ (a ≡ false)
+pub true-or_false : (a : Bool) → (a ≡ true) ⊎ (a ≡ false)
 true-or_false true = inl refl
 true-or_false false = inr refl
 

@@ -1,3 +1,4 @@
 pub mod Greedy
 pub mod Names
+pub mod Scanned
 pub mod Standing

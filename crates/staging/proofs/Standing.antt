@@ -1,8 +1,8 @@
 -- What the matcher knows at each step, and why its steps come to an end.
-use Rattle.std.proofs.Common.{◌≡◌, ℕ, zero, suc, ◌+◌, ◌-◌, ◌*◌, ◌<◌, ◌≤◌, Bool, true, false, true≢false, not, ◌&&◌, ◌==◌, List, [], ◌∷◌, ◌++◌, length, drop, get_or, drop-cons, add-one, Option, Some, None, refl, sym, ap, subst, ◌∙◌, ◌⊎◌, inl, inr, arith}
+use Rattle.std.proofs.Common.{◌≡◌, ℕ, zero, suc, ◌+◌, ◌-◌, ◌*◌, ◌<◌, ◌≤◌, Bool, true, false, true≢false, not, ◌==◌, List, [], ◌∷◌, ◌++◌, length, drop, get_or, drop-cons, add-one, Option, Some, None, refl, sym, ap, subst, ◌∙◌, ◌⊎◌, inl, inr, arith}
 use Rattle.std.specs.Str.{chars}
 use Rattle.staging.specs.Glob.{Glob, takes, may_take, may_begin, is_run}
-use Rattle.staging.specs.inner.Steps.{items_at, name_at, MatchesAt, IsTaken, IsStarred, IsOneMore, TakesOneMore}
+use Rattle.staging.specs.inner.Steps.{items_at, name_at, MatchesAt, IsTaken, IsStarred, TakesOneMore}
 use Rattle.staging.specs.declared.item.PatternItem.{PatternItem}
 use Rattle.staging.specs.declared.item.PatternItem.TheVariants.{Literal, One, Run, OneOf}
 use Rattle.staging.specs.declared.matching.Place.{Place}

@@ -1,3 +1,5 @@
+pub mod Codes
 pub mod Glob
 pub mod Laws
+pub mod Reading
 pub mod inner

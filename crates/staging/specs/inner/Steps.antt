@@ -1,5 +1,5 @@
 -- What the matcher's parts answer. No public contract cites this.
-use Rattle.std.specs.Prelude.{◌≡◌, ℕ, ◌+◌, ◌≤◌, ◌<◌, ◌==◌, Bool, true, false, List, [], ◌∷◌, length, drop, Option, Some, None}
+use Rattle.std.specs.Prelude.{◌≡◌, ℕ, ◌+◌, ◌≤◌, ◌<◌, ◌==◌, true, false, List, [], ◌∷◌, length, drop, Option, Some, None}
 use Rattle.std.specs.Str.{chars}
 use Rattle.staging.specs.Glob.{Glob, takes, may_take, may_begin}
 use Rattle.staging.specs.declared.item.PatternItem.{PatternItem}

@@ -1,6 +1,5 @@
 use Rattle.std.proofs.Common.{◌≡◌, ◌∷◌, ◌+◌, drop, length, ◌≤◌, sym, ap, ◌∙◌, arith}
 use Rattle.staging.specs.declared.item.PatternItem.TheVariants.{Run}
-use Rattle.staging.specs.inner.Steps.{items_at}
 use Rattle.staging.proofs.Standing.{item_here, run_is, past_end, stuck_past, stuck_begins, stuck_takes}
 use Rattle.staging.proofs.matching.next_step.Goals as goal
 

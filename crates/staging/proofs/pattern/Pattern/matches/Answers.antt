@@ -1,9 +1,9 @@
-use Rattle.std.proofs.Common.{◌≡◌, List, true, sym, ap, subst, ◌∙◌, arith, rules, true≢false}
+use Rattle.std.proofs.Common.{◌≡◌, List, true, sym, subst, ◌∙◌, rules, true≢false}
 use Rattle.std.specs.Str.{chars}
 use Rattle.staging.specs.Glob.{Glob}
 use Rattle.staging.specs.declared.item.PatternItem.{PatternItem}
 use Rattle.staging.proofs.Greedy.{Passed}
-use Rattle.staging.proofs.Standing.{stands_ended, stands_taken, stands_starred, stands_later, stands_failed, bounds_taken, bounds_starred, bounds_later, fewer_taken, fewer_starred, fewer_later}
+use Rattle.staging.proofs.Standing.{stands_ended, stands_taken, stands_starred, stands_later, stands_failed, bounds_taken, bounds_starred, bounds_later}
 use Rattle.staging.proofs.pattern.Pattern.matches.Goals as goal
 
 pub loop-next-init : goal.loop-next-init

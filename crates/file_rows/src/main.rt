@@ -1,0 +1,26 @@
+//! Rows of output files: each line of `stdin` is a call, and the same line of `stdout` has its answer.
+//!
+//! A refusal is answered by its code.
+#![tactic(auto)]
+
+mod globs;
+
+use row_io::{Answers, Row, RowFault, answer_rows};
+use std::alloc::Global;
+use std::io;
+use std::process::ExitCode;
+
+struct Calls;
+
+impl Answers for Calls {
+    fn answer(&self, alloc: Global, row: &Row) -> Result<String, RowFault> {
+        match row.call() {
+            "matches" => globs::answer(alloc, row),
+            _ => Err(RowFault::UnknownCall),
+        }
+    }
+}
+
+fn main(rt: HostRuntime) -> io::Result<ExitCode> {
+    answer_rows(&rt, &Calls)
+}
