@@ -4,6 +4,7 @@ use Rattle.command_line.specs.declared.launch.Launch.{Launch}
 use Rattle.proc_host.specs.declared.call.HostAnswer.TheVariants as answers
 use Rattle.proc_host.specs.declared.call.HostRequest.TheVariants as requests
 use Rattle.proc_host.specs.declared.child.Ending.{Ending}
+use Rattle.proc_host.specs.declared.found.Found.{Found}
 use Rattle.proc_host.specs.declared.reply.Reply.{Reply}
 use Rattle.proc_host.specs.declared.reply.Reply.TheVariants as replies
 use Rattle.std.proofs.lemmas.List.Sums.{sum_by-append}
@@ -19,6 +20,10 @@ start_told state launch reply next = rw next refl
 pub end_told : (state : ScriptState) (ending : Ending) (reply : Option Reply) → reply ≡ Some (replies.Collect ending) → can_end state ending ≡ true →
     answers.Ended ending ≡ answer_by state requests.Collect reply
 end_told state ending reply next can = rw (next, can) refl
+
+pub scan_told : (state : ScriptState) (folder : List ℕ) (found : List Found) (reply : Option Reply) → reply ≡ Some (replies.Scan found) →
+    answers.Listed found ≡ answer_by state (requests.Scan folder) reply
+scan_told state folder found reply next = rw next refl
 
 -- where there is a next reply, the replies given are not all
 pub next_within : (given : ℕ) (script : List Reply) (reply : Reply) → slice_get (drop given script) 0 ≡ Some reply → given < length script

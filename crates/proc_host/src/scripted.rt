@@ -1,8 +1,9 @@
-ghost use Rattle.std.specs.Prelude.{◌≡◌, ◌+◌, ◌++◌, ◌∷◌, ◌↔◌, [], IfOk, OnOk, OnErr, IfSome, IfNone, IsTrue, slice_get, Contains};
+ghost use Rattle.std.specs.Prelude.{◌≡◌, ◌+◌, ◌++◌, ◌∷◌, ◌↔◌, List, [], IfOk, OnOk, OnErr, IfSome, IfNone, IsTrue, slice_get, Contains};
 ghost use Rattle.proc_host.specs.Log.{told, told_error, entries_of, starts, FailsOnlyBy, IsOnly};
 ghost use Rattle.proc_host.specs.Tickets.{IsFresh, running_after, without};
 ghost use Rattle.proc_host.specs.Script.{Answers, after, can_end};
 ghost use Rattle.proc_host.specs.declared.child.Ending.{Ending};
+ghost use Rattle.proc_host.specs.declared.found.Found.{Found};
 
 use crate::found::listing_in;
 use crate::{
@@ -115,6 +116,17 @@ impl Scripted {
         None
     }
 
+    // The listing that the script tells next.
+    fn next_listing(&self) -> Result<Option<Items<Found>>, AllocError>
+        ensures told { IfOk result (λ next. IfSome next (λ found. slice_get self.now.script 0 ≡ Some (Reply.Scan found))) }
+        ensures none { IfOk result (λ next. IfNone next ((found : List Found) → slice_get self.now.script 0 ≡ Some (Reply.Scan found) → ⊥)) }
+    {
+        let Some(Reply::Scan(found)) = self.script.get(self.given) else {
+            return Ok(None);
+        };
+        Ok(Some(listing_in(self.alloc, found)?))
+    }
+
     // Notes that a call failed.
     fn refuse(&mut self, request: HostRequest, fault: HostFault) -> HostError
         ensures refused { self.new ≡ after self.old request (told_error result) }
@@ -148,6 +160,23 @@ fn note_start(
         answer: HostAnswer::Started(number),
     })?;
     running.push(number).unwrap();
+    Ok(())
+}
+
+// Notes a listing in the log.
+fn note_scan(
+    alloc: Global,
+    log: &mut Vec<Entry>,
+    folder: &Text,
+    listed: &Items<Found>,
+) -> Result<(), AllocError>
+    ensures log { OnOk result (log.new.items ≡ log.old.items
+        ++ record { request = HostRequest.Scan folder.now; answer = HostAnswer.Listed listed.now } ∷ []) }
+    ensures err { OnErr result (log.new.items ≡ log.old.items) }
+{
+    let request = HostRequest::Scan(folder.copied(alloc)?);
+    let answer = HostAnswer::Listed(listing_in(alloc, listed)?);
+    log.push(Entry { request, answer })?;
     Ok(())
 }
 
@@ -228,15 +257,13 @@ impl Host for Scripted {
         ensures running { self.new.running ≡ self.old.running }
         ensures scripted { Answers self.old (HostRequest.Scan folder.now) (told (λ found. HostAnswer.Listed found) result) self.new }
     {
-        let request = HostRequest::Scan(folder.copied(self.alloc)?);
-        if let Some(Reply::Scan(found)) = self.script.get(self.given) {
-            let listed = listing_in(self.alloc, found)?;
-            let answer = HostAnswer::Listed(listing_in(self.alloc, found)?);
-            self.log.push(Entry { request, answer })?;
-            self.given += 1;
-            return Ok(listed);
-        }
-        Err(self.refuse(request, HostFault::Scan))
+        let Some(listed) = self.next_listing()? else {
+            let request = HostRequest::Scan(folder.copied(self.alloc)?);
+            return Err(self.refuse(request, HostFault::Scan));
+        };
+        note_scan(self.alloc, &mut self.log, folder, &listed)?;
+        self.given += 1;
+        Ok(listed)
     }
 
     fn deliver(&mut self, plan: &StagePlan) -> Result<(), HostError>
