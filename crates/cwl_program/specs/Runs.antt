@@ -34,6 +34,7 @@ outcome_ending (outcomes.TemporaryFail place) = endings.Temporary (place_json pl
 -- a run that has no outcome is a fault
 abbrev pub fault_of : RunFault → Fault
 fault_of (run_faults.Host fault running) = faults.Host fault
+fault_of run_faults.TooManyJobs = faults.TooManyJobs
 fault_of run_faults.OutOfMemory = faults.OutOfMemory
 
 abbrev pub run_ending : Result Report RunFault → Ending

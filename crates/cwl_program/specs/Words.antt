@@ -31,4 +31,5 @@ refusal_code refusals.Certificate = codes "X1"
 abbrev pub word_of : Fault → List ℕ
 word_of (faults.Host fault) = host_code fault
 word_of faults.Input = codes "input"
+word_of faults.TooManyJobs = codes "TooManyJobs"
 word_of faults.OutOfMemory = codes "OutOfMemory"

@@ -10,6 +10,7 @@ use plain_data::{Items, Keyed, Text};
 use proc_host::{Found, Reply, Scripted};
 use run_core::Options;
 use std::alloc::{AllocError, Global};
+use std::mem;
 use workflow_engine::run;
 
 /// A tool that prints its text into a file, which is its output.
@@ -33,15 +34,39 @@ pub fn ending_of_demo(alloc: Global, path: &str) -> Result<Ending, AllocError>
     }
 }
 
-#[tactic(auto, using(crate::specs::Runs::refused, crate::specs::Runs::no_object))]
 fn on_inputs(alloc: Global, process: Process, path: &str) -> Result<Ending, AllocError>
     ensures { IfOk result IsRunEnding }
 {
     match read_value(alloc, INPUTS.as_bytes()) {
-        Ok(Value::Fields(inputs)) => in_world(alloc, process, inputs, path),
-        Ok(_) => Ok(Ending::Fault(Fault::Input)),
-        Err(ValueRefusal::OutOfMemory) => Err(AllocError),
-        Err(refusal) => Ok(Ending::Refused(Refusal::Inputs(refusal))),
+        Ok(value) => on_value(alloc, process, value, path),
+        Err(refusal) => {
+            mem::drop(process);
+            refused_inputs(refusal)
+        }
+    }
+}
+
+#[tactic(auto, using(crate::specs::Runs::no_object))]
+fn on_value(alloc: Global, process: Process, value: Value, path: &str) -> Result<Ending, AllocError>
+    ensures { IfOk result IsRunEnding }
+{
+    match value {
+        Value::Fields(inputs) => in_world(alloc, process, inputs, path),
+        other => {
+            mem::drop(other);
+            mem::drop(process);
+            Ok(Ending::Fault(Fault::Input))
+        }
+    }
+}
+
+#[tactic(auto, using(crate::specs::Runs::refused))]
+fn refused_inputs(refusal: ValueRefusal) -> Result<Ending, AllocError>
+    ensures { IfOk result IsRunEnding }
+{
+    match refusal {
+        ValueRefusal::OutOfMemory => Err(AllocError),
+        refusal => Ok(Ending::Refused(Refusal::Inputs(refusal))),
     }
 }
 
@@ -69,7 +94,10 @@ fn ended(
     let World { options, script } = world;
     let mut host = Scripted::new(alloc, script, 0);
     let report = run(alloc, &mut host, process, inputs, options);
-    ending_of_run(alloc, &report)
+    let ending = ending_of_run(alloc, &report);
+    mem::drop(report);
+    mem::drop(host);
+    ending
 }
 
 /// What the example's run is done with.

@@ -42,6 +42,8 @@ pub enum Fault {
     Host(HostFault),
     /// A file can't be read, or the inputs are no object.
     Input,
+    /// A run has more jobs than the limits allow.
+    TooManyJobs,
     OutOfMemory,
 }
 
@@ -66,6 +68,7 @@ impl Fault {
         match self {
             Fault::Host(fault) => fault.code(),
             Fault::Input => "input",
+            Fault::TooManyJobs => "TooManyJobs",
             Fault::OutOfMemory => "OutOfMemory",
         }
     }

@@ -39,6 +39,7 @@ fn of_fault(fault: &RunFault) -> Fault
 {
     match fault {
         RunFault::Host(fault, _) => Fault::Host(*fault),
+        RunFault::TooManyJobs => Fault::TooManyJobs,
         RunFault::OutOfMemory => Fault::OutOfMemory,
     }
 }

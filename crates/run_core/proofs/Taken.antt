@@ -311,6 +311,7 @@ not_lost_is_ok Phase.Scanning not_lost = refl
 not_lost_is_ok (Phase.Delivering value) not_lost = refl
 not_lost_is_ok (Phase.Ended (Ok report)) not_lost = refl
 not_lost_is_ok (Phase.Ended (Err (RunFault.Host fault left))) not_lost = refl
+not_lost_is_ok (Phase.Ended (Err RunFault.TooManyJobs)) not_lost = refl
 not_lost_is_ok (Phase.Ended (Err RunFault.OutOfMemory)) not_lost = absurd (not_lost refl)
 
 module _ (core : RunCore) (answer : HostAnswer) (pairs : Vec Pair Global) (stands : Stands core)
@@ -329,6 +330,7 @@ module _ (core : RunCore) (answer : HostAnswer) (pairs : Vec Pair Global) (stand
     ok = tt;
     err = refl;
     lost = refl;
+    finished = refl;
     landed = none;
   }
 
@@ -347,6 +349,7 @@ module _ (core : RunCore) (answer : HostAnswer) (pairs : Vec Pair Global) (stand
         ok = leaves.not_lost;
         err = tt;
         lost = tt;
+        finished = tt;
         landed = tt;
       }
 

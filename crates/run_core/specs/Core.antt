@@ -93,3 +93,4 @@ pub record Took (old : RunCore) (answer : HostAnswer) (result : Result (Unit {0}
   pub ok : OnOk result (IsLost new → ⊥)
   pub err : IfErr result (λ fault. fault ≡ RunFault.OutOfMemory)
   pub lost : OnErr result (IsLost new)
+  pub finished : OnErr result (asked new ≡ Request.Finished)

@@ -63,6 +63,7 @@ fn fault_json(alloc: Global, fault: &RunFault) -> Result<String, RowFault> {
             let running = numbers(alloc, running.as_slice())?;
             Ok(format!(in alloc; "{{\"fault\":\"{}\",\"running\":{running}}}", fault.code())?)
         }
+        RunFault::TooManyJobs => Ok(String::from_str(alloc, "{\"fault\":\"TooManyJobs\"}")?),
         RunFault::OutOfMemory => Err(RowFault::OutOfMemory),
     }
 }

@@ -4,8 +4,10 @@ pub mod Gathered
 pub mod Knows
 pub mod Succeeded
 pub mod Over
+pub mod Few
 pub mod AtRoot
 pub mod Rightly
 pub mod Moved
 pub mod Rows
 pub mod Reported
+pub mod TwoJobs

@@ -3,7 +3,7 @@ use Rattle.std.proofs.Common.{◌∙◌, List, Some, option_map, sym, ap}
 use Rattle.run_rules.specs.declared.request.Pair.{Pair}
 use Rattle.run_rules.specs.declared.setting.Setting.{Setting}
 use Rattle.run_rules.specs.Delivered.{object_of}
-use Rattle.run_rules.specs.Ending.{End, Succeeds, Fails_for_good, Fails_for_now, Host_ends}
+use Rattle.run_rules.specs.Ending.{End, Succeeds, Fails_for_good, Fails_for_now, Beyond_limits, Host_ends}
 use Rattle.run_rules.specs.Eval.{World}
 use Rattle.run_rules.specs.Honest.{IsHonest, Means}
 use Rattle.run_rules.specs.Reports.{IsRight, report_of}
@@ -16,6 +16,7 @@ rightly_reported setting world (Succeeds outputs) means =
     ap (option_map object_of) means ∙ ap Some (sym (keeps_the_value setting.options.outdir outputs))
 rightly_reported setting world (Fails_for_good place cause) means = means
 rightly_reported setting world (Fails_for_now place) means = tt
+rightly_reported setting world Beyond_limits means = tt
 rightly_reported setting world (Host_ends fault running) means = tt
 
 pub reports_rightly : (setting : Setting) (t : List Pair) (end : End) (run : IsRun setting t end) (world : World) →

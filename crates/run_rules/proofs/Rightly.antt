@@ -14,15 +14,16 @@ use Rattle.run_rules.specs.Words.{Fields, JobPlace, is_same_place}
 use Rattle.run_rules.specs.Inputs.{inputs_for}
 use Rattle.run_rules.specs.Jobs.{Walker, tool_walk, result, all_named, outs_of, output_names, tool_of}
 use Rattle.run_rules.specs.Made.{fields_made}
-use Rattle.run_rules.specs.Unfold.{Resolved, fault_after, or_else}
+use Rattle.run_rules.specs.Unfold.{Resolved, or_else}
 use Rattle.run_rules.specs.Key.{key}
 use Rattle.run_rules.specs.Eval.{World, eval_by}
 use Rattle.run_rules.specs.Scene.{Scene, scene_of}
 use Rattle.run_rules.specs.Events.{Event, Staged, Began, Came_back, Succeeded, Broke, Gave_up, Delivered, Host_failed, Collect_failed, So_far, in_flight, tickets, resolved, unfolding_at, job_at}
-use Rattle.run_rules.specs.Ending.{End, Succeeds, Fails_for_good, Fails_for_now, Host_ends, fault_end, gives_up, is_delivery, is_lost_collect, settled_by, unfold_end, settled_from, settled, delivery_at, delivered_end, result_end, end_of}
+use Rattle.run_rules.specs.Ending.{End, Succeeds, Fails_for_good, Fails_for_now, Beyond_limits, Host_ends, fault_end, gives_up, is_delivery, is_lost_collect, settled_by, unfold_end, settled_from, settled, delivery_at, delivered_end, result_end, end_of}
 use Rattle.run_rules.specs.Plans.{Mark, Loads_what_is_held}
 use Rattle.run_rules.specs.Honest.{AgreesAt, AgreesFrom, IsHonest, Means}
 use Rattle.run_rules.specs.Run.{Goes, IsRun}
+use Rattle.run_rules.proofs.Few.{no_fault}
 use Rattle.run_rules.proofs.Lone.{lone, walker_tool}
 use Rattle.run_rules.proofs.Meaning.{fails, gives, misfit_fails}
 use Rattle.run_rules.proofs.AtRoot.{EventAtRoot, AllAtRoot, its_job, job_at_root, goes_at_root}
@@ -38,6 +39,7 @@ means_of : (setting : Setting) (world : World) (end : End) → MeansBy (scene_of
 means_of setting world (Succeeds outputs) m = m
 means_of setting world (Fails_for_good place cause) m = m
 means_of setting world (Fails_for_now place) m = tt
+means_of setting world Beyond_limits m = tt
 means_of setting world (Host_ends fault running) m = tt
 
 -- What brings an end about
@@ -101,12 +103,8 @@ module _ (tool : Tool) (inputs : Fields) (options : Options) (world : World) whe
 
   -- A failure is one of the world's
 
-  no_fault : (known : List Resolved) → fault_after (tool_walk tool [] (Ok inputs)) known ≡ None
-  no_fault [] = refl
-  no_fault (r ∷ earlier) = rw (no_fault earlier) refl
-
   no_unfold_end : (es : List Event) → unfold_end s es ≡ None
-  no_unfold_end es = ap fault_end (no_fault (reverse (resolved es)))
+  no_unfold_end es = ap fault_end (no_fault tool inputs (reverse (resolved es)))
 
   now_is_not_for_good : (b : Bool) (at place : JobPlace) (cause : Cause) → cond b None (Some (Fails_for_now at)) ≡ Some (Fails_for_good place cause) → ⊥
   now_is_not_for_good true at place cause is = cc
@@ -196,6 +194,7 @@ means_rightly tool options (Err why) Plans t f marks (Succeeds outputs) world go
     let never : None ≡ Some outputs = success_is_result (scene_by tool options (Err why)) f.events outputs is in absurd cc
 means_rightly tool options (Err why) Plans t f marks (Fails_for_good place cause) world goes is agrees = misfit_fails tool why world
 means_rightly tool options inputs Plans t f marks (Fails_for_now place) world goes is agrees = tt
+means_rightly tool options inputs Plans t f marks Beyond_limits world goes is agrees = tt
 means_rightly tool options inputs Plans t f marks (Host_ends fault running) world goes is agrees = tt
 
 pub ends_rightly : (setting : Setting) (t : List Pair) (end : End) (run : IsRun setting t end) (world : World) →

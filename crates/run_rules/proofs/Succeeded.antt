@@ -10,7 +10,7 @@ use Rattle.run_rules.specs.declared.setting.Setting.{Setting}
 use Rattle.run_rules.specs.Words.{Fields, JobPlace}
 use Rattle.run_rules.specs.Inputs.{inputs_for}
 use Rattle.run_rules.specs.Jobs.{Walker, tool_walk, result, tool_of}
-use Rattle.run_rules.specs.Unfold.{Fault, Resolved, made_by, or_else}
+use Rattle.run_rules.specs.Unfold.{Fault, Fault_at, Too_many_jobs, Resolved, made_by, or_else}
 use Rattle.run_rules.specs.Scene.{Scene, scene_of}
 use Rattle.run_rules.specs.Events.{Event, Staged, Began, Came_back, Succeeded, Broke, Gave_up, Delivered, Host_failed, Collect_failed, in_flight, tickets, resolved, unfolding_at}
 use Rattle.run_rules.specs.Ending.{End, Succeeds, Fails_for_now, Host_ends, fault_end, gives_up, is_lost_collect, settled_by, unfold_end, settled_from, settled, result_end, end_of}
@@ -32,7 +32,8 @@ or_neither (Some end) b no_a no_b = no_a
 
 fault_is_none : (fault : Option Fault) → IsNoSuccess (fault_end fault)
 fault_is_none None = tt
-fault_is_none (Some fault) = tt
+fault_is_none (Some (Fault_at place cause)) = tt
+fault_is_none (Some Too_many_jobs) = tt
 
 cond_is_none : (b : Bool) (place : JobPlace) → IsNoSuccess (cond b None (Some (Fails_for_now place)))
 cond_is_none true place = tt

@@ -5,7 +5,7 @@ use Rattle.proc_host.specs.declared.call.HostFault.{HostFault}
 use Rattle.proc_host.specs.declared.plan.StagePlan.{StagePlan}
 use Rattle.run_rules.specs.declared.outcome.Cause.{Cause}
 use Rattle.run_rules.specs.Words.{Fields, JobPlace, is_same_place}
-use Rattle.run_rules.specs.Unfold.{Fault, or_else}
+use Rattle.run_rules.specs.Unfold.{Fault, Fault_at, Too_many_jobs, or_else}
 use Rattle.run_rules.specs.Delivered.{delivery}
 use Rattle.run_rules.specs.Events.{Event, Broke, Gave_up, Delivered, Host_failed, Collect_failed, in_flight, tickets, number_at, unfolding_at}
 use Rattle.run_rules.specs.Scene.{Scene}
@@ -17,13 +17,16 @@ pub data End : Type 0 where
   Fails_for_good : (place : JobPlace) (cause : Cause) → End
   -- a signal ended the child of the job at this place
   Fails_for_now : (place : JobPlace) → End
+  -- there are more jobs than the limits allow
+  Beyond_limits : End
   -- a call of the host's failed; the tickets of the children that nobody waits for any more
   Host_ends : (fault : HostFault) (running : List ℕ) → End
 
 -- the end by the first fault
 abbrev pub fault_end : Option Fault → Option End
 fault_end None = None
-fault_end (Some fault) = Some (Fails_for_good fault.place fault.cause)
+fault_end (Some (Fault_at place cause)) = Some (Fails_for_good place cause)
+fault_end (Some Too_many_jobs) = Some Beyond_limits
 
 -- whether an event is that a signal ended the child of the job at a place
 abbrev pub gives_up : JobPlace → Event → Bool

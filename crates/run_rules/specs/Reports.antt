@@ -15,7 +15,7 @@ use Rattle.cwl_value.specs.Erased.{erased}
 use Rattle.run_rules.specs.Delivered.{located, object_of}
 use Rattle.run_rules.specs.Eval.{World, eval}
 use Rattle.run_rules.specs.Events.{So_far}
-use Rattle.run_rules.specs.Ending.{End, Succeeds, Fails_for_good, Fails_for_now, Host_ends}
+use Rattle.run_rules.specs.Ending.{End, Succeeds, Fails_for_good, Fails_for_now, Beyond_limits, Host_ends}
 use Rattle.run_rules.specs.Plans.{Mark}
 use Rattle.run_rules.specs.Run.{IsRunSoFar, IsRun}
 use Rattle.run_rules.specs.Honest.{IsHonest}
@@ -44,6 +44,7 @@ abbrev pub report_of : Options → End → Result Report RunFault
 report_of options (Succeeds outputs) = reported (Outcome.Success (located options.outdir outputs))
 report_of options (Fails_for_good place cause) = reported (Outcome.PermanentFail place cause)
 report_of options (Fails_for_now place) = reported (Outcome.TemporaryFail place)
+report_of options Beyond_limits = Err RunFault.TooManyJobs
 report_of options (Host_ends fault running) = Err (RunFault.Host fault running)
 
 -- what an outcome says of computing every job: a success is its value, both without places, and where a job fails

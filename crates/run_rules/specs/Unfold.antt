@@ -1,20 +1,23 @@
 -- The jobs that are known once the outputs of some places are, from scratch.
-use Rattle.std.specs.Prelude.{Bool, not, List, [], ◌∷◌, ◌++◌, Option, Some, None, filter, filter_map, find, option_map, reverse}
+use Rattle.std.specs.Prelude.{ℕ, ◌+◌, nat_le, ◌&&◌, Bool, not, cond, length, List, [], ◌∷◌, ◌++◌, Option, Some, None, filter, filter_map, find, option_map, reverse}
 use Rattle.std.specs.List.{list_any}
+use Rattle.plan_checker.specs.declared.graph.TheConstants.{MOST_VERTICES, MOST_ENTRIES}
 use Rattle.run_rules.specs.declared.outcome.Cause.{Cause}
 use Rattle.run_rules.specs.Words.{Fields, JobPlace, is_same_place}
 use Rattle.run_rules.specs.Jobs.{Job, Met, A_job, A_fault, Made, Walker, result}
-use Rattle.run_rules.specs.Made.{fields_made}
+use Rattle.run_rules.specs.Made.{any_made, fields_made}
 
 -- a resolved place with its named outputs
 pub record Resolved : Type 0 where
   pub place : JobPlace
   pub outputs : Fields
 
--- an equation that fails
-pub record Fault : Type 0 where
-  pub place : JobPlace
-  pub cause : Cause
+-- why a process has no result
+pub data Fault : Type 0 where
+  -- the equation at this place fails
+  Fault_at : (place : JobPlace) (cause : Cause) → Fault
+  -- there are more jobs, or more parents of jobs, than the limits allow
+  Too_many_jobs : Fault
 
 -- whether a job is at a place
 abbrev pub is_at : JobPlace → Job → Bool
@@ -30,11 +33,6 @@ abbrev pub job_met : Met → Option Job
 job_met (A_job job) = Some job
 job_met (A_fault place cause) = None
 
--- the fault that is met, or none where it is a job
-abbrev pub fault_met : Met → Option Fault
-fault_met (A_job job) = None
-fault_met (A_fault place cause) = Some (record { place = place; cause = cause })
-
 -- whether one of these jobs is at the job's place
 abbrev pub is_known : List Job → Job → Bool
 is_known jobs job = list_any (is_at job.place) jobs
@@ -49,9 +47,26 @@ jobs_after walks [] = new_in [] (walks (made_by [])).met
 jobs_after walks (r ∷ earlier) =
     let jobs : List Job = jobs_after walks earlier in jobs ++ new_in jobs (walks (made_by (r ∷ earlier))).met
 
-abbrev pub first : {T : Type 0} → List T → Option T
-first [] = None
-first (x ∷ xs) = Some x
+-- a job's parents: the jobs known before it that made a File or Directory in its inputs
+abbrev pub parents_among : List Job → Job → List Job
+parents_among earlier job = filter (λ maker. any_made maker.place job.inputs) earlier
+
+-- how many parents these jobs have in all, where those before them have n
+abbrev pub entries_from : ℕ → List Job → List Job → ℕ
+entries_from n earlier [] = n
+entries_from n earlier (job ∷ jobs) = entries_from (n + length (parents_among earlier job)) (earlier ++ job ∷ []) jobs
+
+-- whether so many jobs, with so many parents, are allowed: what a graph may have
+abbrev pub is_within_limits : List Job → Bool
+is_within_limits jobs = nat_le (length jobs) MOST_VERTICES && nat_le (entries_from 0 [] jobs) MOST_ENTRIES
+
+-- the first fault in the order of the walk, where these jobs are known: an equation that fails, or a job beyond a limit
+abbrev pub first_fault : List Job → List Met → Option Fault
+first_fault jobs [] = None
+first_fault jobs (A_fault place cause ∷ met) = Some (Fault_at place cause)
+first_fault jobs (A_job job ∷ met) =
+    cond (is_known jobs job) (first_fault jobs met)
+    (cond (is_within_limits (jobs ++ job ∷ [])) (first_fault (jobs ++ job ∷ []) met) (Some Too_many_jobs))
 
 abbrev pub or_else : {T : Type 0} → Option T → Option T → Option T
 or_else (Some x) later = Some x
@@ -59,9 +74,9 @@ or_else None later = later
 
 -- the first fault: by the shortest front of what was learned, and then in the order of the walk
 abbrev pub fault_after : Walker → List Resolved → Option Fault
-fault_after walks [] = first (filter_map fault_met (walks (made_by [])).met)
+fault_after walks [] = first_fault [] (walks (made_by [])).met
 fault_after walks (r ∷ earlier) =
-    or_else (fault_after walks earlier) (first (filter_map fault_met (walks (made_by (r ∷ earlier))).met))
+    or_else (fault_after walks earlier) (first_fault (jobs_after walks earlier) (walks (made_by (r ∷ earlier))).met)
 
 pub record Unfolded : Type 0 where
   pub jobs : List Job

@@ -1,9 +1,11 @@
 //! What follows from the definitions alone, for any run: each law is the contract of a function that
 //! does nothing.
-ghost use Rattle.std.specs.Prelude.{◌≡◌, List, Some};
+ghost use Rattle.std.specs.Prelude.{◌≡◌, ◌≢◌, List, Some};
 ghost use Rattle.run_rules.specs.declared.request.Pair.{Pair};
 ghost use Rattle.run_rules.specs.declared.request.Request.{Request};
 ghost use Rattle.run_rules.specs.declared.setting.Setting.{Setting};
+ghost use Rattle.cwl_document.specs.declared.process.Process.{Process};
+ghost use Rattle.cwl_document.specs.declared.process.Tool.{Tool};
 ghost use Rattle.cwl_value.specs.Erased.{erased, fields_erased};
 ghost use Rattle.run_rules.specs.Words.{Name, Fields};
 ghost use Rattle.run_rules.specs.Allowed.{Allowed};
@@ -12,11 +14,13 @@ ghost use Rattle.run_rules.specs.Ending.{End, Succeeds, end_of};
 ghost use Rattle.run_rules.specs.Eval.{World};
 ghost use Rattle.run_rules.specs.Events.{So_far, Idle};
 ghost use Rattle.run_rules.specs.Honest.{IsHonest, Means};
+ghost use Rattle.run_rules.specs.Jobs.{walker};
 ghost use Rattle.run_rules.specs.Plans.{Mark};
 ghost use Rattle.run_rules.specs.Reports.{IsRight, report_of};
 ghost use Rattle.run_rules.specs.Run.{IsRun};
 ghost use Rattle.run_rules.specs.Scene.{scene_of};
 ghost use Rattle.run_rules.specs.Told.{RanWell};
+ghost use Rattle.run_rules.specs.Unfold.{Resolved, Too_many_jobs, unfolded};
 
 /// A run that ends in success has started a child that ended well.
 pub fn success_ran_a_child()
@@ -29,6 +33,12 @@ pub fn nothing_follows_the_end()
     ensures { (setting : Setting) (f : So_far) (marks : List Mark) (end : End) (request : Request)
         → f.work ≡ Idle → end_of (scene_of setting) f.events ≡ Some end
         → Allowed (scene_of setting) f marks request → ⊥ }
+{}
+
+/// A lone tool is one job without parents, so no run of it has too many jobs.
+pub fn a_lone_tool_is_within_limits()
+    ensures { (tool : Tool) (given : Fields) (known : List Resolved)
+        → (unfolded (walker (Process.Tool tool) given) known).fault ≢ Some Too_many_jobs }
 {}
 
 /// In each world where all that happened in a run is as the world says, its end is right: a success is the value of

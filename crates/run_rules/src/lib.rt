@@ -12,8 +12,8 @@ mod request;
 mod setting;
 
 pub use laws::{
-    an_honest_run_ends_rightly, an_honest_run_is_reported_rightly, delivery_keeps_the_value,
-    nothing_follows_the_end, success_ran_a_child,
+    a_lone_tool_is_within_limits, an_honest_run_ends_rightly, an_honest_run_is_reported_rightly,
+    delivery_keeps_the_value, nothing_follows_the_end, success_ran_a_child,
 };
 pub use outcome::{Cause, CollectFault, Note, Outcome, PlanNote, Report, RunFault};
 pub use request::{Pair, Request};

@@ -76,6 +76,8 @@ pub struct Report {
 pub enum RunFault {
     /// The host's call failed; the tickets of the children that nobody waits for any more.
     Host(HostFault, Items<u64>),
+    /// There are more jobs, or more parents of jobs, than a graph may have.
+    TooManyJobs,
     /// Out of memory.
     OutOfMemory,
 }

@@ -16,4 +16,5 @@ pub record HasFailed (before after : List Entry) (fault : HostFault) (running : 
 
 abbrev pub IsHostsFault : List Entry → List Entry → RunFault → Type 0
 IsHostsFault before after (RunFault.Host fault running) = HasFailed before after fault running
+IsHostsFault before after RunFault.TooManyJobs = Unit {0}
 IsHostsFault before after RunFault.OutOfMemory = Unit {0}

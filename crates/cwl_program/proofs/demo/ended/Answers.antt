@@ -6,6 +6,6 @@ use Rattle.cwl_program.proofs.demo.ended.Goals as goal
 
 pub returns : goal.returns
 returns c =
-    IfOk-weaker c.ending_of_run.result _ _
+    IfOk-weaker c.ending_of_run-ending.result _ _
     (λ ending h. subst (λ (e : Ending). IsRunEnding e) (sym h) (ran _ _ _ _ _ _ c.run-report.ensures.run))
-    c.ending_of_run.ensures
+    c.ending_of_run-ending.ensures
