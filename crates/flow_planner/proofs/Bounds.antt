@@ -9,7 +9,7 @@ use Rattle.plan_checker.specs.Graph.{vertex, IsGraph}
 use Rattle.plan_checker.specs.Charges.{passes, received}
 use Rattle.plan_checker.proofs.SumsBelow.{sum_below_same, sum_below_le, sum_below-add, sum_below-le-product, sum_is_below, term-le-sum_below}
 use Rattle.plan_checker.proofs.Duality.{parent_at, amount_at, passed_by_weight, received_is_passed}
-use Rattle.flow_planner.specs.Flow.{AreFairBut}
+use Rattle.flow_planner.specs.inner.Flow.{AreFairBut}
 use Rattle.flow_planner.proofs.UnderWay.{length-graph-le}
 
 -- a sum of fewer terms is at most the sum

@@ -22,8 +22,8 @@ use Rattle.flow_planner.specs.declared.search.KeptBy.TheVariants.{Enter, Through
 use Rattle.flow_planner.specs.declared.search.Computed.{Computed}
 use Rattle.flow_planner.specs.declared.search.ComputedBy.{ComputedBy}
 use Rattle.flow_planner.specs.declared.search.ComputedBy.TheVariants.{Through, PassBack}
-use Rattle.flow_planner.specs.Flow.{parent_of, nothing, AreFairBut}
-use Rattle.flow_planner.specs.Search.{kept_at, computed_at, marked, HasKept, HasComputed, CanKeep, CanCompute, IsSettled, IsTraced, IsSearch}
+use Rattle.flow_planner.specs.inner.Flow.{parent_of, nothing, AreFairBut}
+use Rattle.flow_planner.specs.inner.Search.{kept_at, computed_at, marked, HasKept, HasComputed, CanKeep, CanCompute, IsSettled, IsTraced, IsSearch}
 
 -- charges of which nothing is missing are fair
 pub fair_from : (graph : List Vertex) (charges : Charges) → AreFairBut graph charges nothing nothing → AreFair graph charges

@@ -12,8 +12,8 @@ use Rattle.plan_checker.proofs.SumsBelow.{sum_below_same, sum_below-zero}
 use Rattle.flow_planner.specs.declared.search.Search.{Search}
 use Rattle.flow_planner.specs.declared.search.Kept.{Kept}
 use Rattle.flow_planner.specs.declared.search.Computed.{Computed}
-use Rattle.flow_planner.specs.Flow.{nothing, AreFairBut, AreZeroRows}
-use Rattle.flow_planner.specs.Search.{not_kept, not_computed, kept_at, computed_at, reached_at, IsSearching, IsUntouched, IsUnderWay}
+use Rattle.flow_planner.specs.inner.Flow.{nothing, AreFairBut, AreZeroRows}
+use Rattle.flow_planner.specs.inner.Search.{not_kept, not_computed, kept_at, computed_at, reached_at, IsSearching, IsUntouched, IsUnderWay}
 use Rattle.flow_planner.proofs.Reach.{counts-none}
 
 abbrev zeros : ℕ → List ℕ

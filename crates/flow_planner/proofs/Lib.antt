@@ -2,6 +2,6 @@ pub mod Certify
 pub mod Reach
 pub mod UnderWay
 pub mod Bounds
-pub mod Shift
-pub mod Steps
+pub mod StaysFair
+pub mod MissingMoves
 pub mod Fresh

@@ -11,8 +11,8 @@ use Rattle.flow_planner.specs.declared.search.KeptBy.TheVariants.{Enter, Through
 use Rattle.flow_planner.specs.declared.search.Computed.{Computed}
 use Rattle.flow_planner.specs.declared.search.ComputedBy.{ComputedBy}
 use Rattle.flow_planner.specs.declared.search.ComputedBy.TheVariants.{Through, PassBack}
-use Rattle.flow_planner.specs.Flow.{parent_of}
-use Rattle.flow_planner.specs.Search.{kept_at, computed_at, ComesBefore, CanKeep, CanCompute, IsKeptOpen, IsComputedOpen, reached_at, IsSearching}
+use Rattle.flow_planner.specs.inner.Flow.{parent_of}
+use Rattle.flow_planner.specs.inner.Search.{kept_at, computed_at, ComesBefore, CanKeep, CanCompute, IsKeptOpen, IsComputedOpen, reached_at, IsSearching}
 
 -- how many of one node, by its rank
 abbrev pub counts : ℕ → ℕ

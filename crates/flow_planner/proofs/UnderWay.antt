@@ -11,7 +11,7 @@ use Rattle.std.proofs.lemmas.List.{get_or_read, get_or_default}
 use Rattle.flow_planner.specs.declared.search.Search.{Search}
 use Rattle.flow_planner.specs.declared.search.Kept.{Kept}
 use Rattle.flow_planner.specs.declared.search.Computed.{Computed}
-use Rattle.flow_planner.specs.Search.{kept_at, computed_at, CanKeep, CanCompute, IsSearching, IsUnderWay, HasKept, HasComputed, Advances, Enters, GoesBack, GoesThrough, IsPassedBack, IsLeft, IsSettled}
+use Rattle.flow_planner.specs.inner.Search.{kept_at, computed_at, CanKeep, CanCompute, IsSearching, IsUnderWay, HasKept, HasComputed, Advances, Enters, GoesBack, GoesThrough, IsPassedBack, IsLeft, IsSettled}
 use Rattle.flow_planner.proofs.Reach.{keeps, computes, reached-le}
 
 pub length-graph-le : (graph : List Vertex) → IsGraph graph → length graph ≤ 4096

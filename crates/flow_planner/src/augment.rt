@@ -1,9 +1,9 @@
 //! Sending more along a path.
 
 ghost use Rattle.std.specs.Prelude.{◌≡◌, ◌+◌, ◌<◌, length, MatchOption, slice_set, slice_index};
-ghost use Rattle.flow_planner.specs.Flow.{AreFairBut, nothing};
-ghost use Rattle.flow_planner.specs.Search.{IsUnderWay, IsPathEnd};
-ghost use Rattle.flow_planner.specs.Path.{MissesIn, MissesOut, GoesMissingIn, GoesMissingOut};
+ghost use Rattle.flow_planner.specs.inner.Flow.{AreFairBut, nothing};
+ghost use Rattle.flow_planner.specs.inner.Search.{IsUnderWay, IsPathEnd};
+ghost use Rattle.flow_planner.specs.inner.Path.{MissesIn, MissesOut, GoesMissingIn, GoesMissingOut};
 
 use crate::edit::{pass_at, write, write_pass};
 use crate::search::{ComputedBy, KeptBy, PathEnd, Search};

@@ -1,7 +1,7 @@
 //! The charges that a planner begins with: none.
 
 ghost use Rattle.std.specs.Prelude.{◌≡◌, IfOk, length, replicate};
-ghost use Rattle.flow_planner.specs.Flow.{AreFairBut, nothing, AreZeroRows};
+ghost use Rattle.flow_planner.specs.inner.Flow.{AreFairBut, nothing, AreZeroRows};
 
 use plain_data::Items;
 use plan_checker::{Charges, Vertex};

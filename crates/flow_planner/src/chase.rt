@@ -5,7 +5,7 @@
 //! what a chase comes to: it saves time alone.
 
 ghost use Rattle.std.specs.Prelude.{◌≡◌, ◌<◌, ◌≤◌, length, IfSome, IfNone};
-ghost use Rattle.flow_planner.specs.Search.{IsUnderWay, IsPathEnd, AreSettled};
+ghost use Rattle.flow_planner.specs.inner.Search.{IsUnderWay, IsPathEnd, AreSettled};
 
 use crate::search::{PathEnd, Search};
 use plan_checker::{Charges, Vertex};

@@ -2,7 +2,7 @@
 
 ghost use Rattle.std.specs.Prelude.{◌≡◌, ◌<◌, length, slice_set};
 ghost use Rattle.plan_checker.specs.Charges.{passes};
-ghost use Rattle.flow_planner.specs.Flow.{passed};
+ghost use Rattle.flow_planner.specs.inner.Flow.{passed};
 
 use plain_data::Items;
 use plan_checker::Charges;

@@ -1,11 +1,11 @@
 //! A greatest flow, by phases: a level graph, and all that goes down it.
 //!
-//! No contract rests on what it comes to: `plan_checker::check` looks at the charges before the planner goes on from them.
+//! No plan rests on what it comes to: `plan_checker::check` looks at the charges before the planner goes on from them.
 
 ghost use Rattle.std.specs.Prelude.{◌≡◌, ◌+◌, ◌*◌, ◌<◌, ◌≤◌, ◌^◌, length, vec_len};
 ghost use Rattle.plan_checker.specs.Graph.{IsGraph};
 ghost use Rattle.level_graphs.specs.Arcs.{IsNetwork};
-ghost use Rattle.flow_planner.specs.Network.{IsFlowNetwork};
+ghost use Rattle.flow_planner.specs.inner.Network.{IsFlowNetwork};
 
 use crate::network::{flow, network_of, push_within};
 use level_graphs::{Levels, Network, Phases, send_all};

@@ -5,7 +5,7 @@
 ghost use Rattle.std.specs.Prelude.{◌≡◌, ◌+◌, ◌*◌, ◌<◌, ◌≤◌, IfOk, OnOk, length, vec_len};
 ghost use Rattle.plan_checker.specs.Graph.{IsGraph};
 ghost use Rattle.level_graphs.specs.Arcs.{IsNetwork};
-ghost use Rattle.flow_planner.specs.Network.{IsFlowNetwork};
+ghost use Rattle.flow_planner.specs.inner.Network.{IsFlowNetwork};
 
 use level_graphs::{Network, reverse};
 use plan_checker::{MOST_VERTICES, Vertex};

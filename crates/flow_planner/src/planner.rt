@@ -4,8 +4,8 @@ ghost use Rattle.std.specs.Prelude.{◌≡◌, ◌+◌, ◌*◌, ◌<◌, ◌≤
 ghost use Rattle.plan_checker.specs.Graph.{IsGraph};
 ghost use Rattle.plan_checker.specs.Least.{IsLeast};
 ghost use Rattle.plan_checker.specs.Certificate.{IsCertificate};
-ghost use Rattle.flow_planner.specs.Flow.{AreFairBut, nothing};
-ghost use Rattle.flow_planner.specs.Search.{marked, AreMarked};
+ghost use Rattle.flow_planner.specs.inner.Flow.{AreFairBut, nothing};
+ghost use Rattle.flow_planner.specs.inner.Search.{marked, AreMarked};
 
 use crate::augment::augment;
 use crate::begin::no_charges;
@@ -121,8 +121,8 @@ pub fn plan(alloc: Global, graph: &Graph) -> Result<(Plan, Charges), OutOfMemory
 
 /// The same, with a count of the phases: for each level graph that is built, `phases` counts one more.
 ///
-/// There are at most two for each vertex, and one. After so many the search by paths would finish what is left; that
-/// nothing ever is left is not proved.
+/// There are at most two for each vertex, and one: with each phase more arcs lie between the source and the sink, and no
+/// more of them than there are nodes.
 pub fn plan_counted(
     alloc: Global,
     graph: &Graph,

@@ -2,10 +2,10 @@
 
 ghost use Rattle.std.specs.Prelude.{◌≡◌, ◌≢◌, ℕ, ◌+◌, ◌*◌, ◌^◌, ◌<◌, ◌≤◌, MatchBool, IfOk, length, slice_set, slice_index, replicate, MatchOption, IfSome, IfNone, vec_len};
 ghost use Rattle.plan_checker.specs.Graph.{vertex, IsGraph};
-ghost use Rattle.flow_planner.specs.Flow.{AreFairBut, nothing, parent_of, passed};
+ghost use Rattle.flow_planner.specs.inner.Flow.{AreFairBut, nothing, parent_of, passed};
 ghost use Rattle.flow_planner.specs.declared.search.Kept.{Kept};
 ghost use Rattle.flow_planner.specs.declared.search.Computed.{Computed};
-ghost use Rattle.flow_planner.specs.Search.{not_kept, not_computed, kept_at, computed_at, IsUntouched, IsUnderWay, IsSettled, AreSettled, Advances, Enters, GoesThrough, IsPassedBack, GoesBack, ArePassed, IsLeft, IsPathEnd, HasKept, HasComputed};
+ghost use Rattle.flow_planner.specs.inner.Search.{not_kept, not_computed, kept_at, computed_at, IsUntouched, IsUnderWay, IsSettled, AreSettled, Advances, Enters, GoesThrough, IsPassedBack, GoesBack, ArePassed, IsLeft, IsPathEnd, HasKept, HasComputed};
 
 use crate::edit::pass_at;
 use plan_checker::{Charges, MOST_COST, Vertex};

@@ -1,10 +1,10 @@
 -- Lists of the arcs from a node: what was looked along, and what a network's lists are with two more arcs.
-use Rattle.std.proofs.Common.{◌≡◌, ◌≢◌, ℕ, ◌+◌, ◌-◌, ◌*◌, ◌%◌, ◌<◌, ◌≤◌, List, [], ◌∷◌, ◌++◌, length, get_or, set, sym, refl, ap, ◌∙◌, subst, ⊎_elim, arith}
+use Rattle.std.proofs.Common.{◌≡◌, ◌≢◌, ℕ, ◌+◌, ◌-◌, ◌%◌, ◌^◌, ◌<◌, ◌≤◌, List, [], ◌∷◌, ◌++◌, length, get_or, set, sym, refl, ap, ◌∙◌, subst, ⊎_elim, arith}
 use Rattle.std.proofs.lemmas.Bool.{cases_eq, cases_lt}
-use Rattle.std.proofs.lemmas.List.{get_or-set_same, get_or-set_other, length-set, get_or_append_left, get_or_push, length_push}
+use Rattle.std.proofs.lemmas.List.{get_or-set_same, get_or-set_other, length-set, get_or_append_left, get_or_push, get_or_past, length_push}
 use Rattle.level_graphs.specs.declared.network.Arc.{Arc}
-use Rattle.level_graphs.specs.declared.network.Network.{Network}
-use Rattle.level_graphs.specs.Arcs.{no_arc, arc_at, reverse_of, tail_of, head_of, room_at, IsLastBelow, AreListed, IsNetwork}
+use Rattle.level_graphs.specs.Arcs.{no_arc, arc_at, reverse_of, tail_of, head_of, room_at, IsLastBelow, AreListed}
+use Rattle.level_graphs.proofs.Pushed.{AreBounded}
 
 -- each arc from a node down to this number, where it has room, leads to a node with a level
 pub record AreLooked (arcs : List Arc) (of : List ℕ) (node number : ℕ) : Type 0 where
@@ -211,3 +211,34 @@ joined arcs last from to x y old from_in to_in x_to y_to x_next y_next =
       lasts = λ u h. joined_lasts arcs more last from to x y j old from_in to_in u (subst (λ m. u < m) count h);
       nexts = λ a h. joined_nexts arcs more last from to x y j old from_in to_in x_next y_next a h;
     }
+
+pub joined_bounded : (arcs : List Arc) (from to room : ℕ) (x y : Arc) → length arcs % 2 ≡ 0 → x.to ≡ to → y.to ≡ from → x.room ≡ room → y.room ≡ 0 → room < 2 ^ 64 → AreBounded arcs → AreBounded ((arcs ++ x ∷ []) ++ y ∷ [])
+joined_bounded arcs from to room x y even x_to y_to x_room y_room few old a =
+    let n = length arcs in
+    let more = (arcs ++ x ∷ []) ++ y ∷ [] in
+    let j = is_joined arcs from to x y even x_to y_to in
+    let size = j.size in
+    let R : Arc → ℕ = λ b. b.room in
+    let first : room_at more n ≡ room = ap R j.first ∙ x_room in
+    let second : room_at more (n + 1) ≡ 0 = ap R j.second ∙ y_room in
+    let up : reverse_of n ≡ n + 1 = omega arith in
+    let down : reverse_of (n + 1) ≡ n = omega arith in
+    let up_room = ap (room_at more) up in
+    let down_room = ap (room_at more) down in
+    ⊎_elim
+    (λ lt.
+    let here = ap R (j.old a lt) in
+    let back = ap R (j.old (reverse_of a) (omega arith)) in
+    let was = old a in
+    omega arith)
+    (λ ge.
+    ⊎_elim (λ (e : a ≡ n). subst (λ b. room_at more b + room_at more (reverse_of b) < 2 ^ 64) (sym e) (omega arith))
+    (λ ne.
+    ⊎_elim (λ (e : a ≡ n + 1). subst (λ b. room_at more b + room_at more (reverse_of b) < 2 ^ 64) (sym e) (omega arith))
+    (λ nf.
+    let here = ap R (get_or_past more a no_arc (omega arith)) in
+    let back = ap R (get_or_past more (reverse_of a) no_arc (omega arith)) in
+    omega arith)
+    (cases_eq a (n + 1)))
+    (cases_eq a n))
+    (cases_lt a n)

@@ -1,9 +1,9 @@
 -- Where a level graph ends, its levels are the fewest arcs.
-use Rattle.std.proofs.Common.{◌≡◌, ◌≢◌, ◌⊎◌, ℕ, zero, suc, ◌+◌, ◌<◌, ◌≤◌, List, length, get_or, ap, ⊎_elim, arith}
-use Rattle.std.proofs.lemmas.Bool.{cases_eq, cases_lt}
+use Rattle.std.proofs.Common.{◌≡◌, ◌≢◌, ℕ, zero, suc, ◌+◌, ◌<◌, ◌≤◌, List, length, get_or, ap, ⊎_elim, arith}
+use Rattle.std.proofs.lemmas.Bool.{cases_lt}
 use Rattle.level_graphs.specs.declared.network.Arc.{Arc}
 use Rattle.level_graphs.specs.Arcs.{Leads, Reaches}
-use Rattle.level_graphs.specs.Levels.{IsNearest, IsLevelGraph}
+use Rattle.level_graphs.specs.Levels.{IsLevelGraph}
 use Rattle.level_graphs.specs.inner.Rounds.{IsFrontier}
 
 -- arcs lead on from nodes with a level below this to nodes with a level that is at most one more

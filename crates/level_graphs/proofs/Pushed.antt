@@ -1,16 +1,9 @@
 -- What a push along an arc changes: rooms alone.
-use Rattle.std.proofs.Common.{◌≡◌, ◌≢◌, ℕ, ◌+◌, ◌-◌, ◌*◌, ◌%◌, ◌^◌, min, ◌<◌, ◌≤◌, List, length, get_or, set, sym, refl, ap, ◌∙◌, subst, ⊎_elim, arith}
-use Rattle.std.proofs.lemmas.Bool.{cases_eq, cases_lt}
+use Rattle.std.proofs.Common.{◌≡◌, ◌≢◌, ℕ, ◌+◌, ◌-◌, ◌%◌, ◌^◌, min, ◌<◌, List, length, get_or, set, sym, ap, ◌∙◌, subst, ⊎_elim, arith}
+use Rattle.std.proofs.lemmas.Bool.{cases_eq}
 use Rattle.std.proofs.lemmas.List.{get_or-set_same, get_or-set_other, length-set}
 use Rattle.level_graphs.specs.declared.network.Arc.{Arc}
-use Rattle.level_graphs.specs.declared.network.Network.{Network}
-use Rattle.level_graphs.specs.Arcs.{no_arc, arc_at, reverse_of, tail_of, head_of, room_at, with_room, pushed, IsLastBelow, AreListed, IsNetwork}
-
--- the same arcs, with other rooms
-pub record HaveEnds (before after : List Arc) : Type 0 where
-  pub count : length after ≡ length before
-  pub head : (a : ℕ) → head_of after a ≡ head_of before a
-  pub next : (a : ℕ) → (arc_at after a).next ≡ (arc_at before a).next
+use Rattle.level_graphs.specs.Arcs.{no_arc, arc_at, reverse_of, tail_of, head_of, room_at, with_room, pushed, HaveEnds, IsLastBelow, AreListed}
 
 pub room_written : (arcs : List Arc) (a room : ℕ) → a < length arcs → room_at (with_room arcs a room) a ≡ room
 room_written arcs a room h = ap (λ (x : Arc). x.room) (get_or-set_same arcs a (record { to = head_of arcs a; room = room; next = (arc_at arcs a).next }) no_arc h)
@@ -94,3 +87,49 @@ pushed_is arcs a back amount less more held second held_is less_is back_is secon
     let y_is = ap (λ (h : Arc). made h.to more h.next) at ∙ ap (λ r. made (head_of low (reverse_of a)) r (arc_at low (reverse_of a)).next) (more_is ∙ ap (λ (h : Arc). top h.room) at) in
     let y = made second.to more second.next in
     ap (λ (xs : List Arc). set xs back y) first ∙ ap (λ k. set low k y) back_is ∙ ap (λ (z : Arc). set low (reverse_of a) z) y_is
+
+-- a push along an arc takes the amount from its room, and adds it to that of its reverse
+pub room_along : (arcs : List Arc) (a amount : ℕ) → a < length arcs → room_at (pushed arcs a amount) a ≡ room_at arcs a - amount
+room_along arcs a amount h =
+    let less = with_room arcs a (room_at arcs a - amount) in
+    room_kept less (reverse_of a) a (min (room_at less (reverse_of a) + amount) (2 ^ 64 - 1)) (λ e. absurd (omega arith)) ∙ room_written arcs a (room_at arcs a - amount) h
+
+pub room_back : (arcs : List Arc) (a amount : ℕ) → length arcs % 2 ≡ 0 → a < length arcs → room_at (pushed arcs a amount) (reverse_of a) ≡ min (room_at arcs (reverse_of a) + amount) (2 ^ 64 - 1)
+room_back arcs a amount even h =
+    let less = with_room arcs a (room_at arcs a - amount) in
+    let first = ends_with_room arcs a (room_at arcs a - amount) h in
+    let count = first.count in
+    let same = room_kept arcs a (reverse_of a) (room_at arcs a - amount) (λ e. absurd (omega arith)) in
+    room_written less (reverse_of a) (min (room_at less (reverse_of a) + amount) (2 ^ 64 - 1)) (omega arith) ∙ ap (λ r. min (r + amount) (2 ^ 64 - 1)) same
+
+pub room_apart : (arcs : List Arc) (a b amount : ℕ) → b ≢ a → b ≢ reverse_of a → room_at (pushed arcs a amount) b ≡ room_at arcs b
+room_apart arcs a b amount ne nr =
+    let less = with_room arcs a (room_at arcs a - amount) in
+    room_kept less (reverse_of a) b (min (room_at less (reverse_of a) + amount) (2 ^ 64 - 1)) nr ∙ room_kept arcs a b (room_at arcs a - amount) ne
+
+-- what two arcs beside one another have stays within a number
+abbrev pub AreBounded : List Arc → Type 0
+AreBounded arcs = (a : ℕ) → room_at arcs a + room_at arcs (reverse_of a) < 2 ^ 64
+
+pub bounded_pushed : (arcs : List Arc) (a amount : ℕ) → length arcs % 2 ≡ 0 → a < length arcs → AreBounded arcs → AreBounded (pushed arcs a amount)
+bounded_pushed arcs a amount even h old b =
+    let new = pushed arcs a amount in
+    let here = old a in
+    let less = room_along arcs a amount h in
+    let more = room_back arcs a amount even h in
+    let sum : room_at new a + room_at new (reverse_of a) < 2 ^ 64 = omega arith in
+    ⊎_elim (λ (e : b ≡ a). subst (λ x. room_at new x + room_at new (reverse_of x) < 2 ^ 64) (sym e) sum)
+    (λ (ne : b ≢ a).
+    ⊎_elim
+    (λ (e : b ≡ reverse_of a).
+    let twice : reverse_of b ≡ a = omega arith in
+    let at = ap (room_at new) e in
+    let back = ap (room_at new) twice in
+    omega arith)
+    (λ (nr : b ≢ reverse_of a).
+    let was = old b in
+    let at = room_apart arcs a b amount ne nr in
+    let back = room_apart arcs a (reverse_of b) amount (λ e. nr (omega arith)) (λ e. ne (omega arith)) in
+    omega arith)
+    (cases_eq b (reverse_of a)))
+    (cases_eq b a)

@@ -37,6 +37,12 @@ abbrev pub Reaches : List Arc → ℕ → ℕ → ℕ → Type 0
 Reaches arcs source zero node = node ≡ source
 Reaches arcs source (suc k) node = (before : ℕ) × Reaches arcs source k before × Leads arcs before node
 
+-- the same arcs, with other rooms
+pub record HaveEnds (before after : List Arc) : Type 0 where
+  pub count : length after ≡ length before
+  pub head : (a : ℕ) → head_of after a ≡ head_of before a
+  pub next : (a : ℕ) → (arc_at after a).next ≡ (arc_at before a).next
+
 -- counted from 1, the last arc from a node among those below `top`; 0 where there is none
 pub record IsLastBelow (arcs : List Arc) (node top number : ℕ) : Type 0 where
   pub within : number ≤ top
@@ -50,9 +56,10 @@ pub record AreListed (arcs : List Arc) (last : List ℕ) : Type 0 where
   pub lasts : (u : ℕ) → u < length last → IsLastBelow arcs u (length arcs) (slice_index last u)
   pub nexts : (a : ℕ) → a < length arcs → IsLastBelow arcs (tail_of arcs a) a (arc_at arcs a).next
 
--- such arcs and lists, with a source and a sink that no arc joins
+-- such arcs and lists, with a source and a sink that no arc joins; a number has room for what an arc and its reverse have
 pub record IsNetwork (network : Network) : Type 0 where
   pub listed : AreListed network.arcs.items network.last.items
+  pub bounded : (a : ℕ) → room_at network.arcs.items a + room_at network.arcs.items (reverse_of a) < 2 ^ 64
   pub source : network.source < length network.last.items
   pub sink : network.sink < length network.last.items
   pub ends : network.source ≢ network.sink

@@ -1,3 +1,5 @@
 pub mod Arcs
 pub mod Levels
+pub mod Blocked
+pub mod Flow
 pub mod inner

@@ -1,7 +1,9 @@
 //! All that can flow, by phases: a level graph, and all that goes down it.
 
-ghost use Rattle.std.specs.Prelude.{◌≡◌, ◌+◌, ◌≤◌, ◌^◌, IfOk, vec_len};
+ghost use Rattle.std.specs.Prelude.{◌≡◌, ◌+◌, ◌≤◌, ◌^◌, IfOk, OnOk, vec_len};
 ghost use Rattle.level_graphs.specs.Arcs.{IsNetwork};
+ghost use Rattle.level_graphs.specs.Levels.{IsLevelGraph};
+ghost use Rattle.level_graphs.specs.Flow.{IsCut, IsFlow};
 
 use crate::blocking::Blocking;
 use crate::levels::Levels;
@@ -19,17 +21,20 @@ pub fn send_all(
     requires network { IsNetwork network.old }
     requires count { phases.old.count ≤ 2 ^ 63 }
     ensures network { IsNetwork network.new }
+    ensures last { network.new.last ≡ network.old.last }
+    ensures source { network.new.source ≡ network.old.source }
+    ensures sink { network.new.sink ≡ network.old.sink }
     ensures nodes { IfOk result (λ levels. vec_len levels.of ≡ vec_len network.old.last) }
+    ensures levels { IfOk result (λ levels. IsLevelGraph network.new.arcs.items network.old.source network.old.sink levels.of.items) }
+    ensures none { OnOk result (IsCut network.new.arcs.items network.old.source network.old.sink) }
+    ensures flow { IsFlow network.old.arcs.items network.new.arcs.items network.old.source network.old.sink }
     ensures phases { phases.new.count + 1 ≤ phases.old.count + vec_len network.old.last }
 {
     let nodes = network.last.len();
     let mut levels = Levels::new(alloc, nodes)?;
     let mut blocking = Blocking::new(alloc, nodes)?;
-    for _ in 0..nodes - 1 {
-        if !levels.build(network, phases)? {
-            break;
-        }
-        blocking.block(network, &levels)?;
+    while levels.build(network, phases)? {
+        blocking.block(network, &levels);
     }
     Ok(levels)
 }

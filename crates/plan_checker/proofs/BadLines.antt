@@ -7,7 +7,7 @@ use Rattle.plan_checker.specs.declared.row.Row.{Row}
 use Rattle.plan_checker.specs.declared.graph.TheConstants.{MOST_VERTICES}
 use Rattle.plan_checker.specs.Graph.{vertex, entries_below, FitsAt}
 use Rattle.plan_checker.specs.Format.{row, line, lines, title, count_line, last_line, certificate_text, first_lines, IsTextOf, HasGoodLines, IsFirstBad}
-use Rattle.plan_checker.specs.Reading.{IsRow, BeginsWithHead, BeginsWithLines, NoCount, StopsAt}
+use Rattle.plan_checker.specs.inner.Reading.{IsRow, BeginsWithHead, BeginsWithLines, NoCount, StopsAt}
 use Rattle.plan_checker.proofs.FirstLines.{line_ahead, line_back, no_lines, first_first, row_is_line, title_is_line, count_is_line, last_is_line, IsLine}
 use Rattle.plan_checker.proofs.Pushed.{whole_row, whole_none, extended, lines_same, entries_same, entries_more, fits_kept}
 use Rattle.plan_checker.proofs.TextLines.{lines_from, lines_ahead, lines_once, count_once, head_ahead, text_grouped, text_ahead, few_vertices}

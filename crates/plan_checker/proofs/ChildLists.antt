@@ -9,7 +9,7 @@ use Rattle.plan_checker.specs.declared.charges.Charges.{Charges}
 use Rattle.plan_checker.specs.Sums.{sum_below}
 use Rattle.plan_checker.specs.Graph.{vertex}
 use Rattle.plan_checker.specs.Charges.{passes, passed_to}
-use Rattle.plan_checker.specs.Children.{amount_from, IsThere, AreChildrenBelow, AddsChild}
+use Rattle.plan_checker.specs.inner.Children.{amount_from, IsThere, AreChildrenBelow, AddsChild}
 use Rattle.plan_checker.proofs.SumsBelow.{sum_below_more}
 
 -- no lists yet, and no vertices

@@ -12,7 +12,7 @@ use Rattle.plan_checker.specs.declared.plan.Mark.TheVariants.{Load, Compute, Pru
 use Rattle.plan_checker.specs.declared.row.Row.{Row}
 use Rattle.plan_checker.specs.declared.row.Start.{Start}
 use Rattle.plan_checker.specs.Format.{IsSmall, spaced, letter, flag, load_field, row_numbers, line, title, count_line, last_line, first_lines}
-use Rattle.plan_checker.specs.Reading.{start_text, start_of, IsRow}
+use Rattle.plan_checker.specs.inner.Reading.{start_text, start_of, IsRow}
 
 -- no line feed
 abbrev pub NoFeed : List ℕ → Type 0

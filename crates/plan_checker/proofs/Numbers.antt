@@ -9,7 +9,7 @@ use Rattle.std.proofs.lemmas.List.{append_assoc, append-nil}
 use Rattle.std.proofs.lemmas.List.Elements.{All-head, All-tail, All-push}
 use Rattle.plan_checker.specs.Format.{IsSmall, spaced, load_field, pairs}
 use Rattle.plan_checker.proofs.Texts.{spaced-append}
-use Rattle.plan_checker.specs.Reading.{EndsNumber, NoNumber, NoNumbers, BeginsWithNumber}
+use Rattle.plan_checker.specs.inner.Reading.{EndsNumber, NoNumber, NoNumbers, BeginsWithNumber}
 
 -- digits are read in one way, up to what ends them
 pub digits_once : (xs ys a b : List ℕ) → AllDigits 10 xs → AllDigits 10 ys → EndsNumber a → EndsNumber b → xs ++ a ≡ ys ++ b → (xs ≡ ys) × (a ≡ b)

@@ -13,8 +13,8 @@ use Rattle.plan_checker.specs.declared.broken.Broken.TheVariants.{ParentPruned}
 use Rattle.plan_checker.specs.Graph.{vertex, FitsAt}
 use Rattle.plan_checker.specs.Plan.{mark}
 use Rattle.plan_checker.specs.Charges.{passes, IsCounted}
-use Rattle.plan_checker.specs.Children.{IsThere, AreChildren}
-use Rattle.plan_checker.specs.Claim.{graph_of, marks_of, IsBroken, SettlesParents, IsFirstPruned}
+use Rattle.plan_checker.specs.inner.Children.{IsThere, AreChildren}
+use Rattle.plan_checker.specs.inner.Claim.{graph_of, marks_of, IsBroken, SettlesParents, IsFirstPruned}
 
 -- a child that is kept for some vertex is among the vertices, and its pass among its passes
 pub child_is_there : (inside graph : List Vertex) (children : List (List Child)) (charges : Charges) (p k : ℕ) (row list : List Child) (d : Child) → inside ≡ graph → IsCounted graph charges → AreChildren inside children → p < length graph → row ≡ get_or children p row → list ≡ row → k < length list → ((get_or list k d).vertex < length charges.pass) × ((get_or list k d).place < length (passes charges (get_or list k d).vertex))

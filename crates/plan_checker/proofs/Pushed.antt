@@ -11,7 +11,7 @@ use Rattle.plan_checker.specs.Graph.{vertex, no_vertex, entries_below, Fits, Fit
 use Rattle.plan_checker.specs.Plan.{mark}
 use Rattle.plan_checker.specs.Charges.{passes, IsCounted}
 use Rattle.plan_checker.specs.Format.{IsSmall, pairs, row_numbers, row, line, lines, IsWhole, AreSmall}
-use Rattle.plan_checker.specs.Reading.{IsRow, FitsNext, more_charges}
+use Rattle.plan_checker.specs.inner.Reading.{IsRow, FitsNext, more_charges}
 use Rattle.plan_checker.proofs.SumsBelow.{below_or_last, sum_below_same, sum_below_more}
 
 pub entries_same : (g h : List Vertex) (n : ℕ) → ((i : ℕ) → i < n → vertex g i ≡ vertex h i) → entries_below g n ≡ entries_below h n

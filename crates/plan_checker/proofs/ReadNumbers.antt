@@ -11,7 +11,7 @@ use Rattle.std.proofs.lemmas.List.Elements.{All-head, All-tail}
 use Rattle.std.proofs.lemmas.Bool.{cases_lt}
 use Rattle.std.proofs.Common.{⊎_elim}
 use Rattle.plan_checker.specs.Format.{IsSmall}
-use Rattle.plan_checker.specs.Reading.{EndsNumber, BeginsWithNumber, NoNumber}
+use Rattle.plan_checker.specs.inner.Reading.{EndsNumber, BeginsWithNumber, NoNumber}
 use Rattle.plan_checker.proofs.Numbers.{digits_once}
 
 own : IsNumeralModel (AllDigits 10) (digits_value 10)

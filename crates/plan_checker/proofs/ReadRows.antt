@@ -10,7 +10,7 @@ use Rattle.plan_checker.specs.declared.row.Start.{Start}
 use Rattle.plan_checker.specs.declared.graph.TheConstants.{MOST_VERTICES}
 use Rattle.plan_checker.specs.Graph.{vertex, entries_below, Fits}
 use Rattle.plan_checker.specs.Format.{IsSmall, spaced, letter, flag, load_field, pairs, row_numbers, line, lines, count_line}
-use Rattle.plan_checker.specs.Reading.{BeginsWithNumber, NoNumber, BeginsWithNumbers, NoNumbers, BeginsWithCount, NoCount, BeginsWithLoad, NoLoadField, start_text, start_of, BeginsWithStart, NoStart, ArePairs, NoPairs, AreNumbersOf, NoRowOf, BeginsWithRow, NoRow, FitsNext, BeginsWithLines, StopsAt, more_charges}
+use Rattle.plan_checker.specs.inner.Reading.{BeginsWithNumber, NoNumber, BeginsWithNumbers, NoNumbers, BeginsWithCount, NoCount, BeginsWithLoad, NoLoadField, start_text, start_of, BeginsWithStart, NoStart, ArePairs, NoPairs, AreNumbersOf, NoRowOf, BeginsWithRow, NoRow, FitsNext, BeginsWithLines, StopsAt, more_charges}
 use Rattle.plan_checker.proofs.Numbers.{numbers_once, numbers_end, pairs_once, feed_ends, number_once}
 use Rattle.plan_checker.proofs.Texts.{pairs-append}
 use Rattle.plan_checker.proofs.Rows.{start_once, line_is, line_once}

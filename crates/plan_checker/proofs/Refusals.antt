@@ -6,7 +6,7 @@ use Rattle.plan_checker.specs.declared.charges.Charges.{Charges}
 use Rattle.plan_checker.specs.declared.certificate_error.CertificateError.{CertificateError}
 use Rattle.plan_checker.specs.declared.certificate_error.CertificateError.TheVariants.{NotACertificate, OutOfMemory}
 use Rattle.plan_checker.specs.Format.{title, last_line, HasGoodLines, IsFirstBad, IsRefusedText, IsTextOf, count_line}
-use Rattle.plan_checker.specs.Reading.{BeginsWithHead, BeginsWithLines, BeginsWithCount, NoCount, StopsBy}
+use Rattle.plan_checker.specs.inner.Reading.{BeginsWithHead, BeginsWithLines, BeginsWithCount, NoCount, StopsBy}
 use Rattle.plan_checker.proofs.BadLines.{first_bad, none_good, title_needed, title_good, bad_count, rows_good, bad_row, bad_end, end_good, bad_tail, all_read}
 use Rattle.std.proofs.lemmas.List.{append_assoc}
 

@@ -6,7 +6,7 @@ use Rattle.plan_checker.specs.declared.plan.Mark.TheVariants.{Load, Compute, Pru
 use Rattle.plan_checker.specs.declared.row.Row.{Row}
 use Rattle.plan_checker.specs.declared.row.Start.{Start}
 use Rattle.plan_checker.specs.Format.{IsSmall, spaced, letter, flag, load_field, pairs, row_numbers, line}
-use Rattle.plan_checker.specs.Reading.{EndsNumber, start_text, start_of, IsRow}
+use Rattle.plan_checker.specs.inner.Reading.{EndsNumber, start_text, start_of, IsRow}
 use Rattle.plan_checker.proofs.Numbers.{load_once, numbers_once, numbers_end, pairs_once}
 
 pub letter_once : (m n : Mark) → letter m ≡ letter n → m ≡ n

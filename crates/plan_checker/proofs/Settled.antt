@@ -10,7 +10,7 @@ use Rattle.plan_checker.specs.declared.broken.Broken.TheVariants.{NeededPruned, 
 use Rattle.plan_checker.specs.Graph.{vertex, IsGraph}
 use Rattle.plan_checker.specs.Plan.{mark, cost_of, IsAllowed, IsValid}
 use Rattle.plan_checker.specs.Charges.{received, passes, value, IsFair, AreFair}
-use Rattle.plan_checker.specs.Claim.{graph_of, marks_of, charges_of, KeepsRules}
+use Rattle.plan_checker.specs.inner.Claim.{graph_of, marks_of, charges_of, KeepsRules}
 use Rattle.plan_checker.proofs.SumsBelow.{sum_below-le-product}
 use Rattle.plan_checker.proofs.Duality.{value-le-cost}
 

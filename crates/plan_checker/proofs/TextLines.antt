@@ -8,7 +8,7 @@ use Rattle.plan_checker.specs.declared.row.Row.{Row}
 use Rattle.plan_checker.specs.declared.graph.TheConstants.{MOST_VERTICES}
 use Rattle.plan_checker.specs.Graph.{no_vertex, FitsAt}
 use Rattle.plan_checker.specs.Format.{IsSmall, spaced, row, line, lines, title, count_line, last_line, certificate_text, first_lines, IsWhole}
-use Rattle.plan_checker.specs.Reading.{IsRow}
+use Rattle.plan_checker.specs.inner.Reading.{IsRow}
 use Rattle.plan_checker.proofs.SumsBelow.{below_or_last}
 use Rattle.plan_checker.proofs.Numbers.{numbers_once}
 use Rattle.std.proofs.lemmas.List.Elements.{All-cons, All-nil}

@@ -6,7 +6,5 @@ pub mod Charges
 pub mod Certificate
 pub mod Broken
 pub mod Laws
-pub mod Children
-pub mod Claim
 pub mod Format
-pub mod Reading
+pub mod inner

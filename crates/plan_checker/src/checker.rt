@@ -7,7 +7,7 @@ ghost use Rattle.plan_checker.specs.Charges.{passes, IsCounted};
 ghost use Rattle.plan_checker.specs.Certificate.{IsCertificate};
 ghost use Rattle.plan_checker.specs.Least.{IsCheapest};
 ghost use Rattle.plan_checker.specs.Broken.{IsFirstBroken};
-ghost use Rattle.plan_checker.specs.Claim.{graph_of, marks_of, charges_of, number, Decides, IsSized, KeepsRules, Settles, SettlesAt};
+ghost use Rattle.plan_checker.specs.inner.Claim.{graph_of, marks_of, charges_of, number, Decides, IsSized, KeepsRules, Settles, SettlesAt};
 
 use crate::broken::Broken;
 use crate::charges::Charges;

@@ -41,7 +41,7 @@ pub enum Rule {
 }
 
 impl Claim<'_> {
-    ghost use Rattle.plan_checker.specs.Claim.{graph_of, marks_of, charges_of, IsBroken, IsSized, SettlesParents, IsFirstPruned};
+    ghost use Rattle.plan_checker.specs.inner.Claim.{graph_of, marks_of, charges_of, IsBroken, IsSized, SettlesParents, IsFirstPruned};
 
     pub fn vertex(&self, i: usize) -> &Vertex
         requires { i < length (graph_of self.now) }

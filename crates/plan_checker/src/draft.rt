@@ -2,7 +2,7 @@
 
 ghost use Rattle.std.specs.Prelude.{◌≡◌, [], IfOk, OnOk};
 ghost use Rattle.plan_checker.specs.Graph.{IsGraph};
-ghost use Rattle.plan_checker.specs.Reading.{AddsRow};
+ghost use Rattle.plan_checker.specs.inner.Reading.{AddsRow};
 
 use crate::charges::Charges;
 use crate::graph::Graph;

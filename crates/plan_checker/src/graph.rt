@@ -4,7 +4,7 @@ ghost use Rattle.std.specs.Prelude.{◌≡◌, ℕ, ◌+◌, ◌-◌, ◌<◌, �
 ghost use Rattle.std.specs.List.Sorted.{IsStrictlyIncreasing};
 ghost use Rattle.plan_checker.specs.Graph.{Fits, IsGraph, IsFirstMisfit, IsRefused};
 ghost use Rattle.plan_checker.specs.Charges.{IsCounted, passes, received};
-ghost use Rattle.plan_checker.specs.Children.{AddsChild, AreChildren, amount_from};
+ghost use Rattle.plan_checker.specs.inner.Children.{AddsChild, AreChildren, amount_from};
 
 use crate::charges::Charges;
 use crate::child::Child;
@@ -32,7 +32,7 @@ impl Model for Graph {
     ghost use Rattle.std.specs.Prelude.{List};
     ghost use Rattle.plan_checker.specs.declared.vertex.Vertex.{Vertex};
     ghost use Rattle.plan_checker.specs.Graph.{IsGraph};
-    ghost use Rattle.plan_checker.specs.Children.{AddsChild, AreChildren, amount_from};
+    ghost use Rattle.plan_checker.specs.inner.Children.{AddsChild, AreChildren, amount_from};
 
     ghost Value = { List Vertex };
 

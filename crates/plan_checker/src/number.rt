@@ -4,7 +4,7 @@ ghost use Rattle.std.specs.Prelude.{◌≡◌, ◌≢◌, ℕ, ◌<◌, ◌++◌
 ghost use Rattle.std.specs.Char.{IsAsciiDigit};
 ghost use Rattle.std.specs.Fmt.{decimal};
 ghost use Rattle.plan_checker.specs.Format.{IsSmall};
-ghost use Rattle.plan_checker.specs.Reading.{BeginsWithNumber, BeginsWithNumbers, EndsNumber, NoNumber, NoNumbers};
+ghost use Rattle.plan_checker.specs.inner.Reading.{BeginsWithNumber, BeginsWithNumbers, EndsNumber, NoNumber, NoNumbers};
 
 use std::alloc::{AllocError, Global};
 use std::str;

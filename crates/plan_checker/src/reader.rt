@@ -2,7 +2,7 @@
 
 ghost use Rattle.std.specs.Prelude.{◌≡◌, ◌≤◌, IfOk, IfErr, MatchOption, MatchResult};
 ghost use Rattle.plan_checker.specs.Format.{IsFirstBad, IsRefusedText, IsTextOf};
-ghost use Rattle.plan_checker.specs.Reading.{BeginsWithCount, BeginsWithHead, BeginsWithLines, NoCount, StopsBy};
+ghost use Rattle.plan_checker.specs.inner.Reading.{BeginsWithCount, BeginsWithHead, BeginsWithLines, NoCount, StopsBy};
 
 use crate::certificate_error::CertificateError;
 use crate::charges::Charges;

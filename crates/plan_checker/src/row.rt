@@ -3,7 +3,7 @@
 ghost use Rattle.std.specs.Prelude.{◌≡◌, ◌≢◌, ◌<◌, ◌∷◌, length, MatchOption, IfOk, Bool};
 ghost use Rattle.plan_checker.specs.declared.plan.Mark.{Mark};
 ghost use Rattle.plan_checker.specs.Format.{flag, letter};
-ghost use Rattle.plan_checker.specs.Reading.{start_of, AreNumbersOf, ArePairs, BeginsWithLoad, BeginsWithRow, BeginsWithStart, NoLoadField, NoPairs, NoRow, NoRowOf, NoStart};
+ghost use Rattle.plan_checker.specs.inner.Reading.{start_of, AreNumbersOf, ArePairs, BeginsWithLoad, BeginsWithRow, BeginsWithStart, NoLoadField, NoPairs, NoRow, NoRowOf, NoStart};
 
 use crate::number::{read_number, read_numbers};
 use crate::plan::Mark;

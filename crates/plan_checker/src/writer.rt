@@ -4,7 +4,7 @@ ghost use Rattle.std.specs.Prelude.{◌≡◌, ℕ, ◌<◌, [], ◌∷◌, ◌+
 ghost use Rattle.std.specs.Fmt.{decimal};
 ghost use Rattle.plan_checker.specs.Charges.{IsCounted};
 ghost use Rattle.plan_checker.specs.Format.{certificate_text, flag, letter, line, load_field, pairs, row, spaced, AreSmallAt, IsSmall, IsTextOf};
-ghost use Rattle.plan_checker.specs.Claim.{graph_of, marks_of, charges_of, IsSized};
+ghost use Rattle.plan_checker.specs.inner.Claim.{graph_of, marks_of, charges_of, IsSized};
 
 use crate::charges::Charges;
 use crate::claim::Claim;

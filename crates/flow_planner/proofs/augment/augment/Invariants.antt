@@ -1,6 +1,6 @@
 use Rattle.std.proofs.Common.{◌≡◌}
-use Rattle.flow_planner.specs.Path.{MissesOut}
-use Rattle.flow_planner.specs.Search.{computed_at}
+use Rattle.flow_planner.specs.inner.Path.{MissesOut}
+use Rattle.flow_planner.specs.inner.Search.{computed_at}
 use Rattle.flow_planner.proofs.augment.augment.Given as goal
 
 abbrev pub invariant-loop-next : goal.invariant-loop-next

@@ -2,13 +2,13 @@ use Rattle.std.proofs.Common.{◌≡◌, ℕ, ◌+◌, ◌-◌, List, get_or, se
 use Rattle.std.proofs.lemmas.List.{get_or_read}
 use Rattle.plan_checker.specs.declared.charges.Charges.{Charges}
 use Rattle.flow_planner.specs.declared.search.ComputedBy.TheVariants.{Through, PassBack}
-use Rattle.flow_planner.specs.Flow.{parent_of, passed}
-use Rattle.flow_planner.specs.Search.{not_computed, computed_at}
-use Rattle.flow_planner.specs.Path.{GoesMissingIn}
+use Rattle.flow_planner.specs.inner.Flow.{parent_of, passed}
+use Rattle.flow_planner.specs.inner.Search.{not_computed, computed_at}
+use Rattle.flow_planner.specs.inner.Path.{GoesMissingIn}
 use Rattle.flow_planner.proofs.Certify.{computed_within}
 use Rattle.flow_planner.proofs.UnderWay.{parents_read}
-use Rattle.flow_planner.proofs.Shift.{with_pass}
-use Rattle.flow_planner.proofs.Steps.{out_room, out_within, fill_through, fill_pass_back}
+use Rattle.flow_planner.proofs.StaysFair.{with_pass}
+use Rattle.flow_planner.proofs.MissingMoves.{out_room, out_within, fill_through, fill_pass_back}
 use Rattle.flow_planner.proofs.augment.fill_computed.Goals as goal
 
 pub overflow_add-through : goal.overflow_add-through

@@ -2,12 +2,12 @@ use Rattle.std.proofs.Common.{◌≡◌, ℕ, ◌+◌, ◌-◌, List, get_or, se
 use Rattle.std.proofs.lemmas.List.{get_or_read}
 use Rattle.plan_checker.specs.declared.charges.Charges.{Charges}
 use Rattle.flow_planner.specs.declared.search.KeptBy.TheVariants.{ThroughBack, Pass}
-use Rattle.flow_planner.specs.Flow.{passed, nothing, only_at}
-use Rattle.flow_planner.specs.Search.{not_kept, kept_at}
-use Rattle.flow_planner.specs.Path.{GoesMissingOut}
+use Rattle.flow_planner.specs.inner.Flow.{passed, nothing, only_at}
+use Rattle.flow_planner.specs.inner.Search.{not_kept, kept_at}
+use Rattle.flow_planner.specs.inner.Path.{GoesMissingOut}
 use Rattle.flow_planner.proofs.Certify.{kept_within}
-use Rattle.flow_planner.proofs.Shift.{with_pass}
-use Rattle.flow_planner.proofs.Steps.{way_in, in_room, pass_room, fill_through_back, fill_pass}
+use Rattle.flow_planner.proofs.StaysFair.{with_pass}
+use Rattle.flow_planner.proofs.MissingMoves.{way_in, in_room, pass_room, fill_through_back, fill_pass}
 use Rattle.flow_planner.proofs.augment.fill_kept.Goals as goal
 
 pub overflow_add-enter : goal.overflow_add-enter

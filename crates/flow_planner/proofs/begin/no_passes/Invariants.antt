@@ -1,4 +1,4 @@
-use Rattle.flow_planner.specs.Flow.{AreZeroRows}
+use Rattle.flow_planner.specs.inner.Flow.{AreZeroRows}
 use Rattle.flow_planner.proofs.begin.no_passes.Given as goal
 
 abbrev pub invariant-loop-vertex : goal.invariant-loop-vertex

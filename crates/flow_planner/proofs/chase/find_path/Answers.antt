@@ -1,5 +1,5 @@
 use Rattle.std.proofs.Common.{◌≤◌, arith, sym, ◌∙◌}
-use Rattle.flow_planner.specs.Search.{Advances, AreSettled}
+use Rattle.flow_planner.specs.inner.Search.{Advances, AreSettled}
 use Rattle.flow_planner.proofs.Reach.{reached-le}
 use Rattle.flow_planner.proofs.UnderWay.{IfNone_at}
 use Rattle.flow_planner.proofs.chase.find_path.Goals as goal

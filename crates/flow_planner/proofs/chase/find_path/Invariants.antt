@@ -1,5 +1,5 @@
 use Rattle.std.proofs.Common.{◌*◌, ◌-◌, length}
-use Rattle.flow_planner.specs.Search.{IsUnderWay}
+use Rattle.flow_planner.specs.inner.Search.{IsUnderWay}
 use Rattle.flow_planner.proofs.chase.find_path.Given as goal
 
 abbrev pub invariant-loop-end : goal.invariant-loop-end

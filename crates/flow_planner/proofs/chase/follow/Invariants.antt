@@ -1,5 +1,5 @@
 use Rattle.std.proofs.Common.{◌≤◌}
-use Rattle.flow_planner.specs.Search.{IsUnderWay}
+use Rattle.flow_planner.specs.inner.Search.{IsUnderWay}
 use Rattle.flow_planner.proofs.chase.follow.Given as goal
 
 abbrev pub invariant-loop-reader : goal.invariant-loop-reader

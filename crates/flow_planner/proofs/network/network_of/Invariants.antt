@@ -1,5 +1,5 @@
 use Rattle.std.proofs.Common.{length}
-use Rattle.flow_planner.specs.Network.{IsFlowNetwork}
+use Rattle.flow_planner.specs.inner.Network.{IsFlowNetwork}
 use Rattle.flow_planner.proofs.network.network_of.Given as goal
 
 abbrev pub invariant-loop-job : goal.invariant-loop-job

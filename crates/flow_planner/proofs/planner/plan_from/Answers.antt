@@ -1,6 +1,6 @@
 use Rattle.std.proofs.Common.{ℕ, ◌+◌, get_or, sum, ap, arith}
 use Rattle.std.proofs.lemmas.List.Sums.{sum_by-set}
-use Rattle.flow_planner.specs.Flow.{nothing}
+use Rattle.flow_planner.specs.inner.Flow.{nothing}
 use Rattle.flow_planner.proofs.Certify.{IsFinal, fair_from, certificate_from, least_from}
 use Rattle.flow_planner.proofs.Bounds.{pays-le}
 use Rattle.flow_planner.proofs.Fresh.{starts}

@@ -1,6 +1,6 @@
 use Rattle.std.proofs.Common.{◌*◌, ◌-◌, length, sum}
-use Rattle.flow_planner.specs.Flow.{AreFairBut, nothing}
-use Rattle.flow_planner.specs.Search.{IsUntouched}
+use Rattle.flow_planner.specs.inner.Flow.{AreFairBut, nothing}
+use Rattle.flow_planner.specs.inner.Search.{IsUntouched}
 use Rattle.flow_planner.proofs.planner.plan_from.Given as goal
 
 abbrev pub invariant-loop-end : goal.invariant-loop-end

@@ -1,4 +1,4 @@
-use Rattle.flow_planner.specs.Search.{AreMarked}
+use Rattle.flow_planner.specs.inner.Search.{AreMarked}
 use Rattle.flow_planner.proofs.planner.read_off.Given as goal
 
 abbrev pub invariant-loop-job : goal.invariant-loop-job

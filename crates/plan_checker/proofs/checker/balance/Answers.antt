@@ -1,6 +1,6 @@
 use Rattle.std.proofs.Common.{◌≡◌, ap, sum, ◌∙◌, arith}
 use Rattle.plan_checker.specs.Plan.{cost}
-use Rattle.plan_checker.specs.Claim.{graph_of, marks_of, charges_of}
+use Rattle.plan_checker.specs.inner.Claim.{graph_of, marks_of, charges_of}
 use Rattle.plan_checker.proofs.Duality.{certificate_is_cheapest}
 use Rattle.plan_checker.proofs.Settled.{value_is_small, valid_from_rules, fair_from_rules}
 use Rattle.plan_checker.proofs.checker.balance.Goals as goal

@@ -1,7 +1,7 @@
 use Rattle.std.proofs.Common.{◌≡◌, ◌<◌}
 use Rattle.plan_checker.specs.declared.broken.Broken.{Broken}
 use Rattle.plan_checker.specs.Broken.{rule, place}
-use Rattle.plan_checker.specs.Claim.{number, IsBroken}
+use Rattle.plan_checker.specs.inner.Claim.{number, IsBroken}
 use Rattle.plan_checker.proofs.checker.look.Given as goal
 
 abbrev pub invariant-loop-i : goal.invariant-loop-i

@@ -1,4 +1,4 @@
-use Rattle.plan_checker.specs.Children.{AddsChild}
+use Rattle.plan_checker.specs.inner.Children.{AddsChild}
 use Rattle.plan_checker.proofs.graph.add_child.Given as goal
 
 abbrev pub invariant-loop-place : goal.invariant-loop-place

@@ -1,5 +1,5 @@
 use Rattle.std.proofs.Common.{◌≡◌, replicate, []}
-use Rattle.plan_checker.specs.Children.{AreChildrenBelow}
+use Rattle.plan_checker.specs.inner.Children.{AreChildrenBelow}
 use Rattle.plan_checker.proofs.graph.children_of.Given as goal
 
 abbrev pub invariant-loop : goal.invariant-loop

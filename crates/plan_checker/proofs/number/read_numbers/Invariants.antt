@@ -1,6 +1,6 @@
 use Rattle.std.proofs.Common.{◌≡◌, ◌<◌, ◌++◌, length, All}
 use Rattle.plan_checker.specs.Format.{IsSmall, spaced}
-use Rattle.plan_checker.specs.Reading.{EndsNumber}
+use Rattle.plan_checker.specs.inner.Reading.{EndsNumber}
 use Rattle.plan_checker.proofs.number.read_numbers.Given as goal
 
 abbrev pub invariant-loop-number : goal.invariant-loop-number

@@ -1,6 +1,6 @@
 use Rattle.std.proofs.Common.{ℕ, ◌+◌, length, subst, ap, ◌∙◌, rules, arith}
 use Rattle.plan_checker.specs.Graph.{Fits}
-use Rattle.plan_checker.specs.Reading.{BeginsWithRow, AddsRow}
+use Rattle.plan_checker.specs.inner.Reading.{BeginsWithRow, AddsRow}
 use Rattle.plan_checker.proofs.ReadRows.{rows_fit, entries_pushed, unfit}
 use Rattle.plan_checker.proofs.reader.read_rows.Goals as goal
 

@@ -1,6 +1,6 @@
 use Rattle.std.proofs.Common.{◌≡◌}
 use Rattle.plan_checker.specs.Graph.{entries_below}
-use Rattle.plan_checker.specs.Reading.{BeginsWithLines}
+use Rattle.plan_checker.specs.inner.Reading.{BeginsWithLines}
 use Rattle.plan_checker.proofs.reader.read_rows.Given as goal
 
 abbrev pub invariant-loop-i : goal.invariant-loop-i

@@ -1,6 +1,6 @@
 use Rattle.std.proofs.Common.{List, ℕ, All, subst, arith}
 use Rattle.plan_checker.specs.Format.{IsSmall}
-use Rattle.plan_checker.specs.Claim.{graph_of, marks_of, charges_of}
+use Rattle.plan_checker.specs.inner.Claim.{graph_of, marks_of, charges_of}
 use Rattle.plan_checker.proofs.Texts.{row_pushed}
 use Rattle.plan_checker.proofs.writer.push_row.Goals as goal
 

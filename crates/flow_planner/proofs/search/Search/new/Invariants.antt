@@ -1,5 +1,5 @@
 use Rattle.std.proofs.Common.{◌≡◌, replicate}
-use Rattle.flow_planner.specs.Search.{not_kept, not_computed}
+use Rattle.flow_planner.specs.inner.Search.{not_kept, not_computed}
 use Rattle.flow_planner.proofs.search.Search.new.Given as goal
 
 abbrev pub invariant-loop : goal.invariant-loop

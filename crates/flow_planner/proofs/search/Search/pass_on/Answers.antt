@@ -3,8 +3,8 @@ use Rattle.std.proofs.lemmas.List.{get_or_read}
 use Rattle.flow_planner.specs.declared.search.Search.{Search}
 use Rattle.flow_planner.specs.declared.search.Kept.{Kept}
 use Rattle.flow_planner.specs.declared.search.KeptBy.TheVariants.{Pass}
-use Rattle.flow_planner.specs.Flow.{parent_of}
-use Rattle.flow_planner.specs.Search.{not_computed, computed_at, HasComputed, HasKept, IsUnderWay, Advances, Passes}
+use Rattle.flow_planner.specs.inner.Flow.{parent_of}
+use Rattle.flow_planner.specs.inner.Search.{not_computed, computed_at, HasComputed, HasKept, IsUnderWay, Advances, Passes}
 use Rattle.flow_planner.proofs.UnderWay.{keeps_on, reached_small, computed_some, advances_more, parents_read}
 use Rattle.flow_planner.proofs.search.Search.pass_on.Goals as goal
 use Rattle.flow_planner.proofs.search.Search.pass_on.Goals.{then-not-is_kept, else-not-is_kept}

@@ -1,5 +1,5 @@
 use Rattle.std.proofs.Common.{ℕ, ◌<◌}
-use Rattle.flow_planner.specs.Search.{HasComputed, IsUnderWay, Advances, Passes}
+use Rattle.flow_planner.specs.inner.Search.{HasComputed, IsUnderWay, Advances, Passes}
 use Rattle.flow_planner.proofs.search.Search.pass_on.Given as goal
 
 abbrev pub invariant-loop-slot : goal.invariant-loop-slot

@@ -1,5 +1,5 @@
 use Rattle.std.proofs.Common.{ℕ, ◌+◌, ◌<◌, length}
-use Rattle.flow_planner.specs.Search.{IsUnderWay, Advances, IsSettled}
+use Rattle.flow_planner.specs.inner.Search.{IsUnderWay, Advances, IsSettled}
 use Rattle.flow_planner.proofs.search.Search.sweep.Given as goal
 
 abbrev pub invariant-loop-turn : goal.invariant-loop-turn

@@ -3,7 +3,7 @@ use Rattle.std.proofs.lemmas.List.{get_or_read}
 use Rattle.plan_checker.specs.Graph.{vertex}
 use Rattle.flow_planner.specs.declared.search.Computed.{Computed}
 use Rattle.flow_planner.specs.declared.search.ComputedBy.TheVariants.{Through}
-use Rattle.flow_planner.specs.Search.{not_kept}
+use Rattle.flow_planner.specs.inner.Search.{not_kept}
 use Rattle.flow_planner.proofs.UnderWay.{computes_on, reached_small, load_room, kept_some}
 use Rattle.flow_planner.proofs.search.Search.try_compute.Goals as goal
 

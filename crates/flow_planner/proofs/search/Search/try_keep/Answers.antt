@@ -3,7 +3,7 @@ use Rattle.std.proofs.lemmas.List.{get_or_read, get_or_default}
 use Rattle.plan_checker.specs.Graph.{no_vertex}
 use Rattle.flow_planner.specs.declared.search.Kept.{Kept}
 use Rattle.flow_planner.specs.declared.search.KeptBy.TheVariants.{Enter, ThroughBack}
-use Rattle.flow_planner.specs.Search.{not_computed}
+use Rattle.flow_planner.specs.inner.Search.{not_computed}
 use Rattle.flow_planner.proofs.UnderWay.{keeps_on, reached_small}
 use Rattle.flow_planner.proofs.search.Search.try_keep.Goals as goal
 

@@ -3,8 +3,8 @@ use Rattle.std.proofs.lemmas.List.{get_or_read}
 use Rattle.flow_planner.specs.declared.search.Search.{Search}
 use Rattle.flow_planner.specs.declared.search.Computed.{Computed}
 use Rattle.flow_planner.specs.declared.search.ComputedBy.TheVariants.{PassBack}
-use Rattle.flow_planner.specs.Flow.{parent_of}
-use Rattle.flow_planner.specs.Search.{not_kept, kept_at, computed_at, ComesBefore, IsUnderWay}
+use Rattle.flow_planner.specs.inner.Flow.{parent_of}
+use Rattle.flow_planner.specs.inner.Search.{not_kept, kept_at, computed_at, ComesBefore, IsUnderWay}
 use Rattle.flow_planner.proofs.UnderWay.{computes_on, reached_small, kept_some, parents_read}
 use Rattle.flow_planner.proofs.Certify.{kept_within}
 use Rattle.flow_planner.proofs.search.Search.try_pass_back.Goals as goal

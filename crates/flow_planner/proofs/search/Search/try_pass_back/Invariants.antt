@@ -1,5 +1,5 @@
 use Rattle.std.proofs.Common.{◌≡◌, ℕ, ◌<◌}
-use Rattle.flow_planner.specs.Search.{PassesBack}
+use Rattle.flow_planner.specs.inner.Search.{PassesBack}
 use Rattle.flow_planner.proofs.search.Search.try_pass_back.Given as goal
 
 abbrev pub invariant-loop-slot : goal.invariant-loop-slot

@@ -1,4 +1,4 @@
-use Rattle.flow_planner.specs.Search.{Advances, IsLeft, IsSettled}
+use Rattle.flow_planner.specs.inner.Search.{Advances, IsLeft, IsSettled}
 use Rattle.flow_planner.proofs.UnderWay.{visit_settles, IfNone-map}
 use Rattle.flow_planner.proofs.search.Search.visit.Goals as goal
 

@@ -1,7 +1,7 @@
-use Rattle.std.proofs.Common.{◌≡◌, ◌≢◌, ◌<◌, ◌≤◌, ◌+◌, ℕ, length, get_or, refl, arith}
+use Rattle.std.proofs.Common.{◌≡◌, ◌≢◌, ◌+◌, length, get_or, refl, arith}
 use Rattle.std.proofs.lemmas.List.{get_or_read}
 use Rattle.level_graphs.proofs.Rounds.{round_next}
-use Rattle.level_graphs.proofs.Nearest.{ends_at_sink, ends_empty, few_levels}
+use Rattle.level_graphs.proofs.Nearest.{ends_at_sink, ends_empty}
 use Rattle.level_graphs.proofs.levels.Levels.build.Goals as goal
 
 pub returns-then-index-ne0-clause-levels : goal.returns-then-index-ne0-clause-levels

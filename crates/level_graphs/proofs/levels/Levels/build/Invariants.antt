@@ -1,4 +1,4 @@
-use Rattle.std.proofs.Common.{◌≡◌, ◌-◌, ◌+◌, length}
+use Rattle.std.proofs.Common.{◌≡◌, ◌-◌, length}
 use Rattle.level_graphs.specs.inner.Rounds.{IsRound}
 use Rattle.level_graphs.proofs.levels.Levels.build.Given as goal
 

@@ -1,4 +1,4 @@
-use Rattle.std.proofs.Common.{◌≡◌, ◌++◌, ◌∷◌, [], List, ℕ, length, set, replicate, ap, ◌∙◌, vec_len, arith}
+use Rattle.std.proofs.Common.{◌++◌, ◌∷◌, [], List, ℕ, length, set, ap, ◌∙◌, vec_len, arith}
 use Rattle.level_graphs.proofs.Rounds.{round_first}
 use Rattle.level_graphs.proofs.levels.Levels.first_round.Goals as goal
 

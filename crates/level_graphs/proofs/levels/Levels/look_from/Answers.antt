@@ -1,4 +1,4 @@
-use Rattle.std.proofs.Common.{◌≡◌, ◌<◌, ◌≤◌, ◌-◌, ℕ, length, get_or, sym, refl, ap, ◌∙◌, subst, arith}
+use Rattle.std.proofs.Common.{◌≡◌, ◌<◌, ◌-◌, ℕ, length, sym, refl, ap, ◌∙◌, subst, arith}
 use Rattle.level_graphs.specs.declared.network.Arc.{Arc}
 use Rattle.level_graphs.specs.Arcs.{tail_of, arc_at, IsLastBelow}
 use Rattle.level_graphs.proofs.Rounds.{inside_of, extends_on}

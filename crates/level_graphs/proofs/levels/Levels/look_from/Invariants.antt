@@ -1,4 +1,4 @@
-use Rattle.std.proofs.Common.{◌≡◌, ◌≤◌, length, get_or}
+use Rattle.std.proofs.Common.{◌≡◌, length, get_or}
 use Rattle.level_graphs.specs.inner.Rounds.{IsRound, Extends}
 use Rattle.level_graphs.proofs.Lists.{AreLooked}
 use Rattle.level_graphs.proofs.levels.Levels.look_from.Given as goal

@@ -1,4 +1,4 @@
-use Rattle.std.proofs.Common.{◌≡◌, ◌<◌, ◌≤◌, ℕ, length, get_or, arith}
+use Rattle.std.proofs.Common.{◌<◌, length, arith}
 use Rattle.std.proofs.lemmas.List.{get_or_read}
 use Rattle.level_graphs.proofs.Rounds.{all_seen_more}
 use Rattle.level_graphs.proofs.levels.Levels.look_from_all.Goals as goal

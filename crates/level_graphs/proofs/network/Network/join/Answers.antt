@@ -2,7 +2,8 @@ use Rattle.std.proofs.Common.{◌≡◌, ◌≢◌, ◌++◌, ◌∷◌, [], ◌
 use Rattle.std.proofs.lemmas.List.{get_or_read, length-set}
 use Rattle.level_graphs.specs.declared.network.Arc.{Arc}
 use Rattle.level_graphs.specs.Arcs.{AreListed, tail_of, head_of}
-use Rattle.level_graphs.proofs.Lists.{joined, joined_apart}
+use Rattle.level_graphs.proofs.Lists.{joined, joined_apart, joined_bounded}
+use Rattle.level_graphs.proofs.Pushed.{AreBounded}
 use Rattle.level_graphs.proofs.network.Network.join.Goals as goal
 
 pub returns-clause-network : goal.returns-clause-network
@@ -32,6 +33,7 @@ returns-clause-network c =
     let size : length (set (set last from (number + 1)) to (number + 2)) ≡ length last = length-set (set last from (number + 1)) to (number + 2) ∙ count in
     record {
       listed = subst Q (sym items) (subst P (sym is_n) made);
+      bounded = subst AreBounded (sym items) (joined_bounded arcs from to c.args.room x y c.requires.network.listed.paired refl refl refl refl (omega arith) c.requires.network.bounded);
       source = subst (λ m. network.source < m) (sym size) c.requires.network.source;
       sink = subst (λ m. network.sink < m) (sym size) c.requires.network.sink;
       ends = c.requires.network.ends;

@@ -1,7 +1,7 @@
-use Rattle.std.proofs.Common.{◌≡◌, ◌≢◌, ℕ, ◌<◌, List, length, set, sym, refl, ap, ◌∙◌, subst, arith}
+use Rattle.std.proofs.Common.{◌≡◌, ◌≢◌, ℕ, ◌<◌, List, length, sym, subst, arith}
 use Rattle.level_graphs.specs.declared.network.Arc.{Arc}
-use Rattle.level_graphs.specs.Arcs.{AreListed, tail_of, head_of, reverse_of, pushed}
-use Rattle.level_graphs.proofs.Pushed.{ends_pushed, listed_stays, pushed_is, apart_stays}
+use Rattle.level_graphs.specs.Arcs.{AreListed, tail_of, head_of, pushed}
+use Rattle.level_graphs.proofs.Pushed.{AreBounded, bounded_pushed, ends_pushed, listed_stays, pushed_is, apart_stays}
 use Rattle.level_graphs.proofs.network.Network.push.Goals as goal
 
 pub returns-clause-arcs : goal.returns-clause-arcs
@@ -20,6 +20,7 @@ returns-clause-network c =
     let Q : List Arc → Type 0 = λ xs. (a : ℕ) → a < length xs → tail_of xs a ≡ network.source → head_of xs a ≢ network.sink in
     record {
       listed = subst P (sym are) (listed_stays arcs (pushed arcs c.args.arc c.args.amount) network.last.items same good.listed);
+      bounded = subst AreBounded (sym are) (bounded_pushed arcs c.args.arc c.args.amount good.listed.paired inside good.bounded);
       source = good.source;
       sink = good.sink;
       ends = good.ends;

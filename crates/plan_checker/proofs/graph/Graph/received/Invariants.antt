@@ -1,5 +1,5 @@
 use Rattle.std.proofs.Common.{◌≡◌, ◌≤◌, ◌*◌, sum_by, take}
-use Rattle.plan_checker.specs.Children.{amount_from}
+use Rattle.plan_checker.specs.inner.Children.{amount_from}
 use Rattle.plan_checker.proofs.graph.Graph.received.Given as goal
 
 abbrev pub invariant-loop-child : goal.invariant-loop-child

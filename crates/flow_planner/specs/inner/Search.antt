@@ -16,7 +16,7 @@ use Rattle.flow_planner.specs.declared.search.KeptBy.TheVariants.{Enter, Through
 use Rattle.flow_planner.specs.declared.search.Computed.{Computed}
 use Rattle.flow_planner.specs.declared.search.ComputedBy.{ComputedBy}
 use Rattle.flow_planner.specs.declared.search.ComputedBy.TheVariants.{Through, PassBack}
-use Rattle.flow_planner.specs.Flow.{parent_of, passed, nothing, AreFairBut}
+use Rattle.flow_planner.specs.inner.Flow.{parent_of, passed, nothing, AreFairBut}
 
 -- a node that no search has reached
 abbrev pub not_kept : Kept

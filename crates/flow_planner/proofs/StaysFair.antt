@@ -10,7 +10,7 @@ use Rattle.plan_checker.specs.declared.charges.Charges.{Charges}
 use Rattle.plan_checker.specs.Graph.{vertex}
 use Rattle.plan_checker.specs.Charges.{passes, passed_to, received}
 use Rattle.plan_checker.proofs.SumsBelow.{sum_below_changed}
-use Rattle.flow_planner.specs.Flow.{parent_of, passed, nothing, only_at, IsFairBut, AreFairBut}
+use Rattle.flow_planner.specs.inner.Flow.{parent_of, passed, nothing, only_at, IsFairBut, AreFairBut}
 
 pub only-here : (v amount i : ℕ) → i ≡ v → only_at v amount i ≡ amount
 only-here v amount i e = cond-true (eqb i v) amount 0 (eq-eqb i v e)

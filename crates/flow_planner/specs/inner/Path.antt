@@ -4,8 +4,8 @@ use Rattle.plan_checker.specs.declared.vertex.Vertex.{Vertex}
 use Rattle.plan_checker.specs.declared.charges.Charges.{Charges}
 use Rattle.plan_checker.specs.Graph.{IsGraph}
 use Rattle.flow_planner.specs.declared.search.Search.{Search}
-use Rattle.flow_planner.specs.Flow.{nothing, only_at, AreFairBut}
-use Rattle.flow_planner.specs.Search.{kept_at, computed_at, HasKept, HasComputed, IsTraced}
+use Rattle.flow_planner.specs.inner.Flow.{nothing, only_at, AreFairBut}
+use Rattle.flow_planner.specs.inner.Search.{kept_at, computed_at, HasKept, HasComputed, IsTraced}
 
 -- an amount is missing at the first node of a vertex alone; the way by which a search came there has room for it
 pub record MissesIn (graph : List Vertex) (charges : Charges) (search : Search) (v amount : ℕ) : Type 0 where

@@ -14,11 +14,11 @@ use Rattle.flow_planner.specs.declared.search.KeptBy.TheVariants.{Enter, Through
 use Rattle.flow_planner.specs.declared.search.Computed.{Computed}
 use Rattle.flow_planner.specs.declared.search.ComputedBy.{ComputedBy}
 use Rattle.flow_planner.specs.declared.search.ComputedBy.TheVariants.{Through, PassBack}
-use Rattle.flow_planner.specs.Flow.{parent_of, passed, nothing, only_at, AreFairBut}
-use Rattle.flow_planner.specs.Search.{kept_at, computed_at, CanKeep, CanCompute, IsTraced, IsUnderWay, IsPathEnd}
-use Rattle.flow_planner.specs.Path.{MissesIn, MissesOut, GoesMissingIn, GoesMissingOut}
+use Rattle.flow_planner.specs.inner.Flow.{parent_of, passed, nothing, only_at, AreFairBut}
+use Rattle.flow_planner.specs.inner.Search.{kept_at, computed_at, CanKeep, CanCompute, IsTraced, IsUnderWay, IsPathEnd}
+use Rattle.flow_planner.specs.inner.Path.{MissesIn, MissesOut, GoesMissingIn, GoesMissingOut}
 use Rattle.flow_planner.proofs.Certify.{kept_within, computed_within}
-use Rattle.flow_planner.proofs.Shift.{only-here, only-other, through_set, enter_set, pay_set, with_pass, passes_here, passes_other, pass_set}
+use Rattle.flow_planner.proofs.StaysFair.{only-here, only-other, through_set, enter_set, pay_set, with_pass, passes_here, passes_other, pass_set}
 use Rattle.flow_planner.proofs.Bounds.{out_small, passed-le}
 
 -- the ways to the nodes up to a lower rank stay open, where each of them does

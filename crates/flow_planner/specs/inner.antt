@@ -1,0 +1,4 @@
+pub mod Flow
+pub mod Search
+pub mod Path
+pub mod Network
