@@ -1,4 +1,16 @@
+mod Compiled
+mod Edits
 mod Files
+mod KeyTest
+mod KeyedRows
+mod MapSteps
+mod OneKey
 mod Opens
+mod Putting
+mod Reading
 mod Refused
+mod RowMap
 mod RowsRead
+mod Shapes
+mod Shown
+mod Writing

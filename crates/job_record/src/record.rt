@@ -4,6 +4,7 @@ ghost use Rattle.sqlite.specs.Held.{state};
 ghost use Rattle.job_record.specs.Statements.{find_text, list_text, put_text, drop_archive_text, forget_text, key_params, put_params};
 ghost use Rattle.job_record.specs.declared.fault.RecordFault.TheVariants.{NoRow};
 ghost use Rattle.job_record.specs.RecordMap.{Finds, Puts, Changes, Lists};
+ghost use Rattle.job_record.specs.Map.{IsRecord, FindsIn, PutsIn, DropsIn, ForgetsIn, ListsIn};
 ghost use Rattle.job_record.specs.Log.{Logs};
 ghost use Rattle.job_record.specs.Opening.{Opens};
 
@@ -88,8 +89,10 @@ impl<S: Alter> JobRecord<S> {
     /// # Errors
     ///
     /// R1 where the row does not read; R4; want of memory.
+    #[tactic(auto, using(crate::proofs::MapSteps::find_is_map))]
     pub fn find(&mut self, key: &str) -> Result<Option<Row>, RecordFault>
         ensures finds { HasCleanDisk (state S.Store self.new.conn) → Finds S.Store self.old.conn self.new.conn key.now result }
+        ensures map { HasCleanDisk (state S.Store self.new.conn) → IsRecord (state S.Store self.old.conn) → FindsIn (state S.Store self.old.conn) (state S.Store self.new.conn) key.now result }
         ensures survives { Survives (state S.Store self.old.conn) (state S.Store self.new.conn) (CommitsShowing find_text (key_params key.now) (state S.Store self.old.conn)) }
         ensures log { Logs Command.Find key.now result self.old.log.items self.new.log.items }
     {
@@ -112,10 +115,11 @@ impl<S: Alter> JobRecord<S> {
     /// # Errors
     ///
     /// R4, also where the cost is not from 1 to 10^12; out of memory.
-    #[tactic(auto, using(crate::proofs::Refused::put_keeps))]
+    #[tactic(auto, using(crate::proofs::Refused::put_keeps, crate::proofs::MapSteps::put_is_map))]
     pub fn put(&mut self, row: &Row) -> Result<(), RecordFault>
         ensures puts { HasCleanDisk (state S.Store self.new.conn) → Puts S.Store self.old.conn self.new.conn row.now result }
         ensures kept { HasCleanDisk (state S.Store self.new.conn) → IfErr result (λ _. KeepsCommit (state S.Store self.old.conn) (state S.Store self.new.conn)) }
+        ensures map { HasCleanDisk (state S.Store self.new.conn) → IsRecord (state S.Store self.old.conn) → PutsIn (state S.Store self.old.conn) (state S.Store self.new.conn) row.now result }
         ensures survives { Survives (state S.Store self.old.conn) (state S.Store self.new.conn) (CommitsBy put_text (put_params row.now) (state S.Store self.old.conn)) }
         ensures log { Logs Command.Put row.now.key result self.old.log.items self.new.log.items }
     {
@@ -134,9 +138,11 @@ impl<S: Alter> JobRecord<S> {
     /// # Errors
     ///
     /// R3 where no row has the key; R4; want of memory.
+    #[tactic(auto, using(crate::proofs::MapSteps::drop_is_map))]
     pub fn drop_archive(&mut self, key: &str) -> Result<(), RecordFault>
         ensures changes { HasCleanDisk (state S.Store self.new.conn) → Changes S.Store self.old.conn self.new.conn drop_archive_text key.now result }
         ensures kept { HasCleanDisk (state S.Store self.new.conn) → IfErr result (λ fault. fault ≢ NoRow → KeepsCommit (state S.Store self.old.conn) (state S.Store self.new.conn)) }
+        ensures map { HasCleanDisk (state S.Store self.new.conn) → IsRecord (state S.Store self.old.conn) → DropsIn (state S.Store self.old.conn) (state S.Store self.new.conn) key.now result }
         ensures survives { Survives (state S.Store self.old.conn) (state S.Store self.new.conn) (CommitsBy drop_archive_text (key_params key.now) (state S.Store self.old.conn)) }
         ensures log { Logs Command.DropArchive key.now result self.old.log.items self.new.log.items }
     {
@@ -155,9 +161,11 @@ impl<S: Alter> JobRecord<S> {
     /// # Errors
     ///
     /// R3 where no row has the key; R4; want of memory.
+    #[tactic(auto, using(crate::proofs::MapSteps::forget_is_map))]
     pub fn forget(&mut self, key: &str) -> Result<(), RecordFault>
         ensures changes { HasCleanDisk (state S.Store self.new.conn) → Changes S.Store self.old.conn self.new.conn forget_text key.now result }
         ensures kept { HasCleanDisk (state S.Store self.new.conn) → IfErr result (λ fault. fault ≢ NoRow → KeepsCommit (state S.Store self.old.conn) (state S.Store self.new.conn)) }
+        ensures map { HasCleanDisk (state S.Store self.new.conn) → IsRecord (state S.Store self.old.conn) → ForgetsIn (state S.Store self.old.conn) (state S.Store self.new.conn) key.now result }
         ensures survives { Survives (state S.Store self.old.conn) (state S.Store self.new.conn) (CommitsBy forget_text (key_params key.now) (state S.Store self.old.conn)) }
         ensures log { Logs Command.Forget key.now result self.old.log.items self.new.log.items }
     {
@@ -176,8 +184,10 @@ impl<S: Alter> JobRecord<S> {
     /// # Errors
     ///
     /// R1 where a row does not read; R4; want of memory.
+    #[tactic(auto, using(crate::proofs::MapSteps::list_is_map))]
     pub fn list(&mut self) -> Result<Items<Row>, RecordFault>
         ensures lists { HasCleanDisk (state S.Store self.new.conn) → Lists S.Store self.old.conn self.new.conn result }
+        ensures map { HasCleanDisk (state S.Store self.new.conn) → IsRecord (state S.Store self.old.conn) → ListsIn (state S.Store self.old.conn) (state S.Store self.new.conn) result }
         ensures survives { Survives (state S.Store self.old.conn) (state S.Store self.new.conn) (CommitsShowing list_text [] (state S.Store self.old.conn)) }
         ensures log { self.new.log ≡ self.old.log }
     {

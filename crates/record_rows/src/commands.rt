@@ -1,12 +1,13 @@
 //! Commands on a record.
 
-use crate::disks::{Disks, fresh, open_disks, reopened};
+use crate::asks::{Ask, Told};
+use crate::disks::{fresh, open_disks, reopened};
 use crate::records::{push_item, row_in, row_text, rows_text};
-use job_record::{Command, Entry, JobRecord, RecordFault, Row as RecordRow};
+use crate::store::Store;
+use job_record::{Command, Entry, RecordFault, Row as RecordRow};
 use plain_data::Items;
 use row_io::{Row, RowFault, quoted};
 use serde_json::Value as Json;
-use sqlite::Alter;
 use std::alloc::Global;
 use std::mem;
 
@@ -23,11 +24,7 @@ pub(crate) fn answers(alloc: Global, row: &Row) -> Result<String, RowFault> {
     Ok(text)
 }
 
-fn answered(
-    alloc: Global,
-    mut record: JobRecord<Disks>,
-    command: &Json,
-) -> Result<(JobRecord<Disks>, String), RowFault> {
+fn answered(alloc: Global, mut record: Store, command: &Json) -> Result<(Store, String), RowFault> {
     if command.as_str() == Some("reopen") {
         return Ok((reopened(alloc, record)?, quoted(alloc, "opened")?));
     }
@@ -36,57 +33,60 @@ fn answered(
 }
 
 /// What a command is answered.
-pub(crate) fn answer<S: Alter>(
+pub(crate) fn answer(
     alloc: Global,
-    record: &mut JobRecord<S>,
+    record: &mut Store,
     command: &Json,
 ) -> Result<String, RowFault> {
     if let Some(row) = command.get("put") {
         return put(alloc, record, row);
     }
+    match ask_in(command) {
+        Some(ask) => asked(alloc, record, ask),
+        None => Err(RowFault::BadArgument),
+    }
+}
+
+// The command that an object or a word stands for, but `put`.
+fn ask_in(command: &Json) -> Option<Ask<'_>> {
     if let Some(key) = command.get("find") {
-        return find(alloc, record, key.as_str().unwrap_or("?"));
+        return Some(Ask::Find(key.as_str()?));
     }
     if let Some(key) = command.get("drop_archive") {
-        return dropped(alloc, record, key.as_str().unwrap_or("?"));
+        return Some(Ask::DropArchive(key.as_str()?));
     }
     if let Some(key) = command.get("forget") {
-        return forgotten(alloc, record, key.as_str().unwrap_or("?"));
+        return Some(Ask::Forget(key.as_str()?));
     }
     match command.as_str() {
-        Some("list") => list(alloc, record),
-        Some("log") => log(alloc, record.log()),
-        _ => Err(RowFault::BadArgument),
+        Some("list") => Some(Ask::List),
+        Some("log") => Some(Ask::Log),
+        _ => None,
     }
 }
 
-fn put<S: Alter>(
-    alloc: Global,
-    record: &mut JobRecord<S>,
-    json: &Json,
-) -> Result<String, RowFault> {
+fn put(alloc: Global, record: &mut Store, json: &Json) -> Result<String, RowFault> {
     let row = row_in(alloc, json)?;
-    let done = record.put(&row);
+    let told = asked(alloc, record, Ask::Put(&row));
     mem::drop(row);
-    outcome(alloc, done)
+    told
 }
 
-fn dropped<S: Alter>(
-    alloc: Global,
-    record: &mut JobRecord<S>,
-    key: &str,
-) -> Result<String, RowFault> {
-    let done = record.drop_archive(key);
-    outcome(alloc, done)
+fn asked(alloc: Global, record: &mut Store, ask: Ask<'_>) -> Result<String, RowFault> {
+    let told = record.ask(alloc, ask);
+    let text = told_text(alloc, &told);
+    mem::drop(told);
+    text
 }
 
-fn forgotten<S: Alter>(
-    alloc: Global,
-    record: &mut JobRecord<S>,
-    key: &str,
-) -> Result<String, RowFault> {
-    let done = record.forget(key);
-    outcome(alloc, done)
+fn told_text(alloc: Global, told: &Told) -> Result<String, RowFault> {
+    match told {
+        Told::Done(done) => outcome(alloc, *done),
+        Told::Found(found) => found_text(alloc, found),
+        Told::Listed(listed) => listed_text(alloc, listed),
+        Told::Logged(Ok(text)) => Ok(String::from_str(alloc, text.as_str())?),
+        Told::Logged(Err(fault)) => Err(*fault),
+    }
 }
 
 fn outcome(alloc: Global, done: Result<(), RecordFault>) -> Result<String, RowFault> {
@@ -104,13 +104,6 @@ pub(crate) fn refusal(alloc: Global, fault: RecordFault) -> Result<String, RowFa
     }
 }
 
-fn find<S: Alter>(alloc: Global, record: &mut JobRecord<S>, key: &str) -> Result<String, RowFault> {
-    let found = record.find(key);
-    let text = found_text(alloc, &found);
-    mem::drop(found);
-    text
-}
-
 fn found_text(
     alloc: Global,
     found: &Result<Option<RecordRow>, RecordFault>,
@@ -123,11 +116,8 @@ fn found_text(
 }
 
 /// All rows of a record.
-pub(crate) fn list<S: Alter>(alloc: Global, record: &mut JobRecord<S>) -> Result<String, RowFault> {
-    let listed = record.list();
-    let text = listed_text(alloc, &listed);
-    mem::drop(listed);
-    text
+pub(crate) fn list(alloc: Global, record: &mut Store) -> Result<String, RowFault> {
+    asked(alloc, record, Ask::List)
 }
 
 fn listed_text(
@@ -140,7 +130,8 @@ fn listed_text(
     }
 }
 
-fn log(alloc: Global, entries: &[Entry]) -> Result<String, RowFault> {
+/// The entries of a log.
+pub(crate) fn log_text(alloc: Global, entries: &[Entry]) -> Result<String, RowFault> {
     let mut text = String::from_str(alloc, "[")?;
     for entry in entries {
         let item = entry_text(alloc, entry)?;

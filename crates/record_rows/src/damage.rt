@@ -1,7 +1,7 @@
 //! Records opened on files of any bytes.
 
 use crate::commands::refusal;
-use crate::disks::{File, Unopened, closed, files_of, fresh, try_open, written};
+use crate::disks::{File, Unopened, closed, fresh, try_open, written};
 use job_record::RecordFault;
 use row_io::{Row, RowFault, quoted};
 use sqlite::Files;
@@ -27,7 +27,7 @@ fn answered(alloc: Global, bytes: &[u8]) -> Result<(String, Files<File>), RowFau
             refusal(alloc, RecordFault::Store(error))?,
             files,
         )),
-        Err(Unopened::Record(fault, conn)) => Ok((refusal(alloc, fault)?, files_of(conn))),
+        Err(Unopened::Record(fault, base)) => Ok((refusal(alloc, fault)?, base.stop())),
     }
 }
 

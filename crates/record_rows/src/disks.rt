@@ -1,24 +1,22 @@
-//! Stores on two files in memory, each behind a fuse that stops it at a call.
+//! Two files in memory, each behind a fuse that stops it at a call.
 
-use job_record::{JobRecord, RecordFault};
+use crate::store::{Base, Store};
+use job_record::RecordFault;
 use row_io::RowFault;
-use sqlite::{Connection, Error, ErrorCode, FileStore, Files, Options};
+use sqlite::{Error, Files};
 use sqlite_disk::{Crash, Disk, Fuse, Memory};
 use std::alloc::Global;
 
 /// A file in memory that stops at a call.
 pub(crate) type File = Fuse<Memory>;
 
-/// A store on two such files.
-pub(crate) type Disks = FileStore<File>;
-
 /// What is left where a record did not open.
 #[derive(Drop)]
 pub(crate) enum Unopened {
-    /// The store did not open.
+    /// The database did not open.
     Store(Error, Files<File>),
-    /// The store holds no record that can be used.
-    Record(RecordFault, Connection<Disks>),
+    /// The database holds no record that can be used.
+    Record(RecordFault, Base),
 }
 
 /// Two empty files.
@@ -30,7 +28,7 @@ pub(crate) fn fresh(alloc: Global) -> Files<File> {
 }
 
 /// The record on two files that work.
-pub(crate) fn open_disks(alloc: Global, files: Files<File>) -> Result<JobRecord<Disks>, RowFault> {
+pub(crate) fn open_disks(alloc: Global, files: Files<File>) -> Result<Store, RowFault> {
     match try_open(alloc, files) {
         Ok(record) => Ok(record),
         Err(_left) => Err(RowFault::BadArgument),
@@ -38,66 +36,32 @@ pub(crate) fn open_disks(alloc: Global, files: Files<File>) -> Result<JobRecord<
 }
 
 /// The record on two files, or what is left of it.
-pub(crate) fn try_open(alloc: Global, files: Files<File>) -> Result<JobRecord<Disks>, Unopened> {
-    match connected(alloc, files) {
-        Ok(conn) => opened(alloc, conn),
+pub(crate) fn try_open(alloc: Global, files: Files<File>) -> Result<Store, Unopened> {
+    match Base::open(alloc, files) {
+        Ok(base) => opened(alloc, base),
         Err((error, files)) => Err(Unopened::Store(error, files)),
     }
 }
 
-/// The record of a connection, or what is left of it.
-pub(crate) fn opened(alloc: Global, conn: Connection<Disks>) -> Result<JobRecord<Disks>, Unopened> {
-    if !conn.is_autocommit() {
-        return Err(Unopened::Record(RecordFault::NotARecord, conn));
-    }
-    match JobRecord::open_record(alloc, conn) {
+/// The record in a database, or what is left of it.
+pub(crate) fn opened(alloc: Global, base: Base) -> Result<Store, Unopened> {
+    match base.into_record(alloc) {
         Ok(record) => Ok(record),
-        Err((fault, conn)) => Err(Unopened::Record(fault, conn)),
+        Err((fault, base)) => Err(Unopened::Record(fault, base)),
     }
-}
-
-/// A connection on two files, or the files again.
-pub(crate) fn connected(
-    alloc: Global,
-    files: Files<File>,
-) -> Result<Connection<Disks>, (Error, Files<File>)> {
-    if !files.may_be_used() {
-        return Err((Error::SqliteFailure(ErrorCode::SystemIoFailure), files));
-    }
-    match Connection::open_files(alloc, files, options()) {
-        Ok(conn) => Ok(conn),
-        Err((error, left)) => Err((error, left.into_files())),
-    }
-}
-
-// The log is copied into the database often, since each commit copies the whole of a file in memory.
-fn options() -> Options {
-    let mut options = Options::new(7);
-    options.checkpoint_frames = 64;
-    options.cache_pages = 16;
-    options.spill_pages = 64;
-    options
-}
-
-/// The files of a connection that was let go.
-pub(crate) fn files_of(conn: Connection<Disks>) -> Files<File> {
-    conn.into_store().close()
 }
 
 /// The record closed in good order, and opened again.
-pub(crate) fn reopened(
-    alloc: Global,
-    record: JobRecord<Disks>,
-) -> Result<JobRecord<Disks>, RowFault> {
+pub(crate) fn reopened(alloc: Global, record: Store) -> Result<Store, RowFault> {
     let files = closed(record)?;
     open_disks(alloc, files)
 }
 
 /// The files of a record that was closed in good order.
-pub(crate) fn closed(record: JobRecord<Disks>) -> Result<Files<File>, RowFault> {
-    match record.into_connection().close_files() {
-        Ok(files) => Ok(files),
-        Err(_left) => Err(RowFault::BadArgument),
+pub(crate) fn closed(record: Store) -> Result<Files<File>, RowFault> {
+    match record.into_base().close() {
+        Some(files) => Ok(files),
+        None => Err(RowFault::BadArgument),
     }
 }
 

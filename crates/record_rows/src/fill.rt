@@ -1,9 +1,11 @@
 //! A record with many rows.
 
-use crate::disks::{Disks, fresh, open_disks, reopened};
+use crate::asks::{Ask, Told};
+use crate::disks::{fresh, open_disks, reopened};
 use crate::records::row_text;
+use crate::store::Store;
 use cwl_value::Value;
-use job_record::{Found, JobRecord, RecordFault, Row as RecordRow};
+use job_record::{Found, Row as RecordRow};
 use plain_data::{Items, Text};
 use row_io::{Row, RowFault};
 use std::alloc::Global;
@@ -23,43 +25,39 @@ pub(crate) fn filled(alloc: Global, row: &Row) -> Result<String, RowFault> {
     held_text(alloc, &mut again, count)
 }
 
-fn held_text(alloc: Global, record: &mut JobRecord<Disks>, count: u64) -> Result<String, RowFault> {
-    let listed = record.list();
-    let text = listed_text(alloc, &listed, count);
-    mem::drop(listed);
+fn held_text(alloc: Global, record: &mut Store, count: u64) -> Result<String, RowFault> {
+    let told = record.ask(alloc, Ask::List);
+    let text = listed_text(alloc, &told, count);
+    mem::drop(told);
     text
 }
 
-fn listed_text(
-    alloc: Global,
-    listed: &Result<Items<RecordRow>, RecordFault>,
-    count: u64,
-) -> Result<String, RowFault> {
-    match listed {
-        Ok(rows) => {
+fn listed_text(alloc: Global, told: &Told, count: u64) -> Result<String, RowFault> {
+    match told {
+        Told::Listed(Ok(rows)) => {
             let held = rows.len();
             let same = are_others(alloc, rows.as_slice(), count)?;
             Ok(format!(in alloc; "[{held},{same}]")?)
         }
-        Err(_) => Err(RowFault::BadArgument),
+        _ => Err(RowFault::BadArgument),
     }
 }
 
-fn put_all(alloc: Global, record: &mut JobRecord<Disks>, count: u64) -> Result<(), RowFault> {
+fn put_all(alloc: Global, record: &mut Store, count: u64) -> Result<(), RowFault> {
     for at in 0..count {
         put_at(alloc, record, at.wrapping_mul(STRIDE) % count)?;
     }
     Ok(())
 }
 
-fn put_at(alloc: Global, record: &mut JobRecord<Disks>, at: u64) -> Result<(), RowFault> {
+fn put_at(alloc: Global, record: &mut Store, at: u64) -> Result<(), RowFault> {
     let row = row_at(alloc, at)?;
-    let done = record.put(&row);
+    let done = is_done(alloc, record, Ask::Put(&row));
     mem::drop(row);
-    done.map_err(|_fault| RowFault::BadArgument)
+    done
 }
 
-fn forget_thirds(alloc: Global, record: &mut JobRecord<Disks>, count: u64) -> Result<(), RowFault> {
+fn forget_thirds(alloc: Global, record: &mut Store, count: u64) -> Result<(), RowFault> {
     for at in 0..count {
         if at % 3 == 0 {
             forget_at(alloc, record, at)?;
@@ -68,11 +66,20 @@ fn forget_thirds(alloc: Global, record: &mut JobRecord<Disks>, count: u64) -> Re
     Ok(())
 }
 
-fn forget_at(alloc: Global, record: &mut JobRecord<Disks>, at: u64) -> Result<(), RowFault> {
+fn forget_at(alloc: Global, record: &mut Store, at: u64) -> Result<(), RowFault> {
     let key = key_at(alloc, at)?;
-    record
-        .forget(key.as_str())
-        .map_err(|_fault| RowFault::BadArgument)
+    is_done(alloc, record, Ask::Forget(key.as_str()))
+}
+
+fn is_done(alloc: Global, record: &mut Store, ask: Ask<'_>) -> Result<(), RowFault> {
+    let told = record.ask(alloc, ask);
+    let done = matches!(&told, Told::Done(Ok(())));
+    mem::drop(told);
+    if done {
+        Ok(())
+    } else {
+        Err(RowFault::BadArgument)
+    }
 }
 
 // Numbers with as many digits stand in the order of their texts.

@@ -5,6 +5,7 @@
 //! `{"log":null}`. A refusal is answered by its code.
 #![tactic(auto)]
 
+mod asks;
 mod commands;
 mod damage;
 mod disks;
@@ -13,6 +14,7 @@ mod keys;
 mod open;
 mod records;
 mod stops;
+mod store;
 
 use row_io::{Answers, Row, RowFault, answer_rows};
 use std::alloc::Global;

@@ -2,9 +2,9 @@
 
 use crate::commands::{answer, list};
 use crate::disks::{
-    Disks, File, Unopened, closed, copied, files_of, fresh, is_blown, open_disks, restart, try_open,
+    File, Unopened, closed, copied, fresh, is_blown, open_disks, restart, try_open,
 };
-use job_record::JobRecord;
+use crate::store::Store;
 use row_io::{Row, RowFault};
 use serde_json::Value as Json;
 use sqlite::Files;
@@ -77,7 +77,7 @@ fn held_by(alloc: Global, row: &Row, start: &Files<File>) -> Result<Held, RowFau
     Ok(Held { before, after })
 }
 
-fn run(alloc: Global, row: &Row, record: &mut JobRecord<Disks>) -> Result<(), RowFault> {
+fn run(alloc: Global, row: &Row, record: &mut Store) -> Result<(), RowFault> {
     if let Some(command) = row.find("command") {
         drop(answer(alloc, record, command)?);
     }
@@ -134,10 +134,10 @@ fn left(alloc: Global, row: &Row, files: Files<File>) -> Result<Files<File>, Row
     match try_open(alloc, files) {
         Ok(mut record) => {
             run(alloc, row, &mut record)?;
-            Ok(files_of(record.into_connection()))
+            Ok(record.into_base().stop())
         }
         Err(Unopened::Store(_, files)) => Ok(files),
-        Err(Unopened::Record(_, conn)) => Ok(files_of(conn)),
+        Err(Unopened::Record(_, base)) => Ok(base.stop()),
     }
 }
 

@@ -1,0 +1,147 @@
+-- What the query for a key shows of a record.
+use Rattle.std.proofs.Common.{◌≡◌, ◌⊎◌, inl, inr, ℕ, List, [], ◌∷◌, ◌++◌, drop, Option, Some, None, Ok, Err, Result, refl, sym, ap, subst, ◌∙◌}
+use Rattle.sqlite.specs.declared.types.Value.TheVariants.{Text}
+use Rattle.sqlite.specs.Order.{Row, column}
+use Rattle.sqlite.specs.Command.{Command}
+use Rattle.sqlite.specs.Command.TheVariants.{Select}
+use Rattle.sqlite.specs.Term.{col, eval_all}
+use Rattle.sqlite.specs.declared.error.Error.{Error}
+use Rattle.sqlite.specs.declared.error.Error.TheVariants.{QueryReturnedNoRows}
+use Rattle.sqlite.specs.Clock.{timed}
+use Rattle.sqlite.specs.Effect.{Database, RefusesToRead}
+use Rattle.sqlite.specs.Listing.{understood}
+use Rattle.sqlite.specs.State.{State, store_error, IsUnchanged, IsRolledBack, IsNoStatement, IsNotRun, FailsToShow, FailsToQuery, ShowsRows, Shown, QueriesRow}
+use Rattle.sqlite.proofs.Callers.{IsPlain, command_of, first_as, reads_as}
+use Rattle.sqlite_trees.specs.declared.error.StoreError.{StoreError}
+use Rattle.sqlite_trees.specs.declared.error.StoreError.TheVariants.{OutOfMemory, Io, Corrupt, Full, Broken, Unstorable}
+use Rattle.sqlite_schema.specs.declared.program.Program.{Program}
+use Rattle.sqlite_resolve.specs.declared.compiled.Compiled.{Compiled}
+use Rattle.sqlite.specs.Collation.TheVariants.{Binary}
+use Rattle.sqlite_value.specs.Keys.{ascending}
+use Rattle.sqlite_rules.specs.Lists.{Has}
+use Rattle.job_record.specs.Tables.{record_schema}
+use Rattle.job_record.specs.Statements.{find_text, list_text}
+use Rattle.job_record.specs.Map.{IsRecord, held}
+use Rattle.job_record.proofs.Compiled.{columns, names, has_key, find_query, find_is, find_plain, list_is, list_plain}
+use Rattle.job_record.proofs.Shapes.{Laid, laid_in}
+use Rattle.job_record.proofs.Shown.{AreShown, shown_rows}
+use Rattle.job_record.proofs.RowMap.{held_row, row_held}
+use Rattle.job_record.proofs.OneKey.{lacks, only}
+
+-- ---- a plain query changes nothing, and none of its refusals is the one of an empty answer
+
+module _ (sql : List ℕ) (params : Row) (old new : State) (plain : IsPlain (understood old.now.schema sql)) where
+  pub shown_same : (rows : List Row) → Shown sql params old new rows → IsUnchanged old new
+  unfolding Shown
+  shown_same rows h =
+      let none = (subst IsPlain h.1.is plain).0 in
+      (subst (ShowsRows old new sql h.0 (timed params h.0.formats h.1.now) rows) none h.2).3
+
+  pub failed_same : (e : Error) → FailsToQuery sql params old new e → IsUnchanged old new ⊎ IsRolledBack old new
+  unfolding FailsToQuery IsNotRun
+  failed_same e (inl (inl refused)) = inl refused.1
+  failed_same e (inl (inr failed)) = inr failed.3
+  failed_same e (inr h) =
+      let none = (subst IsPlain h.1.is plain).0 in
+      inl (subst (FailsToShow old new sql h.0 (timed params h.0.formats h.1.now) e) none h.2).3
+
+  pub row_same : (row : Row) → QueriesRow sql params old new (Ok row) → IsUnchanged old new
+  unfolding QueriesRow
+  row_same row (inl h) = h.1
+  row_same row (inr h) = shown_same h.0 h.1
+
+  pub error_same : (e : Error) → QueriesRow sql params old new (Err e) → IsUnchanged old new ⊎ IsRolledBack old new
+  unfolding QueriesRow
+  error_same e (inl h) = failed_same e h
+  error_same e (inr h) = inl (shown_same [] h.1)
+
+no_cause : (cause : StoreError) → QueryReturnedNoRows ≡ store_error cause → ⊥
+no_cause OutOfMemory h = cc
+no_cause Io h = cc
+no_cause Corrupt h = cc
+no_cause Full h = cc
+no_cause Broken h = cc
+no_cause Unstorable h = cc
+
+no_statement : (s : State) (sql : List ℕ) (params : Row) → IsNoStatement s sql params QueryReturnedNoRows → ⊥
+no_statement s sql params (inl h) = let e = h.2 in cc
+no_statement s sql params (inr h) = elim h.2 [
+  | inl a ↦ let e = a.1 in cc
+  | inr b ↦ elim b [ inl a ↦ let e = a.1 in cc | inr a ↦ let e = a.1 in cc ]
+]
+
+no_refusal : (limit : Option ℕ) (q : Program) (shown : List (List ℕ)) (db : Database) (params : Row) → RefusesToRead limit (Select q shown) db params QueryReturnedNoRows → ⊥
+no_refusal limit q shown db params (inl h) = let e = h.0 in cc
+no_refusal limit q shown db params (inr (inl h)) = let e = h.0 in cc
+no_refusal limit q shown db params (inr (inr h)) = let e = h.0 in cc
+
+-- ---- the query for a key
+
+module _ (old new : State) (key : List ℕ) (it : IsRecord old) where
+  abbrev params : Row
+  params = Text key ∷ []
+
+  pub find_is_plain : IsPlain (understood old.now.schema find_text)
+  find_is_plain = subst (λ s. IsPlain (understood s find_text)) (sym it.schema) find_plain
+
+  shown_is : (r : Row) → Laid r → eval_all columns (params ∷ r ∷ []) ≡ drop 1 r
+  shown_is r laid = ap (λ (z : Row). eval_all columns (params ∷ z ∷ [])) laid.is ∙ ap (λ (z : Row). drop 1 z) (sym laid.is)
+
+  pub row_found : (row : Row) → QueriesRow find_text params old new (Ok row) → held old key ≡ Some row
+  row_found row h =
+      let got = (first_as find_text params old new record_schema it.schema _ find_is.0 find_plain find_is.1 row h).1 in
+      let shown = shown_rows has_key columns [] old.now.trees params (row ∷ got.0) got.1 in
+      let o = only old new key it columns row got.0 shown in
+      held_row (old.now.trees 2) key it.keyed.keys o.row o.there o.key_is ∙ ap Some (sym (shown_is o.row o.laid) ∙ sym o.first)
+
+  shows_none : FailsToQuery find_text params old new QueryReturnedNoRows → ⊥
+  unfolding FailsToQuery IsNotRun
+  shows_none (inl (inl refused)) = no_statement old find_text params refused.0
+  shows_none (inl (inr failed)) = no_cause failed.0 failed.1
+  shows_none (inr h) =
+      let none = (subst IsPlain h.1.is find_is_plain).0 in
+      let full = timed params h.0.formats h.1.now in
+      let refuses = subst (FailsToShow old new find_text h.0 full QueryReturnedNoRows) none h.2 in
+      let command = ap command_of (sym h.1.is ∙ ap (λ s. understood s find_text) it.schema) ∙ find_is.0 in
+      no_refusal old.step_limit (record { lets = []; body = find_query }) names refuses.0 full (subst (λ c. RefusesToRead old.step_limit c refuses.0 full QueryReturnedNoRows) command refuses.2)
+
+  pub none_found : QueriesRow find_text params old new (Err QueryReturnedNoRows) → held old key ≡ None
+  unfolding QueriesRow
+  none_found (inl h) = absurd (shows_none h)
+  none_found (inr h) =
+      let read = reads_as find_text params old new record_schema it.schema _ find_is.0 find_plain find_is.1 [] h.1 in
+      lacks old new key it columns (shown_rows has_key columns [] old.now.trees params [] read.answer)
+
+  pub none_same : QueriesRow find_text params old new (Err QueryReturnedNoRows) → IsUnchanged old new
+  unfolding QueriesRow
+  none_same (inl h) = absurd (shows_none h)
+  none_same (inr h) = shown_same find_text params old new find_is_plain [] h.1
+
+-- ---- the query for all rows
+
+module _ (old new : State) (it : IsRecord old) where
+  abbrev table : List Row
+  table = old.now.trees 2
+
+  pub list_is_plain : IsPlain (understood old.now.schema list_text)
+  list_is_plain = subst (λ s. IsPlain (understood s list_text)) (sym it.schema) list_plain
+
+  pub all_found : (all : List Row) → Shown list_text [] old new all → AreShown [] columns table [] all
+  all_found all h =
+      let read = reads_as list_text [] old new record_schema it.schema _ list_is.0 list_plain list_is.1 all h in
+      shown_rows [] columns ((col 1 1, ascending Binary) ∷ []) old.now.trees [] all read.answer
+
+  row_is : (r : Row) → Laid r → eval_all columns ([] ∷ r ∷ []) ≡ drop 1 r
+  row_is r laid = ap (λ (z : Row). eval_all columns ([] ∷ z ∷ [])) laid.is ∙ ap (λ (z : Row). drop 1 z) (sym laid.is)
+
+  pub listed : (all : List Row) → AreShown [] columns table [] all → (c : Row) → Has all c → (key : List ℕ) × (held old key ≡ Some c)
+  listed all shown c h =
+      let s = shown.sound c h in
+      let laid = laid_in old.now it.schema it.sound s.0 s.1 in
+      (laid.key, held_row table laid.key it.keyed.keys s.0 s.1 (ap (λ (z : Row). column z 1) laid.is) ∙ ap Some (sym (row_is s.0 laid) ∙ sym s.3))
+
+  pub lists_all : (all : List Row) → AreShown [] columns table [] all → (key : List ℕ) (c : Row) → held old key ≡ Some c → Has all c
+  lists_all all shown key c h =
+      let r = row_held table key c h in
+      let laid = laid_in old.now it.schema it.sound r.0 r.1 in
+      subst (Has all) (row_is r.0 laid ∙ sym r.3) (shown.complete r.0 r.1 refl)
