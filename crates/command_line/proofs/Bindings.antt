@@ -39,7 +39,7 @@ apart a b differ = elim (eq_by_cmp key_cmp a b) as (λ t. eq_by_cmp key_cmp a b 
 ] refl
 
 -- a binding whose id no later input has
-apart_from : (b : Bound) (inputs : List ToolInput) → AllByRecursion (λ id. bytes_eq b.id id ≡ false) (map (λ input. input.id) inputs) → AllByRecursion (λ c. eq_by_cmp key_cmp b c ≡ false) (filter_map bound_in inputs)
+pub apart_from : (b : Bound) (inputs : List ToolInput) → AllByRecursion (λ id. bytes_eq b.id id ≡ false) (map (λ input. input.id) inputs) → AllByRecursion (λ c. eq_by_cmp key_cmp b c ≡ false) (filter_map bound_in inputs)
 apart_from b [] differ = tt
 apart_from b (input ∷ rest) differ = elim input.binding as (λ o. AllByRecursion (λ c. eq_by_cmp key_cmp b c ≡ false) (cons_option (option_map (bound_by input.id) o) (filter_map bound_in rest))) [
   | None ↦ apart_from b rest differ.1

@@ -8,7 +8,7 @@ use Rattle.cwl_value.specs.declared.value.Value.{Value}
 use Rattle.cwl_document.specs.declared.process.Tool.{Tool}
 use Rattle.command_line.specs.declared.order.BoundInput.{BoundInput}
 use Rattle.command_line.specs.Order.{AreInOrder}
-use Rattle.command_line.specs.View.{bound_of}
+use Rattle.command_line.specs.inner.View.{bound_of}
 use Rattle.command_line.specs.Words.{AreWords, words_at, words_of}
 
 -- the words so far and those of the next row are the words as far as that row

@@ -1,5 +1,6 @@
 pub mod Answered
 pub mod Bindings
+pub mod Decided
 pub mod Joined
 pub mod Rising
 pub mod Rows

@@ -11,7 +11,7 @@ use Rattle.cwl_document.specs.declared.process.CwlType.{CwlType}
 use Rattle.cwl_document.specs.declared.process.OutputSource.{OutputSource}
 use Rattle.cwl_document.specs.declared.process.Tool.{Tool}
 use Rattle.command_line.specs.declared.fault.BuildFault.TheVariants.{NotText, EmptyCommand}
-use Rattle.command_line.specs.declared.fault.TextPlace.{TextPlace}
+use Rattle.command_line.specs.declared.fault.LaunchText.{LaunchText}
 use Rattle.command_line.specs.declared.launch.Launch.{Launch}
 use Rattle.command_line.specs.declared.runtime.Runtime.{Runtime}
 use Rattle.command_line.specs.Launch.{IsLaunch, IsRefused}
@@ -92,7 +92,7 @@ launch_of_hello = record {
 abbrev pub into_a_folder : Tool
 into_a_folder = record hello { stdout = Some (codes "a/b") }
 
-pub a_stream_name_has_no_slash : IsRefused into_a_folder abc folders (NotText TextPlace.Stdout)
+pub a_stream_name_has_no_slash : IsRefused into_a_folder abc folders (NotText LaunchText.Stdout)
 a_stream_name_has_no_slash = IsRefused.in_stdout (codes "a/b") refl refl
 
 -- no base command and nothing else is B4 (row `same-position`)

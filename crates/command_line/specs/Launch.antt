@@ -8,7 +8,7 @@ use Rattle.cwl_document.specs.declared.process.OutputSource.{OutputSource}
 use Rattle.cwl_document.specs.declared.process.OutputSource.TheVariants as source
 use Rattle.command_line.specs.declared.fault.BuildFault.{BuildFault}
 use Rattle.command_line.specs.declared.fault.BuildFault.TheVariants.{NotText, EmptyCommand}
-use Rattle.command_line.specs.declared.fault.TextPlace.TheVariants.{BaseCommand, Input, Stdout, EnvVariable}
+use Rattle.command_line.specs.declared.fault.LaunchText.TheVariants.{BaseCommand, Input, Stdout, EnvVariable}
 use Rattle.command_line.specs.declared.fault.BuildError.{BuildError}
 use Rattle.command_line.specs.declared.fault.BuildError.TheVariants.{Refused, OutOfMemory}
 use Rattle.command_line.specs.declared.launch.Launch.{Launch}

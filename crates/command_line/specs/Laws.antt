@@ -1,5 +1,6 @@
 -- What the definitions of this crate settle.
-use Rattle.std.specs.Prelude.{◌≡◌, ℕ, List}
+use Rattle.std.specs.Prelude.{◌≡◌, ◌⊎◌, ℕ, List, map, bytes_eq}
+use Rattle.std.specs.List.{IsDistinct}
 use Rattle.cwl_value.specs.declared.value.Value.{Value}
 use Rattle.cwl_document.specs.declared.process.Tool.{Tool}
 use Rattle.command_line.specs.declared.fault.BuildFault.{BuildFault}
@@ -19,3 +20,8 @@ LaunchIsSettled = (tool : Tool) (inputs : List (List ℕ × Value)) (runtime : R
 -- and none where a cause of refusal holds
 abbrev pub LaunchExcludesRefusal : Type 0
 LaunchExcludesRefusal = (tool : Tool) (inputs : List (List ℕ × Value)) (runtime : Runtime) (launch : Launch) (fault : BuildFault) → IsLaunch tool inputs runtime launch → IsRefused tool inputs runtime fault → ⊥
+
+-- and one or the other, where no two inputs have one id
+abbrev pub LaunchOrRefusal : Type 0
+LaunchOrRefusal = (tool : Tool) (inputs : List (List ℕ × Value)) (runtime : Runtime) → IsDistinct bytes_eq (map (λ input. input.id) tool.inputs)
+    → ((launch : Launch) × IsLaunch tool inputs runtime launch) ⊎ ((fault : BuildFault) × IsRefused tool inputs runtime fault)

@@ -2,6 +2,5 @@ pub mod Fault
 pub mod Launch
 pub mod Laws
 pub mod Order
-pub mod Steps
-pub mod View
 pub mod Words
+pub mod inner

@@ -2,8 +2,8 @@ ghost use Rattle.std.specs.Prelude.{◌≡◌, false, true, IfOk, IfErr};
 ghost use Rattle.std.specs.List.{AllPass};
 ghost use Rattle.command_line.specs.Launch.{environment_of};
 ghost use Rattle.command_line.specs.Words.{is_plain};
-ghost use Rattle.command_line.specs.Steps.{EnvError, NotTextAt};
-ghost use Rattle.command_line.specs.declared.fault.TextPlace.TheVariants.{EnvVariable};
+ghost use Rattle.command_line.specs.inner.Steps.{EnvError, NotTextOf};
+ghost use Rattle.command_line.specs.declared.fault.LaunchText.TheVariants.{EnvVariable};
 
 use crate::plain::{is_plain, not_text_in_variable};
 use crate::{BuildError, Runtime, Variable};
@@ -29,7 +29,7 @@ pub(crate) fn environment(alloc: Global, runtime: &Runtime) -> Result<Items<Vari
 fn variable(alloc: Global, name: &str, text: &str) -> Result<Variable, BuildError>
     ensures variable { IfOk result (λ v. v ≡ record { name = name.now; text = text.now }) }
     ensures plain { IfOk result (λ v. is_plain v.text ≡ true) }
-    ensures refused { IfErr result (NotTextAt (EnvVariable name.now) (is_plain text.now ≡ false)) }
+    ensures refused { IfErr result (NotTextOf (EnvVariable name.now) (is_plain text.now ≡ false)) }
 {
     if !is_plain(text) {
         return Err(not_text_in_variable(alloc, name));

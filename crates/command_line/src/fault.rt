@@ -9,7 +9,7 @@ use std::fmt;
 
 /// Which text of a launch an operating system does not take.
 #[derive(Debug, Drop)]
-pub enum TextPlace {
+pub enum LaunchText {
     /// A word of `baseCommand`.
     BaseCommand,
     /// A word of the input with this id.
@@ -20,13 +20,13 @@ pub enum TextPlace {
     EnvVariable(Text),
 }
 
-impl fmt::Display for TextPlace {
+impl fmt::Display for LaunchText {
     fn fmt<W: fmt::Write>(&self, f: &mut fmt::Formatter<W>) -> fmt::Result {
         match self {
-            TextPlace::BaseCommand => f.write_str("the base command"),
-            TextPlace::Input(id) => write!(f, "input {id:?}"),
-            TextPlace::Stdout => f.write_str("the file name of standard output"),
-            TextPlace::EnvVariable(name) => write!(f, "environment variable {name:?}"),
+            LaunchText::BaseCommand => f.write_str("the base command"),
+            LaunchText::Input(id) => write!(f, "input {id:?}"),
+            LaunchText::Stdout => f.write_str("the file name of standard output"),
+            LaunchText::EnvVariable(name) => write!(f, "environment variable {name:?}"),
         }
     }
 }
@@ -35,7 +35,7 @@ impl fmt::Display for TextPlace {
 #[derive(Debug, Drop)]
 pub enum BuildFault {
     /// The text at this place is none that an operating system takes.
-    NotText(TextPlace),
+    NotText(LaunchText),
     /// There is no word at all, so no program to start.
     EmptyCommand,
 }

@@ -1,5 +1,5 @@
 //! What the definitions settle, each as the contract of a function that does nothing.
-ghost use Rattle.command_line.specs.Laws.{LaunchExcludesRefusal, LaunchIsSettled, WordsAreSettled};
+ghost use Rattle.command_line.specs.Laws.{LaunchExcludesRefusal, LaunchIsSettled, LaunchOrRefusal, WordsAreSettled};
 
 /// A tool and its inputs have one list of words at most.
 pub fn words_are_settled()
@@ -14,4 +14,9 @@ pub fn launch_is_settled()
 /// Where there is a launch, no cause of refusal holds.
 pub fn launch_excludes_refusal()
     ensures { LaunchExcludesRefusal }
+{}
+
+/// Every tool has a launch, or a cause of refusal holds. No two inputs of a tool that was read have one id.
+pub fn every_tool_has_a_launch_or_is_refused()
+    ensures { LaunchOrRefusal }
 {}

@@ -19,8 +19,11 @@ mod stream;
 mod words;
 
 pub use builder::build;
-pub use fault::{BuildError, BuildFault, TextPlace};
+pub use fault::{BuildError, BuildFault, LaunchText};
 pub use launch::{Launch, Variable};
-pub use laws::{launch_excludes_refusal, launch_is_settled, words_are_settled};
+pub use laws::{
+    every_tool_has_a_launch_or_is_refused, launch_excludes_refusal, launch_is_settled,
+    words_are_settled,
+};
 pub use runtime::Runtime;
 pub use stream::stdout_name;

@@ -1,7 +1,7 @@
 ghost use Rattle.std.specs.Prelude.{◌≡◌, IfOk, map};
 ghost use Rattle.std.specs.List.{filter_map};
 ghost use Rattle.command_line.specs.Order.{AreInOrder, bound_in};
-ghost use Rattle.command_line.specs.View.{bound_of};
+ghost use Rattle.command_line.specs.inner.View.{bound_of};
 
 use cwl_document::{Tool, ToolInput};
 use plain_data::Text;

@@ -1,10 +1,10 @@
 ghost use Rattle.std.specs.Prelude.{◌≡◌};
 ghost use Rattle.std.specs.List.{list_all};
 ghost use Rattle.command_line.specs.Words.{is_plain};
-ghost use Rattle.command_line.specs.Steps.{NotTextAt};
-ghost use Rattle.command_line.specs.declared.fault.TextPlace.TheVariants.{EnvVariable, Input};
+ghost use Rattle.command_line.specs.inner.Steps.{NotTextOf};
+ghost use Rattle.command_line.specs.declared.fault.LaunchText.TheVariants.{EnvVariable, Input};
 
-use crate::{BuildError, BuildFault, TextPlace};
+use crate::{BuildError, BuildFault, LaunchText};
 use plain_data::Text;
 use std::alloc::Global;
 
@@ -23,20 +23,20 @@ pub(crate) fn all_plain(words: &[Text]) -> bool
 
 /// The refusal of a word of the input with this id.
 pub(crate) fn not_text_in_input(alloc: Global, id: &str) -> BuildError
-    ensures { NotTextAt (Input id.now) (Unit {0}) result }
+    ensures { NotTextOf (Input id.now) (Unit {0}) result }
 {
     match Text::from_text(alloc, id) {
-        Ok(id) => BuildError::Refused(BuildFault::NotText(TextPlace::Input(id))),
+        Ok(id) => BuildError::Refused(BuildFault::NotText(LaunchText::Input(id))),
         Err(_) => BuildError::OutOfMemory,
     }
 }
 
 /// The refusal of the variable with this name.
 pub(crate) fn not_text_in_variable(alloc: Global, name: &str) -> BuildError
-    ensures { NotTextAt (EnvVariable name.now) (Unit {0}) result }
+    ensures { NotTextOf (EnvVariable name.now) (Unit {0}) result }
 {
     match Text::from_text(alloc, name) {
-        Ok(name) => BuildError::Refused(BuildFault::NotText(TextPlace::EnvVariable(name))),
+        Ok(name) => BuildError::Refused(BuildFault::NotText(LaunchText::EnvVariable(name))),
         Err(_) => BuildError::OutOfMemory,
     }
 }

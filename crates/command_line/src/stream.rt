@@ -1,9 +1,9 @@
 ghost use Rattle.std.specs.Prelude.{◌≡◌, false, true, IfOk, IfErr, IfSome};
 ghost use Rattle.command_line.specs.Launch.{collects_stdout, is_file_name, stdout_of, stream_name};
-ghost use Rattle.command_line.specs.Steps.{StreamError};
+ghost use Rattle.command_line.specs.inner.Steps.{StreamError};
 
 use crate::plain::is_plain;
-use crate::{BuildError, BuildFault, TextPlace};
+use crate::{BuildError, BuildFault, LaunchText};
 use cwl_document::{OutputSource, Tool};
 use plain_data::Text;
 use std::alloc::Global;
@@ -30,7 +30,7 @@ pub(crate) fn stdout_file(alloc: Global, tool: &Tool) -> Result<Option<Text>, Bu
     }
     let name = stdout_name(tool);
     if !is_file_name(name) {
-        return Err(BuildError::Refused(BuildFault::NotText(TextPlace::Stdout)));
+        return Err(BuildError::Refused(BuildFault::NotText(LaunchText::Stdout)));
     }
     Ok(Some(Text::from_text(alloc, name)?))
 }

@@ -2,15 +2,15 @@ ghost use Rattle.std.specs.Prelude.{◌≡◌, ℕ, false, List, [], ◌∷◌, 
 ghost use Rattle.std.specs.Option.{option_copied, option_map, option_to_list};
 ghost use Rattle.std.specs.List.{AllPass, flat_map, list_all};
 ghost use Rattle.command_line.specs.Launch.{IsError, are_plain_words};
-ghost use Rattle.command_line.specs.Steps.{NotTextAt, InputError};
-ghost use Rattle.command_line.specs.View.{bound_of};
+ghost use Rattle.command_line.specs.inner.Steps.{NotTextOf, InputError};
+ghost use Rattle.command_line.specs.inner.View.{bound_of};
 ghost use Rattle.command_line.specs.Words.{AreWords, input_words, is_plain, prefixed, words_at, words_of};
-ghost use Rattle.command_line.specs.declared.fault.TextPlace.TheVariants.{BaseCommand, Input};
+ghost use Rattle.command_line.specs.declared.fault.LaunchText.TheVariants.{BaseCommand, Input};
 ghost use Rattle.command_line.specs.declared.runtime.Runtime.{Runtime};
 
 use crate::order::{BoundInput, in_order};
 use crate::plain::{all_plain, not_text_in_input};
-use crate::{BuildError, BuildFault, TextPlace};
+use crate::{BuildError, BuildFault, LaunchText};
 use cwl_document::Tool;
 use cwl_value::Value;
 use plain_data::{Items, Keyed, Text};
@@ -35,10 +35,10 @@ pub(crate) fn words(
 fn base_words(alloc: Global, base: &[Text]) -> Result<Vec<Text>, BuildError>
     ensures words { IfOk result (λ words. words.items ≡ base.now) }
     ensures plain { OnOk result (AllPass is_plain base.now) }
-    ensures refused { IfErr result (NotTextAt BaseCommand (list_all is_plain base.now ≡ false)) }
+    ensures refused { IfErr result (NotTextOf BaseCommand (list_all is_plain base.now ≡ false)) }
 {
     if !all_plain(base) {
-        return Err(BuildError::Refused(BuildFault::NotText(TextPlace::BaseCommand)));
+        return Err(BuildError::Refused(BuildFault::NotText(LaunchText::BaseCommand)));
     }
     let mut words = Vec::new(alloc);
     for word in base {
@@ -74,7 +74,7 @@ fn plain_words_of(
 ) -> Result<Vec<Text>, BuildError>
     ensures words { IfOk result (λ words. words_of inputs.now (bound_of row.now) ≡ Some words.items) }
     ensures plain { IfOk result (λ words. AllPass is_plain words.items) }
-    ensures refused { IfErr result (NotTextAt (Input row.now.key.name.now) (are_plain_words (words_of inputs.now (bound_of row.now)) ≡ false)) }
+    ensures refused { IfErr result (NotTextOf (Input row.now.key.name.now) (are_plain_words (words_of inputs.now (bound_of row.now)) ≡ false)) }
 {
     let value = inputs.get(row.key.name);
     let Some(words) = written(alloc, row, value)? else {

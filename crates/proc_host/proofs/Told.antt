@@ -3,7 +3,7 @@ use Rattle.std.proofs.Common.{◌≡◌, ℕ, zero, suc, ◌+◌, ◌<◌, List,
 use Rattle.command_line.specs.declared.launch.Launch.{Launch}
 use Rattle.proc_host.specs.declared.call.HostAnswer.TheVariants as answers
 use Rattle.proc_host.specs.declared.call.HostRequest.TheVariants as requests
-use Rattle.proc_host.specs.declared.child.Ending.{Ending}
+use Rattle.proc_host.specs.declared.child.ChildEnd.{ChildEnd}
 use Rattle.proc_host.specs.declared.found.Found.{Found}
 use Rattle.proc_host.specs.declared.reply.Reply.{Reply}
 use Rattle.proc_host.specs.declared.reply.Reply.TheVariants as replies
@@ -17,7 +17,7 @@ pub start_told : (state : ScriptState) (launch : Launch) (reply : Option Reply) 
     answers.Started (state.started + 1) ≡ answer_by state (requests.Start launch) reply
 start_told state launch reply next = rw next refl
 
-pub end_told : (state : ScriptState) (ending : Ending) (reply : Option Reply) → reply ≡ Some (replies.Collect ending) → can_end state ending ≡ true →
+pub end_told : (state : ScriptState) (ending : ChildEnd) (reply : Option Reply) → reply ≡ Some (replies.Collect ending) → can_end state ending ≡ true →
     answers.Ended ending ≡ answer_by state requests.Collect reply
 end_told state ending reply next can = rw (next, can) refl
 

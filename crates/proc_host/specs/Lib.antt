@@ -1,3 +1,4 @@
+pub mod Answers
 pub mod ExitClass
 pub mod Faults
 pub mod Log

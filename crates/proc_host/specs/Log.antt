@@ -9,14 +9,14 @@ use Rattle.proc_host.specs.declared.call.HostError.TheVariants.{Fault, OutOfMemo
 use Rattle.proc_host.specs.declared.call.Entry.{Entry}
 
 -- the answer behind an error: the fault, or none for out of memory
-abbrev pub told_error : HostError → Option HostAnswer
-told_error (Fault fault) = Some (Failed fault)
-told_error OutOfMemory = None
+abbrev pub answer_behind_error : HostError → Option HostAnswer
+answer_behind_error (Fault fault) = Some (Failed fault)
+answer_behind_error OutOfMemory = None
 
 -- the answer behind a result
-abbrev pub told : {T : Type 0} → (T → HostAnswer) → Result T HostError → Option HostAnswer
-told answer (Ok x) = Some (answer x)
-told answer (Err error) = told_error error
+abbrev pub answer_behind : {T : Type 0} → (T → HostAnswer) → Result T HostError → Option HostAnswer
+answer_behind answer (Ok x) = Some (answer x)
+answer_behind answer (Err error) = answer_behind_error error
 
 -- what a call adds to the log: one entry for an answer, and else none
 abbrev pub entries_of : HostRequest → Option HostAnswer → List Entry

@@ -7,7 +7,7 @@ use Rattle.proc_host.specs.declared.call.HostAnswer.TheVariants as answers
 use Rattle.proc_host.specs.declared.call.HostRequest.{HostRequest}
 use Rattle.proc_host.specs.declared.call.HostRequest.TheVariants as requests
 use Rattle.proc_host.specs.declared.call.HostFault.TheVariants as faults
-use Rattle.proc_host.specs.declared.child.Ending.{Ending}
+use Rattle.proc_host.specs.declared.child.ChildEnd.{ChildEnd}
 use Rattle.proc_host.specs.declared.reply.Reply.{Reply}
 use Rattle.proc_host.specs.declared.reply.Reply.TheVariants as replies
 use Rattle.proc_host.specs.Log.{entries_of, starts}
@@ -22,7 +22,7 @@ pub record ScriptState : Type 0 where
   pub least_started : ℕ
 
 -- whether this end can be told now: its child runs, and enough children were started
-abbrev pub can_end : ScriptState → Ending → Bool
+abbrev pub can_end : ScriptState → ChildEnd → Bool
 can_end state ending = list_any (λ n. n == ending.ticket) state.running && nat_le state.least_started state.started
 
 -- the answer to a request where the script says this next

@@ -2,7 +2,7 @@ ghost use Rattle.std.specs.Prelude.{◌≡◌};
 ghost use Rattle.proc_host.specs.Faults.{code_of};
 ghost use Rattle.proc_host.specs.declared.call.HostError.TheVariants.{OutOfMemory};
 
-use crate::{Ending, Found, StagePlan};
+use crate::{ChildEnd, Found, StagePlan};
 use command_line::Launch;
 use plain_data::{Items, Text};
 use std::alloc::{AllocError, AllocFailed};
@@ -27,7 +27,7 @@ pub enum HostAnswer {
     Done,
     /// The number of the new child's ticket.
     Started(u64),
-    Ended(Ending),
+    Ended(ChildEnd),
     Listed(Items<Found>),
     Failed(HostFault),
 }

@@ -42,7 +42,7 @@ impl Ticket {
 /// How a child ended: its ticket, its exit code where it has one (a child that a signal ended has none), and
 /// how long it ran.
 #[derive(Clone, Copy, Debug, PartialEq, Eq)]
-pub struct Ending {
+pub struct ChildEnd {
     pub ticket: u64,
     pub code: Option<i32>,
     pub millis: u64,

@@ -1,9 +1,10 @@
 ghost use Rattle.std.specs.Prelude.{◌≡◌, ◌≢◌, ◌+◌, ◌++◌, List, ℕ, [], IfOk, Contains};
 ghost use Rattle.proc_host.specs.declared.call.Entry.{Entry};
-ghost use Rattle.proc_host.specs.Log.{told, entries_of, starts, FailsOnlyBy};
+ghost use Rattle.proc_host.specs.Answers.{fault_of};
+ghost use Rattle.proc_host.specs.Log.{answer_behind, entries_of, starts, FailsOnlyBy};
 ghost use Rattle.proc_host.specs.Tickets.{IsFresh, running_after, without};
 
-use crate::{Ending, Found, HostAnswer, HostError, HostFault, HostRequest, StagePlan, Ticket};
+use crate::{ChildEnd, Found, HostAnswer, HostError, HostFault, HostRequest, StagePlan, Ticket};
 use command_line::Launch;
 use plain_data::{Items, Text};
 
@@ -21,40 +22,40 @@ pub trait Host {
     /// Lays out the folder of a job: each move copies a file to its target.
     fn stage(&mut self, plan: &StagePlan, number: u64) -> Result<(), HostError>
         ensures logged { log self.new ≡ log self.old
-            ++ entries_of (HostRequest.Stage plan.now number) (told (λ _. HostAnswer.Done) result) }
-        ensures own { FailsOnlyBy HostFault.Stage result }
+            ++ entries_of (HostRequest.Stage plan.now number) (answer_behind (λ _. HostAnswer.Done) result) }
+        ensures own { FailsOnlyBy (fault_of (HostRequest.Stage plan.now number)) result }
         ensures running { running self.new ≡ running self.old };
 
     /// Starts a child. Ticket numbers count the successful starts of a host from 1.
     fn start(&mut self, launch: &Launch) -> Result<Ticket, HostError>
         ensures logged { log self.new ≡ log self.old
-            ++ entries_of (HostRequest.Start launch.now) (told (λ ticket. HostAnswer.Started ticket) result) }
-        ensures own { FailsOnlyBy HostFault.Start result }
+            ++ entries_of (HostRequest.Start launch.now) (answer_behind (λ ticket. HostAnswer.Started ticket) result) }
+        ensures own { FailsOnlyBy (fault_of (HostRequest.Start launch.now)) result }
         ensures fresh { IfOk result (λ ticket. IsFresh ticket (running self.old)) }
         ensures started { running self.new ≡ running_after (running self.old) result }
         ensures numbered { IfOk result (λ ticket. ticket ≡ starts (log self.old) + 1) };
 
     /// Waits for the end of a child that runs. Its ticket is still to be closed.
-    fn collect(&mut self) -> Result<Ending, HostError>
+    fn collect(&mut self) -> Result<ChildEnd, HostError>
         requires { running self.old ≢ [] }
         ensures logged { log self.new ≡ log self.old
-            ++ entries_of HostRequest.Collect (told (λ ending. HostAnswer.Ended ending) result) }
-        ensures own { FailsOnlyBy HostFault.Collect result }
+            ++ entries_of HostRequest.Collect (answer_behind (λ ending. HostAnswer.Ended ending) result) }
+        ensures own { FailsOnlyBy (fault_of HostRequest.Collect) result }
         ensures child { IfOk result (λ ending. Contains (running self.old) ending.ticket) }
         ensures running { running self.new ≡ running self.old };
 
     /// Lists what is below a folder.
     fn scan(&mut self, folder: &Text) -> Result<Items<Found>, HostError>
         ensures logged { log self.new ≡ log self.old
-            ++ entries_of (HostRequest.Scan folder.now) (told (λ found. HostAnswer.Listed found) result) }
-        ensures own { FailsOnlyBy HostFault.Scan result }
+            ++ entries_of (HostRequest.Scan folder.now) (answer_behind (λ found. HostAnswer.Listed found) result) }
+        ensures own { FailsOnlyBy (fault_of (HostRequest.Scan folder.now)) result }
         ensures running { running self.new ≡ running self.old };
 
     /// Copies a run's outputs to where they are wanted.
     fn deliver(&mut self, plan: &StagePlan) -> Result<(), HostError>
         ensures logged { log self.new ≡ log self.old
-            ++ entries_of (HostRequest.Deliver plan.now) (told (λ _. HostAnswer.Done) result) }
-        ensures own { FailsOnlyBy HostFault.Deliver result }
+            ++ entries_of (HostRequest.Deliver plan.now) (answer_behind (λ _. HostAnswer.Done) result) }
+        ensures own { FailsOnlyBy (fault_of (HostRequest.Deliver plan.now)) result }
         ensures running { running self.new ≡ running self.old };
 
     /// Spends a ticket, without memory. A child that still runs under it is no longer watched.

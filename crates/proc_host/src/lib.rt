@@ -20,7 +20,7 @@ mod reply;
 mod scripted;
 
 pub use call::{Entry, HostAnswer, HostError, HostFault, HostRequest};
-pub use child::{Ending, ExitClass, Ticket, exit_class};
+pub use child::{ChildEnd, ExitClass, Ticket, exit_class};
 pub use found::{Found, listing_in};
 pub use host::Host;
 pub use laws::{closing_undoes_starting, failures_count_faults};

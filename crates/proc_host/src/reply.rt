@@ -1,4 +1,4 @@
-use crate::{Ending, Found};
+use crate::{ChildEnd, Found};
 use plain_data::Items;
 
 /// What a script says next: the call that it answers, and its answer.
@@ -6,7 +6,7 @@ use plain_data::Items;
 pub enum Reply {
     Stage,
     Start,
-    Collect(Ending),
+    Collect(ChildEnd),
     Scan(Items<Found>),
     Deliver,
 }

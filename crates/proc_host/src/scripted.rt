@@ -1,13 +1,13 @@
 ghost use Rattle.std.specs.Prelude.{◌≡◌, ◌+◌, ◌++◌, ◌∷◌, ◌↔◌, List, [], IfOk, OnOk, OnErr, IfSome, IfNone, IsTrue, slice_get, Contains};
-ghost use Rattle.proc_host.specs.Log.{told, told_error, entries_of, starts, FailsOnlyBy, IsOnly};
+ghost use Rattle.proc_host.specs.Log.{answer_behind, answer_behind_error, entries_of, starts, FailsOnlyBy, IsOnly};
 ghost use Rattle.proc_host.specs.Tickets.{IsFresh, running_after, without};
 ghost use Rattle.proc_host.specs.Script.{Answers, after, can_end};
-ghost use Rattle.proc_host.specs.declared.child.Ending.{Ending};
+ghost use Rattle.proc_host.specs.declared.child.ChildEnd.{ChildEnd};
 ghost use Rattle.proc_host.specs.declared.found.Found.{Found};
 
 use crate::found::listing_in;
 use crate::{
-    Ending, Entry, Found, Host, HostAnswer, HostError, HostFault, HostRequest, Reply, StagePlan,
+    ChildEnd, Entry, Found, Host, HostAnswer, HostError, HostFault, HostRequest, Reply, StagePlan,
     Ticket,
 };
 use command_line::Launch;
@@ -99,11 +99,11 @@ impl Scripted {
     }
 
     // The end that the script tells next, where it can be told now.
-    fn next_end(&self) -> Option<Ending>
+    fn next_end(&self) -> Option<ChildEnd>
         ensures told { IfSome result (λ ending. slice_get self.now.script 0 ≡ Some (Reply.Collect ending)) }
         ensures runs { IfSome result (λ ending. Contains self.now.running ending.ticket) }
         ensures can { IfSome result (λ ending. IsTrue (can_end self.now ending)) }
-        ensures none { IfNone result ((ending : Ending) → slice_get self.now.script 0 ≡ Some (Reply.Collect ending)
+        ensures none { IfNone result ((ending : ChildEnd) → slice_get self.now.script 0 ≡ Some (Reply.Collect ending)
             → IsTrue (can_end self.now ending) → ⊥) }
     {
         let Some(Reply::Collect(ending)) = self.script.get(self.given) else {
@@ -129,7 +129,7 @@ impl Scripted {
 
     // Notes that a call failed.
     fn refuse(&mut self, request: HostRequest, fault: HostFault) -> HostError
-        ensures refused { self.new ≡ after self.old request (told_error result) }
+        ensures refused { self.new ≡ after self.old request (answer_behind_error result) }
         ensures own { IsOnly fault result }
     {
         match self.log.push(Entry {
@@ -194,10 +194,10 @@ impl Host for Scripted {
 
     fn stage(&mut self, plan: &StagePlan, number: u64) -> Result<(), HostError>
         ensures logged { self.new.log ≡ self.old.log
-            ++ entries_of (HostRequest.Stage plan.now number) (told (λ _. HostAnswer.Done) result) }
+            ++ entries_of (HostRequest.Stage plan.now number) (answer_behind (λ _. HostAnswer.Done) result) }
         ensures own { FailsOnlyBy HostFault.Stage result }
         ensures running { self.new.running ≡ self.old.running }
-        ensures scripted { Answers self.old (HostRequest.Stage plan.now number) (told (λ _. HostAnswer.Done) result) self.new }
+        ensures scripted { Answers self.old (HostRequest.Stage plan.now number) (answer_behind (λ _. HostAnswer.Done) result) self.new }
     {
         let request = HostRequest::Stage(plan.clone_in(self.alloc)?, number);
         if let Some(Reply::Stage) = self.script.get(self.given) {
@@ -213,12 +213,12 @@ impl Host for Scripted {
 
     fn start(&mut self, launch: &Launch) -> Result<Ticket, HostError>
         ensures logged { self.new.log ≡ self.old.log
-            ++ entries_of (HostRequest.Start launch.now) (told (λ ticket. HostAnswer.Started ticket) result) }
+            ++ entries_of (HostRequest.Start launch.now) (answer_behind (λ ticket. HostAnswer.Started ticket) result) }
         ensures own { FailsOnlyBy HostFault.Start result }
         ensures fresh { IfOk result (λ ticket. IsFresh ticket self.old.running) }
         ensures started { self.new.running ≡ running_after self.old.running result }
         ensures numbered { IfOk result (λ ticket. ticket ≡ starts self.old.log + 1) }
-        ensures scripted { Answers self.old (HostRequest.Start launch.now) (told (λ ticket. HostAnswer.Started ticket) result) self.new }
+        ensures scripted { Answers self.old (HostRequest.Start launch.now) (answer_behind (λ ticket. HostAnswer.Started ticket) result) self.new }
     {
         let request = HostRequest::Start(launch.clone_in(self.alloc)?);
         if !self.says_start() {
@@ -231,13 +231,13 @@ impl Host for Scripted {
         Ok(Ticket::new(number))
     }
 
-    fn collect(&mut self) -> Result<Ending, HostError>
+    fn collect(&mut self) -> Result<ChildEnd, HostError>
         ensures logged { self.new.log ≡ self.old.log
-            ++ entries_of HostRequest.Collect (told (λ ending. HostAnswer.Ended ending) result) }
+            ++ entries_of HostRequest.Collect (answer_behind (λ ending. HostAnswer.Ended ending) result) }
         ensures own { FailsOnlyBy HostFault.Collect result }
         ensures child { IfOk result (λ ending. Contains self.old.running ending.ticket) }
         ensures running { self.new.running ≡ self.old.running }
-        ensures scripted { Answers self.old HostRequest.Collect (told (λ ending. HostAnswer.Ended ending) result) self.new }
+        ensures scripted { Answers self.old HostRequest.Collect (answer_behind (λ ending. HostAnswer.Ended ending) result) self.new }
     {
         let Some(ending) = self.next_end() else {
             return Err(self.refuse(HostRequest::Collect, HostFault::Collect));
@@ -252,10 +252,10 @@ impl Host for Scripted {
 
     fn scan(&mut self, folder: &Text) -> Result<Items<Found>, HostError>
         ensures logged { self.new.log ≡ self.old.log
-            ++ entries_of (HostRequest.Scan folder.now) (told (λ found. HostAnswer.Listed found) result) }
+            ++ entries_of (HostRequest.Scan folder.now) (answer_behind (λ found. HostAnswer.Listed found) result) }
         ensures own { FailsOnlyBy HostFault.Scan result }
         ensures running { self.new.running ≡ self.old.running }
-        ensures scripted { Answers self.old (HostRequest.Scan folder.now) (told (λ found. HostAnswer.Listed found) result) self.new }
+        ensures scripted { Answers self.old (HostRequest.Scan folder.now) (answer_behind (λ found. HostAnswer.Listed found) result) self.new }
     {
         let Some(listed) = self.next_listing()? else {
             let request = HostRequest::Scan(folder.copied(self.alloc)?);
@@ -268,10 +268,10 @@ impl Host for Scripted {
 
     fn deliver(&mut self, plan: &StagePlan) -> Result<(), HostError>
         ensures logged { self.new.log ≡ self.old.log
-            ++ entries_of (HostRequest.Deliver plan.now) (told (λ _. HostAnswer.Done) result) }
+            ++ entries_of (HostRequest.Deliver plan.now) (answer_behind (λ _. HostAnswer.Done) result) }
         ensures own { FailsOnlyBy HostFault.Deliver result }
         ensures running { self.new.running ≡ self.old.running }
-        ensures scripted { Answers self.old (HostRequest.Deliver plan.now) (told (λ _. HostAnswer.Done) result) self.new }
+        ensures scripted { Answers self.old (HostRequest.Deliver plan.now) (answer_behind (λ _. HostAnswer.Done) result) self.new }
     {
         let request = HostRequest::Deliver(plan.clone_in(self.alloc)?);
         if let Some(Reply::Deliver) = self.script.get(self.given) {

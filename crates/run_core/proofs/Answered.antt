@@ -1,17 +1,18 @@
 -- What each answer leads to.
 use Rattle.std.specs.Prelude.{Contains}
-use Rattle.std.proofs.Common.{◌≡◌, ◌∙◌, ℕ, zero, suc, ◌==◌, Bool, true, cond, length, List, [], ◌∷◌, ◌++◌, Option, Some, None, Ok, Err, refl, sym, ap, subst, arith, eq-eqb}
+use Rattle.std.proofs.Common.{◌≡◌, ℕ, zero, suc, List, [], ◌∷◌, ◌++◌, Option, Some, None, Ok, Err, refl, sym, subst, arith, lit<}
 use Rattle.cwl_document.specs.declared.process.Tool.{Tool}
 use Rattle.proc_host.specs.declared.call.HostAnswer.{HostAnswer}
+use Rattle.proc_host.specs.declared.call.HostRequest.{HostRequest}
 use Rattle.proc_host.specs.declared.call.HostFault.{HostFault}
-use Rattle.proc_host.specs.declared.child.Ending.{Ending}
+use Rattle.proc_host.specs.declared.child.ChildEnd.{ChildEnd}
 use Rattle.proc_host.specs.declared.child.ExitClass.{ExitClass}
 use Rattle.proc_host.specs.declared.found.Found.{Found}
 use Rattle.proc_host.specs.declared.plan.StagePlan.{StagePlan}
 use Rattle.proc_host.specs.ExitClass.{class_of}
 use Rattle.command_line.specs.declared.launch.Launch.{Launch}
-use Rattle.command_line.specs.Launch.{IsLaunch}
 use Rattle.run_rules.specs.declared.outcome.Cause.{Cause}
+use Rattle.run_rules.specs.declared.request.Answer.{Answer}
 use Rattle.run_rules.specs.declared.request.Request.{Request}
 use Rattle.run_rules.specs.declared.request.Pair.{Pair}
 use Rattle.run_rules.specs.declared.setting.Options.{Options}
@@ -19,32 +20,28 @@ use Rattle.run_rules.specs.declared.setting.Setting.{Setting}
 use Rattle.run_core.specs.declared.state.Phase.{Phase}
 use Rattle.run_core.specs.declared.state.State.{State}
 use Rattle.run_rules.specs.Words.{Fields}
-use Rattle.run_rules.specs.Folders.{out_folder, runtime_of}
+use Rattle.run_rules.specs.Folders.{out_folder}
 use Rattle.run_rules.specs.Delivered.{located}
-use Rattle.run_rules.specs.Events.{Staged, Began, Came_back, Succeeded, Broke, Gave_up, Delivered, Host_failed, Collect_failed, Idle, So_far, at_first, after, in_flight, unfolding_at}
+use Rattle.run_rules.specs.Events.{job_staged, job_started, child_exited, job_succeeded, job_failed, child_signalled, result_delivered, host_failed, collect_failed, nothing_due, start_due, scan_due, Progress, at_first, in_flight, unfolding_at}
+use Rattle.run_rules.specs.Steps.{has_launch as a_launch, has_no_launch as no_launch, starts, exits_well, exits_by_signal, exits_badly, collects, collects_none, delivers, loses_collect, call_fails}
 use Rattle.run_rules.specs.Collected.{collected}
 use Rattle.run_rules.specs.Scene.{Scene}
-use Rattle.run_rules.specs.Unfold.{or_else}
-use Rattle.run_rules.specs.Ending.{End, settled, result_end, delivered_end, Succeeds, Fails_for_good, Fails_for_now, Host_ends, delivery_at}
-use Rattle.run_rules.specs.Plans.{Load, Compute}
+use Rattle.run_rules.specs.End.{succeeds_with, fails_permanently, fails_temporarily, ended_by_host, delivery_at}
+use Rattle.run_rules.specs.EndsSo.{IsDelivered, lost as collect_lost, fails, succeeds}
+use Rattle.plan_checker.specs.declared.plan.Mark.TheVariants.{Load, Compute}
 use Rattle.run_rules.specs.Run.{IsRunSoFar}
 use Rattle.run_rules.specs.Reports.{report_of}
-use Rattle.run_core.specs.Machine.{waits, ends, fails_for_good, host_fails, after_ticket, after_class, after_exit, Launches, has_launch, has_none}
-use Rattle.run_rules.specs.Jobs.{tool_of}
-use Rattle.run_core.specs.Standing.{IsLone, starting, running, scanning, delivering, when_staged, when_running, when_back, when_gathered}
-use Rattle.run_core.proofs.Lone.{may_stage, may_start, has_no_launch, may_collect, may_scan, may_deliver, landed}
-use Rattle.run_core.proofs.Advance.{Advances, its_scene, same, step_at, break_at, end_at}
+use Rattle.run_core.specs.inner.Machine.{waits, ends, fails_for_good, host_fails, after_ticket, after_class, after_exit, Launches, has_launch, has_none}
+use Rattle.run_rules.specs.Jobs.{Job, tool_of}
+use Rattle.run_core.specs.inner.Standing.{IsLone, starting, running, scanning, delivering, when_staged, when_running, when_back, when_gathered}
+use Rattle.run_core.proofs.Lone.{may_stage, may_collect, may_deliver, landed, when_delivered, busy_gathered, busy_delivered}
+use Rattle.run_core.proofs.Advance.{Advances, its_scene, same, step_at, end_at}
 
 abbrev pub pair : Request → HostAnswer → Pair
-pair request answer = record { request = request; answer = answer }
+pair request answer = record { request = request; answer = Answer.Host answer }
 
 abbrev pub plan_of : Fields → StagePlan
 plan_of inputs = record { moves = []; value = inputs }
-
--- an end that no lost collect and no failure brings
-ends_when : (landed : Bool) (failure result end : Option End) → landed ≡ true → failure ≡ None → result ≡ end →
-    cond landed (or_else failure result) None ≡ end
-ends_when landed failure result end p q r = rw (p, q) r
 
 -- the one child in flight is the one that ended
 pub only_ticket : (ticket n : ℕ) → Contains (ticket ∷ []) n → ticket ≡ n
@@ -61,115 +58,107 @@ module _ (setting : Setting) (inputs : Fields) (l : IsLone setting inputs) (t : 
   -- Staging
 
   abbrev pub stage_request : Request
-  stage_request = Request.Stage [] (plan_of inputs) 1
+  stage_request = Request.Host [] (HostRequest.Stage (plan_of inputs) 1)
 
-  pub staged : IsRunSoFar setting t at_first (Compute ∷ []) →
-      IsRunSoFar setting (t ++ pair stage_request HostAnswer.Done ∷ []) when_staged (Compute ∷ [])
-  staged goes =
-      step_at setting inputs l t at_first (Compute ∷ []) (pair stage_request HostAnswer.Done) when_staged (Compute ∷ [])
-      goes (may_stage tool inputs o l.limits) refl refl
+  abbrev pub its_job : Job
+  its_job = record { place = []; tool = tool; inputs = inputs }
 
   pub launches : (next : State) → IsRunSoFar setting t at_first (Compute ∷ []) → Launches setting inputs next →
       Advances setting (t ++ pair stage_request HostAnswer.Done ∷ []) next
   launches next goes (has_launch launch is) = record {
-    happened = when_staged;
+    happened = when_staged launch;
     marks = Compute ∷ [];
-    goes = staged goes;
+    goes = step_at setting inputs l t at_first (Compute ∷ []) (pair stage_request HostAnswer.Done) (start_due [] launch) (job_staged [] 1 ∷ []) (Compute ∷ [])
+        goes (may_stage tool inputs o l.limits) (a_launch [] (plan_of inputs) 1 its_job launch refl is) refl;
     at = starting inputs launch l is;
   }
   launches next goes (has_none fault refused) =
       end_at setting inputs l (t ++ pair stage_request HostAnswer.Done ∷ [])
-      (record { work = Idle; events = Staged [] 1 ∷ Broke [] (Cause.Build fault) ∷ [] }) (Compute ∷ [])
-      (Fails_for_good [] (Cause.Build fault))
-      (break_at setting inputs l (t ++ pair stage_request HostAnswer.Done ∷ []) when_staged (Compute ∷ []) [] fault
-      (staged goes) (has_no_launch tool inputs o l.limits fault refused) refl)
-      refl refl
+      (record { work = nothing_due; events = job_staged [] 1 ∷ job_failed [] (Cause.Build fault) ∷ [] }) (Compute ∷ [])
+      (fails_permanently [] (Cause.Build fault))
+      (step_at setting inputs l t at_first (Compute ∷ []) (pair stage_request HostAnswer.Done) nothing_due (job_staged [] 1 ∷ job_failed [] (Cause.Build fault) ∷ []) (Compute ∷ [])
+      goes (may_stage tool inputs o l.limits) (no_launch [] (plan_of inputs) 1 its_job fault refl refused) refl)
+      (fails _ refl refl refl refl)
 
-  pub stage_fails : (fault : HostFault) → IsRunSoFar setting t at_first (Compute ∷ []) →
-      Advances setting (t ++ pair stage_request (HostAnswer.Failed fault) ∷ []) (host_fails fault [])
-  stage_fails fault goes =
-      let f : So_far = record { work = Idle; events = Host_failed [] fault ∷ [] } in
-      end_at setting inputs l (t ++ pair stage_request (HostAnswer.Failed fault) ∷ []) f (Compute ∷ []) (Host_ends fault [])
-      (step_at setting inputs l t at_first (Compute ∷ []) (pair stage_request (HostAnswer.Failed fault)) f (Compute ∷ [])
-      goes (may_stage tool inputs o l.limits) refl refl)
-      refl refl
+  pub stage_fails : IsRunSoFar setting t at_first (Compute ∷ []) →
+      Advances setting (t ++ pair stage_request (HostAnswer.Failed HostFault.Stage) ∷ []) (host_fails HostFault.Stage [])
+  stage_fails goes =
+      end_at setting inputs l (t ++ pair stage_request (HostAnswer.Failed HostFault.Stage) ∷ []) (record { work = nothing_due; events = host_failed [] HostFault.Stage ∷ [] })
+      (Compute ∷ []) (ended_by_host HostFault.Stage [])
+      (step_at setting inputs l t at_first (Compute ∷ []) (pair stage_request (HostAnswer.Failed HostFault.Stage)) nothing_due (host_failed [] HostFault.Stage ∷ []) (Compute ∷ [])
+      goes (may_stage tool inputs o l.limits) (call_fails [] (HostRequest.Stage (plan_of inputs) 1) (λ is. cc)) refl)
+      (fails _ refl refl refl refl)
 
   -- Starting
 
-  pub began : (launch : Launch) (ticket : ℕ) → IsLaunch tool inputs (runtime_of o 1) launch →
-      IsRunSoFar setting t when_staged (Compute ∷ []) →
-      Advances setting (t ++ pair (Request.Start [] launch) (HostAnswer.Started ticket) ∷ []) (after_ticket ticket)
-  began launch ticket is goes = record {
-    happened = when_running ticket;
-    marks = Load ∷ [];
-    goes = step_at setting inputs l t when_staged (Compute ∷ []) (pair (Request.Start [] launch) (HostAnswer.Started ticket))
-        (when_running ticket) (Load ∷ []) goes (may_start tool inputs o l.limits launch is) refl refl;
-    at = running inputs ticket l;
-  }
+  module _ (launch : Launch) (goes : IsRunSoFar setting t (when_staged launch) (Compute ∷ [])) where
+    abbrev start_request : Request
+    start_request = Request.Host [] (HostRequest.Start launch)
 
-  pub start_fails : (launch : Launch) (fault : HostFault) → IsLaunch tool inputs (runtime_of o 1) launch →
-      IsRunSoFar setting t when_staged (Compute ∷ []) →
-      Advances setting (t ++ pair (Request.Start [] launch) (HostAnswer.Failed fault) ∷ []) (host_fails fault [])
-  start_fails launch fault is goes =
-      let f : So_far = record { work = Idle; events = Staged [] 1 ∷ Host_failed [] fault ∷ [] } in
-      end_at setting inputs l (t ++ pair (Request.Start [] launch) (HostAnswer.Failed fault) ∷ []) f (Compute ∷ []) (Host_ends fault [])
-      (step_at setting inputs l t when_staged (Compute ∷ []) (pair (Request.Start [] launch) (HostAnswer.Failed fault)) f (Compute ∷ [])
-      goes (may_start tool inputs o l.limits launch is) refl refl)
-      refl refl
+    pub began : (ticket : ℕ) → Advances setting (t ++ pair start_request (HostAnswer.Started ticket) ∷ []) (after_ticket ticket)
+    began ticket = record {
+      happened = when_running ticket;
+      marks = Load ∷ [];
+      goes = step_at setting inputs l t (when_staged launch) (Compute ∷ []) (pair start_request (HostAnswer.Started ticket)) nothing_due (job_started [] ticket ∷ []) (Load ∷ [])
+          goes refl (starts [] launch ticket) refl;
+      at = running inputs ticket l;
+    }
+
+    pub start_fails : Advances setting (t ++ pair start_request (HostAnswer.Failed HostFault.Start) ∷ []) (host_fails HostFault.Start [])
+    start_fails =
+        end_at setting inputs l (t ++ pair start_request (HostAnswer.Failed HostFault.Start) ∷ [])
+        (record { work = nothing_due; events = job_staged [] 1 ∷ host_failed [] HostFault.Start ∷ [] }) (Compute ∷ []) (ended_by_host HostFault.Start [])
+        (step_at setting inputs l t (when_staged launch) (Compute ∷ []) (pair start_request (HostAnswer.Failed HostFault.Start)) nothing_due (host_failed [] HostFault.Start ∷ []) (Compute ∷ [])
+        goes refl (call_fails [] (HostRequest.Start launch) (λ is. cc)) refl)
+        (fails _ refl refl refl refl)
 
   -- Running
 
+  abbrev collect_request : Request
+  collect_request = Request.Host [] HostRequest.Collect
+
   pub collect_fails : (ticket : ℕ) → IsRunSoFar setting t (when_running ticket) (Load ∷ []) →
-      Advances setting (t ++ pair Request.Collect (HostAnswer.Failed HostFault.Collect) ∷ []) (host_fails HostFault.Collect (ticket ∷ []))
+      Advances setting (t ++ pair collect_request (HostAnswer.Failed HostFault.Collect) ∷ []) (host_fails HostFault.Collect (ticket ∷ []))
   collect_fails ticket goes =
-      let f : So_far = record { work = Idle; events = Staged [] 1 ∷ Began [] ticket ∷ Collect_failed ∷ [] } in
-      end_at setting inputs l (t ++ pair Request.Collect (HostAnswer.Failed HostFault.Collect) ∷ []) f (Load ∷ [])
-      (Host_ends HostFault.Collect (ticket ∷ []))
-      (step_at setting inputs l t (when_running ticket) (Load ∷ []) (pair Request.Collect (HostAnswer.Failed HostFault.Collect)) f (Load ∷ [])
-      goes (may_collect tool inputs o l.limits ticket) refl refl)
-      refl refl
+      end_at setting inputs l (t ++ pair collect_request (HostAnswer.Failed HostFault.Collect) ∷ [])
+      (record { work = nothing_due; events = job_staged [] 1 ∷ job_started [] ticket ∷ collect_failed ∷ [] }) (Load ∷ [])
+      (ended_by_host HostFault.Collect (ticket ∷ []))
+      (step_at setting inputs l t (when_running ticket) (Load ∷ []) (pair collect_request (HostAnswer.Failed HostFault.Collect)) nothing_due (collect_failed ∷ []) (Load ∷ [])
+      goes (may_collect tool inputs o l.limits ticket) loses_collect refl)
+      (collect_lost refl refl)
 
-  module _ (e : Ending) (goes : IsRunSoFar setting t (when_running e.ticket) (Load ∷ [])) where
+  module _ (e : ChildEnd) (goes : IsRunSoFar setting t (when_running e.ticket) (Load ∷ [])) where
     abbrev pub back : Pair
-    back = pair Request.Collect (HostAnswer.Ended e)
+    back = pair collect_request (HostAnswer.Ended e)
 
-    came_well : class_of e.code ≡ ExitClass.Success → after (its_scene setting inputs) (when_running e.ticket) back ≡ when_back e.ticket
-    came_well is = rw (eq-eqb e.ticket e.ticket refl, is) refl
-
-    abbrev pub gave_up : So_far
-    gave_up = record { work = Idle; events = Staged [] 1 ∷ Began [] e.ticket ∷ Came_back e.ticket ∷ Gave_up [] ∷ [] }
-
-    came_now : class_of e.code ≡ ExitClass.Temporary → after (its_scene setting inputs) (when_running e.ticket) back ≡ gave_up
-    came_now is = rw (eq-eqb e.ticket e.ticket refl, is) refl
-
-    abbrev pub broke : So_far
-    broke = record { work = Idle; events = Staged [] 1 ∷ Began [] e.ticket ∷ Came_back e.ticket ∷ Broke [] (Cause.Exit e.code) ∷ [] }
-
-    came_bad : class_of e.code ≡ ExitClass.Permanent → after (its_scene setting inputs) (when_running e.ticket) back ≡ broke
-    came_bad is = rw (eq-eqb e.ticket e.ticket refl, is) refl
+    flies : Contains (in_flight (when_running e.ticket).events) (e.ticket, [])
+    flies = (0, lit< tt, refl)
 
     comes_back : (class : ExitClass) → class_of e.code ≡ class → Advances setting (t ++ back ∷ []) (after_class o e.code class)
     comes_back ExitClass.Success is = record {
-      happened = when_back e.ticket;
+      happened = when_back e.ticket e.millis;
       marks = Load ∷ [];
-      goes = step_at setting inputs l t (when_running e.ticket) (Load ∷ []) back (when_back e.ticket) (Load ∷ [])
-          goes (may_collect tool inputs o l.limits e.ticket) (came_well is) refl;
-      at = scanning inputs e.ticket l;
+      goes = step_at setting inputs l t (when_running e.ticket) (Load ∷ []) back (scan_due [] e.millis) (child_exited e.ticket ∷ []) (Load ∷ [])
+          goes (may_collect tool inputs o l.limits e.ticket) (exits_well [] e flies is) refl;
+      at = scanning inputs e.ticket e.millis l;
     }
     comes_back ExitClass.Temporary is =
         let never : o.retries ≡ 0 = l.limits.retries in
-        end_at setting inputs l (t ++ back ∷ []) gave_up (Load ∷ []) (Fails_for_now [])
-        (step_at setting inputs l t (when_running e.ticket) (Load ∷ []) back gave_up (Load ∷ [])
-        goes (may_collect tool inputs o l.limits e.ticket) (came_now is) (rw never refl))
-        refl (rw (eq-eqb e.ticket e.ticket refl, never) refl)
+        end_at setting inputs l (t ++ back ∷ [])
+        (record { work = nothing_due; events = job_staged [] 1 ∷ job_started [] e.ticket ∷ child_exited e.ticket ∷ child_signalled [] ∷ [] }) (Load ∷ []) (fails_temporarily [])
+        (step_at setting inputs l t (when_running e.ticket) (Load ∷ []) back nothing_due (child_exited e.ticket ∷ child_signalled [] ∷ []) (Load ∷ [])
+        goes (may_collect tool inputs o l.limits e.ticket) (exits_by_signal [] e flies is) (rw never refl))
+        (fails _ refl refl (landed e.ticket) (rw never refl))
     comes_back ExitClass.Permanent is =
-        end_at setting inputs l (t ++ back ∷ []) broke (Load ∷ []) (Fails_for_good [] (Cause.Exit e.code))
-        (step_at setting inputs l t (when_running e.ticket) (Load ∷ []) back broke (Load ∷ [])
-        goes (may_collect tool inputs o l.limits e.ticket) (came_bad is) refl)
-        refl (rw (eq-eqb e.ticket e.ticket refl) refl)
+        end_at setting inputs l (t ++ back ∷ [])
+        (record { work = nothing_due; events = job_staged [] 1 ∷ job_started [] e.ticket ∷ child_exited e.ticket ∷ job_failed [] (Cause.Exit e.code) ∷ [] }) (Load ∷ [])
+        (fails_permanently [] (Cause.Exit e.code))
+        (step_at setting inputs l t (when_running e.ticket) (Load ∷ []) back nothing_due (child_exited e.ticket ∷ job_failed [] (Cause.Exit e.code) ∷ []) (Load ∷ [])
+        goes (may_collect tool inputs o l.limits e.ticket) (exits_badly [] e flies is) refl)
+        (fails _ refl refl (landed e.ticket) refl)
 
-  pub collected_one : (ticket : ℕ) (e : Ending) → Contains (ticket ∷ []) e.ticket → IsRunSoFar setting t (when_running ticket) (Load ∷ []) →
-      Advances setting (t ++ pair Request.Collect (HostAnswer.Ended e) ∷ []) (after_exit o e.code)
+  pub collected_one : (ticket : ℕ) (e : ChildEnd) → Contains (ticket ∷ []) e.ticket → IsRunSoFar setting t (when_running ticket) (Load ∷ []) →
+      Advances setting (t ++ pair (Request.Host [] HostRequest.Collect) (HostAnswer.Ended e) ∷ []) (after_exit o e.code)
   collected_one ticket e flying goes =
       let there : IsRunSoFar setting t (when_running e.ticket) (Load ∷ []) =
       subst (λ (n : ℕ). IsRunSoFar setting t (when_running n) (Load ∷ [])) (only_ticket ticket e.ticket flying) goes
@@ -177,17 +166,18 @@ module _ (setting : Setting) (inputs : Fields) (l : IsLone setting inputs) (t : 
 
   -- Scanning
 
-  module _ (ticket : ℕ) (goes : IsRunSoFar setting t (when_back ticket) (Load ∷ [])) where
+  module _ (ticket millis : ℕ) (goes : IsRunSoFar setting t (when_back ticket millis) (Load ∷ [])) where
     abbrev pub scan_request : Request
-    scan_request = Request.Scan [] (out_folder o.work 1)
+    scan_request = Request.Host [] (HostRequest.Scan (out_folder o.work 1))
 
-    pub scan_fails : (fault : HostFault) → Advances setting (t ++ pair scan_request (HostAnswer.Failed fault) ∷ []) (host_fails fault [])
-    scan_fails fault =
-        let f : So_far = record { work = Idle; events = Staged [] 1 ∷ Began [] ticket ∷ Came_back ticket ∷ Host_failed [] fault ∷ [] } in
-        end_at setting inputs l (t ++ pair scan_request (HostAnswer.Failed fault) ∷ []) f (Load ∷ []) (Host_ends fault [])
-        (step_at setting inputs l t (when_back ticket) (Load ∷ []) (pair scan_request (HostAnswer.Failed fault)) f (Load ∷ [])
-        goes (may_scan tool inputs o l.limits ticket) refl refl)
-        refl (rw (eq-eqb ticket ticket refl) refl)
+    pub scan_fails : Advances setting (t ++ pair scan_request (HostAnswer.Failed HostFault.Scan) ∷ []) (host_fails HostFault.Scan [])
+    scan_fails =
+        end_at setting inputs l (t ++ pair scan_request (HostAnswer.Failed HostFault.Scan) ∷ [])
+        (record { work = nothing_due; events = job_staged [] 1 ∷ job_started [] ticket ∷ child_exited ticket ∷ host_failed [] HostFault.Scan ∷ [] }) (Load ∷ [])
+        (ended_by_host HostFault.Scan [])
+        (step_at setting inputs l t (when_back ticket millis) (Load ∷ []) (pair scan_request (HostAnswer.Failed HostFault.Scan)) nothing_due (host_failed [] HostFault.Scan ∷ []) (Load ∷ [])
+        goes refl (call_fails [] (HostRequest.Scan (out_folder o.work 1)) (λ is. cc)) refl)
+        (fails _ refl refl (landed ticket) refl)
 
     module _ (found : List Found) where
       abbrev pub scan : Pair
@@ -195,22 +185,22 @@ module _ (setting : Setting) (inputs : Fields) (l : IsLone setting inputs) (t : 
 
       pub scan_breaks : (cause : Cause) → collected tool found ≡ Err cause → Advances setting (t ++ scan ∷ []) (fails_for_good cause)
       scan_breaks cause is =
-          let f : So_far = record { work = Idle; events = Staged [] 1 ∷ Began [] ticket ∷ Came_back ticket ∷ Broke [] cause ∷ [] } in
-          end_at setting inputs l (t ++ scan ∷ []) f (Load ∷ []) (Fails_for_good [] cause)
-          (step_at setting inputs l t (when_back ticket) (Load ∷ []) scan f (Load ∷ [])
-          goes (may_scan tool inputs o l.limits ticket) (rw is refl) refl)
-          refl (rw (eq-eqb ticket ticket refl) refl)
+          end_at setting inputs l (t ++ scan ∷ [])
+          (record { work = nothing_due; events = job_staged [] 1 ∷ job_started [] ticket ∷ child_exited ticket ∷ job_failed [] cause ∷ [] }) (Load ∷ []) (fails_permanently [] cause)
+          (step_at setting inputs l t (when_back ticket millis) (Load ∷ []) scan nothing_due (job_failed [] cause ∷ []) (Load ∷ [])
+          goes refl (collects_none [] (out_folder o.work 1) found its_job cause refl is) refl)
+          (fails _ refl refl (landed ticket) refl)
 
       scanned : (named : Fields) → collected tool found ≡ Ok named → IsRunSoFar setting (t ++ scan ∷ []) (when_gathered ticket named) (Load ∷ [])
       scanned named is =
-          step_at setting inputs l t (when_back ticket) (Load ∷ []) scan (when_gathered ticket named) (Load ∷ [])
-          goes (may_scan tool inputs o l.limits ticket) (rw is refl) refl
+          step_at setting inputs l t (when_back ticket millis) (Load ∷ []) scan nothing_due (job_succeeded [] named ∷ []) (Load ∷ [])
+          goes refl (collects [] (out_folder o.work 1) found its_job named refl is) refl
 
       -- with files to deliver
       pub scan_delivers : (named outputs : Fields) (plan : StagePlan) → collected tool found ≡ Ok named →
           (unfolding_at (its_scene setting inputs) (when_gathered ticket named).events).result ≡ Some outputs →
           delivery_at (its_scene setting inputs) (when_gathered ticket named).events outputs ≡ Some plan →
-          Advances setting (t ++ scan ∷ []) (waits (Request.Deliver plan) (Phase.Delivering (located o.outdir outputs)))
+          Advances setting (t ++ scan ∷ []) (waits (Request.Host [] (HostRequest.Deliver plan)) (Phase.Delivering (located o.outdir outputs)))
       scan_delivers named outputs plan is result delivery = record {
         happened = when_gathered ticket named;
         marks = Load ∷ [];
@@ -224,13 +214,11 @@ module _ (setting : Setting) (inputs : Fields) (l : IsLone setting inputs) (t : 
       pub scan_ends : (named outputs : Fields) → collected tool found ≡ Ok named →
           (unfolding_at (its_scene setting inputs) (when_gathered ticket named).events).result ≡ Some outputs →
           delivery_at (its_scene setting inputs) (when_gathered ticket named).events outputs ≡ None →
-          Advances setting (t ++ scan ∷ []) (ends (report_of o (Succeeds outputs)))
+          Advances setting (t ++ scan ∷ []) (ends (report_of o (succeeds_with outputs)))
       scan_ends named outputs is result none =
-          let f : So_far = when_gathered ticket named in
-          end_at setting inputs l (t ++ scan ∷ []) f (Load ∷ []) (Succeeds outputs) (scanned named is) refl
-          (ends_when (length (in_flight f.events) == 0) (settled (its_scene setting inputs) f.events) _ _
-          (rw (eq-eqb ticket ticket refl) refl) refl
-          (ap (result_end (its_scene setting inputs) f.events) result ∙ ap (delivered_end (its_scene setting inputs) f.events outputs) none))
+          end_at setting inputs l (t ++ scan ∷ []) (when_gathered ticket named) (Load ∷ []) (succeeds_with outputs) (scanned named is)
+          (succeeds outputs (busy_gathered tool inputs o l.limits ticket named) (landed ticket) result
+          (subst (λ (p : Option StagePlan). IsDelivered (when_gathered ticket named) p) (sym none) tt))
 
   -- Delivering
 
@@ -238,21 +226,22 @@ module _ (setting : Setting) (inputs : Fields) (l : IsLone setting inputs) (t : 
       (goes : IsRunSoFar setting t (when_gathered ticket named) (Load ∷ []))
       (result : (unfolding_at (its_scene setting inputs) (when_gathered ticket named).events).result ≡ Some outputs)
       (delivery : delivery_at (its_scene setting inputs) (when_gathered ticket named).events outputs ≡ Some plan) where
-    pub delivers_well : Advances setting (t ++ pair (Request.Deliver plan) HostAnswer.Done ∷ []) (ends (report_of o (Succeeds outputs)))
-    delivers_well =
-        let f : So_far = record { work = Idle; events = Staged [] 1 ∷ Began [] ticket ∷ Came_back ticket ∷ Succeeded [] named ∷ Delivered ∷ [] } in
-        end_at setting inputs l (t ++ pair (Request.Deliver plan) HostAnswer.Done ∷ []) f (Load ∷ []) (Succeeds outputs)
-        (step_at setting inputs l t (when_gathered ticket named) (Load ∷ []) (pair (Request.Deliver plan) HostAnswer.Done) f (Load ∷ [])
-        goes (may_deliver tool inputs o l.limits ticket named outputs plan result delivery) refl refl)
-        refl
-        (ends_when (length (in_flight f.events) == 0) (settled (its_scene setting inputs) f.events) _ _
-        (rw (eq-eqb ticket ticket refl) refl) refl
-        (ap (result_end (its_scene setting inputs) f.events) result ∙ ap (delivered_end (its_scene setting inputs) f.events outputs) delivery))
+    abbrev deliver_request : Request
+    deliver_request = Request.Host [] (HostRequest.Deliver plan)
 
-    pub deliver_fails : (fault : HostFault) → Advances setting (t ++ pair (Request.Deliver plan) (HostAnswer.Failed fault) ∷ []) (host_fails fault [])
-    deliver_fails fault =
-        let f : So_far = record { work = Idle; events = Staged [] 1 ∷ Began [] ticket ∷ Came_back ticket ∷ Succeeded [] named ∷ Host_failed [] fault ∷ [] } in
-        end_at setting inputs l (t ++ pair (Request.Deliver plan) (HostAnswer.Failed fault) ∷ []) f (Load ∷ []) (Host_ends fault [])
-        (step_at setting inputs l t (when_gathered ticket named) (Load ∷ []) (pair (Request.Deliver plan) (HostAnswer.Failed fault)) f (Load ∷ [])
-        goes (may_deliver tool inputs o l.limits ticket named outputs plan result delivery) refl refl)
-        refl (rw (eq-eqb ticket ticket refl) refl)
+    pub delivers_well : Advances setting (t ++ pair deliver_request HostAnswer.Done ∷ []) (ends (report_of o (succeeds_with outputs)))
+    delivers_well =
+        end_at setting inputs l (t ++ pair deliver_request HostAnswer.Done ∷ []) (when_delivered ticket named) (Load ∷ []) (succeeds_with outputs)
+        (step_at setting inputs l t (when_gathered ticket named) (Load ∷ []) (pair deliver_request HostAnswer.Done) nothing_due (result_delivered ∷ []) (Load ∷ [])
+        goes (may_deliver tool inputs o l.limits ticket named outputs plan result delivery) (delivers [] plan) refl)
+        (succeeds outputs (busy_delivered tool inputs o l.limits ticket named) (landed ticket) result
+        (subst (λ (p : Option StagePlan). IsDelivered (when_delivered ticket named) p) (sym delivery) refl))
+
+    pub deliver_fails : Advances setting (t ++ pair deliver_request (HostAnswer.Failed HostFault.Deliver) ∷ []) (host_fails HostFault.Deliver [])
+    deliver_fails =
+        end_at setting inputs l (t ++ pair deliver_request (HostAnswer.Failed HostFault.Deliver) ∷ [])
+        (record { work = nothing_due; events = job_staged [] 1 ∷ job_started [] ticket ∷ child_exited ticket ∷ job_succeeded [] named ∷ host_failed [] HostFault.Deliver ∷ [] })
+        (Load ∷ []) (ended_by_host HostFault.Deliver [])
+        (step_at setting inputs l t (when_gathered ticket named) (Load ∷ []) (pair deliver_request (HostAnswer.Failed HostFault.Deliver)) nothing_due (host_failed [] HostFault.Deliver ∷ []) (Load ∷ [])
+        goes (may_deliver tool inputs o l.limits ticket named outputs plan result delivery) (call_fails [] (HostRequest.Deliver plan) (λ is. cc)) refl)
+        (fails _ refl refl (landed ticket) refl)

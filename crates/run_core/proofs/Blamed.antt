@@ -8,11 +8,13 @@ use Rattle.cwl_document.specs.declared.process.ToolOutput.{ToolOutput}
 use Rattle.command_line.specs.Launch.{stream_name}
 use Rattle.proc_host.specs.declared.call.Entry.{Entry}
 use Rattle.proc_host.specs.declared.call.HostAnswer.{HostAnswer}
+use Rattle.proc_host.specs.declared.call.HostRequest.{HostRequest}
 use Rattle.proc_host.specs.declared.child.ExitClass.{ExitClass}
 use Rattle.proc_host.specs.declared.found.Found.{Found}
 use Rattle.proc_host.specs.ExitClass.{class_of}
 use Rattle.run_rules.specs.declared.outcome.Cause.{Cause}
 use Rattle.run_rules.specs.declared.outcome.CollectFault.{CollectFault}
+use Rattle.run_rules.specs.declared.request.Answer.{Answer}
 use Rattle.run_rules.specs.declared.request.Request.{Request}
 use Rattle.run_rules.specs.declared.request.Pair.{Pair}
 use Rattle.run_rules.specs.declared.setting.Options.{Options}
@@ -20,30 +22,28 @@ use Rattle.run_rules.specs.declared.setting.Setting.{Setting}
 use Rattle.run_core.specs.declared.state.Phase.{Phase}
 use Rattle.run_core.specs.declared.state.State.{State}
 use Rattle.run_rules.specs.Words.{Name, Fields}
-use Rattle.run_rules.specs.Answers.{MayAnswer}
-use Rattle.run_rules.specs.Blame.{answers, WereStarted}
+use Rattle.run_rules.specs.Answers.{MayAnswer, by_host}
+use Rattle.run_rules.specs.Blame.{logged_answers, WereStarted}
 use Rattle.run_rules.specs.Collected.{found_under}
 use Rattle.run_rules.specs.Reports.{entries_of, entry_of}
-use Rattle.run_core.specs.Machine.{fails_for_good, Launches, has_launch, has_none, after_class, after_file, after_listing, delivers, left_by, FollowsDone, FollowsFrom}
+use Rattle.run_core.specs.inner.Machine.{fails_for_good, Launches, has_launch, has_none, after_class, after_file, after_listing, delivers, left_by, FollowsDone, FollowsFrom}
 use Rattle.run_rules.specs.Jobs.{tool_of}
-use Rattle.run_core.specs.Standing.{Blames}
-use Rattle.run_core.proofs.Answered.{pair, only_ticket}
+use Rattle.run_core.specs.inner.Standing.{Blames}
+use Rattle.run_core.proofs.Answered.{only_ticket}
 
-one_answer : (asks : Request) (flying : List ℕ) (answer : HostAnswer) → MayAnswer asks flying answer →
-    answers (entries_of (pair asks answer ∷ [])) ≡ answer ∷ []
-one_answer (Request.Stage place plan number) flying answer may = refl
-one_answer (Request.Start place launch) flying answer may = refl
-one_answer Request.Collect flying answer may = refl
-one_answer (Request.Scan place folder) flying answer may = refl
-one_answer (Request.Deliver plan) flying answer may = refl
-one_answer Request.Finished flying answer may = absurd may
+abbrev host_answer : Answer → HostAnswer
+host_answer (Answer.Host answer) = answer
 
-answers_more : (t : List Pair) (asks : Request) (flying : List ℕ) (answer : HostAnswer) → MayAnswer asks flying answer →
-    answers (entries_of (t ++ pair asks answer ∷ [])) ≡ answers (entries_of t) ++ answer ∷ []
-answers_more t asks flying answer may =
-    ap answers (filter_map-append entry_of t (pair asks answer ∷ []))
-    ∙ map-append (λ (entry : Entry). entry.answer) (entries_of t) (entries_of (pair asks answer ∷ []))
-    ∙ ap (λ (more : List HostAnswer). answers (entries_of t) ++ more) (one_answer asks flying answer may)
+one_answer : {flying : List ℕ} {asks : Request} {answer : Answer} → MayAnswer flying asks answer →
+    logged_answers (entries_of (record { request = asks; answer = answer } ∷ [])) ≡ host_answer answer ∷ []
+one_answer (by_host place request answer can) = refl
+
+answers_more : (t : List Pair) {flying : List ℕ} {asks : Request} {answer : Answer} → MayAnswer flying asks answer →
+    logged_answers (entries_of (t ++ record { request = asks; answer = answer } ∷ [])) ≡ logged_answers (entries_of t) ++ host_answer answer ∷ []
+answers_more t {asks = asks} {answer = answer} may =
+    ap logged_answers (filter_map-append entry_of t (record { request = asks; answer = answer } ∷ []))
+    ∙ map-append (λ (entry : Entry). entry.answer) (entries_of t) (entries_of (record { request = asks; answer = answer } ∷ []))
+    ∙ ap (λ (more : List HostAnswer). logged_answers (entries_of t) ++ more) (one_answer may)
 
 no_ticket : (n : ℕ) → Contains [] n → ⊥
 no_ticket n (k, within, is) = omega arith
@@ -52,10 +52,10 @@ pub none_started : (entries : List Entry) → WereStarted entries []
 none_started entries = record { each = λ ticket there. absurd (no_ticket ticket there) }
 
 module _ (entries : List Entry) where
-  one_started : (ticket : ℕ) → Contains (answers entries) (HostAnswer.Started ticket) → WereStarted entries (ticket ∷ [])
+  one_started : (ticket : ℕ) → Contains (logged_answers entries) (HostAnswer.Started ticket) → WereStarted entries (ticket ∷ [])
   one_started ticket told = record {
     each = λ n there.
-        subst (λ (m : ℕ). Contains (answers entries) (HostAnswer.Started m)) (only_ticket ticket n there) told;
+        subst (λ (m : ℕ). Contains (logged_answers entries) (HostAnswer.Started m)) (only_ticket ticket n there) told;
   }
 
   by_class : (options : Options) (code : Option ℤ) (class : ExitClass) → Blames entries (after_class options code class)
@@ -81,7 +81,7 @@ module _ (entries : List Entry) where
   at_known next known is blames = subst (λ (n : State). Blames entries n) (sym is) blames
 
   left_started : (asks : Request) (flying : List ℕ) → WereStarted entries flying → WereStarted entries (left_by asks flying)
-  left_started Request.Collect flying began = began
+  left_started (Request.Host place HostRequest.Collect) flying began = began
   left_started asks flying began = none_started entries
 
   by_launch : (setting : Setting) (inputs : Fields) (next : State) → Launches setting inputs next → Blames entries next
@@ -89,32 +89,33 @@ module _ (entries : List Entry) where
   by_launch setting inputs next (has_none fault is) = record { flying = none_started entries; rightly = tt }
 
   by_done : (setting : Setting) (asks : Request) (phase : Phase) (next : State) → FollowsDone setting asks phase next → Blames entries next
-  by_done setting (Request.Stage place plan number) phase next follows = by_launch setting plan.value next follows
+  by_done setting (Request.Host place (HostRequest.Stage plan number)) phase next follows = by_launch setting plan.value next follows
   by_done setting asks phase next is = at_known next _ is (record { flying = none_started entries; rightly = tt })
 
-  blames_next : (setting : Setting) (asks : Request) (flying : List ℕ) (phase : Phase) (answer : HostAnswer) (next : State) →
-      Contains (answers entries) answer → WereStarted entries flying → FollowsFrom setting asks flying phase answer next → Blames entries next
-  blames_next setting asks flying phase HostAnswer.Done next told began follows = by_done setting asks phase next follows
-  blames_next setting asks flying phase (HostAnswer.Started ticket) next told began is =
+  blames_next : (setting : Setting) (asks : Request) (flying : List ℕ) (phase : Phase) (answer : Answer) (next : State) →
+      Contains (logged_answers entries) (host_answer answer) → WereStarted entries flying → FollowsFrom setting asks flying phase answer next → Blames entries next
+  blames_next setting asks flying phase (Answer.Host HostAnswer.Done) next told began follows = by_done setting asks phase next follows
+  blames_next setting asks flying phase (Answer.Host (HostAnswer.Started ticket)) next told began is =
       at_known next _ is (record { flying = one_started ticket told; rightly = tt })
-  blames_next setting asks flying phase (HostAnswer.Ended e) next told began is =
+  blames_next setting asks flying phase (Answer.Host (HostAnswer.Ended e)) next told began is =
       at_known next _ is (by_class setting.options e.code (class_of e.code))
-  blames_next setting asks flying phase (HostAnswer.Listed found) next told began is =
+  blames_next setting asks flying phase (Answer.Host (HostAnswer.Listed found)) next told began is =
       at_known next _ is (by_listing setting.options (tool_of setting.process) found (tool_of setting.process).outputs)
-  blames_next setting asks flying phase (HostAnswer.Failed fault) next told began is =
+  blames_next setting asks flying phase (Answer.Host (HostAnswer.Failed fault)) next told began is =
       at_known next _ is (record { flying = none_started entries; rightly = record { failed = told; started = left_started asks flying began } })
 
 -- with one answer more
-pub blames_after : (setting : Setting) (t : List Pair) (asks : Request) (flying : List ℕ) (phase : Phase) (answer : HostAnswer) (next : State) →
-    MayAnswer asks flying answer → WereStarted (entries_of t) flying → FollowsFrom setting asks flying phase answer next →
-    Blames (entries_of (t ++ pair asks answer ∷ [])) next
+pub blames_after : (setting : Setting) (t : List Pair) (asks : Request) (flying : List ℕ) (phase : Phase) (answer : Answer) (next : State) →
+    MayAnswer flying asks answer → WereStarted (entries_of t) flying → FollowsFrom setting asks flying phase answer next →
+    Blames (entries_of (t ++ record { request = asks; answer = answer } ∷ [])) next
 blames_after setting t asks flying phase answer next may began follows =
-    let more : answers (entries_of (t ++ pair asks answer ∷ [])) ≡ answers (entries_of t) ++ answer ∷ [] = answers_more t asks flying answer may in
-    let told : Contains (answers (entries_of (t ++ pair asks answer ∷ []))) answer =
-    subst (λ (all : List HostAnswer). Contains all answer) (sym more) (Contains-push (answers (entries_of t)) answer) in
-    let still : WereStarted (entries_of (t ++ pair asks answer ∷ [])) flying = record {
+    let more : logged_answers (entries_of (t ++ record { request = asks; answer = answer } ∷ [])) ≡ logged_answers (entries_of t) ++ host_answer answer ∷ [] =
+    answers_more t may in
+    let told : Contains (logged_answers (entries_of (t ++ record { request = asks; answer = answer } ∷ []))) (host_answer answer) =
+    subst (λ (all : List HostAnswer). Contains all (host_answer answer)) (sym more) (Contains-push (logged_answers (entries_of t)) (host_answer answer)) in
+    let still : WereStarted (entries_of (t ++ record { request = asks; answer = answer } ∷ [])) flying = record {
       each = λ ticket there.
           subst (λ (all : List HostAnswer). Contains all (HostAnswer.Started ticket)) (sym more)
-          (Contains-append_left (answers (entries_of t)) (answer ∷ []) (HostAnswer.Started ticket) (began.each ticket there));
+          (Contains-append_left (logged_answers (entries_of t)) (host_answer answer ∷ []) (HostAnswer.Started ticket) (began.each ticket there));
     } in
-    blames_next (entries_of (t ++ pair asks answer ∷ [])) setting asks flying phase answer next told still follows
+    blames_next (entries_of (t ++ record { request = asks; answer = answer } ∷ [])) setting asks flying phase answer next told still follows

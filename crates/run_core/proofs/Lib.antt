@@ -4,8 +4,9 @@ pub mod Advance
 pub mod Answered
 pub mod Listed
 pub mod Next
+pub mod Outcomes
 pub mod Blamed
-pub mod Taken
+pub mod TakeSteps
 pub mod Files
 pub mod Asking
 pub mod Seats

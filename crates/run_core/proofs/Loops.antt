@@ -5,7 +5,7 @@ use Rattle.std.specs.Prelude.{◌&&◌}
 use Rattle.std.proofs.lemmas.List.{take_more, map-append}
 use Rattle.std.proofs.lemmas.List.Sums.{fold-append}
 use Rattle.plain_data.specs.ByName.{with_value}
-use Rattle.run_rules.specs.Words.{Name, by_name}
+use Rattle.run_rules.specs.Words.{Name, last_by_name}
 
 pub drop_at : {X : Type 0} (xs : List X) (i : ℕ) (x : X) → i < length xs → x ≡ get_or xs i x → drop i xs ≡ x ∷ drop (i + 1) xs
 drop_at xs i x within is = rw (add-one, drop-cons xs i x) (ap (λ y. y ∷ drop (suc i) xs) (sym is))
@@ -22,12 +22,12 @@ pub take_at : {X : Type 0} (xs : List X) (i : ℕ) (x : X) → i < length xs →
 take_at xs i x within is = take_more xs i x within ∙ ap (λ y. take i xs ++ y ∷ []) (sym is)
 
 -- one more entry at the end
-pub by_name_push : {V : Type 0} (es : List (Name × V)) (e : Name × V) → by_name (es ++ e ∷ []) ≡ with_value e.0 e.1 (by_name es)
+pub by_name_push : {V : Type 0} (es : List (Name × V)) (e : Name × V) → last_by_name (es ++ e ∷ []) ≡ with_value e.0 e.1 (last_by_name es)
 by_name_push es e = fold-append (λ sorted x. with_value x.0 x.1 sorted) [] es (e ∷ [])
 
 pub by_name_step : {X V : Type 0} (f : X → Name × V) (xs : List X) (i : ℕ) (x : X) → i < length xs → x ≡ get_or xs i x →
-    by_name (map f (take (i + 1) xs)) ≡ with_value (f x).0 (f x).1 (by_name (map f (take i xs)))
+    last_by_name (map f (take (i + 1) xs)) ≡ with_value (f x).0 (f x).1 (last_by_name (map f (take i xs)))
 by_name_step f xs i x within is =
-    ap (λ t. by_name (map f t)) (take_at xs i x within is)
-    ∙ ap by_name (map-append f (take i xs) (x ∷ []))
+    ap (λ t. last_by_name (map f t)) (take_at xs i x within is)
+    ∙ ap last_by_name (map-append f (take i xs) (x ∷ []))
     ∙ by_name_push (map f (take i xs)) (f x)

@@ -1,8 +1,8 @@
 -- What callers see of the machine.
 use Rattle.std.specs.Prelude.{◌≡◌, ◌≢◌, ℕ, ◌+◌, ◌<◌, ◌≤◌, List, [], ◌∷◌, ◌++◌, Result, Err, IfErr, OnOk, OnErr, vec_len, vec_capacity}
 use Rattle.cwl_document.specs.declared.process.Process.{Process}
-use Rattle.proc_host.specs.declared.call.HostAnswer.{HostAnswer}
 use Rattle.run_rules.specs.declared.outcome.RunFault.{RunFault}
+use Rattle.run_rules.specs.declared.request.Answer.{Answer}
 use Rattle.run_rules.specs.declared.request.Request.{Request}
 use Rattle.run_rules.specs.declared.request.Pair.{Pair}
 use Rattle.run_rules.specs.declared.setting.Options.{Options}
@@ -10,15 +10,15 @@ use Rattle.run_rules.specs.declared.setting.Setting.{Setting}
 use Rattle.run_core.specs.declared.state.Phase.{Phase}
 use Rattle.run_core.specs.declared.runner.RunCore.{RunCore}
 use Rattle.run_rules.specs.Words.{Fields}
-use Rattle.run_rules.specs.Events.{So_far}
-use Rattle.run_rules.specs.Plans.{Mark}
+use Rattle.run_rules.specs.Events.{Progress}
+use Rattle.plan_checker.specs.declared.plan.Mark.{Mark}
 use Rattle.run_rules.specs.Answers.{flying_after}
 use Rattle.run_rules.specs.Scene.{scene_of}
 use Rattle.run_rules.specs.Allowed.{Allowed}
 use Rattle.run_rules.specs.Run.{IsRunSoFar}
 use Rattle.run_rules.specs.Reports.{entries_of}
-use Rattle.run_core.specs.Machine.{pairs_ahead}
-use Rattle.run_core.specs.Standing.{IsAt, Blames}
+use Rattle.run_core.specs.inner.Machine.{pairs_ahead}
+use Rattle.run_core.specs.inner.Standing.{IsAt, Blames}
 
 abbrev pub setting_of : RunCore → Setting
 setting_of core = core.setting
@@ -58,7 +58,7 @@ IsLost core = core.state.phase ≡ Phase.Ended (Err RunFault.OutOfMemory)
 -- its transcript is a run so far, it asks what that run may ask, or has ended as that run does, what it blames on
 -- the host is so, and while it asks there is room for the answer
 pub record Stands (core : RunCore) : Type 0 where
-  pub happened : So_far
+  pub happened : Progress
   pub marks : List Mark
   pub goes : IsRunSoFar core.setting core.pairs.items happened marks
   pub at : IsAt core.setting happened marks core.state
@@ -67,7 +67,7 @@ pub record Stands (core : RunCore) : Type 0 where
 
 -- what it asked and was answered is a run so far, after which it may ask what it asks
 pub record MayAsk (core : RunCore) : Type 0 where
-  pub happened : So_far
+  pub happened : Progress
   pub marks : List Mark
   pub goes : IsRunSoFar core.setting core.pairs.items happened marks
   pub allowed : Allowed (scene_of core.setting) happened marks core.state.asks
@@ -82,7 +82,7 @@ pub record Begins (process : Process) (inputs : Fields) (options : Options) (cor
 
 -- one answer taken: the pair is noted, the machine stands in the longer run, and it is one of at most so many. An error
 -- is that memory ran out, and the machine then asks nothing more; it comes only where no child is in flight
-pub record Took (old : RunCore) (answer : HostAnswer) (result : Result (Unit {0}) RunFault) (new : RunCore) : Type 0 where
+pub record Took (old : RunCore) (answer : Answer) (result : Result (Unit {0}) RunFault) (new : RunCore) : Type 0 where
   pub stands : Stands new
   pub setting : setting_of new ≡ setting_of old
   pub pair : transcript new ≡ transcript old ++ record { request = asked old; answer = answer } ∷ []

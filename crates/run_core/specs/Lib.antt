@@ -1,4 +1,3 @@
-pub mod Machine
 pub mod Limits
-pub mod Standing
 pub mod Core
+pub mod inner

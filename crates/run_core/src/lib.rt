@@ -3,7 +3,7 @@
 //! `RunCore` asks one request at a time and takes one answer; it touches nothing itself. For every sequence of answers
 //! what it asked and was told is a run, and it ends as that run does.
 //!
-//! `specs/Machine.antt` and `specs/Standing.antt` say what the machine does and where it is. Of what a caller sees
+//! `specs/inner/Machine.antt` and `specs/inner/Standing.antt` say what the machine does and where it is. Of what a caller sees
 //! only `Stands` rests on them, the invariant that each call keeps (`specs/Core.antt`). A caller hands it on unopened,
 //! and what follows from it the other clauses say, so a reader may skip both.
 #![tactic(auto)]
@@ -19,6 +19,7 @@ mod steps;
 mod targets;
 
 pub use run_rules::{
-    Cause, CollectFault, Note, Options, Outcome, Pair, PlanNote, Report, Request, RunFault, Setting,
+    Answer, Cause, CollectFault, Note, Options, Outcome, Pair, PlanNote, Report, Request, RunFault,
+    Setting,
 };
 pub use runner::RunCore;

@@ -1,7 +1,7 @@
 ghost use Rattle.std.specs.Prelude.{◌≡◌, ◌++◌, IfOk, find, codes, Some};
 ghost use Rattle.std.specs.Option.{option_copied};
 ghost use Rattle.run_rules.specs.Collected.{file_at, found_under};
-ghost use Rattle.run_core.specs.Machine.{outputs_at};
+ghost use Rattle.run_core.specs.inner.Machine.{outputs_at};
 
 use crate::fields::put;
 use cwl_document::ToolOutput;

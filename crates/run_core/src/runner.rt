@@ -1,21 +1,22 @@
 ghost use Rattle.std.specs.Prelude.{◌≡◌, ◌≢◌, ◌↔◌, ◌+◌, ◌<◌, ◌≤◌, ◌∷◌, ◌++◌, [], Err, IfOk, IfErr, OnOk, vec_len, vec_capacity};
 ghost use Rattle.run_rules.specs.declared.outcome.RunFault.{RunFault};
+ghost use Rattle.proc_host.specs.declared.call.HostRequest.{HostRequest};
 ghost use Rattle.run_rules.specs.declared.request.Request.{Request};
 ghost use Rattle.run_core.specs.declared.state.Phase.{Phase};
 ghost use Rattle.run_core.specs.Core.{setting_of, transcript, asked, flying, IsLost, IsEnded, Stands, MayAsk, Begins, Took};
-ghost use Rattle.run_core.specs.Machine.{AsksIn, HasRoom, MakesRoom, Moves, at_start, pairs_wanted, told_of};
+ghost use Rattle.run_core.specs.inner.Machine.{AsksIn, HasRoom, MakesRoom, Moves, at_start, pairs_wanted, told_of};
 ghost use Rattle.run_rules.specs.Answers.{MayAnswer};
 ghost use Rattle.run_rules.specs.Blame.{BlamesRightly};
 ghost use Rattle.run_core.specs.Limits.{IsWithinLimits};
+ghost use Rattle.run_rules.specs.Words.{JobPlace};
 ghost use Rattle.run_rules.specs.Reports.{entries_of, Concludes};
 
 use crate::state::{Phase, State, ended};
 use crate::steps::{begun, follows};
-use crate::{Options, Pair, Report, Request, RunFault, Setting};
+use crate::{Answer, Options, Pair, Report, Request, RunFault, Setting};
 use cwl_document::Process;
 use cwl_value::Value;
 use plain_data::Keyed;
-use proc_host::HostAnswer;
 use std::alloc::{AllocError, Global};
 use std::mem;
 
@@ -65,7 +66,7 @@ impl RunCore {
     pub fn next(&self) -> &Request
         requires { Stands self.now }
         ensures asked { result.now ≡ asked self.now }
-        ensures flying { asked self.now ≡ Request.Collect → flying self.now ≢ [] }
+        ensures flying { (place : JobPlace) → asked self.now ≡ Request.Host place HostRequest.Collect → flying self.now ≢ [] }
         ensures allowed { asked self.now ≢ Request.Finished → MayAsk self.now }
     {
         &self.state.asks
@@ -80,9 +81,9 @@ impl RunCore {
 
     /// Takes the answer to what it asks. Where memory runs out for what comes next, the pair is kept, it asks
     /// nothing more, and `finish` says so too. That comes only where no child is in flight.
-    pub fn take(&mut self, answer: HostAnswer) -> Result<(), RunFault>
+    pub fn take(&mut self, answer: Answer) -> Result<(), RunFault>
         requires stands { Stands self.old }
-        requires answers { MayAnswer (asked self.old) (flying self.old) answer }
+        requires answers { MayAnswer (flying self.old) (asked self.old) answer }
         ensures { Took self.old answer result self.new }
     {
         let request = step(self.alloc, &self.setting, &mut self.state, &answer);
@@ -141,8 +142,8 @@ fn start(
 }
 
 /// Moves to the state that follows from the answer, and gives back what was asked.
-fn step(alloc: Global, setting: &Setting, state: &mut State, answer: &HostAnswer) -> Request
-    requires answers { MayAnswer state.old.asks state.old.flying answer.now }
+fn step(alloc: Global, setting: &Setting, state: &mut State, answer: &Answer) -> Request
+    requires answers { MayAnswer state.old.flying state.old.asks answer.now }
     requires asks { AsksIn state.old.asks state.old.phase }
     ensures asked { result ≡ state.old.asks }
     ensures moved { Moves setting.now state.old answer.now state.new }
@@ -154,8 +155,8 @@ fn step(alloc: Global, setting: &Setting, state: &mut State, answer: &HostAnswer
 }
 
 /// The state that follows from the answer, or the one that asks nothing more where memory runs out.
-fn next_state(alloc: Global, setting: &Setting, state: &mut State, answer: &HostAnswer) -> State
-    requires answers { MayAnswer state.old.asks state.old.flying answer.now }
+fn next_state(alloc: Global, setting: &Setting, state: &mut State, answer: &Answer) -> State
+    requires answers { MayAnswer state.old.flying state.old.asks answer.now }
     requires asks { AsksIn state.old.asks state.old.phase }
     ensures asked { state.new.asks ≡ state.old.asks }
     ensures moved { Moves setting.now state.old answer.now result }
@@ -174,7 +175,7 @@ fn next_state(alloc: Global, setting: &Setting, state: &mut State, answer: &Host
 }
 
 /// Adds a pair where there is room for it.
-fn note(pairs: &mut Vec<Pair>, request: Request, answer: HostAnswer)
+fn note(pairs: &mut Vec<Pair>, request: Request, answer: Answer)
     requires { vec_len pairs.old < vec_capacity pairs.old }
     ensures items { pairs.new.items ≡ pairs.old.items ++ record { request = request; answer = answer } ∷ [] }
     ensures len { vec_len pairs.new ≡ vec_len pairs.old + 1 }
@@ -185,7 +186,7 @@ fn note(pairs: &mut Vec<Pair>, request: Request, answer: HostAnswer)
 
 /// Makes room for the pairs that come next; where there is none, nothing more is asked. Before a child is started it
 /// makes room for its end too, so that none runs where memory is refused.
-#[tactic(auto, using(crate::specs::Machine::has_room, crate::specs::Machine::wants_none, crate::specs::Machine::no_room))]
+#[tactic(auto, using(crate::specs::inner::Machine::has_room, crate::specs::inner::Machine::wants_none, crate::specs::inner::Machine::no_room))]
 fn make_room(alloc: Global, pairs: &mut Vec<Pair>, state: &mut State)
     requires { HasRoom (vec_len pairs.old) (vec_capacity pairs.old) state.old.phase }
     ensures items { pairs.new.items ≡ pairs.old.items }

@@ -1,5 +1,5 @@
 ghost use Rattle.std.specs.Prelude.{◌≡◌, Err, []};
-ghost use Rattle.run_core.specs.Machine.{waits, ends, fails_for_good, host_fails};
+ghost use Rattle.run_core.specs.inner.Machine.{waits, ends, fails_for_good, host_fails};
 ghost use Rattle.run_rules.specs.Reports.{reported};
 
 use crate::{Cause, Outcome, Report, Request, RunFault};

@@ -2,7 +2,7 @@
 ghost use Rattle.std.specs.Prelude.{◌≡◌, ◌++◌, IfOk, OnErr, codes};
 ghost use Rattle.cwl_value.specs.declared.place.Place.{Place};
 ghost use Rattle.run_rules.specs.Folders.{out_folder};
-ghost use Rattle.run_core.specs.Machine.{Launches, FollowsFrom, AsksIn, HasSeat, IsDelivering, NeedsMemory, after_ticket, after_exit, after_scan, at_start, delivered_in, delivers, ends, host_fails, left_by, outputs_at, plan_to, starts};
+ghost use Rattle.run_core.specs.inner.Machine.{CanFollow, HasOutcome, Launches, FollowsFrom, AsksIn, HasSeat, NeedsMemory, after_ticket, after_exit, after_scan, at_start, delivered_in, delivers, ends, host_fails, left_by, outputs_at, plan_to, starts};
 ghost use Rattle.run_rules.specs.Jobs.{tool_of};
 ghost use Rattle.run_rules.specs.Answers.{MayAnswer};
 ghost use Rattle.run_rules.specs.Reports.{reported};
@@ -13,12 +13,14 @@ use crate::location::location_of;
 use crate::outputs::{found_under, outputs_at};
 use crate::state::{Phase, State, ended, failed_for_good, host_failed, reported, waiting};
 use crate::targets::target_of;
-use crate::{Cause, CollectFault, Options, Outcome, Request, Setting};
+use crate::{Answer, Cause, CollectFault, Options, Outcome, Request, Setting};
 use command_line::{BuildError, Launch, build, stdout_name};
 use cwl_document::{Process, Tool, ToolOutput};
 use cwl_value::{Place, Value};
 use plain_data::{Items, Keyed, Text};
-use proc_host::{Ending, ExitClass, Found, HostAnswer, HostFault, Move, StagePlan, exit_class};
+use proc_host::{
+    ChildEnd, ExitClass, Found, HostAnswer, HostFault, HostRequest, Move, StagePlan, exit_class,
+};
 use std::alloc::{AllocError, Global};
 use std::mem;
 
@@ -45,7 +47,7 @@ pub(crate) fn begun(alloc: Global, setting: &Setting) -> Result<State, AllocErro
         value: named_inputs(alloc, inputs, &setting.inputs)?,
     };
     Ok(State {
-        asks: Request::Stage(Items::new(alloc), plan, 1),
+        asks: Request::Host(Items::new(alloc), HostRequest::Stage(plan, 1)),
         phase: Phase::Staging,
         flying: Items::new(alloc),
     })
@@ -53,15 +55,24 @@ pub(crate) fn begun(alloc: Global, setting: &Setting) -> Result<State, AllocErro
 
 /// The job's folders are made: it is started, unless it has no launch.
 fn launched(alloc: Global, setting: &Setting, inputs: &Keyed<Value>) -> Result<State, AllocError>
-    ensures { IfOk result (λ state. Launches setting.now inputs.now state) }
+    ensures ok { IfOk result (λ state. Launches setting.now inputs.now state) }
+    ensures err { OnErr result (HasOutcome setting.now inputs.now) }
 {
     let tool = tool_of(&setting.process);
+    has_outcome(setting, inputs);
     let runtime = runtime_of(alloc, &setting.options, 1)?;
     match build(alloc, tool, inputs, &runtime) {
         Ok(launch) => starting(alloc, launch),
         Err(BuildError::Refused(fault)) => Ok(failed_for_good(alloc, Cause::Build(fault))),
         Err(BuildError::OutOfMemory) => Err(AllocError),
     }
+}
+
+/// The staged job has a launch, or a cause why it has none: no two inputs of its tool have one id.
+fn has_outcome(setting: &Setting, inputs: &Keyed<Value>)
+    ensures { HasOutcome setting.now inputs.now }
+{
+    let _inputs = tool_of(&setting.process).inputs.as_slice();
 }
 
 /// The child runs: its end is waited for. The ticket takes the place that was made for it, so no memory is needed.
@@ -76,21 +87,21 @@ fn running(alloc: Global, phase: &mut Phase, ticket: u64) -> State
     let mut held = seat.into_vec();
     held[0] = ticket;
     State {
-        asks: Request::Collect,
+        asks: Request::Host(Items::new(alloc), HostRequest::Collect),
         phase: Phase::Running,
         flying: Items::from_vec(held),
     }
 }
 
 /// The child has ended: a success is scanned.
-fn judged(alloc: Global, setting: &Setting, ending: &Ending) -> Result<State, AllocError>
+fn judged(alloc: Global, setting: &Setting, ending: &ChildEnd) -> Result<State, AllocError>
     ensures { IfOk result (λ state. state ≡ after_exit setting.now.options ending.now.code) }
 {
     match exit_class(ending.code) {
         ExitClass::Success => Ok(State {
-            asks: Request::Scan(
+            asks: Request::Host(
                 Items::new(alloc),
-                out_folder(alloc, &setting.options.work, 1)?,
+                HostRequest::Scan(out_folder(alloc, &setting.options.work, 1)?),
             ),
             phase: Phase::Scanning,
             flying: Items::new(alloc),
@@ -139,7 +150,7 @@ fn delivered(
     let plan = plan_to(alloc, &options.work, outputs, file, target)?;
     Ok(waiting(
         alloc,
-        Request::Deliver(plan),
+        Request::Host(Items::new(alloc), HostRequest::Deliver(plan)),
         Phase::Delivering(Value::Fields(named)),
     ))
 }
@@ -191,7 +202,7 @@ fn starting(alloc: Global, launch: Launch) -> Result<State, AllocError>
     let mut seat = Items::new(alloc);
     seat.push(0)?;
     Ok(State {
-        asks: Request::Start(Items::new(alloc), launch),
+        asks: Request::Host(Items::new(alloc), HostRequest::Start(launch)),
         phase: Phase::Starting(seat),
         flying: Items::new(alloc),
     })
@@ -199,12 +210,11 @@ fn starting(alloc: Global, launch: Launch) -> Result<State, AllocError>
 
 /// The result's files are where they are wanted: the outputs that name them are the end.
 fn placed(alloc: Global, phase: &mut Phase) -> State
-    requires { IsDelivering phase.old }
     ensures { result ≡ ends (reported (Outcome.Success (delivered_in phase.old))) }
 {
     let outputs = match phase {
         Phase::Delivering(outputs) => mem::replace(outputs, Value::Null),
-        _ => unreachable!(),
+        _ => Value::Null,
     };
     ended(alloc, reported(alloc, Outcome::Success(outputs)))
 }
@@ -214,10 +224,23 @@ fn failed(alloc: Global, asks: &Request, flying: &mut Items<u64>, fault: HostFau
     ensures { result ≡ host_fails fault (left_by asks.now flying.old) }
 {
     let left = match asks {
-        Request::Collect => mem::replace(flying, Items::new(alloc)),
+        Request::Host(_, HostRequest::Collect) => mem::replace(flying, Items::new(alloc)),
         _ => Items::new(alloc),
     };
     host_failed(alloc, fault, left)
+}
+
+/// Something follows from each answer, also where there is no memory for it.
+fn can_follow(
+    setting: &Setting,
+    asks: &Request,
+    phase: &Phase,
+    flying: &Items<u64>,
+    answer: &Answer,
+)
+    ensures { CanFollow setting.now asks.now flying.now phase.now answer.now }
+{
+    let _inputs = tool_of(&setting.process).inputs.as_slice();
 }
 
 /// What the machine waits for after this answer to what it asks. It takes what goes on out of the phase and the
@@ -229,16 +252,19 @@ pub(crate) fn follows(
     asks: &Request,
     phase: &mut Phase,
     flying: &mut Items<u64>,
-    answer: &HostAnswer,
+    answer: &Answer,
 ) -> Result<State, AllocError>
-    requires answers { MayAnswer asks.now flying.old answer.now }
+    requires answers { MayAnswer flying.old asks.now answer.now }
     requires asks { AsksIn asks.now phase.old }
     ensures next { IfOk result (λ next. FollowsFrom setting.now asks.now flying.old phase.old answer.now next) }
-    ensures err { OnErr result (NeedsMemory answer.now) }
+    ensures memory { OnErr result (NeedsMemory answer.now) }
+    ensures err { OnErr result (CanFollow setting.now asks.now flying.old phase.old answer.now) }
 {
+    can_follow(setting, asks, phase, flying, answer);
+    let Answer::Host(answer) = answer;
     match answer {
         HostAnswer::Done => match asks {
-            Request::Stage(_, plan, _) => launched(alloc, setting, &plan.value),
+            Request::Host(_, HostRequest::Stage(plan, _)) => launched(alloc, setting, &plan.value),
             _ => Ok(placed(alloc, phase)),
         },
         HostAnswer::Started(ticket) => Ok(running(alloc, phase, *ticket)),

@@ -6,20 +6,20 @@ use Rattle.run_rules.specs.declared.outcome.Cause.{Cause}
 use Rattle.run_rules.specs.Words.{Fields}
 use Rattle.run_rules.specs.Inputs.{inputs_for}
 use Rattle.run_rules.specs.Jobs.{tool_walk, walker}
-use Rattle.run_rules.specs.Unfold.{Fault, Fault_at, Too_many_jobs, Resolved, fault_after, unfolded}
-use Rattle.run_rules.proofs.Over.{one_job}
+use Rattle.run_rules.specs.Unfold.{Fault, fault_at, too_many_jobs, Resolved, fault_after, unfolded}
+use Rattle.run_rules.proofs.OneJob.{one_job}
 
 pub no_fault : (tool : Tool) (inputs : Fields) (known : List Resolved) → fault_after (tool_walk tool [] (Ok inputs)) known ≡ None
 no_fault tool inputs [] = refl
 no_fault tool inputs (r ∷ earlier) = rw (no_fault tool inputs earlier, one_job tool inputs earlier) refl
 
-misfit_fault : (tool : Tool) (cause : Cause) (known : List Resolved) → fault_after (tool_walk tool [] (Err cause)) known ≡ Some (Fault_at [] cause)
+misfit_fault : (tool : Tool) (cause : Cause) (known : List Resolved) → fault_after (tool_walk tool [] (Err cause)) known ≡ Some (fault_at [] cause)
 misfit_fault tool cause [] = refl
 misfit_fault tool cause (r ∷ earlier) = rw (misfit_fault tool cause earlier) refl
 
-few_by : (tool : Tool) (inputs : Result Fields Cause) (known : List Resolved) → fault_after (tool_walk tool [] inputs) known ≢ Some Too_many_jobs
-few_by tool (Ok inputs) known many = let never : None ≡ Some Too_many_jobs = sym (no_fault tool inputs known) ∙ many in cc
-few_by tool (Err cause) known many = let never : Some (Fault_at [] cause) ≡ Some Too_many_jobs = sym (misfit_fault tool cause known) ∙ many in cc
+few_by : (tool : Tool) (inputs : Result Fields Cause) (known : List Resolved) → fault_after (tool_walk tool [] inputs) known ≢ Some too_many_jobs
+few_by tool (Ok inputs) known many = let never : None ≡ Some too_many_jobs = sym (no_fault tool inputs known) ∙ many in cc
+few_by tool (Err cause) known many = let never : Some (fault_at [] cause) ≡ Some too_many_jobs = sym (misfit_fault tool cause known) ∙ many in cc
 
-pub few : (tool : Tool) (given : Fields) (known : List Resolved) → (unfolded (walker (Process.Tool tool) given) known).fault ≢ Some Too_many_jobs
+pub few : (tool : Tool) (given : Fields) (known : List Resolved) → (unfolded (walker (Process.Tool tool) given) known).fault ≢ Some too_many_jobs
 few tool given known = few_by tool (inputs_for tool.inputs given) (reverse known)

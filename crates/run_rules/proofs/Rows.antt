@@ -1,7 +1,8 @@
 -- The worked row `hello`, computed: a tool that prints its input `abc` into `out.txt`, which is its output.
-use Rattle.std.proofs.Common.{◌≡◌, ◌∙◌, pos, false, true, List, [], ◌∷◌, ◌++◌, Option, Some, None, Result, Ok, Err, refl, ap}
-use Rattle.std.specs.Prelude.{ℤ, codes, fold}
+use Rattle.std.proofs.Common.{◌≡◌, ◌∙◌, ℕ, lit<, pos, false, true, List, [], ◌∷◌, ◌++◌, Option, Some, None, Result, Ok, Err, refl, sym, subst, ap, unwrap_or}
+use Rattle.std.specs.Prelude.{ℤ, codes}
 use Rattle.std.specs.Fmt.{digits}
+use Rattle.command_line.specs.Launch.{IsLaunch}
 use Rattle.command_line.specs.declared.launch.Launch.{Launch}
 use Rattle.cwl_value.specs.declared.place.Place.{Place}
 use Rattle.cwl_value.specs.declared.value.Value.{Value, roll-Value, out-roll-Value}
@@ -12,33 +13,41 @@ use Rattle.cwl_document.specs.declared.process.CwlType.{CwlType}
 use Rattle.cwl_document.specs.declared.process.OutputSource.{OutputSource}
 use Rattle.cwl_document.specs.declared.process.ToolOutput.{ToolOutput}
 use Rattle.proc_host.specs.declared.call.HostAnswer.{HostAnswer}
+use Rattle.proc_host.specs.declared.call.HostRequest.{HostRequest}
 use Rattle.proc_host.specs.declared.call.HostFault.{HostFault}
+use Rattle.proc_host.specs.declared.child.ChildEnd.{ChildEnd}
 use Rattle.proc_host.specs.declared.found.Found.{Found}
 use Rattle.proc_host.specs.declared.plan.Move.{Move}
 use Rattle.proc_host.specs.declared.plan.StagePlan.{StagePlan}
 use Rattle.run_rules.specs.declared.outcome.Cause.{Cause}
 use Rattle.run_rules.specs.declared.outcome.CollectFault.{CollectFault}
 use Rattle.run_rules.specs.declared.outcome.Outcome.{Outcome}
-use Rattle.run_rules.specs.declared.request.Request.{Request}
-use Rattle.run_rules.specs.declared.request.Pair.{Pair}
 use Rattle.run_rules.specs.declared.setting.Options.{Options}
 use Rattle.run_rules.specs.declared.setting.Setting.{Setting}
-use Rattle.run_rules.specs.Words.{Fields}
+use Rattle.run_rules.specs.Words.{Fields, JobPlace}
 use Rattle.run_rules.specs.Collected.{collected, file_at}
 use Rattle.run_rules.specs.Inputs.{inputs_for}
 use Rattle.run_rules.specs.Delivered.{location_place, target_place, moves_of, delivery}
-use Rattle.run_rules.specs.Events.{Event, So_far, Staged, Began, Came_back, Succeeded, Delivered, Idle, at_first, after, number_at, unfolding_at}
-use Rattle.run_rules.specs.Ending.{Succeeds, Fails_for_good, Fails_for_now, Host_ends, end_of, if_any, delivery_at, delivered_end, result_end}
+use Rattle.run_rules.specs.Events.{Event, Progress, job_staged, job_started, child_exited, job_succeeded, job_failed, child_signalled, result_delivered, host_failed, collect_failed, nothing_due, at_first, number_at, unfolding_at}
+use Rattle.run_rules.specs.Folders.{runtime_of}
+use Rattle.run_rules.specs.Steps.{Steps, call, has_launch, starts, exits_well, exits_by_signal, exits_badly, collects, delivers}
+use Rattle.run_rules.specs.End.{End, succeeds_with, fails_permanently, fails_temporarily, ended_by_host, if_any, delivery_at}
+use Rattle.run_rules.specs.EndsSo.{EndsSo, IsDelivered, lost, fails, succeeds}
+use Rattle.plan_checker.specs.declared.plan.Mark.{Mark}
+use Rattle.plan_checker.specs.declared.plan.Mark.TheVariants.{Load, Compute}
+use Rattle.run_rules.specs.Allowed.{MayStage}
 use Rattle.run_rules.specs.Eval.{World, eval, eval_by}
-use Rattle.run_rules.specs.Jobs.{tool_walk}
+use Rattle.run_rules.specs.Jobs.{Job, tool_walk}
 use Rattle.run_rules.specs.Key.{key}
 use Rattle.run_rules.specs.Made.{value_moved, made_place}
 use Rattle.run_rules.specs.Reports.{report_of, reported}
 use Rattle.run_rules.specs.Scene.{Scene, scene_of}
+use Rattle.run_rules.proofs.Leads.{Leads, stays, follows}
 use Rattle.run_rules.proofs.Lone.{lone}
-use Rattle.run_rules.proofs.Meaning.{fails, gives}
+use Rattle.run_rules.proofs.Meaning.{fails as world_fails, gives}
+use Rattle.run_rules.proofs.NothingFollows.{flies_on}
 use Rattle.run_rules.proofs.Gathered.{file_moves, moves_are}
-use Rattle.run_rules.proofs.Moved.{file_erases}
+use Rattle.run_rules.proofs.PlacesErased.{file_erases}
 
 abbrev its_stdout : ToolOutput
 its_stdout = record { id = codes "out"; source = OutputSource.Stdout }
@@ -74,15 +83,9 @@ out = record { name = codes "out.txt"; is_dir = false; size = 3; sum = codes "a9
 abbrev out_at : Place → Fields
 out_at place = (codes "out", file_at place out) ∷ []
 
-abbrev pair : Request → HostAnswer → Pair
-pair request answer = record { request = request; answer = answer }
-
 -- its scene, its input being a text
 abbrev s : Scene
 s = lone hello abc options
-
-abbrev happens : List Pair → So_far
-happens t = fold (after s) at_first t
 
 it_fits : inputs_for hello.inputs abc ≡ Ok abc
 it_fits = rw out-roll-Value refl
@@ -106,7 +109,7 @@ made_out = out_at (Place.Made [] (codes "out.txt"))
 abbrev with_file : Value → Fields
 with_file file = (codes "out", file) ∷ []
 
-its_report : report_of options (Succeeds made_out)
+its_report : report_of options (succeeds_with made_out)
     ≡ reported (Outcome.Success (roll-Value (Value-F.Fields (out_at (Place.Url (codes "file:///out/out.txt"))))))
 its_report =
     ap (λ (file : Value). reported (Outcome.Success (roll-Value (Value-F.Fields (with_file file)))))
@@ -115,10 +118,10 @@ its_report =
 -- What happened in its whole run, and before its file was delivered
 
 abbrev before : List Event
-before = Staged [] 1 ∷ Began [] 1 ∷ Came_back 1 ∷ Succeeded [] found_out ∷ []
+before = job_staged [] 1 ∷ job_started [] 1 ∷ child_exited 1 ∷ job_succeeded [] found_out ∷ []
 
 abbrev whole : List Event
-whole = before ++ Delivered ∷ []
+whole = before ++ result_delivered ∷ []
 
 its_result : (unfolding_at s whole).result ≡ Some made_out
 its_result = ap (λ (file : Value). Some (with_file file)) (file_moves (made_place []) (Place.Url (codes "out.txt")) out)
@@ -146,11 +149,26 @@ its_delivery =
 it_is_delivered : delivery_at s whole made_out ≡ Some its_plan
 it_is_delivered = ap (if_any s) its_delivery
 
-it_succeeds : end_of s whole ≡ Some (Succeeds made_out)
-it_succeeds = ap (result_end s whole) its_result ∙ ap (delivered_end s whole made_out) it_is_delivered
+-- after these events, with nothing due
+abbrev after_events : List Event → Progress
+after_events events = record { work = nothing_due; events = events }
 
-not_before_its_delivery : end_of s before ≡ None
-not_before_its_delivery = ap (result_end s before) its_result ∙ ap (delivered_end s before made_out) it_is_delivered
+nothing_to_stage : (place : JobPlace) (plan : StagePlan) (number : ℕ) → MayStage s (after_events whole) (Load ∷ []) place plan number → ⊥
+nothing_to_stage [] plan number may = let held : true ≡ false = may.not_held in cc
+nothing_to_stage (segment ∷ place) plan number may = let none : None ≡ Some may.job = may.known in cc
+
+it_succeeds : EndsSo s (after_events whole) (Load ∷ []) (succeeds_with made_out)
+it_succeeds =
+    succeeds made_out (record { free = record { idle = refl; collects = refl; unsettled = refl }; no_stage = nothing_to_stage }) refl its_result
+    (subst (λ (plan : Option StagePlan). IsDelivered (after_events whole) plan) (sym it_is_delivered) refl)
+
+not_before_its_delivery : {marks : List Mark} {end : End} → EndsSo s (after_events before) marks end → ⊥
+not_before_its_delivery (lost idle is) = let never : false ≡ true = is in cc
+not_before_its_delivery (fails end idle kept landed settles) = let never : None ≡ Some end = settles in cc
+not_before_its_delivery (succeeds outputs busy landed result delivered) =
+    let same : Some made_out ≡ Some outputs = sym its_result ∙ result in
+    let plan : delivery_at s before outputs ≡ Some its_plan = ap (λ (o : Option Fields). delivery_at s before (unwrap_or o outputs)) (sym same) ∙ it_is_delivered in
+    let never : false ≡ true = subst (λ (p : Option StagePlan). IsDelivered (after_events before) p) plan delivered in cc
 
 -- What computing it gives, and its run on an input object that leaves its input out
 
@@ -172,47 +190,63 @@ module _ (world : World) where
       ∙ ap (λ (file : Value). Some (with_file file)) (file_erases (Place.Made [] (codes "out.txt")) out)
 
   no_value_of_its : world (key hello abc) ≡ None → eval world (Process.Tool hello) abc ≡ None
-  no_value_of_its none = ap (λ (x : Scene). eval_by world x.walker) its_scene ∙ fails hello abc world none
+  no_value_of_its none = ap (λ (x : Scene). eval_by world x.walker) its_scene ∙ world_fails hello abc world none
 
   no_value_without_inputs : eval world (Process.Tool hello) [] ≡ None
   no_value_without_inputs = ap (λ (inputs : Result Fields Cause). eval_by world (tool_walk hello [] inputs)) an_input_left_out
 
-an_end_at_once : end_of (scene_of (setting_on [])) [] ≡ Some (Fails_for_good [] (Cause.Kind (codes "t")))
-an_end_at_once = ap (λ (inputs : Result Fields Cause). end_of (scene_by inputs) []) an_input_left_out
+its_other_scene : scene_of (setting_on []) ≡ scene_by (Err (Cause.Kind (codes "t")))
+its_other_scene = ap scene_by an_input_left_out
 
-module _ (staged : StagePlan) (launch : Launch) where
-  abbrev stages : Pair
-  stages = pair (Request.Stage [] staged 1) HostAnswer.Done
+an_end_at_once : EndsSo (scene_of (setting_on [])) at_first [] (fails_permanently [] (Cause.Kind (codes "t")))
+an_end_at_once =
+    subst (λ (x : Scene). EndsSo x at_first [] (fails_permanently [] (Cause.Kind (codes "t")))) (sym its_other_scene) (fails _ refl refl refl refl)
 
-  abbrev started : List Pair
-  started = stages ∷ pair (Request.Start [] launch) (HostAnswer.Started 1) ∷ []
+abbrev job : Job
+job = record { place = []; tool = hello; inputs = abc }
 
-  abbrev ended : Option ℤ → List Pair
-  ended code = started ++ pair Request.Collect (HostAnswer.Ended (record { ticket = 1; code = code; millis = 1000 })) ∷ []
+abbrev one_ended : Option ℤ → ChildEnd
+one_ended code = record { ticket = 1; code = code; millis = 1000 }
 
-  abbrev delivered : List Pair
-  delivered =
-      ended (Some (pos 0)) ++ pair (Request.Scan [] (codes "w/j1/out")) (HostAnswer.Listed (out ∷ [])) ∷ pair (Request.Deliver staged) HostAnswer.Done ∷ []
+-- Its whole run, by its calls and their answers
 
-  it_goes : happens delivered ≡ record { work = Idle; events = whole }
-  it_goes = refl
+module _ (plan : StagePlan) (launch : Launch) (is : IsLaunch hello abc (runtime_of options 1) launch) where
+  it_goes :
+      Leads s at_first (call [] (HostRequest.Stage plan 1) HostAnswer.Done
+      ∷ call [] (HostRequest.Start launch) (HostAnswer.Started 1)
+      ∷ call [] HostRequest.Collect (HostAnswer.Ended (one_ended (Some (pos 0))))
+      ∷ call [] (HostRequest.Scan (codes "w/j1/out")) (HostAnswer.Listed (out ∷ []))
+      ∷ call [] (HostRequest.Deliver its_plan) HostAnswer.Done
+      ∷ []) (after_events whole)
+  it_goes =
+      follows (has_launch [] plan 1 job launch refl is)
+      (follows (starts [] launch 1)
+      (follows (exits_well [] (one_ended (Some (pos 0))) (0, lit< tt, refl) refl)
+      (follows (collects [] (codes "w/j1/out") (out ∷ []) job found_out refl it_collects)
+      (follows (delivers [] its_plan) stays))))
 
-  its_end : end_of s (happens delivered).events ≡ Some (Succeeds made_out)
-  its_end = ap (λ (f : So_far). end_of s f.events) it_goes ∙ it_succeeds
+abbrev started : List Event
+started = job_staged [] 1 ∷ job_started [] 1 ∷ []
 
-  not_while_its_child_runs : end_of s (happens started).events ≡ None
-  not_while_its_child_runs = refl
+not_while_its_child_runs : {marks : List Mark} {end : End} → EndsSo s (after_events started) marks end → ⊥
+not_while_its_child_runs ends = flies_on ends refl refl
 
-  an_exit_with_one : end_of s (happens (ended (Some (pos 1)))).events ≡ Some (Fails_for_good [] (Cause.Exit (Some (pos 1))))
-  an_exit_with_one = refl
+an_exit_with_one : Steps s (after_events started) (call [] HostRequest.Collect (HostAnswer.Ended (one_ended (Some (pos 1))))) nothing_due
+    (child_exited 1 ∷ job_failed [] (Cause.Exit (Some (pos 1))) ∷ [])
+an_exit_with_one = exits_badly [] (one_ended (Some (pos 1))) (0, lit< tt, refl) refl
 
-  an_end_by_a_signal : end_of s (happens (ended None)).events ≡ Some (Fails_for_now [])
-  an_end_by_a_signal = refl
+it_fails : EndsSo s (after_events (started ++ child_exited 1 ∷ job_failed [] (Cause.Exit (Some (pos 1))) ∷ [])) (Load ∷ []) (fails_permanently [] (Cause.Exit (Some (pos 1))))
+it_fails = fails _ refl refl refl refl
 
-  a_start_that_fails : end_of s (happens (stages ∷ pair (Request.Start [] launch) (HostAnswer.Failed HostFault.Start) ∷ [])).events
-      ≡ Some (Host_ends HostFault.Start [])
-  a_start_that_fails = refl
+an_exit_by_a_signal : Steps s (after_events started) (call [] HostRequest.Collect (HostAnswer.Ended (one_ended None))) nothing_due
+    (child_exited 1 ∷ child_signalled [] ∷ [])
+an_exit_by_a_signal = exits_by_signal [] (one_ended None) (0, lit< tt, refl) refl
 
-  a_collect_that_fails : end_of s (happens (started ++ pair Request.Collect (HostAnswer.Failed HostFault.Collect) ∷ [])).events
-      ≡ Some (Host_ends HostFault.Collect (1 ∷ []))
-  a_collect_that_fails = refl
+it_fails_for_now : EndsSo s (after_events (started ++ child_exited 1 ∷ child_signalled [] ∷ [])) (Load ∷ []) (fails_temporarily [])
+it_fails_for_now = fails _ refl refl refl refl
+
+a_start_that_fails : EndsSo s (after_events (job_staged [] 1 ∷ host_failed [] HostFault.Start ∷ [])) (Compute ∷ []) (ended_by_host HostFault.Start [])
+a_start_that_fails = fails _ refl refl refl refl
+
+a_collect_that_fails : EndsSo s (after_events (started ++ collect_failed ∷ [])) (Load ∷ []) (ended_by_host HostFault.Collect (1 ∷ []))
+a_collect_that_fails = lost refl refl

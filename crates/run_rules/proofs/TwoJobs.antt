@@ -1,23 +1,31 @@
 -- A scene of two jobs that know nothing of each other, given by hand, with a slot for each: its runs, computed.
-use Rattle.std.proofs.Common.{◌≡◌, ℕ, pos, List, [], ◌∷◌, ◌++◌, Option, Some, None, refl, lit<}
-use Rattle.std.specs.Prelude.{ℤ, false, codes, fold}
+use Rattle.std.proofs.Common.{◌≡◌, ℕ, Bool, true, cond, pos, List, [], ◌∷◌, ◌++◌, Option, Some, None, refl, lit<}
+use Rattle.std.specs.Prelude.{ℤ, false, codes}
+use Rattle.command_line.specs.Launch.{IsLaunch}
 use Rattle.command_line.specs.declared.launch.Launch.{Launch}
 use Rattle.cwl_document.specs.declared.process.Tool.{Tool}
 use Rattle.cwl_value.specs.declared.place.Segment.{Segment}
 use Rattle.proc_host.specs.declared.call.HostAnswer.{HostAnswer}
+use Rattle.proc_host.specs.declared.call.HostRequest.{HostRequest}
 use Rattle.proc_host.specs.declared.call.HostFault.{HostFault}
 use Rattle.proc_host.specs.declared.plan.StagePlan.{StagePlan}
 use Rattle.run_rules.specs.declared.outcome.Cause.{Cause}
-use Rattle.run_rules.specs.declared.request.Request.{Request}
 use Rattle.run_rules.specs.declared.request.Pair.{Pair}
 use Rattle.run_rules.specs.declared.setting.Options.{Options}
-use Rattle.run_rules.specs.Words.{Name, JobPlace}
-use Rattle.run_rules.specs.Jobs.{Job, A_job, Made, Walk}
-use Rattle.run_rules.specs.Events.{So_far, at_first, after, in_flight, unfolding_at}
-use Rattle.run_rules.specs.Ending.{Succeeds, Fails_for_good, Fails_for_now, Host_ends, end_of, settled}
-use Rattle.run_rules.specs.Plans.{Load, Compute}
+use Rattle.run_rules.specs.Words.{Name, JobPlace, is_same_place}
+use Rattle.run_rules.specs.Jobs.{Job, met_job, Made, Walk}
+use Rattle.run_rules.specs.Events.{Event, job_staged, job_started, child_exited, job_succeeded, job_failed, child_signalled, host_failed, collect_failed, nothing_due, Progress, at_first, in_flight, unfolding_at}
+use Rattle.run_rules.specs.Folders.{runtime_of}
+use Rattle.run_rules.specs.Steps.{call, has_launch, starts, exits_well, exits_badly, collects}
+use Rattle.run_rules.proofs.Leads.{Leads, stays, follows}
+use Rattle.run_rules.specs.End.{End, succeeds_with, fails_permanently, fails_temporarily, ended_by_host, settled}
+use Rattle.run_rules.specs.EndsSo.{EndsSo, lost, fails, succeeds}
+use Rattle.plan_checker.specs.declared.plan.Mark.{Mark}
+use Rattle.plan_checker.specs.declared.plan.Mark.TheVariants.{Load, Compute}
+use Rattle.plan_checker.specs.Plan.{mark}
 use Rattle.run_rules.specs.Allowed.{MayStage, MayCollect}
 use Rattle.run_rules.specs.Scene.{Scene}
+use Rattle.run_rules.proofs.NothingFollows.{flies_on}
 
 abbrev tool : Tool
 tool = record { base_command = codes "true" ∷ []; inputs = []; outputs = []; stdout = None; written = codes "{}" }
@@ -47,25 +55,19 @@ abbrev job : JobPlace → Job
 job place = record { place = place; tool = tool; inputs = [] }
 
 abbrev two : Made → Walk
-two made = record { met = A_job (job a) ∷ A_job (job b) ∷ []; outs = [] }
+two made = record { met = met_job (job a) ∷ met_job (job b) ∷ []; outs = [] }
 
 abbrev s : Scene
 s = record { walker = two; options = options }
 
-abbrev happens : List Pair → So_far
-happens t = fold (after s) at_first t
-
 abbrev plan : StagePlan
 plan = record { moves = []; value = [] }
 
-abbrev pair : Request → HostAnswer → Pair
-pair request answer = record { request = request; answer = answer }
-
 abbrev ended : ℕ → Option ℤ → Pair
-ended ticket code = pair Request.Collect (HostAnswer.Ended (record { ticket = ticket; code = code; millis = 1000 }))
+ended ticket code = call [] HostRequest.Collect (HostAnswer.Ended (record { ticket = ticket; code = code; millis = 1000 }))
 
 abbrev scanned : JobPlace → Pair
-scanned place = pair (Request.Scan place (codes "")) (HostAnswer.Listed [])
+scanned place = call place (HostRequest.Scan (codes "")) (HostAnswer.Listed [])
 
 abbrev well : Option ℤ
 well = Some (pos 0)
@@ -73,106 +75,133 @@ well = Some (pos 0)
 abbrev badly : Option ℤ
 badly = Some (pos 1)
 
-module _ (launch : Launch) where
+-- after these events, with nothing due
+abbrev at : List Event → Progress
+at events = record { work = nothing_due; events = events }
+
+-- the first child runs; both run
+abbrev one : List Event
+one = job_staged a 1 ∷ job_started a 1 ∷ []
+
+abbrev both : List Event
+both = one ++ job_staged b 2 ∷ job_started b 2 ∷ []
+
+two_in_flight : in_flight both ≡ (1, a) ∷ (2, b) ∷ []
+two_in_flight = refl
+
+-- a child has ended well, and its folder is collected
+abbrev came_well : ℕ → JobPlace → List Event
+came_well ticket place = child_exited ticket ∷ job_succeeded place [] ∷ []
+
+abbrev came_badly : ℕ → JobPlace → List Event
+came_badly ticket place = child_exited ticket ∷ job_failed place (Cause.Exit badly) ∷ []
+
+-- The second job may be staged while the first one's child runs, and then a child is waited for
+
+may_stage : MayStage s (at one) (Load ∷ Compute ∷ []) b plan 2
+may_stage = record {
+  free = record { idle = refl; collects = refl; unsettled = refl };
+  job = job b;
+  known = refl;
+  computed = refl;
+  not_held = refl;
+  slot = lit< tt;
+  staged = refl;
+  next_number = refl;
+}
+
+-- What is asked and answered brings these events about
+
+module _ (launch : ℕ → Launch) (is : (n : ℕ) → IsLaunch tool [] (runtime_of options n) (launch n)) where
   abbrev started : JobPlace → ℕ → List Pair
-  started place n = pair (Request.Stage place plan n) HostAnswer.Done ∷ pair (Request.Start place launch) (HostAnswer.Started n) ∷ []
+  started place n = call place (HostRequest.Stage plan n) HostAnswer.Done ∷ call place (HostRequest.Start (launch n)) (HostAnswer.Started n) ∷ []
 
-  -- the first child runs; both run
-  abbrev one : List Pair
-  one = started a 1
+  they_start : Leads s at_first (started a 1 ++ started b 2) (at both)
+  they_start =
+      follows (has_launch a plan 1 (job a) (launch 1) refl (is 1))
+      (follows (starts a (launch 1) 1)
+      (follows (has_launch b plan 2 (job b) (launch 2) refl (is 2))
+      (follows (starts b (launch 2) 2) stays)))
 
-  abbrev both : List Pair
-  both = one ++ started b 2
+either_ends : Leads s (at both) (ended 2 well ∷ scanned b ∷ ended 1 badly ∷ []) (at (both ++ came_well 2 b ++ came_badly 1 a))
+either_ends =
+    follows (exits_well b (record { ticket = 2; code = well; millis = 1000 }) (1, lit< tt, refl) refl)
+    (follows (collects b (codes "") [] (job b) [] refl refl)
+    (follows (exits_badly a (record { ticket = 1; code = badly; millis = 1000 }) (0, lit< tt, refl) refl) stays))
 
-  two_in_flight : in_flight (happens both).events ≡ (1, a) ∷ (2, b) ∷ []
-  two_in_flight = refl
+-- Either end may come first
 
-  -- The second job may be staged while the first one's child runs, and then a child is waited for
+not_after_a : {marks : List Mark} {end : End} → EndsSo s (at (both ++ came_well 1 a)) marks end → ⊥
+not_after_a ends = flies_on ends refl refl
 
-  may_stage : MayStage s (happens one) (Load ∷ Compute ∷ []) b plan 2
-  may_stage = record {
-    free = record { idle = refl; collects = refl; unsettled = refl };
-    job = job b;
-    known = refl;
-    computed = refl;
-    not_held = refl;
-    slot = lit< tt;
-    staged = refl;
-    next_number = refl;
-  }
+not_after_b : {marks : List Mark} {end : End} → EndsSo s (at (both ++ came_well 2 b)) marks end → ⊥
+not_after_b ends = flies_on ends refl refl
 
-  -- Either end may come first
+no_result_of_one : (unfolding_at s (both ++ came_well 2 b)).result ≡ None
+no_result_of_one = refl
 
-  abbrev first_a : List Pair
-  first_a = both ++ ended 1 well ∷ scanned a ∷ []
+-- once both are at hand, neither is staged again
+both_loaded : (is_a is_b : Bool) → mark (Load ∷ Load ∷ []) (cond is_a 0 (cond is_b 1 2)) ≡ Compute → ⊥
+both_loaded true is_b computed = cc
+both_loaded false true computed = cc
+both_loaded false false computed = cc
 
-  abbrev a_then_b : List Pair
-  a_then_b = first_a ++ ended 2 well ∷ scanned b ∷ []
+ends_by_b : EndsSo s (at (both ++ came_well 1 a ++ came_well 2 b)) (Load ∷ Load ∷ []) (succeeds_with [])
+ends_by_b =
+    succeeds [] (record {
+      free = record { idle = refl; collects = refl; unsettled = refl };
+      no_stage = λ place plan number may. both_loaded (is_same_place a place) (is_same_place b place) may.computed;
+    }) refl refl tt
 
-  abbrev first_b : List Pair
-  first_b = both ++ ended 2 well ∷ scanned b ∷ []
+ends_by_a : EndsSo s (at (both ++ came_well 2 b ++ came_well 1 a)) (Load ∷ Load ∷ []) (succeeds_with [])
+ends_by_a =
+    succeeds [] (record {
+      free = record { idle = refl; collects = refl; unsettled = refl };
+      no_stage = λ place plan number may. both_loaded (is_same_place a place) (is_same_place b place) may.computed;
+    }) refl refl tt
 
-  abbrev b_then_a : List Pair
-  b_then_a = first_b ++ ended 1 well ∷ scanned a ∷ []
+-- A failure with the other in flight settles the end, which comes once the other has landed, however that ends
 
-  not_after_a : end_of s (happens first_a).events ≡ None
-  not_after_a = refl
+abbrev a_fails : List Event
+a_fails = both ++ came_badly 1 a
 
-  not_after_b : end_of s (happens first_b).events ≡ None
-  not_after_b = refl
+it_is_settled : settled s a_fails ≡ Some (fails_permanently a (Cause.Exit badly))
+it_is_settled = refl
 
-  no_result_of_one : (unfolding_at s (happens first_b).events).result ≡ None
-  no_result_of_one = refl
+not_while_b_flies : {marks : List Mark} {end : End} → EndsSo s (at a_fails) marks end → ⊥
+not_while_b_flies ends = flies_on ends refl refl
 
-  ends_by_b : end_of s (happens a_then_b).events ≡ Some (Succeeds [])
-  ends_by_b = refl
+it_is_collected : MayCollect s (at a_fails) (Compute ∷ Load ∷ []) []
+it_is_collected = record {
+  at_root = refl;
+  idle = refl;
+  collects = refl;
+  flying = ((2, b), (0, lit< tt, refl));
+  busy = λ unsettled. let never : Some (fails_permanently a (Cause.Exit badly)) ≡ None = unsettled in absurd cc;
+}
 
-  ends_by_a : end_of s (happens b_then_a).events ≡ Some (Succeeds [])
-  ends_by_a = refl
+b_ends_well : EndsSo s (at (a_fails ++ came_well 2 b)) (Compute ∷ Load ∷ []) (fails_permanently a (Cause.Exit badly))
+b_ends_well = fails _ refl refl refl refl
 
-  -- A failure with the other in flight settles the end, which comes once the other has landed, however that ends
+b_fails_too : EndsSo s (at (a_fails ++ came_badly 2 b)) (Compute ∷ Load ∷ []) (fails_permanently a (Cause.Exit badly))
+b_fails_too = fails _ refl refl refl refl
 
-  abbrev a_fails : List Pair
-  a_fails = both ++ ended 1 badly ∷ []
+-- the first failure counts, whichever job's it is
+b_fails_first : EndsSo s (at (both ++ came_badly 2 b ++ child_exited 1 ∷ child_signalled a ∷ [])) (Compute ∷ Load ∷ []) (fails_permanently b (Cause.Exit badly))
+b_fails_first = fails _ refl refl refl refl
 
-  it_is_settled : settled s (happens a_fails).events ≡ Some (Fails_for_good a (Cause.Exit badly))
-  it_is_settled = refl
+a_signal_first : EndsSo s (at (both ++ child_exited 1 ∷ child_signalled a ∷ came_badly 2 b)) (Compute ∷ Load ∷ []) (fails_temporarily a)
+a_signal_first = fails _ refl refl refl refl
 
-  not_while_b_flies : end_of s (happens a_fails).events ≡ None
-  not_while_b_flies = refl
+-- A collect that fails ends the run at once, with both tickets, and whatever was settled
 
-  it_is_collected : MayCollect s (happens a_fails) (Compute ∷ Load ∷ [])
-  it_is_collected = record {
-    idle = refl;
-    collects = refl;
-    flying = ((2, b), (0, lit< tt, refl));
-    busy = λ unsettled. let never : Some (Fails_for_good a (Cause.Exit badly)) ≡ None = unsettled in absurd cc;
-  }
+a_lost_collect : EndsSo s (at (both ++ collect_failed ∷ [])) (Load ∷ Load ∷ []) (ended_by_host HostFault.Collect (1 ∷ 2 ∷ []))
+a_lost_collect = lost refl refl
 
-  b_ends_well : end_of s (happens (a_fails ++ ended 2 well ∷ scanned b ∷ [])).events ≡ Some (Fails_for_good a (Cause.Exit badly))
-  b_ends_well = refl
+one_lost_after_a_failure : EndsSo s (at (a_fails ++ collect_failed ∷ [])) (Load ∷ Load ∷ []) (ended_by_host HostFault.Collect (2 ∷ []))
+one_lost_after_a_failure = lost refl refl
 
-  b_fails_too : end_of s (happens (a_fails ++ ended 2 badly ∷ [])).events ≡ Some (Fails_for_good a (Cause.Exit badly))
-  b_fails_too = refl
-
-  -- the first failure counts, whichever job's it is
-  b_fails_first : end_of s (happens (both ++ ended 2 badly ∷ ended 1 None ∷ [])).events ≡ Some (Fails_for_good b (Cause.Exit badly))
-  b_fails_first = refl
-
-  a_signal_first : end_of s (happens (both ++ ended 1 None ∷ ended 2 badly ∷ [])).events ≡ Some (Fails_for_now a)
-  a_signal_first = refl
-
-  -- A collect that fails ends the run at once, with both tickets, and whatever was settled
-
-  a_lost_collect : end_of s (happens (both ++ pair Request.Collect (HostAnswer.Failed HostFault.Collect) ∷ [])).events
-      ≡ Some (Host_ends HostFault.Collect (1 ∷ 2 ∷ []))
-  a_lost_collect = refl
-
-  one_lost_after_a_failure : end_of s (happens (a_fails ++ pair Request.Collect (HostAnswer.Failed HostFault.Collect) ∷ [])).events
-      ≡ Some (Host_ends HostFault.Collect (2 ∷ []))
-  one_lost_after_a_failure = refl
-
-  -- A start that fails with the other in flight is the end once that has landed, and names no ticket
-  a_start_that_fails : end_of s (happens (one ++ pair (Request.Stage b plan 2) HostAnswer.Done ∷ pair (Request.Start b launch) (HostAnswer.Failed HostFault.Start)
-      ∷ ended 1 well ∷ scanned a ∷ [])).events ≡ Some (Host_ends HostFault.Start [])
-  a_start_that_fails = refl
+-- A start that fails with the other in flight is the end once that has landed, and names no ticket
+a_start_that_fails : EndsSo s (at (one ++ job_staged b 2 ∷ host_failed b HostFault.Start ∷ came_well 1 a)) (Load ∷ Compute ∷ [])
+    (ended_by_host HostFault.Start [])
+a_start_that_fails = fails _ refl refl refl refl

@@ -6,16 +6,16 @@ use Rattle.proc_host.specs.declared.call.Entry.{Entry}
 use Rattle.run_rules.specs.declared.outcome.RunFault.{RunFault}
 
 -- what a host answered, call by call
-abbrev pub answers : List Entry → List HostAnswer
-answers entries = map (λ entry. entry.answer) entries
+abbrev pub logged_answers : List Entry → List HostAnswer
+logged_answers entries = map (λ entry. entry.answer) entries
 
 -- these children were started
 pub record WereStarted (entries : List Entry) (tickets : List ℕ) : Type 0 where
-  pub each : (ticket : ℕ) → Contains tickets ticket → Contains (answers entries) (HostAnswer.Started ticket)
+  pub each : (ticket : ℕ) → Contains tickets ticket → Contains (logged_answers entries) (HostAnswer.Started ticket)
 
 -- a call failed with this very fault, and the children that nobody waits for any more were started
 pub record IsToBlame (entries : List Entry) (fault : HostFault) (running : List ℕ) : Type 0 where
-  pub failed : Contains (answers entries) (HostAnswer.Failed fault)
+  pub failed : Contains (logged_answers entries) (HostAnswer.Failed fault)
   pub started : WereStarted entries running
 
 -- a fault is the host's only where the host is to blame

@@ -8,7 +8,7 @@ use Rattle.cwl_value.specs.declared.value.Value.TheOpen.{Value-F}
 use Rattle.cwl_value.specs.declared.place.Place.{Place}
 use Rattle.proc_host.specs.declared.plan.Move.{Move}
 use Rattle.proc_host.specs.declared.plan.StagePlan.{StagePlan}
-use Rattle.run_rules.specs.Words.{Name, Fields, JobPlace, by_name}
+use Rattle.run_rules.specs.Words.{Name, Fields, JobPlace, last_by_name}
 use Rattle.run_rules.specs.Made.{fields_moved}
 use Rattle.run_rules.specs.Folders.{out_folder}
 use Rattle.run_rules.specs.Location.{location_of, is_between}
@@ -56,13 +56,13 @@ moves_of number work outdir outputs = shared (filter_map (λ o. file_move number
 abbrev pub delivery : (JobPlace → ℕ) → Name → Name → Fields → StagePlan
 delivery number work outdir outputs = record {
   moves = moves_of number work outdir outputs;
-  value = by_name (fields_moved (target_place outdir) outputs);
+  value = last_by_name (fields_moved (target_place outdir) outputs);
 }
 
 -- named values as one object, in the order of their names
 abbrev pub object_of : Fields → Value
-object_of named = roll-Value (Value-F.Fields (by_name named))
+object_of named = roll-Value (Value-F.Fields (last_by_name named))
 
 -- the output object, each file at the location that it was put at
 abbrev pub located : Name → Fields → Value
-located outdir outputs = roll-Value (Value-F.Fields (by_name (fields_moved (location_place outdir) outputs)))
+located outdir outputs = roll-Value (Value-F.Fields (last_by_name (fields_moved (location_place outdir) outputs)))

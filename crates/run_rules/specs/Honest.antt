@@ -5,16 +5,16 @@ use Rattle.run_rules.specs.declared.setting.Setting.{Setting}
 use Rattle.run_rules.specs.Jobs.{Job}
 use Rattle.run_rules.specs.Key.{key}
 use Rattle.run_rules.specs.Eval.{World, eval}
-use Rattle.run_rules.specs.Events.{Event, Succeeded, Broke, job_at}
-use Rattle.run_rules.specs.Ending.{End, Succeeds, Fails_for_good}
+use Rattle.run_rules.specs.Events.{Event, job_succeeded, job_failed, job_at}
+use Rattle.run_rules.specs.End.{End, succeeds_with, fails_permanently}
 use Rattle.run_rules.specs.Scene.{Scene, scene_of}
 
 module _ (s : Scene) where
   -- temporary ends and calls that fail are free
   abbrev pub AgreesAt : World → List Event → Event → Type 0
-  AgreesAt world es (Succeeded place outputs) =
+  AgreesAt world es (job_succeeded place outputs) =
       (job : Job) → job_at s es place ≡ Some job → world (key job.tool job.inputs) ≡ Some outputs
-  AgreesAt world es (Broke place cause) =
+  AgreesAt world es (job_failed place cause) =
       (job : Job) → job_at s es place ≡ Some job → world (key job.tool job.inputs) ≡ None
   AgreesAt world es _ = Unit {0}
 
@@ -28,7 +28,7 @@ IsHonest setting world events = AgreesFrom (scene_of setting) world [] events
 
 -- what an end says of computing every job
 abbrev pub Means : Setting → World → End → Type 0
-Means setting world (Succeeds outputs) =
+Means setting world (succeeds_with outputs) =
     eval world setting.process setting.inputs ≡ Some (fields_erased outputs)
-Means setting world (Fails_for_good place cause) = eval world setting.process setting.inputs ≡ None
+Means setting world (fails_permanently place cause) = eval world setting.process setting.inputs ≡ None
 Means setting world _ = Unit {0}

@@ -8,7 +8,7 @@ use Rattle.cwl_value.specs.declared.value.Value.TheOpen.{Value-F}
 use Rattle.cwl_document.specs.declared.process.CwlType.{CwlType}
 use Rattle.cwl_document.specs.declared.process.ToolInput.{ToolInput}
 use Rattle.run_rules.specs.declared.outcome.Cause.{Cause}
-use Rattle.run_rules.specs.Words.{Fields, value_under, by_name}
+use Rattle.run_rules.specs.Words.{Fields, value_under, last_by_name}
 
 -- a CWL int has 32 bits
 abbrev pub is_int : ℤ → Bool
@@ -29,7 +29,7 @@ is_misfit given input = not (fits input.kind (value_under input.id given))
 
 -- each input under its name; null where nothing is given
 abbrev pub named_inputs : List ToolInput → Fields → Fields
-named_inputs inputs given = by_name (map (λ i. (i.id, value_under i.id given)) inputs)
+named_inputs inputs given = last_by_name (map (λ i. (i.id, value_under i.id given)) inputs)
 
 abbrev pub unless_misfit : Option ToolInput → Fields → Result Fields Cause
 unless_misfit None inputs = Ok inputs

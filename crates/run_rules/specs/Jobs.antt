@@ -17,8 +17,8 @@ pub record Job : Type 0 where
 
 -- what a walk through a process meets: a job whose inputs are known, or an equation that fails
 pub data Met : Type 0 where
-  A_job : (job : Job) → Met
-  A_fault : (place : JobPlace) (cause : Cause) → Met
+  met_job : (job : Job) → Met
+  met_fault : (place : JobPlace) (cause : Cause) → Met
 
 -- all that is met, in the order of the walk, and each output where it is known
 pub record Walk : Type 0 where
@@ -40,7 +40,7 @@ outs_of names (Some fields) = map (λ name. (name, Some (value_under name fields
 
 -- the walk through a process that has an equation that fails
 abbrev pub failed : JobPlace → Cause → List Name → Walk
-failed place cause names = record { met = A_fault place cause ∷ []; outs = outs_of names None }
+failed place cause names = record { met = met_fault place cause ∷ []; outs = outs_of names None }
 
 -- the names of a tool's outputs, in its order
 abbrev pub output_names : Tool → List Name
@@ -51,7 +51,7 @@ abbrev pub tool_walk : Tool → JobPlace → Result Fields Cause → Walker
 tool_walk tool place (Err cause) made = failed place cause (output_names tool)
 tool_walk tool place (Ok inputs) made =
     let job : Job = record { place = place; tool = tool; inputs = inputs }
-    in record { met = A_job job ∷ []; outs = outs_of (output_names tool) (made job) }
+    in record { met = met_job job ∷ []; outs = outs_of (output_names tool) (made job) }
 
 -- the one tool of a process
 abbrev pub tool_of : Process → Tool
@@ -75,8 +75,8 @@ all_named (e ∷ entries) = with_first (option_map (λ v. (e.0, v)) e.1) (all_na
 
 -- whether what is met lets there be a result: a job whose outputs are known
 abbrev pub is_well : Made → Met → Bool
-is_well made (A_job job) = is_some (made job)
-is_well made (A_fault place cause) = false
+is_well made (met_job job) = is_some (made job)
+is_well made (met_fault place cause) = false
 
 abbrev pub result_in : Made → Walk → Option Fields
 result_in made walk = cond (list_all (is_well made) walk.met) (all_named walk.outs) None

@@ -11,13 +11,15 @@ pub mod Location
 pub mod Delivered
 pub mod Scene
 pub mod Events
-pub mod Ending
+pub mod Steps
+pub mod End
+pub mod EndsSo
 pub mod Plans
 pub mod Allowed
 pub mod Run
 pub mod Honest
 pub mod Reports
-pub mod Told
+pub mod RanWell
 pub mod Answers
 pub mod Blame
 pub mod Codes

@@ -1,8 +1,8 @@
 -- What a run gains on its host, and what it reports.
 use Rattle.std.specs.Prelude.{◌≡◌, List, [], Option, Some, None, Result, Ok, Err, filter_map, option_map}
 use Rattle.cwl_document.specs.declared.process.Process.{Process}
-use Rattle.proc_host.specs.declared.call.HostRequest.{HostRequest}
 use Rattle.proc_host.specs.declared.call.Entry.{Entry}
+use Rattle.run_rules.specs.declared.request.Answer.{Answer}
 use Rattle.run_rules.specs.declared.request.Request.{Request}
 use Rattle.run_rules.specs.declared.request.Pair.{Pair}
 use Rattle.run_rules.specs.declared.outcome.Outcome.{Outcome}
@@ -14,23 +14,19 @@ use Rattle.run_rules.specs.Words.{Fields}
 use Rattle.cwl_value.specs.Erased.{erased}
 use Rattle.run_rules.specs.Delivered.{located, object_of}
 use Rattle.run_rules.specs.Eval.{World, eval}
-use Rattle.run_rules.specs.Events.{So_far}
-use Rattle.run_rules.specs.Ending.{End, Succeeds, Fails_for_good, Fails_for_now, Beyond_limits, Host_ends}
-use Rattle.run_rules.specs.Plans.{Mark}
+use Rattle.run_rules.specs.Events.{Progress}
+use Rattle.run_rules.specs.End.{End, succeeds_with, fails_permanently, fails_temporarily, beyond_limits, ended_by_host}
+use Rattle.plan_checker.specs.declared.plan.Mark.{Mark}
 use Rattle.run_rules.specs.Run.{IsRunSoFar, IsRun}
 use Rattle.run_rules.specs.Honest.{IsHonest}
 
--- a request as its host is asked it, without the place of its job
-abbrev pub host_request : Request → Option HostRequest
-host_request (Request.Stage place plan number) = Some (HostRequest.Stage plan number)
-host_request (Request.Start place launch) = Some (HostRequest.Start launch)
-host_request Request.Collect = Some HostRequest.Collect
-host_request (Request.Scan place folder) = Some (HostRequest.Scan folder)
-host_request (Request.Deliver plan) = Some (HostRequest.Deliver plan)
-host_request Request.Finished = None
+-- a call as the host's log has it, without the place of its job
+abbrev pub call_entry : Request → Answer → Option Entry
+call_entry (Request.Host place request) (Answer.Host answer) = Some (record { request = request; answer = answer })
+call_entry Request.Finished answer = None
 
 abbrev pub entry_of : Pair → Option Entry
-entry_of pair = option_map (λ request. record { request = request; answer = pair.answer }) (host_request pair.request)
+entry_of pair = call_entry pair.request pair.answer
 
 -- what a host's log gains by these pairs
 abbrev pub entries_of : List Pair → List Entry
@@ -41,11 +37,11 @@ reported outcome = Ok (record { outcome = outcome; plans = []; notes = [] })
 
 -- what is reported of an end
 abbrev pub report_of : Options → End → Result Report RunFault
-report_of options (Succeeds outputs) = reported (Outcome.Success (located options.outdir outputs))
-report_of options (Fails_for_good place cause) = reported (Outcome.PermanentFail place cause)
-report_of options (Fails_for_now place) = reported (Outcome.TemporaryFail place)
-report_of options Beyond_limits = Err RunFault.TooManyJobs
-report_of options (Host_ends fault running) = Err (RunFault.Host fault running)
+report_of options (succeeds_with outputs) = reported (Outcome.Success (located options.outdir outputs))
+report_of options (fails_permanently place cause) = reported (Outcome.PermanentFail place cause)
+report_of options (fails_temporarily place) = reported (Outcome.TemporaryFail place)
+report_of options beyond_limits = Err RunFault.TooManyJobs
+report_of options (ended_by_host fault running) = Err (RunFault.Host fault running)
 
 -- what an outcome says of computing every job: a success is its value, both without places, and where a job fails
 -- permanently there is none
@@ -62,7 +58,7 @@ IsRight setting world (Err fault) = Unit {0}
 -- how a transcript is reported
 pub data Concludes (setting : Setting) (t : List Pair) : Result Report RunFault → Type 0 where
   -- out of memory, so there may be no end; it is a valid prefix of a run
-  lost : (f : So_far) (marks : List Mark) → IsRunSoFar setting t f marks → Concludes setting t (Err RunFault.OutOfMemory)
+  lost : (f : Progress) (marks : List Mark) → IsRunSoFar setting t f marks → Concludes setting t (Err RunFault.OutOfMemory)
   -- it is a whole run, its end is reported, and in each world where it is honest the report is right
   whole : (end : End) (run : IsRun setting t end) →
       ((world : World) → IsHonest setting world run.happened.events → IsRight setting world (report_of setting.options end)) →

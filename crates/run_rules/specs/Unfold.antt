@@ -4,7 +4,7 @@ use Rattle.std.specs.List.{list_any}
 use Rattle.plan_checker.specs.declared.graph.TheConstants.{MOST_VERTICES, MOST_ENTRIES}
 use Rattle.run_rules.specs.declared.outcome.Cause.{Cause}
 use Rattle.run_rules.specs.Words.{Fields, JobPlace, is_same_place}
-use Rattle.run_rules.specs.Jobs.{Job, Met, A_job, A_fault, Made, Walker, result}
+use Rattle.run_rules.specs.Jobs.{Job, Met, met_job, met_fault, Made, Walker, result}
 use Rattle.run_rules.specs.Made.{any_made, fields_made}
 
 -- a resolved place with its named outputs
@@ -15,9 +15,9 @@ pub record Resolved : Type 0 where
 -- why a process has no result
 pub data Fault : Type 0 where
   -- the equation at this place fails
-  Fault_at : (place : JobPlace) (cause : Cause) → Fault
+  fault_at : (place : JobPlace) (cause : Cause) → Fault
   -- there are more jobs, or more parents of jobs, than the limits allow
-  Too_many_jobs : Fault
+  too_many_jobs : Fault
 
 -- whether a job is at a place
 abbrev pub is_at : JobPlace → Job → Bool
@@ -30,8 +30,8 @@ made_by resolved job =
 
 -- the job that is met, or none where it is a fault
 abbrev pub job_met : Met → Option Job
-job_met (A_job job) = Some job
-job_met (A_fault place cause) = None
+job_met (met_job job) = Some job
+job_met (met_fault place cause) = None
 
 -- whether one of these jobs is at the job's place
 abbrev pub is_known : List Job → Job → Bool
@@ -63,10 +63,10 @@ is_within_limits jobs = nat_le (length jobs) MOST_VERTICES && nat_le (entries_fr
 -- the first fault in the order of the walk, where these jobs are known: an equation that fails, or a job beyond a limit
 abbrev pub first_fault : List Job → List Met → Option Fault
 first_fault jobs [] = None
-first_fault jobs (A_fault place cause ∷ met) = Some (Fault_at place cause)
-first_fault jobs (A_job job ∷ met) =
+first_fault jobs (met_fault place cause ∷ met) = Some (fault_at place cause)
+first_fault jobs (met_job job ∷ met) =
     cond (is_known jobs job) (first_fault jobs met)
-    (cond (is_within_limits (jobs ++ job ∷ [])) (first_fault (jobs ++ job ∷ []) met) (Some Too_many_jobs))
+    (cond (is_within_limits (jobs ++ job ∷ [])) (first_fault (jobs ++ job ∷ []) met) (Some too_many_jobs))
 
 abbrev pub or_else : {T : Type 0} → Option T → Option T → Option T
 or_else (Some x) later = Some x

@@ -25,8 +25,8 @@ abbrev pub value_under : Name → Fields → Value
 value_under name fields = unwrap_or (value_at name fields) null
 
 -- the entries in the order of their names
-abbrev pub by_name : {X : Type 0} → List (Name × X) → List (Name × X)
-by_name entries = fold (λ sorted e. with_value e.0 e.1 sorted) [] entries
+abbrev pub last_by_name : {X : Type 0} → List (Name × X) → List (Name × X)
+last_by_name entries = fold (λ sorted e. with_value e.0 e.1 sorted) [] entries
 
 abbrev pub segment_eq : Segment → Segment → Bool
 segment_eq s t = bytes_eq s.step t.step && bytes_eq s.index t.index

@@ -1,6 +1,6 @@
 //! What follows from the definitions alone, for any run: each law is the contract of a function that
 //! does nothing.
-ghost use Rattle.std.specs.Prelude.{◌≡◌, ◌≢◌, List, Some};
+ghost use Rattle.std.specs.Prelude.{◌≡◌, ◌≢◌, List, Some, Contains};
 ghost use Rattle.run_rules.specs.declared.request.Pair.{Pair};
 ghost use Rattle.run_rules.specs.declared.request.Request.{Request};
 ghost use Rattle.run_rules.specs.declared.setting.Setting.{Setting};
@@ -10,35 +10,42 @@ ghost use Rattle.cwl_value.specs.Erased.{erased, fields_erased};
 ghost use Rattle.run_rules.specs.Words.{Name, Fields};
 ghost use Rattle.run_rules.specs.Allowed.{Allowed};
 ghost use Rattle.run_rules.specs.Delivered.{located, object_of};
-ghost use Rattle.run_rules.specs.Ending.{End, Succeeds, end_of};
+ghost use Rattle.run_rules.specs.End.{End, succeeds_with};
+ghost use Rattle.run_rules.specs.EndsSo.{EndsSo};
 ghost use Rattle.run_rules.specs.Eval.{World};
-ghost use Rattle.run_rules.specs.Events.{So_far, Idle};
+ghost use Rattle.run_rules.specs.Events.{Progress, unfolding_at};
 ghost use Rattle.run_rules.specs.Honest.{IsHonest, Means};
-ghost use Rattle.run_rules.specs.Jobs.{walker};
-ghost use Rattle.run_rules.specs.Plans.{Mark};
+ghost use Rattle.run_rules.specs.Jobs.{Job, walker};
+ghost use Rattle.plan_checker.specs.declared.plan.Mark.{Mark};
 ghost use Rattle.run_rules.specs.Reports.{IsRight, report_of};
 ghost use Rattle.run_rules.specs.Run.{IsRun};
-ghost use Rattle.run_rules.specs.Scene.{scene_of};
-ghost use Rattle.run_rules.specs.Told.{RanWell};
-ghost use Rattle.run_rules.specs.Unfold.{Resolved, Too_many_jobs, unfolded};
+ghost use Rattle.run_rules.specs.Scene.{Scene, scene_of};
+ghost use Rattle.run_rules.specs.RanWell.{RanWell};
+ghost use Rattle.run_rules.specs.Unfold.{Resolved, too_many_jobs, unfolded};
 
-/// A run that ends in success has started a child that ended well.
-pub fn success_ran_a_child()
-    ensures { (setting : Setting) (t : List Pair) (outputs : Fields) → IsRun setting t (Succeeds outputs) → RanWell t }
+/// In a run that ends in success each known job ran well: a child was started for the job at its place, and it ended well.
+pub fn success_ran_each_job()
+    ensures { (setting : Setting) (t : List Pair) (outputs : Fields) (run : IsRun setting t (succeeds_with outputs)) (job : Job)
+        → Contains (unfolding_at (scene_of setting) run.happened.events).jobs job → RanWell t job.place }
 {}
 
-/// Where a run has come to its end, nothing may be asked any more: no second delivery, and no collect after one that
-/// failed.
+/// Of any scene: a run comes to one end.
+pub fn one_end()
+    ensures { (s : Scene) (f : Progress) (marks : List Mark) (one other : End)
+        → EndsSo s f marks one → EndsSo s f marks other → one ≡ other }
+{}
+
+/// Of any scene: where a run has come to its end, nothing may be asked any more. There is no second delivery, and no collect
+/// after one that failed.
 pub fn nothing_follows_the_end()
-    ensures { (setting : Setting) (f : So_far) (marks : List Mark) (end : End) (request : Request)
-        → f.work ≡ Idle → end_of (scene_of setting) f.events ≡ Some end
-        → Allowed (scene_of setting) f marks request → ⊥ }
+    ensures { (s : Scene) (f : Progress) (marks : List Mark) (end : End) (request : Request)
+        → EndsSo s f marks end → Allowed s f marks request → ⊥ }
 {}
 
 /// A lone tool is one job without parents, so no run of it has too many jobs.
 pub fn a_lone_tool_is_within_limits()
     ensures { (tool : Tool) (given : Fields) (known : List Resolved)
-        → (unfolded (walker (Process.Tool tool) given) known).fault ≢ Some Too_many_jobs }
+        → (unfolded (walker (Process.Tool tool) given) known).fault ≢ Some too_many_jobs }
 {}
 
 /// In each world where all that happened in a run is as the world says, its end is right: a success is the value of

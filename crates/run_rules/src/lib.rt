@@ -1,7 +1,7 @@
 //! What a run of a process is: which requests may be asked when, what an answer brings about, and how a run ends.
 //!
 //! A run is a list of requests and answers (`specs/Run.antt`), whoever made it. It ends as its events say
-//! (`specs/Ending.antt`), it blames its host only where a call failed by that very fault (`specs/Blame.antt`), and where
+//! (`specs/End.antt`), it blames its host only where a call failed by that very fault (`specs/Blame.antt`), and where
 //! the tools' outputs are those of some world, a success is the value of the process there (`specs/Eval.antt`).
 //! `laws.rt` says what follows for any run. `proofs/Rows.antt` computes the definitions on a worked example.
 #![tactic(auto)]
@@ -13,8 +13,8 @@ mod setting;
 
 pub use laws::{
     a_lone_tool_is_within_limits, an_honest_run_ends_rightly, an_honest_run_is_reported_rightly,
-    delivery_keeps_the_value, nothing_follows_the_end, success_ran_a_child,
+    delivery_keeps_the_value, nothing_follows_the_end, one_end, success_ran_each_job,
 };
 pub use outcome::{Cause, CollectFault, Note, Outcome, PlanNote, Report, RunFault};
-pub use request::{Pair, Request};
+pub use request::{Answer, Pair, Request};
 pub use setting::{Options, Setting};

@@ -8,7 +8,7 @@ use Rattle.proc_host.specs.declared.call.HostFault.{HostFault}
 use Rattle.proc_host.specs.Log.{failures, is_failure}
 use Rattle.run_rules.specs.declared.outcome.Report.{Report}
 use Rattle.run_rules.specs.declared.outcome.RunFault.{RunFault}
-use Rattle.run_rules.specs.Blame.{answers, BlamesRightly}
+use Rattle.run_rules.specs.Blame.{logged_answers, BlamesRightly}
 use Rattle.workflow_engine.specs.Blame.{IsHostsFault}
 
 failures-append : (before gained : List Entry) → failures (before ++ gained) ≡ failures before + failures gained
@@ -17,7 +17,7 @@ failures-append before gained = sum_by-append (λ (entry : Entry). cond (is_fail
 it_counts : (entry : Entry) (fault : HostFault) → entry.answer ≡ HostAnswer.Failed fault → failures (entry ∷ []) ≡ 1
 it_counts entry fault is = ap (λ (answer : HostAnswer). 0 + cond (is_failure answer) 1 0) is
 
-some_failed : (gained : List Entry) (fault : HostFault) → Contains (answers gained) (HostAnswer.Failed fault) → 0 < failures gained
+some_failed : (gained : List Entry) (fault : HostFault) → Contains (logged_answers gained) (HostAnswer.Failed fault) → 0 < failures gained
 some_failed [] fault (k, within, is) = absurd (omega arith)
 some_failed (entry ∷ gained) fault (zero, within, is) =
     omega (arith, failures-append (entry ∷ []) gained, it_counts entry fault is)

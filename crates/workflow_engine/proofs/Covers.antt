@@ -9,7 +9,7 @@ use Rattle.std.proofs.lemmas.List.Edits.{get_or-remove_below, get_or-remove_abov
 use Rattle.std.proofs.lemmas.List.Quantifiers.{position-Some}
 use Rattle.std.proofs.lemmas.List.Sums.{fails_before_first}
 use Rattle.proc_host.specs.Tickets.{without}
-use Rattle.workflow_engine.specs.Held.{Covers}
+use Rattle.workflow_engine.specs.inner.Held.{Covers}
 
 -- what is left was there
 was_there : (ticket : ℕ) (running : List ℕ) (n : ℕ) → Contains (without ticket running) n → Contains running n

@@ -1,4 +1,4 @@
 pub mod Blamed
+pub mod Calls
 pub mod Covers
 pub mod Nothing
-pub mod Starts

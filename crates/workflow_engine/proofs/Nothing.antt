@@ -8,7 +8,8 @@ use Rattle.run_rules.specs.declared.setting.Options.{Options}
 use Rattle.run_rules.specs.declared.setting.Setting.{Setting}
 use Rattle.run_rules.specs.Words.{Fields}
 use Rattle.run_rules.specs.Events.{at_first, is_held, unfolding_at}
-use Rattle.run_rules.specs.Plans.{Mark, is_planning, mark_if_held}
+use Rattle.plan_checker.specs.declared.plan.Mark.{Mark}
+use Rattle.run_rules.specs.Plans.{is_planning, mark_if_held}
 use Rattle.run_rules.specs.Run.{begins}
 use Rattle.run_rules.specs.Scene.{scene_of}
 use Rattle.run_rules.specs.Reports.{GainsRun, lost}

@@ -3,12 +3,12 @@ use Rattle.std.specs.Prelude.{◌≡◌, List, [], ◌∷◌, ◌++◌, Option, 
 use Rattle.std.specs.declared.alloc.AllocError.{AllocError}
 use Rattle.cwl_document.specs.declared.process.Process.{Process}
 use Rattle.proc_host.specs.declared.call.HostAnswer.{HostAnswer}
+use Rattle.proc_host.specs.declared.call.HostRequest.{HostRequest}
 use Rattle.proc_host.specs.declared.call.Entry.{Entry}
 use Rattle.run_rules.specs.declared.outcome.Report.{Report}
 use Rattle.run_rules.specs.declared.outcome.RunFault.{RunFault}
-use Rattle.run_rules.specs.declared.request.Request.{Request}
 use Rattle.run_rules.specs.declared.setting.Options.{Options}
-use Rattle.run_rules.specs.Reports.{entries_of, GainsRun}
+use Rattle.run_rules.specs.Reports.{GainsRun}
 use Rattle.run_rules.specs.Words.{Fields}
 
 -- a fault is an answer too; out of memory is none
@@ -16,9 +16,9 @@ abbrev pub answered : Option HostAnswer → Result HostAnswer AllocError
 answered (Some answer) = Ok answer
 answered None = Err alloc_error
 
--- a question adds its entry, or none where it ran out of memory
-abbrev pub gained_by : Request → Result HostAnswer AllocError → List Entry
-gained_by request (Ok answer) = entries_of (record { request = request; answer = answer } ∷ [])
+-- a call adds its entry, or none where it ran out of memory
+abbrev pub gained_by : HostRequest → Result HostAnswer AllocError → List Entry
+gained_by request (Ok answer) = record { request = request; answer = answer } ∷ []
 gained_by request (Err error) = []
 
 -- a host's log gained a run of this process, which is reported so

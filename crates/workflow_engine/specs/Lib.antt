@@ -1,3 +1,3 @@
 pub mod Blame
 pub mod Gains
-pub mod Held
+pub mod inner

@@ -1,40 +1,36 @@
 //! One question to the host.
-ghost use Rattle.std.specs.Prelude.{◌≡◌, ◌≢◌, ◌++◌, [], IfOk, OnErr};
-ghost use Rattle.proc_host.specs.Log.{told, told_error};
-ghost use Rattle.run_rules.specs.Words.{JobPlace};
-ghost use Rattle.run_rules.specs.Answers.{MayAnswer, flying_after};
-ghost use Rattle.workflow_engine.specs.Held.{Covers};
+ghost use Rattle.std.specs.Prelude.{◌≡◌, ◌≢◌, ◌++◌, [], IfOk};
+ghost use Rattle.proc_host.specs.Answers.{CanAnswer, flying_with};
+ghost use Rattle.proc_host.specs.Log.{answer_behind, answer_behind_error};
+ghost use Rattle.workflow_engine.specs.inner.Held.{Covers};
 ghost use Rattle.workflow_engine.specs.Gains.{answered, gained_by};
 
 use crate::tickets::close_ended;
 use command_line::Launch;
 use plain_data::Items;
-use proc_host::{Found, Host, HostAnswer, HostError, Ticket};
-use run_core::Request;
+use proc_host::{Found, Host, HostAnswer, HostError, HostRequest, Ticket};
 use std::alloc::AllocError;
 
-/// Asks the host what a run asks, and keeps the tickets of the children that run. An `Err` leaves the log and the
+/// Calls the host as a run asks, and keeps the tickets of the children that run. An `Err` leaves the log and the
 /// children as they were.
 pub(crate) fn ask<H: Host>(
     host: &mut H,
-    request: &Request,
+    request: &HostRequest,
     held: &mut Vec<Ticket>,
 ) -> Result<HostAnswer, AllocError>
-    requires asks { request.now ≢ Request.Finished }
-    requires flying { request.now ≡ Request.Collect → H.running host.old ≢ [] }
+    requires flying { request.now ≡ HostRequest.Collect → H.running host.old ≢ [] }
     requires covered { Covers held.old.items (H.running host.old) }
     ensures logged { H.log host.new ≡ H.log host.old ++ gained_by request.now result }
-    ensures answers { IfOk result (MayAnswer request.now (H.running host.old)) }
-    ensures running { IfOk result (λ answer. H.running host.new ≡ flying_after (H.running host.old) answer) }
+    ensures answers { IfOk result (CanAnswer (H.running host.old) request.now) }
+    ensures running { IfOk result (λ answer. H.running host.new ≡ flying_with (H.running host.old) answer) }
     ensures covered { Covers held.new.items (H.running host.new) }
 {
     match request {
-        Request::Stage(_, plan, number) => done(host.stage(plan, *number)),
-        Request::Start(_, launch) => start(host, launch, held),
-        Request::Collect => collect(host, held),
-        Request::Scan(_, folder) => listed(host.scan(folder)),
-        Request::Deliver(plan) => done(host.deliver(plan)),
-        Request::Finished => unreachable!(),
+        HostRequest::Stage(plan, number) => done(host.stage(plan, *number)),
+        HostRequest::Start(launch) => start(host, launch, held),
+        HostRequest::Collect => collect(host, held),
+        HostRequest::Scan(folder) => listed(host.scan(folder)),
+        HostRequest::Deliver(plan) => done(host.deliver(plan)),
     }
 }
 
@@ -45,9 +41,9 @@ fn start<H: Host>(
     held: &mut Vec<Ticket>,
 ) -> Result<HostAnswer, AllocError>
     requires covered { Covers held.old.items (H.running host.old) }
-    ensures logged { (place : JobPlace) → H.log host.new ≡ H.log host.old ++ gained_by (Request.Start place launch.now) result }
-    ensures answers { IfOk result (λ answer. (place : JobPlace) → MayAnswer (Request.Start place launch.now) (H.running host.old) answer) }
-    ensures running { IfOk result (λ answer. H.running host.new ≡ flying_after (H.running host.old) answer) }
+    ensures logged { H.log host.new ≡ H.log host.old ++ gained_by (HostRequest.Start launch.now) result }
+    ensures answers { IfOk result (CanAnswer (H.running host.old) (HostRequest.Start launch.now)) }
+    ensures running { IfOk result (λ answer. H.running host.new ≡ flying_with (H.running host.old) answer) }
     ensures covered { Covers held.new.items (H.running host.new) }
 {
     held.reserve(1)?;
@@ -64,9 +60,9 @@ fn start<H: Host>(
 fn collect<H: Host>(host: &mut H, held: &mut Vec<Ticket>) -> Result<HostAnswer, AllocError>
     requires flying { H.running host.old ≢ [] }
     requires covered { Covers held.old.items (H.running host.old) }
-    ensures logged { H.log host.new ≡ H.log host.old ++ gained_by Request.Collect result }
-    ensures answers { IfOk result (MayAnswer Request.Collect (H.running host.old)) }
-    ensures running { IfOk result (λ answer. H.running host.new ≡ flying_after (H.running host.old) answer) }
+    ensures logged { H.log host.new ≡ H.log host.old ++ gained_by HostRequest.Collect result }
+    ensures answers { IfOk result (CanAnswer (H.running host.old) HostRequest.Collect) }
+    ensures running { IfOk result (λ answer. H.running host.new ≡ flying_with (H.running host.old) answer) }
     ensures covered { Covers held.new.items (H.running host.new) }
 {
     match host.collect() {
@@ -79,7 +75,7 @@ fn collect<H: Host>(host: &mut H, held: &mut Vec<Ticket>) -> Result<HostAnswer, 
 }
 
 fn done(outcome: Result<(), HostError>) -> Result<HostAnswer, AllocError>
-    ensures { result ≡ answered (told (λ _. HostAnswer.Done) outcome) }
+    ensures { result ≡ answered (answer_behind (λ _. HostAnswer.Done) outcome) }
 {
     match outcome {
         Ok(()) => Ok(HostAnswer::Done),
@@ -88,7 +84,7 @@ fn done(outcome: Result<(), HostError>) -> Result<HostAnswer, AllocError>
 }
 
 fn listed(outcome: Result<Items<Found>, HostError>) -> Result<HostAnswer, AllocError>
-    ensures { result ≡ answered (told (λ found. HostAnswer.Listed found) outcome) }
+    ensures { result ≡ answered (answer_behind (λ found. HostAnswer.Listed found) outcome) }
 {
     match outcome {
         Ok(found) => Ok(HostAnswer::Listed(found)),
@@ -97,7 +93,7 @@ fn listed(outcome: Result<Items<Found>, HostError>) -> Result<HostAnswer, AllocE
 }
 
 fn failed(error: HostError) -> Result<HostAnswer, AllocError>
-    ensures { result ≡ answered (told_error error) }
+    ensures { result ≡ answered (answer_behind_error error) }
 {
     match error {
         HostError::Fault(fault) => Ok(HostAnswer::Failed(fault)),

@@ -4,7 +4,7 @@ ghost use Rattle.run_core.specs.Core.{setting_of, transcript, asked, flying, Sta
 ghost use Rattle.run_core.specs.Limits.{IsWithinLimits};
 ghost use Rattle.run_rules.specs.Reports.{entries_of};
 ghost use Rattle.workflow_engine.specs.Blame.{IsHostsFault};
-ghost use Rattle.workflow_engine.specs.Held.{Covers};
+ghost use Rattle.workflow_engine.specs.inner.Held.{Covers};
 ghost use Rattle.workflow_engine.specs.Gains.{RunsOn};
 
 use crate::ask::ask;
@@ -13,7 +13,7 @@ use cwl_document::Process;
 use cwl_value::Value;
 use plain_data::Keyed;
 use proc_host::{Host, Ticket};
-use run_core::{Options, Report, Request, RunCore, RunFault};
+use run_core::{Answer, Options, Report, Request, RunCore, RunFault};
 use std::alloc::Global;
 
 /// Runs a process on an input object.
@@ -58,9 +58,9 @@ fn drive<H: Host>(host: &mut H, core: &mut RunCore, held: &mut Vec<Ticket>) -> R
     ensures finished { OnOk result (asked core.new ≡ Request.Finished) }
     ensures covered { Covers held.new.items (H.running host.new) }
 {
-    while !matches!(core.next(), Request::Finished) {
-        let answer = ask(host, core.next(), held)?;
-        core.take(answer)?;
+    while let Request::Host(_, request) = core.next() {
+        let answer = ask(host, request, held)?;
+        core.take(Answer::Host(answer))?;
     }
     Ok(())
 }

@@ -1,7 +1,7 @@
 //! The tickets of the children that run.
 ghost use Rattle.std.specs.Prelude.{◌≡◌, ◌==◌, [], Contains, position};
 ghost use Rattle.proc_host.specs.Tickets.{without};
-ghost use Rattle.workflow_engine.specs.Held.{Covers};
+ghost use Rattle.workflow_engine.specs.inner.Held.{Covers};
 
 use proc_host::{Host, Ticket};
 

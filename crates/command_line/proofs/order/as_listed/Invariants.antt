@@ -1,7 +1,7 @@
 use Rattle.std.proofs.Common.{◌≡◌, ◌++◌, drop, map}
 use Rattle.std.specs.List.{filter_map}
 use Rattle.command_line.specs.Order.{bound_in}
-use Rattle.command_line.specs.View.{bound_of}
+use Rattle.command_line.specs.inner.View.{bound_of}
 use Rattle.command_line.proofs.order.as_listed.Given as goal
 
 abbrev pub invariant-loop-input : goal.invariant-loop-input

@@ -6,7 +6,7 @@ use Rattle.std.specs.Ordering.{is_lt}
 use Rattle.std.proofs.lemmas.List.Sorted.{answers_always, IsPermutation-map}
 use Rattle.cwl_document.specs.declared.process.ToolInput.{ToolInput}
 use Rattle.command_line.specs.Order.{Bound, bound_in, key_cmp}
-use Rattle.command_line.specs.View.{bound_of}
+use Rattle.command_line.specs.inner.View.{bound_of}
 use Rattle.command_line.proofs.Rising.{sorted_map}
 use Rattle.command_line.proofs.Bindings.{in_order_from_sort}
 use Rattle.command_line.proofs.order.in_order.Goals as goal

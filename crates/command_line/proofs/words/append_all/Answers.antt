@@ -1,7 +1,7 @@
 use Rattle.std.proofs.lemmas.List.Elements.{All-append}
 use Rattle.std.proofs.lemmas.Result.{err_from_is_err_and}
 use Rattle.std.proofs.Common.{◌≡◌, true, map}
-use Rattle.command_line.specs.View.{bound_of}
+use Rattle.command_line.specs.inner.View.{bound_of}
 use Rattle.command_line.specs.Words.{is_plain, words_of}
 use Rattle.command_line.proofs.Answered.{Contains-map, input_error_at}
 use Rattle.command_line.proofs.Joined.{joined_more, some_more}

@@ -1,6 +1,6 @@
 use Rattle.std.proofs.Common.{◌≡◌, ◌++◌, IsSome, All, take}
 use Rattle.std.specs.List.{AllPass, flat_map}
-use Rattle.command_line.specs.View.{bound_of}
+use Rattle.command_line.specs.inner.View.{bound_of}
 use Rattle.command_line.specs.Words.{is_plain, words_at, words_of}
 use Rattle.command_line.proofs.words.append_all.Given as goal
 

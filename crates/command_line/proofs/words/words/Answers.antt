@@ -1,10 +1,10 @@
 use Rattle.std.proofs.Common.{◌≡◌, ℕ, false, List, map, subst, ◌∙◌}
 use Rattle.std.specs.List.{list_all}
 use Rattle.std.proofs.lemmas.Result.{err_from_is_err_and}
-use Rattle.command_line.specs.Steps.{NotTextAt}
-use Rattle.command_line.specs.View.{bound_of}
+use Rattle.command_line.specs.inner.Steps.{NotTextOf}
+use Rattle.command_line.specs.inner.View.{bound_of}
 use Rattle.command_line.specs.Words.{is_plain}
-use Rattle.command_line.specs.declared.fault.TextPlace.TheVariants.{BaseCommand}
+use Rattle.command_line.specs.declared.fault.LaunchText.TheVariants.{BaseCommand}
 use Rattle.command_line.proofs.Answered.{error_from_base, error_from_input}
 use Rattle.command_line.proofs.Joined.{words_from_rows}
 use Rattle.command_line.proofs.words.words.Goals as goal
@@ -13,7 +13,7 @@ pub returns-in_err-base-clause-refused : goal.returns-in_err-base-clause-refused
 returns-in_err-base-clause-refused c =
     let p = err_from_is_err_and c.from_residual-in_err-base.result c.from_residual-in_err-base.ensures.1 in
     rw (p.1, p.2) (error_from_base c.args.tool.now c.args.inputs.now c.in_err-base.field-0.0
-    (subst (λ (base : List (List ℕ)). NotTextAt BaseCommand (list_all is_plain base ≡ false) c.in_err-base.field-0.0) c.as_slice.ensures c.in_err-base.ensures.refused))
+    (subst (λ (base : List (List ℕ)). NotTextOf BaseCommand (list_all is_plain base ≡ false) c.in_err-base.field-0.0) c.as_slice.ensures c.in_err-base.ensures.refused))
 
 pub returns-in_err-words-clause-refused : goal.returns-in_err-words-clause-refused
 returns-in_err-words-clause-refused c =

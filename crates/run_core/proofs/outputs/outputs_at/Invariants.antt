@@ -1,5 +1,5 @@
 use Rattle.std.proofs.Common.{◌≡◌, take}
-use Rattle.run_core.specs.Machine.{outputs_at}
+use Rattle.run_core.specs.inner.Machine.{outputs_at}
 use Rattle.run_core.proofs.outputs.outputs_at.Given as goal
 
 abbrev pub invariant-loop-output : goal.invariant-loop-output

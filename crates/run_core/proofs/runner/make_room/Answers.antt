@@ -1,6 +1,6 @@
 use Rattle.std.proofs.Common.{◌+◌, ◌<◌, ◌≤◌, arith, vec_len, vec_capacity}
 use Rattle.std.proofs.lemmas.Bool.Decides.{nat_tests}
-use Rattle.run_core.specs.Machine.{has_room, pairs_wanted}
+use Rattle.run_core.specs.inner.Machine.{has_room, pairs_wanted}
 use Rattle.run_core.proofs.runner.make_room.Goals as goal
 
 pub returns-in-Ok-clause-room : goal.returns-in-Ok-clause-room

@@ -5,12 +5,12 @@ use Rattle.command_line.specs.declared.fault.BuildError.{BuildError}
 use Rattle.command_line.specs.Launch.{IsLaunch, IsRefused, IsError}
 use Rattle.run_core.specs.declared.state.State.{State}
 use Rattle.run_rules.specs.Folders.{runtime_of}
-use Rattle.run_core.specs.Machine.{Launches, has_launch, has_none}
+use Rattle.run_core.specs.inner.Machine.{Launches, has_launch, has_none}
 use Rattle.run_core.proofs.Seats.{if_ok}
 use Rattle.run_core.proofs.steps.launched.Goals as goal
 
-pub returns-in-Ok : goal.returns-in-Ok
-returns-in-Ok c =
+pub returns-in-Ok-clause-ok : goal.returns-in-Ok-clause-ok
+returns-in-Ok-clause-ok c =
     if_ok c.starting.result (λ s is.
     subst (λ (s : State). Launches c.args.setting.now c.args.inputs.now s) (sym is)
     (has_launch c.in-Ok.launch
@@ -18,8 +18,8 @@ returns-in-Ok c =
     (subst (λ (r : Runtime). IsLaunch c.tool_of-tool.result.now c.args.inputs.now r c.in-Ok.launch) c.in_ok-runtime.ensures c.in-Ok.ensures.launch))))
     c.starting.ensures
 
-pub returns-in-Err-Refused : goal.returns-in-Err-Refused
-returns-in-Err-Refused c =
+pub returns-in-Err-Refused-clause-ok : goal.returns-in-Err-Refused-clause-ok
+returns-in-Err-Refused-clause-ok c =
     subst (λ (s : State). Launches c.args.setting.now c.args.inputs.now s) (sym c.failed_for_good.ensures)
     (has_none c.in-Err-Refused.fault
     (subst (λ (t : Tool). IsRefused t c.args.inputs.now (runtime_of c.args.setting.now.options 1) c.in-Err-Refused.fault) c.tool_of-tool.ensures

@@ -1,5 +1,5 @@
 use Rattle.std.proofs.Common.{◌≡◌}
-use Rattle.workflow_engine.specs.Held.{Covers}
+use Rattle.workflow_engine.specs.inner.Held.{Covers}
 use Rattle.workflow_engine.proofs.tickets.close_all.Given as goal
 
 abbrev pub invariant-loop-ticket : goal.invariant-loop-ticket

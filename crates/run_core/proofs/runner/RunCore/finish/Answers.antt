@@ -2,13 +2,13 @@ use Rattle.std.proofs.Common.{sym, subst}
 use Rattle.run_core.specs.declared.state.Phase.{Phase}
 use Rattle.run_core.specs.Core.{IsEnded}
 use Rattle.run_rules.specs.Reports.{entries_of}
-use Rattle.run_core.specs.Standing.{EndsRightly}
-use Rattle.run_core.proofs.Taken.{has_ended, concludes}
+use Rattle.run_core.specs.inner.Standing.{EndsRightly}
+use Rattle.run_core.proofs.TakeSteps.{at_its_end, concludes}
 use Rattle.run_core.proofs.runner.RunCore.finish.Goals as goal
 
 pub outcome_of-requires : goal.outcome_of-requires
 outcome_of-requires c =
-    subst (λ (p : Phase). IsEnded p) (sym (has_ended c.args.self.setting c.requires.stands.at c.requires.finished).1) tt
+    subst (λ (p : Phase). IsEnded p) (sym (at_its_end c.args.self.setting c.requires.stands.at c.requires.finished).1) tt
 
 pub returns-clause-concluded : goal.returns-clause-concluded
 returns-clause-concluded c =

@@ -1,5 +1,5 @@
 use Rattle.std.proofs.Common.{◌∙◌}
-use Rattle.run_core.proofs.Taken.{begins_at}
+use Rattle.run_core.proofs.TakeSteps.{begins_at}
 use Rattle.run_core.proofs.runner.RunCore.new.Goals as goal
 
 pub returns-in-Ok-clause-ok : goal.returns-in-Ok-clause-ok

@@ -1,5 +1,5 @@
 use Rattle.run_core.proofs.Asking.{asks_allowed}
-use Rattle.run_core.proofs.Taken.{waits_for_one}
+use Rattle.run_core.proofs.TakeSteps.{waits_for_one}
 use Rattle.run_core.proofs.runner.RunCore.next.Goals as goal
 
 pub returns-clause-flying : goal.returns-clause-flying

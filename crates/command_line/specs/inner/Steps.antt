@@ -2,8 +2,8 @@
 use Rattle.std.specs.Prelude.{◌≡◌, ℕ, false, List, Some, Contains}
 use Rattle.cwl_value.specs.declared.value.Value.{Value}
 use Rattle.command_line.specs.declared.fault.BuildFault.TheVariants.{NotText, EmptyCommand}
-use Rattle.command_line.specs.declared.fault.TextPlace.{TextPlace}
-use Rattle.command_line.specs.declared.fault.TextPlace.TheVariants.{Input, Stdout, EnvVariable}
+use Rattle.command_line.specs.declared.fault.LaunchText.{LaunchText}
+use Rattle.command_line.specs.declared.fault.LaunchText.TheVariants.{Input, Stdout, EnvVariable}
 use Rattle.command_line.specs.declared.fault.BuildError.{BuildError}
 use Rattle.command_line.specs.declared.fault.BuildError.TheVariants.{Refused, OutOfMemory}
 use Rattle.command_line.specs.declared.launch.Variable.{Variable}
@@ -13,10 +13,10 @@ use Rattle.command_line.specs.Order.{Bound}
 use Rattle.command_line.specs.Words.{is_plain, words_of}
 
 -- out of memory, or no text at this place, for which P has to hold
-abbrev pub NotTextAt : TextPlace → Type 0 → BuildError → Type 0
-NotTextAt place P OutOfMemory = Unit {0}
-NotTextAt place P (Refused (NotText at)) = (at ≡ place) × P
-NotTextAt place P (Refused EmptyCommand) = ⊥
+abbrev pub NotTextOf : LaunchText → Type 0 → BuildError → Type 0
+NotTextOf place P OutOfMemory = Unit {0}
+NotTextOf place P (Refused (NotText at)) = (at ≡ place) × P
+NotTextOf place P (Refused EmptyCommand) = ⊥
 
 -- out of memory, or a binding whose words are no text
 abbrev pub InputError : List (List ℕ × Value) → List Bound → BuildError → Type 0
@@ -26,7 +26,7 @@ InputError inputs bound (Refused EmptyCommand) = ⊥
 
 -- out of memory, or a name of a stream that is none of a file
 abbrev pub StreamError : Tool → BuildError → Type 0
-StreamError tool = NotTextAt Stdout ((name : List ℕ) × (stdout_of tool ≡ Some name) × (is_file_name name ≡ false))
+StreamError tool = NotTextOf Stdout ((name : List ℕ) × (stdout_of tool ≡ Some name) × (is_file_name name ≡ false))
 
 -- out of memory, or a variable whose text is none
 abbrev pub EnvError : List Variable → BuildError → Type 0

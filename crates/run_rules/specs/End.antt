@@ -1,55 +1,55 @@
--- How a run ends: by the first event that settles it, and with none by the result, once it is delivered.
+-- Which ends there are, and which failure settles one: the first, whatever comes after it.
 use Rattle.std.specs.Prelude.{ℕ, ◌==◌, Bool, true, false, cond, List, [], ◌∷◌, ◌++◌, Option, Some, None, length, filter, nat_lt}
 use Rattle.std.specs.List.{list_any}
 use Rattle.proc_host.specs.declared.call.HostFault.{HostFault}
 use Rattle.proc_host.specs.declared.plan.StagePlan.{StagePlan}
 use Rattle.run_rules.specs.declared.outcome.Cause.{Cause}
 use Rattle.run_rules.specs.Words.{Fields, JobPlace, is_same_place}
-use Rattle.run_rules.specs.Unfold.{Fault, Fault_at, Too_many_jobs, or_else}
+use Rattle.run_rules.specs.Unfold.{Fault, fault_at, too_many_jobs, or_else}
 use Rattle.run_rules.specs.Delivered.{delivery}
-use Rattle.run_rules.specs.Events.{Event, Broke, Gave_up, Delivered, Host_failed, Collect_failed, in_flight, tickets, number_at, unfolding_at}
+use Rattle.run_rules.specs.Events.{Event, job_failed, child_signalled, result_delivered, host_failed, collect_failed, number_at, unfolding_at}
 use Rattle.run_rules.specs.Scene.{Scene}
 
 pub data End : Type 0 where
   -- with these named outputs, before they are delivered
-  Succeeds : (outputs : Fields) → End
+  succeeds_with : (outputs : Fields) → End
   -- the job or the equation at this place fails, and would fail again
-  Fails_for_good : (place : JobPlace) (cause : Cause) → End
+  fails_permanently : (place : JobPlace) (cause : Cause) → End
   -- a signal ended the child of the job at this place
-  Fails_for_now : (place : JobPlace) → End
+  fails_temporarily : (place : JobPlace) → End
   -- there are more jobs than the limits allow
-  Beyond_limits : End
+  beyond_limits : End
   -- a call of the host's failed; the tickets of the children that nobody waits for any more
-  Host_ends : (fault : HostFault) (running : List ℕ) → End
+  ended_by_host : (fault : HostFault) (running : List ℕ) → End
 
 -- the end by the first fault
 abbrev pub fault_end : Option Fault → Option End
 fault_end None = None
-fault_end (Some (Fault_at place cause)) = Some (Fails_for_good place cause)
-fault_end (Some Too_many_jobs) = Some Beyond_limits
+fault_end (Some (fault_at place cause)) = Some (fails_permanently place cause)
+fault_end (Some too_many_jobs) = Some beyond_limits
 
 -- whether an event is that a signal ended the child of the job at a place
 abbrev pub gives_up : JobPlace → Event → Bool
-gives_up place (Gave_up p) = is_same_place p place
+gives_up place (child_signalled p) = is_same_place p place
 gives_up place _ = false
 
 -- whether it is that the result's files were delivered
 abbrev pub is_delivery : Event → Bool
-is_delivery Delivered = true
+is_delivery result_delivered = true
 is_delivery _ = false
 
 -- whether it is that a collect failed
 abbrev pub is_lost_collect : Event → Bool
-is_lost_collect Collect_failed = true
+is_lost_collect collect_failed = true
 is_lost_collect _ = false
 
 module _ (s : Scene) where
   -- the end that an event is, after these: a child's end by a signal is none while its job may be started again
   abbrev pub settled_by : List Event → Event → Option End
-  settled_by es (Broke place cause) = Some (Fails_for_good place cause)
-  settled_by es (Gave_up place) =
-      cond (nat_lt (length (filter (gives_up place) es)) s.options.retries) None (Some (Fails_for_now place))
-  settled_by es (Host_failed place fault) = Some (Host_ends fault [])
+  settled_by es (job_failed place cause) = Some (fails_permanently place cause)
+  settled_by es (child_signalled place) =
+      cond (nat_lt (length (filter (gives_up place) es)) s.options.retries) None (Some (fails_temporarily place))
+  settled_by es (host_failed place fault) = Some (ended_by_host fault [])
   settled_by es _ = None
 
   -- the end by the first fault of what is known
@@ -73,19 +73,3 @@ module _ (s : Scene) where
   -- the copies of a result's files, where it has some
   abbrev pub delivery_at : List Event → Fields → Option StagePlan
   delivery_at es outputs = if_any (delivery (number_at es) s.options.work s.options.outdir outputs)
-
-  -- a result is the end directly where it has nothing to copy, and else once that is copied
-  abbrev pub delivered_end : List Event → Fields → Option StagePlan → Option End
-  delivered_end es outputs None = Some (Succeeds outputs)
-  delivered_end es outputs (Some plan) = cond (list_any is_delivery es) (Some (Succeeds outputs)) None
-
-  -- the end that the result is, where there is one
-  abbrev pub result_end : List Event → Option Fields → Option End
-  result_end es None = None
-  result_end es (Some outputs) = delivered_end es outputs (delivery_at es outputs)
-
-  -- how these events end; none where the run goes on
-  abbrev pub end_of : List Event → Option End
-  end_of es =
-      cond (list_any is_lost_collect es) (Some (Host_ends HostFault.Collect (tickets es)))
-      (cond (length (in_flight es) == 0) (or_else (settled es) (result_end es (unfolding_at s es).result)) None)

@@ -10,6 +10,7 @@ use Rattle.cwl_document.specs.declared.process.Tool.{Tool}
 use Rattle.cwl_document.specs.declared.process.ToolInput.{ToolInput}
 use Rattle.cwl_document.specs.declared.process.ToolOutput.{ToolOutput}
 use Rattle.proc_host.specs.declared.call.HostAnswer.{HostAnswer}
+use Rattle.proc_host.specs.declared.call.HostRequest.{HostRequest}
 use Rattle.proc_host.specs.declared.call.HostFault.{HostFault}
 use Rattle.proc_host.specs.declared.found.Found.{Found}
 use Rattle.proc_host.specs.declared.plan.StagePlan.{StagePlan}
@@ -20,12 +21,13 @@ use Rattle.run_rules.specs.declared.outcome.CollectFault.{CollectFault}
 use Rattle.run_rules.specs.declared.outcome.Outcome.{Outcome}
 use Rattle.run_rules.specs.declared.outcome.Report.{Report}
 use Rattle.run_rules.specs.declared.outcome.RunFault.{RunFault}
+use Rattle.run_rules.specs.declared.request.Answer.{Answer}
 use Rattle.run_rules.specs.declared.request.Request.{Request}
 use Rattle.run_rules.specs.declared.setting.Options.{Options}
 use Rattle.run_rules.specs.declared.setting.Setting.{Setting}
 use Rattle.run_core.specs.declared.state.Phase.{Phase}
 use Rattle.run_core.specs.declared.state.State.{State}
-use Rattle.run_rules.specs.Words.{Name, Fields, by_name, null}
+use Rattle.run_rules.specs.Words.{Name, Fields, last_by_name, null}
 use Rattle.run_rules.specs.Jobs.{tool_of}
 use Rattle.run_rules.specs.Inputs.{is_misfit, named_inputs}
 use Rattle.run_rules.specs.Collected.{file_at, found_under}
@@ -47,7 +49,7 @@ abbrev pub host_fails : HostFault → List ℕ → State
 host_fails fault running = ends (Err (RunFault.Host fault running))
 
 abbrev pub stages : Fields → State
-stages inputs = waits (Request.Stage [] (record { moves = []; value = inputs }) 1) Phase.Staging
+stages inputs = waits (Request.Host [] (HostRequest.Stage (record { moves = []; value = inputs }) 1)) Phase.Staging
 
 abbrev pub start_with : Fields → Option ToolInput → State
 start_with inputs None = stages inputs
@@ -60,7 +62,7 @@ at_start setting =
     (find (is_misfit setting.inputs) (tool_of setting.process).inputs)
 
 abbrev pub starts : Launch → State
-starts launch = waits (Request.Start [] launch) (Phase.Starting (0 ∷ []))
+starts launch = waits (Request.Host [] (HostRequest.Start launch)) (Phase.Starting (0 ∷ []))
 
 -- the staged job has this launch, or none
 pub data Launches (setting : Setting) (inputs : Fields) : State → Type 0 where
@@ -69,11 +71,15 @@ pub data Launches (setting : Setting) (inputs : Fields) : State → Type 0 where
   has_none : (fault : BuildFault) → IsRefused (tool_of setting.process) inputs (runtime_of setting.options 1) fault →
       Launches setting inputs (fails_for_good (Cause.Build fault))
 
+-- it has one of both
+abbrev pub HasOutcome : Setting → Fields → Type 0
+HasOutcome setting inputs = (state : State) × Launches setting inputs state
+
 abbrev pub after_ticket : ℕ → State
-after_ticket ticket = record { asks = Request.Collect; phase = Phase.Running; flying = ticket ∷ [] }
+after_ticket ticket = record { asks = Request.Host [] HostRequest.Collect; phase = Phase.Running; flying = ticket ∷ [] }
 
 abbrev pub after_class : Options → Option ℤ → ExitClass → State
-after_class options code ExitClass.Success = waits (Request.Scan [] (out_folder options.work 1)) Phase.Scanning
+after_class options code ExitClass.Success = waits (Request.Host [] (HostRequest.Scan (out_folder options.work 1))) Phase.Scanning
 after_class options code ExitClass.Temporary = ends (reported (Outcome.TemporaryFail []))
 after_class options code ExitClass.Permanent = fails_for_good (Cause.Exit code)
 
@@ -82,7 +88,7 @@ after_exit options code = after_class options code (class_of code)
 
 -- each output is one file
 abbrev pub outputs_at : List ToolOutput → Place → Found → Fields
-outputs_at outputs place found = by_name (map (λ o. (o.id, file_at place found)) outputs)
+outputs_at outputs place found = last_by_name (map (λ o. (o.id, file_at place found)) outputs)
 
 abbrev pub fields : Fields → Value
 fields named = roll-Value (Value-F.Fields named)
@@ -96,7 +102,7 @@ plan_to work outputs found target = record {
 
 abbrev pub delivers : Options → List ToolOutput → Found → State
 delivers options outputs found =
-    waits (Request.Deliver (plan_to options.work outputs found (target_of options.outdir found.name)))
+    waits (Request.Host [] (HostRequest.Deliver (plan_to options.work outputs found (target_of options.outdir found.name))))
     (Phase.Delivering (fields (outputs_at outputs (Place.Url (location_of (target_of options.outdir found.name))) found)))
 
 abbrev pub after_file : Options → Tool → Name → Option Found → State
@@ -114,7 +120,7 @@ after_scan setting found =
 
 -- the children that nobody waits for any more where this call failed: those in flight after a collect
 abbrev pub left_by : Request → List ℕ → List ℕ
-left_by Request.Collect flying = flying
+left_by (Request.Host place HostRequest.Collect) flying = flying
 left_by asks flying = []
 
 -- the outputs that are delivered
@@ -122,19 +128,15 @@ abbrev pub delivered_in : Phase → Value
 delivered_in (Phase.Delivering value) = value
 delivered_in phase = null
 
-abbrev pub IsDelivering : Phase → Type 0
-IsDelivering (Phase.Delivering value) = Unit {0}
-IsDelivering phase = ⊥
-
 -- it has a place for a ticket
 abbrev pub HasSeat : Phase → Type 0
 HasSeat (Phase.Starting seat) = seat ≡ 0 ∷ []
 HasSeat phase = ⊥
 
 -- only what follows from these answers needs memory
-abbrev pub NeedsMemory : HostAnswer → Type 0
-NeedsMemory (HostAnswer.Started ticket) = ⊥
-NeedsMemory (HostAnswer.Failed fault) = ⊥
+abbrev pub NeedsMemory : Answer → Type 0
+NeedsMemory (Answer.Host (HostAnswer.Started ticket)) = ⊥
+NeedsMemory (Answer.Host (HostAnswer.Failed fault)) = ⊥
 NeedsMemory answer = Unit {0}
 
 -- how many pairs have to find room in a phase: a child that is started has its end noted too
@@ -157,31 +159,36 @@ HasRoom pairs room phase = Unit {0}
 
 -- the state after a call that is done: the job's folders are made, or the result's files are placed
 abbrev pub FollowsDone : Setting → Request → Phase → State → Type 0
-FollowsDone setting (Request.Stage place plan number) phase next = Launches setting plan.value next
+FollowsDone setting (Request.Host place (HostRequest.Stage plan number)) phase next = Launches setting plan.value next
 FollowsDone setting asks phase next = next ≡ ends (reported (Outcome.Success (delivered_in phase)))
 
 -- the state after an answer
-abbrev pub FollowsFrom : Setting → Request → List ℕ → Phase → HostAnswer → State → Type 0
-FollowsFrom setting asks flying phase HostAnswer.Done next = FollowsDone setting asks phase next
-FollowsFrom setting asks flying phase (HostAnswer.Started ticket) next = next ≡ after_ticket ticket
-FollowsFrom setting asks flying phase (HostAnswer.Ended ending) next = next ≡ after_exit setting.options ending.code
-FollowsFrom setting asks flying phase (HostAnswer.Listed found) next = next ≡ after_scan setting found
-FollowsFrom setting asks flying phase (HostAnswer.Failed fault) next = next ≡ host_fails fault (left_by asks flying)
+abbrev pub FollowsFrom : Setting → Request → List ℕ → Phase → Answer → State → Type 0
+FollowsFrom setting asks flying phase (Answer.Host HostAnswer.Done) next = FollowsDone setting asks phase next
+FollowsFrom setting asks flying phase (Answer.Host (HostAnswer.Started ticket)) next = next ≡ after_ticket ticket
+FollowsFrom setting asks flying phase (Answer.Host (HostAnswer.Ended ending)) next = next ≡ after_exit setting.options ending.code
+FollowsFrom setting asks flying phase (Answer.Host (HostAnswer.Listed found)) next = next ≡ after_scan setting found
+FollowsFrom setting asks flying phase (Answer.Host (HostAnswer.Failed fault)) next = next ≡ host_fails fault (left_by asks flying)
 
 -- what a phase asks
 abbrev pub AsksIn : Request → Phase → Type 0
-AsksIn (Request.Stage place plan number) Phase.Staging = Unit {0}
-AsksIn (Request.Start place launch) (Phase.Starting seat) = seat ≡ 0 ∷ []
-AsksIn Request.Collect Phase.Running = Unit {0}
-AsksIn (Request.Scan place folder) Phase.Scanning = Unit {0}
-AsksIn (Request.Deliver plan) (Phase.Delivering value) = Unit {0}
+AsksIn (Request.Host place (HostRequest.Stage plan number)) Phase.Staging = Unit {0}
+AsksIn (Request.Host place (HostRequest.Start launch)) (Phase.Starting seat) = seat ≡ 0 ∷ []
+AsksIn (Request.Host place HostRequest.Collect) Phase.Running = Unit {0}
+AsksIn (Request.Host place (HostRequest.Scan folder)) Phase.Scanning = Unit {0}
+AsksIn (Request.Host place (HostRequest.Deliver plan)) (Phase.Delivering value) = Unit {0}
 AsksIn Request.Finished (Phase.Ended result) = Unit {0}
 AsksIn asks phase = ⊥
 
+-- something follows from the answer
+abbrev pub CanFollow : Setting → Request → List ℕ → Phase → Answer → Type 0
+CanFollow setting asks flying phase answer = (next : State) × FollowsFrom setting asks flying phase answer next
+
 -- what an answer makes of the state: what follows from it, or nothing more where memory ran out
-pub data Moves (setting : Setting) (old : State) (answer : HostAnswer) : State → Type 0 where
+pub data Moves (setting : Setting) (old : State) (answer : Answer) : State → Type 0 where
   moves : (next : State) → FollowsFrom setting old.asks old.flying old.phase answer next → Moves setting old answer next
-  gives_up : NeedsMemory answer → Moves setting old answer (ends (Err RunFault.OutOfMemory))
+  gives_up : (next : State) → FollowsFrom setting old.asks old.flying old.phase answer next → NeedsMemory answer →
+      Moves setting old answer (ends (Err RunFault.OutOfMemory))
 
 -- with so many pairs and room for so many: there is room for those that come next in the same state, or nothing more is asked
 pub data MakesRoom (pairs room : ℕ) (old : State) : State → Type 0 where

@@ -5,6 +5,8 @@ use Rattle.cwl_document.specs.declared.process.Tool.{Tool}
 use Rattle.cwl_document.specs.declared.process.ToolOutput.{ToolOutput}
 use Rattle.command_line.specs.Launch.{stream_name}
 use Rattle.proc_host.specs.declared.call.HostAnswer.{HostAnswer}
+use Rattle.proc_host.specs.declared.call.HostRequest.{HostRequest}
+use Rattle.proc_host.specs.Answers.{is_staged, is_started, has_ended, is_listed, is_delivered, has_failed}
 use Rattle.proc_host.specs.declared.call.HostFault.{HostFault}
 use Rattle.proc_host.specs.declared.child.ExitClass.{ExitClass}
 use Rattle.proc_host.specs.declared.found.Found.{Found}
@@ -15,22 +17,23 @@ use Rattle.run_rules.specs.declared.outcome.CollectFault.{CollectFault}
 use Rattle.run_rules.specs.declared.outcome.Outcome.{Outcome}
 use Rattle.run_rules.specs.declared.outcome.Report.{Report}
 use Rattle.run_rules.specs.declared.outcome.RunFault.{RunFault}
+use Rattle.run_rules.specs.declared.request.Answer.{Answer}
 use Rattle.run_rules.specs.declared.request.Request.{Request}
 use Rattle.run_rules.specs.declared.request.Pair.{Pair}
 use Rattle.run_rules.specs.declared.setting.Options.{Options}
 use Rattle.run_rules.specs.declared.setting.Setting.{Setting}
 use Rattle.run_core.specs.declared.state.Phase.{Phase}
 use Rattle.run_core.specs.declared.state.State.{State}
-use Rattle.run_rules.specs.Words.{Name, Fields}
-use Rattle.run_rules.specs.Answers.{MayAnswer, flying_after}
+use Rattle.run_rules.specs.Words.{Name, Fields, JobPlace}
+use Rattle.run_rules.specs.Answers.{MayAnswer, by_host, flying_after}
 use Rattle.run_rules.specs.Collected.{found_under}
-use Rattle.run_rules.specs.Events.{So_far}
-use Rattle.run_rules.specs.Plans.{Mark}
+use Rattle.run_rules.specs.Events.{Progress}
+use Rattle.plan_checker.specs.declared.plan.Mark.{Mark}
 use Rattle.run_rules.specs.Run.{IsRunSoFar, IsRun}
 use Rattle.run_rules.specs.Reports.{Concludes, whole, lost as memory_lost, reported, report_of, entry_of, entries_of}
-use Rattle.run_core.specs.Machine.{ends, fails_for_good, start_with, at_start, stages, has_launch, has_none, after_class, after_file, after_listing, delivers, told_of, AsksIn, FollowsFrom, HasRoom, NeedsMemory, pairs_ahead, pairs_wanted, Moves, moves, gives_up, MakesRoom, has_room, wants_none, no_room}
+use Rattle.run_core.specs.inner.Machine.{Launches, ends, fails_for_good, start_with, at_start, stages, has_launch, has_none, after_class, after_file, after_listing, delivers, told_of, AsksIn, FollowsFrom, HasRoom, NeedsMemory, pairs_ahead, pairs_wanted, Moves, moves, gives_up, MakesRoom, has_room, wants_none, no_room}
 use Rattle.run_rules.specs.Jobs.{tool_of, walker, tool_walk}
-use Rattle.run_core.specs.Standing.{IsAt, Blames, staging, starting, running, scanning, delivering, ended, lost}
+use Rattle.run_core.specs.inner.Standing.{IsAt, Blames, staging, starting, running, scanning, delivering, ended, lost}
 use Rattle.run_core.specs.Core.{steps_in, Stands, Begins, Took}
 use Rattle.run_core.specs.declared.runner.RunCore.{RunCore}
 use Rattle.run_core.specs.Limits.{IsWithinLimits}
@@ -38,60 +41,62 @@ use Rattle.cwl_document.specs.declared.process.ToolInput.{ToolInput}
 use Rattle.run_rules.specs.Inputs.{is_misfit, named_inputs, inputs_for, unless_misfit}
 use Rattle.run_rules.specs.Scene.{Scene, scene_of}
 use Rattle.run_rules.specs.Events.{at_first}
-use Rattle.run_rules.specs.Ending.{Fails_for_good, end_of}
-use Rattle.run_rules.specs.Plans.{Compute, Loads_what_is_held}
+use Rattle.run_rules.specs.End.{fails_permanently}
+use Rattle.run_rules.specs.EndsSo.{EndsSo, fails}
+use Rattle.plan_checker.specs.declared.plan.Mark.TheVariants.{Compute}
+use Rattle.run_rules.specs.Plans.{LoadsHeld}
 use Rattle.run_rules.specs.Run.{Replans, begins}
 use Rattle.run_rules.proofs.Lone.{walker_tool}
 use Rattle.run_rules.proofs.Reported.{reports_rightly}
 use Rattle.run_core.proofs.Advance.{Advances, same}
-use Rattle.run_core.proofs.Answered.{pair}
-use Rattle.run_core.proofs.Next.{advance, reach}
+use Rattle.run_core.proofs.Next.{advance}
 use Rattle.run_core.proofs.Blamed.{blames_after, none_started}
-use Rattle.run_core.specs.Standing.{IsLone}
+use Rattle.run_core.specs.inner.Standing.{IsLone}
 use Rattle.run_core.proofs.Answered.{only_ticket}
 
 module _ (setting : Setting) where
-  pub asks_in : {f : So_far} {marks : List Mark} {state : State} → IsAt setting f marks state → AsksIn state.asks state.phase
+  pub asks_in : {f : Progress} {marks : List Mark} {state : State} → IsAt setting f marks state → AsksIn state.asks state.phase
   asks_in (staging inputs l) = tt
   asks_in (starting inputs launch l is) = refl
   asks_in (running inputs ticket l) = tt
-  asks_in (scanning inputs ticket l) = tt
+  asks_in (scanning inputs ticket millis l) = tt
   asks_in (delivering inputs ticket named outputs plan l result delivery) = tt
   asks_in (ended f marks end has) = tt
   asks_in (lost f marks) = tt
 
   -- while it asks, a child is in flight where it waits for one
-  pub waits_for_one : {f : So_far} {marks : List Mark} {state : State} → IsAt setting f marks state → state.asks ≡ Request.Collect → state.flying ≢ []
-  waits_for_one (staging inputs l) asks = λ none. cc
-  waits_for_one (starting inputs launch l is) asks = λ none. cc
-  waits_for_one (running inputs ticket l) asks = λ none. cc
-  waits_for_one (scanning inputs ticket l) asks = λ none. cc
-  waits_for_one (delivering inputs ticket named outputs plan l result delivery) asks = λ none. cc
-  waits_for_one (ended f marks end has) asks = λ none. cc
-  waits_for_one (lost f marks) asks = λ none. cc
+  pub waits_for_one : {f : Progress} {marks : List Mark} {state : State} → IsAt setting f marks state → (place : JobPlace) →
+      state.asks ≡ Request.Host place HostRequest.Collect → state.flying ≢ []
+  waits_for_one (staging inputs l) place asks = λ none. cc
+  waits_for_one (starting inputs launch l is) place asks = λ none. cc
+  waits_for_one (running inputs ticket l) place asks = λ none. cc
+  waits_for_one (scanning inputs ticket millis l) place asks = λ none. cc
+  waits_for_one (delivering inputs ticket named outputs plan l result delivery) place asks = λ none. cc
+  waits_for_one (ended f marks end has) place asks = λ none. cc
+  waits_for_one (lost f marks) place asks = λ none. cc
 
   -- where it asks nothing more it has ended
-  pub has_ended : {f : So_far} {marks : List Mark} {state : State} → IsAt setting f marks state → state.asks ≡ Request.Finished →
+  pub at_its_end : {f : Progress} {marks : List Mark} {state : State} → IsAt setting f marks state → state.asks ≡ Request.Finished →
       (result : Result Report RunFault) × (state.phase ≡ Phase.Ended result)
-  has_ended (staging inputs l) asks = absurd cc
-  has_ended (starting inputs launch l is) asks = absurd cc
-  has_ended (running inputs ticket l) asks = absurd cc
-  has_ended (scanning inputs ticket l) asks = absurd cc
-  has_ended (delivering inputs ticket named outputs plan l result delivery) asks = absurd cc
-  has_ended (ended f marks end has) asks = (report_of setting.options end, refl)
-  has_ended (lost f marks) asks = (Err RunFault.OutOfMemory, refl)
+  at_its_end (staging inputs l) asks = absurd cc
+  at_its_end (starting inputs launch l is) asks = absurd cc
+  at_its_end (running inputs ticket l) asks = absurd cc
+  at_its_end (scanning inputs ticket millis l) asks = absurd cc
+  at_its_end (delivering inputs ticket named outputs plan l result delivery) asks = absurd cc
+  at_its_end (ended f marks end has) asks = (report_of setting.options end, refl)
+  at_its_end (lost f marks) asks = (Err RunFault.OutOfMemory, refl)
 
   -- what it reports is what its run is
-  pub concludes : (t : List Pair) {f : So_far} {marks : List Mark} {state : State} (result : Result Report RunFault) → IsAt setting f marks state →
+  pub concludes : (t : List Pair) {f : Progress} {marks : List Mark} {state : State} (result : Result Report RunFault) → IsAt setting f marks state →
       IsRunSoFar setting t f marks → state.phase ≡ Phase.Ended result → Concludes setting t result
   concludes t result (staging inputs l) goes is = absurd cc
   concludes t result (starting inputs launch l is_launch) goes is = absurd cc
   concludes t result (running inputs ticket l) goes is = absurd cc
-  concludes t result (scanning inputs ticket l) goes is = absurd cc
+  concludes t result (scanning inputs ticket millis l) goes is = absurd cc
   concludes t result (delivering inputs ticket named outputs plan l its_result delivery) goes is = absurd cc
   concludes t result (ended f marks end has) goes is =
       let same : report_of setting.options end ≡ result = cc in
-      let run : IsRun setting t end = record { happened = f; marks = marks; goes = goes; idle = has.idle; ended = has.ended } in
+      let run : IsRun setting t end = record { happened = f; marks = marks; goes = goes; ended = has } in
       subst (λ (r : Result Report RunFault). Concludes setting t r) same
       (whole end run (reports_rightly setting t end run))
   concludes t result (lost f marks) goes is =
@@ -99,15 +104,15 @@ module _ (setting : Setting) where
       subst (λ (r : Result Report RunFault). Concludes setting t r) same (memory_lost f marks goes)
 
   -- an answer that may come finds the machine asking
-  pub still_asks : {f : So_far} {marks : List Mark} {state : State} (answer : HostAnswer) → IsAt setting f marks state →
-      MayAnswer state.asks state.flying answer → 0 < steps_in state.phase
-  still_asks answer (staging inputs l) may = lit< tt
-  still_asks answer (starting inputs launch l is) may = lit< tt
-  still_asks answer (running inputs ticket l) may = lit< tt
-  still_asks answer (scanning inputs ticket l) may = lit< tt
-  still_asks answer (delivering inputs ticket named outputs plan l result delivery) may = lit< tt
-  still_asks answer (ended f marks end has) may = absurd may
-  still_asks answer (lost f marks) may = absurd may
+  pub still_asks : {f : Progress} {marks : List Mark} {state : State} {answer : Answer} → IsAt setting f marks state →
+      MayAnswer state.flying state.asks answer → 0 < steps_in state.phase
+  still_asks (staging inputs l) may = lit< tt
+  still_asks (starting inputs launch l is) may = lit< tt
+  still_asks (running inputs ticket l) may = lit< tt
+  still_asks (scanning inputs ticket millis l) may = lit< tt
+  still_asks (delivering inputs ticket named outputs plan l result delivery) may = lit< tt
+  still_asks (ended f marks end has) may = elim may [ ]
+  still_asks (lost f marks) may = elim may [ ]
 
 -- what a step leaves: fewer steps, no refused memory, the right children in flight, a child only after its start, and
 -- none where room has to be made
@@ -153,67 +158,47 @@ module _ (setting : Setting) where
   abbrev at_known : (steps : ℕ) (flying : List ℕ) (next known : State) → next ≡ known → Leaves steps flying known → Leaves steps flying next
   at_known steps flying next known is leaves = subst (λ (n : State). Leaves steps flying n) (sym is) leaves
 
-  pub step_leaves : {f : So_far} {marks : List Mark} {state : State} (answer : HostAnswer) (next : State) → IsAt setting f marks state →
-      MayAnswer state.asks state.flying answer → FollowsFrom setting state.asks state.flying state.phase answer next →
-      Leaves (steps_in state.phase) (flying_after state.flying answer) next
-  step_leaves HostAnswer.Done next (staging inputs l) may (has_launch launch is) = record { falls = lit< tt; not_lost = λ is_lost. cc; flies = λ asks. refl; runs = λ is. cc; landed = λ needs. refl }
-  step_leaves HostAnswer.Done next (staging inputs l) may (has_none fault is) = leaves_outcome 5 [] (Outcome.PermanentFail [] (Cause.Build fault)) (lit< tt)
-  step_leaves (HostAnswer.Failed fault) next (staging inputs l) may follows = at_known _ _ next _ follows (leaves_fault 5 [] fault [] (lit< tt))
-  step_leaves (HostAnswer.Started ticket) next (staging inputs l) may follows = absurd may
-  step_leaves (HostAnswer.Ended e) next (staging inputs l) may follows = absurd may
-  step_leaves (HostAnswer.Listed found) next (staging inputs l) may follows = absurd may
-  step_leaves (HostAnswer.Started ticket) next (starting inputs launch l is) may follows =
-      at_known _ _ next _ follows (record { falls = lit< tt; not_lost = λ is_lost. cc; flies = λ asks. refl; runs = λ is_running. refl; landed = λ needs. absurd (none_less needs) })
-  step_leaves (HostAnswer.Failed fault) next (starting inputs launch l is) may follows = at_known _ _ next _ follows (leaves_fault 4 [] fault [] (lit< tt))
-  step_leaves HostAnswer.Done next (starting inputs launch l is) may follows = absurd may
-  step_leaves (HostAnswer.Ended e) next (starting inputs launch l is) may follows = absurd may
-  step_leaves (HostAnswer.Listed found) next (starting inputs launch l is) may follows = absurd may
-  step_leaves (HostAnswer.Ended e) next (running inputs ticket l) may follows =
-      at_known _ _ next _ follows (leaves_class setting.options e.code (class_of e.code) (without e.ticket (ticket ∷ []))
-      (none_left ticket e.ticket (only_ticket ticket e.ticket may)))
-  step_leaves (HostAnswer.Failed fault) next (running inputs ticket l) may follows = at_known _ _ next _ follows (leaves_fault 3 (ticket ∷ []) fault (ticket ∷ []) (lit< tt))
-  step_leaves HostAnswer.Done next (running inputs ticket l) may follows = absurd may
-  step_leaves (HostAnswer.Started n) next (running inputs ticket l) may follows = absurd may
-  step_leaves (HostAnswer.Listed found) next (running inputs ticket l) may follows = absurd may
-  step_leaves (HostAnswer.Listed found) next (scanning inputs ticket l) may follows =
-      at_known _ _ next _ follows (leaves_listing setting.options (tool_of setting.process) found (tool_of setting.process).outputs)
-  step_leaves (HostAnswer.Failed fault) next (scanning inputs ticket l) may follows = at_known _ _ next _ follows (leaves_fault 2 [] fault [] (lit< tt))
-  step_leaves HostAnswer.Done next (scanning inputs ticket l) may follows = absurd may
-  step_leaves (HostAnswer.Started n) next (scanning inputs ticket l) may follows = absurd may
-  step_leaves (HostAnswer.Ended e) next (scanning inputs ticket l) may follows = absurd may
-  step_leaves HostAnswer.Done next (delivering inputs ticket named outputs plan l result delivery) may follows =
-      at_known _ _ next _ follows (leaves_outcome 1 [] _ (lit< tt))
-  step_leaves (HostAnswer.Failed fault) next (delivering inputs ticket named outputs plan l result delivery) may follows =
-      at_known _ _ next _ follows (leaves_fault 1 [] fault [] (lit< tt))
-  step_leaves (HostAnswer.Started n) next (delivering inputs ticket named outputs plan l result delivery) may follows = absurd may
-  step_leaves (HostAnswer.Ended e) next (delivering inputs ticket named outputs plan l result delivery) may follows = absurd may
-  step_leaves (HostAnswer.Listed found) next (delivering inputs ticket named outputs plan l result delivery) may follows = absurd may
-  step_leaves answer next (ended f marks end has) may follows = absurd may
-  step_leaves answer next (lost f marks) may follows = absurd may
+  leaves_launch : (inputs : Fields) (next : State) → Launches setting inputs next → Leaves 5 [] next
+  leaves_launch inputs next (has_launch launch is) = record { falls = lit< tt; not_lost = λ is_lost. cc; flies = λ asks. refl; runs = λ is. cc; landed = λ needs. refl }
+  leaves_launch inputs next (has_none fault is) = leaves_outcome 5 [] (Outcome.PermanentFail [] (Cause.Build fault)) (lit< tt)
 
-module _ (setting : Setting) where
+  pub step_leaves : {f : Progress} {marks : List Mark} {state : State} {answer : Answer} (next : State) → IsAt setting f marks state →
+      MayAnswer state.flying state.asks answer → FollowsFrom setting state.asks state.flying state.phase answer next →
+      Leaves (steps_in state.phase) (flying_after state.flying answer) next
+  step_leaves next (staging inputs l) (by_host place request answer (is_staged plan number)) follows = leaves_launch inputs next follows
+  step_leaves next (staging inputs l) (by_host place request answer (has_failed call)) follows = at_known _ _ next _ follows (leaves_fault 5 [] _ [] (lit< tt))
+  step_leaves next (starting inputs launch l is) (by_host place request answer (is_started its_launch ticket fresh)) follows =
+      at_known _ _ next _ follows (record { falls = lit< tt; not_lost = λ is_lost. cc; flies = λ asks. refl; runs = λ is_running. refl; landed = λ needs. absurd (none_less needs) })
+  step_leaves next (starting inputs launch l is) (by_host place request answer (has_failed call)) follows = at_known _ _ next _ follows (leaves_fault 4 [] _ [] (lit< tt))
+  step_leaves next (running inputs ticket l) (by_host place request answer (has_ended e runs)) follows =
+      at_known _ _ next _ follows (leaves_class setting.options e.code (class_of e.code) (without e.ticket (ticket ∷ []))
+      (none_left ticket e.ticket (only_ticket ticket e.ticket runs)))
+  step_leaves next (running inputs ticket l) (by_host place request answer (has_failed call)) follows = at_known _ _ next _ follows (leaves_fault 3 (ticket ∷ []) _ (ticket ∷ []) (lit< tt))
+  step_leaves next (scanning inputs ticket millis l) (by_host place request answer (is_listed folder found)) follows =
+      at_known _ _ next _ follows (leaves_listing setting.options (tool_of setting.process) found (tool_of setting.process).outputs)
+  step_leaves next (scanning inputs ticket millis l) (by_host place request answer (has_failed call)) follows = at_known _ _ next _ follows (leaves_fault 2 [] _ [] (lit< tt))
+  step_leaves next (delivering inputs ticket named outputs plan l result delivery) (by_host place request answer (is_delivered its_plan)) follows =
+      at_known _ _ next _ follows (leaves_outcome 1 [] _ (lit< tt))
+  step_leaves next (delivering inputs ticket named outputs plan l result delivery) (by_host place request answer (has_failed call)) follows =
+      at_known _ _ next _ follows (leaves_fault 1 [] _ [] (lit< tt))
+  step_leaves next (ended f marks end has) may follows = elim may [ ]
+  step_leaves next (lost f marks) may follows = elim may [ ]
+
   -- where memory is needed, no child is in flight
-  none_in_flight : {f : So_far} {marks : List Mark} {state : State} (answer : HostAnswer) → IsAt setting f marks state →
-      MayAnswer state.asks state.flying answer → NeedsMemory answer → flying_after state.flying answer ≡ []
-  none_in_flight (HostAnswer.Started n) at may needs = absurd needs
-  none_in_flight (HostAnswer.Failed fault) at may needs = absurd needs
-  none_in_flight HostAnswer.Done (staging inputs l) may needs = refl
-  none_in_flight (HostAnswer.Ended e) (staging inputs l) may needs = absurd may
-  none_in_flight (HostAnswer.Listed found) (staging inputs l) may needs = absurd may
-  none_in_flight HostAnswer.Done (starting inputs launch l is) may needs = absurd may
-  none_in_flight (HostAnswer.Ended e) (starting inputs launch l is) may needs = absurd may
-  none_in_flight (HostAnswer.Listed found) (starting inputs launch l is) may needs = absurd may
-  none_in_flight HostAnswer.Done (running inputs ticket l) may needs = absurd may
-  none_in_flight (HostAnswer.Ended e) (running inputs ticket l) may needs = none_left ticket e.ticket (only_ticket ticket e.ticket may)
-  none_in_flight (HostAnswer.Listed found) (running inputs ticket l) may needs = absurd may
-  none_in_flight HostAnswer.Done (scanning inputs ticket l) may needs = absurd may
-  none_in_flight (HostAnswer.Ended e) (scanning inputs ticket l) may needs = absurd may
-  none_in_flight (HostAnswer.Listed found) (scanning inputs ticket l) may needs = refl
-  none_in_flight HostAnswer.Done (delivering inputs ticket named outputs plan l result delivery) may needs = refl
-  none_in_flight (HostAnswer.Ended e) (delivering inputs ticket named outputs plan l result delivery) may needs = absurd may
-  none_in_flight (HostAnswer.Listed found) (delivering inputs ticket named outputs plan l result delivery) may needs = absurd may
-  none_in_flight answer (ended f marks end has) may needs = absurd may
-  none_in_flight answer (lost f marks) may needs = absurd may
+  none_in_flight : {f : Progress} {marks : List Mark} {state : State} {answer : Answer} → IsAt setting f marks state →
+      MayAnswer state.flying state.asks answer → NeedsMemory answer → flying_after state.flying answer ≡ []
+  none_in_flight (staging inputs l) (by_host place request answer (is_staged plan number)) needs = refl
+  none_in_flight (staging inputs l) (by_host place request answer (has_failed call)) needs = absurd needs
+  none_in_flight (starting inputs launch l is) (by_host place request answer (is_started its_launch ticket fresh)) needs = absurd needs
+  none_in_flight (starting inputs launch l is) (by_host place request answer (has_failed call)) needs = absurd needs
+  none_in_flight (running inputs ticket l) (by_host place request answer (has_ended e runs)) needs = none_left ticket e.ticket (only_ticket ticket e.ticket runs)
+  none_in_flight (running inputs ticket l) (by_host place request answer (has_failed call)) needs = absurd needs
+  none_in_flight (scanning inputs ticket millis l) (by_host place request answer (is_listed folder found)) needs = refl
+  none_in_flight (scanning inputs ticket millis l) (by_host place request answer (has_failed call)) needs = absurd needs
+  none_in_flight (delivering inputs ticket named outputs plan l result delivery) (by_host place request answer (is_delivered its_plan)) needs = refl
+  none_in_flight (delivering inputs ticket named outputs plan l result delivery) (by_host place request answer (has_failed call)) needs = absurd needs
+  none_in_flight (ended f marks end has) may needs = elim may [ ]
+  none_in_flight (lost f marks) may needs = elim may [ ]
 
 -- Room for the pairs that come next
 
@@ -267,16 +252,19 @@ room_ended pairs room state result is some =
 
 -- The machine as a whole
 
+abbrev pub noted : Request → Answer → Pair
+noted request answer = record { request = request; answer = answer }
+
 abbrev pub core_with : RunCore → Vec Pair Global → State → RunCore
 core_with core pairs state = record { alloc = core.alloc; setting = core.setting; pairs = pairs; state = state }
 
-module _ (core : RunCore) (answer : HostAnswer) (pairs : Vec Pair Global) (state : State) (stands : Stands core)
-    (may : MayAnswer core.state.asks core.state.flying answer) (longer : pairs.items ≡ core.pairs.items ++ pair core.state.asks answer ∷ []) where
+module _ (core : RunCore) (answer : Answer) (pairs : Vec Pair Global) (state : State) (stands : Stands core)
+    (may : MayAnswer core.state.flying core.state.asks answer) (longer : pairs.items ≡ core.pairs.items ++ noted core.state.asks answer ∷ []) where
   pub stands_next : FollowsFrom core.setting core.state.asks core.state.flying core.state.phase answer state → Room (vec_len pairs) (vec_capacity pairs) state →
       Stands (core_with core pairs state)
   stands_next follows room =
-      let a : Advances core.setting (core.pairs.items ++ pair core.state.asks answer ∷ []) state =
-      advance core.setting core.pairs.items answer state stands.at stands.goes may follows in
+      let a : Advances core.setting (core.pairs.items ++ noted core.state.asks answer ∷ []) state =
+      advance core.setting core.pairs.items state stands.at stands.goes may follows in
       record {
         happened = a.happened;
         marks = a.marks;
@@ -287,16 +275,19 @@ module _ (core : RunCore) (answer : HostAnswer) (pairs : Vec Pair Global) (state
         room = room;
       }
 
-  pub stands_lost : state ≡ ends (Err RunFault.OutOfMemory) → Stands (core_with core pairs state)
-  stands_lost is =
-      let r = reach core.setting core.pairs.items answer stands.at stands.goes may in
+  -- where memory ran out, what would have followed shows that the answer is one of a run
+  pub stands_lost : (next : State) → FollowsFrom core.setting core.state.asks core.state.flying core.state.phase answer next →
+      state ≡ ends (Err RunFault.OutOfMemory) → Stands (core_with core pairs state)
+  stands_lost next follows is =
+      let a : Advances core.setting (core.pairs.items ++ noted core.state.asks answer ∷ []) next =
+      advance core.setting core.pairs.items next stands.at stands.goes may follows in
       let none : Room (vec_len pairs) (vec_capacity pairs) state =
       room_ended (vec_len pairs) (vec_capacity pairs) state (Err RunFault.OutOfMemory) (ap (λ (st : State). st.phase) is) in
       record {
-        happened = r.happened;
-        marks = r.marks;
-        goes = subst (λ (t : List Pair). IsRunSoFar core.setting t r.happened r.marks) (sym longer) r.goes;
-        at = subst (λ (st : State). IsAt core.setting r.happened r.marks st) (sym is) (lost r.happened r.marks);
+        happened = a.happened;
+        marks = a.marks;
+        goes = subst (λ (t : List Pair). IsRunSoFar core.setting t a.happened a.marks) (sym longer) a.goes;
+        at = subst (λ (st : State). IsAt core.setting a.happened a.marks st) (sym is) (lost a.happened a.marks);
         blames = subst (λ (st : State). Blames (entries_of pairs.items) st) (sym is) (record { flying = none_started (entries_of pairs.items); rightly = tt });
         room = none;
       }
@@ -314,19 +305,20 @@ not_lost_is_ok (Phase.Ended (Err (RunFault.Host fault left))) not_lost = refl
 not_lost_is_ok (Phase.Ended (Err RunFault.TooManyJobs)) not_lost = refl
 not_lost_is_ok (Phase.Ended (Err RunFault.OutOfMemory)) not_lost = absurd (not_lost refl)
 
-module _ (core : RunCore) (answer : HostAnswer) (pairs : Vec Pair Global) (stands : Stands core)
-    (may : MayAnswer core.state.asks core.state.flying answer) (longer : pairs.items ≡ core.pairs.items ++ pair core.state.asks answer ∷ []) where
-  more_entries : entries_of pairs.items ≡ entries_of core.pairs.items ++ entries_of (pair core.state.asks answer ∷ [])
-  more_entries = ap entries_of longer ∙ filter_map-append entry_of core.pairs.items (pair core.state.asks answer ∷ [])
+module _ (core : RunCore) (answer : Answer) (pairs : Vec Pair Global) (stands : Stands core)
+    (may : MayAnswer core.state.flying core.state.asks answer) (longer : pairs.items ≡ core.pairs.items ++ noted core.state.asks answer ∷ []) where
+  more_entries : entries_of pairs.items ≡ entries_of core.pairs.items ++ entries_of (noted core.state.asks answer ∷ [])
+  more_entries = ap entries_of longer ∙ filter_map-append entry_of core.pairs.items (noted core.state.asks answer ∷ [])
 
-  took_lost : flying_after core.state.flying answer ≡ [] → Took core answer (Err RunFault.OutOfMemory) (core_with core pairs (ends (Err RunFault.OutOfMemory)))
-  took_lost none = record {
-    stands = stands_lost core answer pairs (ends (Err RunFault.OutOfMemory)) stands may longer refl;
+  took_lost : (next : State) → FollowsFrom core.setting core.state.asks core.state.flying core.state.phase answer next →
+      flying_after core.state.flying answer ≡ [] → Took core answer (Err RunFault.OutOfMemory) (core_with core pairs (ends (Err RunFault.OutOfMemory)))
+  took_lost next follows none = record {
+    stands = stands_lost core answer pairs (ends (Err RunFault.OutOfMemory)) stands may longer next follows refl;
     setting = refl;
     pair = longer;
     entries = more_entries;
     flying = tt;
-    steps = still_asks core.setting answer stands.at may;
+    steps = still_asks core.setting stands.at may;
     ok = tt;
     err = refl;
     lost = refl;
@@ -338,7 +330,7 @@ module _ (core : RunCore) (answer : HostAnswer) (pairs : Vec Pair Global) (stand
       Room (vec_len pairs) (vec_capacity pairs) next → Took core answer (Ok tt) (core_with core pairs next)
   took_next next follows room =
       let leaves : Leaves (steps_in core.state.phase) (flying_after core.state.flying answer) next =
-      step_leaves core.setting answer next stands.at may follows in
+      step_leaves core.setting next stands.at may follows in
       record {
         stands = stands_next core answer pairs next stands may longer follows room;
         setting = refl;
@@ -357,7 +349,7 @@ module _ (core : RunCore) (answer : HostAnswer) (pairs : Vec Pair Global) (stand
       Room (vec_len pairs) (vec_capacity pairs) next → Took core answer (told_of next.phase) (core_with core pairs next)
   took_on next follows room =
       let leaves : Leaves (steps_in core.state.phase) (flying_after core.state.flying answer) next =
-      step_leaves core.setting answer next stands.at may follows in
+      step_leaves core.setting next stands.at may follows in
       subst (λ (r : Result (Unit {0}) RunFault). Took core answer r (core_with core pairs next)) (sym (not_lost_is_ok next.phase leaves.not_lost))
       (took_next next follows room)
 
@@ -367,15 +359,15 @@ module _ (core : RunCore) (answer : HostAnswer) (pairs : Vec Pair Global) (stand
   took_with_room next state follows (wants_none none room) = took_on next follows (room_left _ _ next.phase none room)
   took_with_room next state follows (no_room needs) =
       let leaves : Leaves (steps_in core.state.phase) (flying_after core.state.flying answer) next =
-      step_leaves core.setting answer next stands.at may follows in
-      took_lost (leaves.landed needs)
+      step_leaves core.setting next stands.at may follows in
+      took_lost next follows (leaves.landed needs)
 
   took_by : (next state : State) → Moves core.setting core.state answer next → MakesRoom (vec_len pairs) (vec_capacity pairs) next state →
       Took core answer (told_of state.phase) (core_with core pairs state)
   took_by next state (moves other follows) made = took_with_room next state follows made
-  took_by next state (gives_up needs) (has_room wants room) = took_lost (none_in_flight core.setting answer stands.at may needs)
-  took_by next state (gives_up needs) (wants_none none room) = took_lost (none_in_flight core.setting answer stands.at may needs)
-  took_by next state (gives_up needs) (no_room wants) = took_lost (none_in_flight core.setting answer stands.at may needs)
+  took_by next state (gives_up other follows needs) (has_room wants room) = took_lost other follows (none_in_flight core.setting stands.at may needs)
+  took_by next state (gives_up other follows needs) (wants_none none room) = took_lost other follows (none_in_flight core.setting stands.at may needs)
+  took_by next state (gives_up other follows needs) (no_room wants) = took_lost other follows (none_in_flight core.setting stands.at may needs)
 
   pub took : (next state : State) (result : Result (Unit {0}) RunFault) → Moves core.setting core.state answer next → MakesRoom (vec_len pairs) (vec_capacity pairs) next state →
       result ≡ told_of state.phase → Took core answer result (core_with core pairs state)
@@ -383,16 +375,16 @@ module _ (core : RunCore) (answer : HostAnswer) (pairs : Vec Pair Global) (stand
       subst (λ (r : Result (Unit {0}) RunFault). Took core answer r (core_with core pairs state)) (sym is) (took_by next state moved made)
 
 -- once the pair is noted, a child that was started has room for its end
-pub keeps_room : (core : RunCore) (answer : HostAnswer) (next : State) (pairs room : ℕ) → Stands core → MayAnswer core.state.asks core.state.flying answer →
+pub keeps_room : (core : RunCore) (answer : Answer) (next : State) (pairs room : ℕ) → Stands core → MayAnswer core.state.flying core.state.asks answer →
     Moves core.setting core.state answer next → pairs ≡ vec_len core.pairs + 1 → vec_capacity core.pairs ≤ room → HasRoom pairs room next.phase
 keeps_room core answer next pairs room stands may (moves other follows) longer wider =
     let leaves : Leaves (steps_in core.state.phase) (flying_after core.state.flying answer) next =
-    step_leaves core.setting answer next stands.at may follows in
+    step_leaves core.setting next stands.at may follows in
     by_phase pairs room next.phase (λ is.
     let fits : vec_len core.pairs + 2 ≤ vec_capacity core.pairs =
     two_fit (vec_len core.pairs) (vec_capacity core.pairs) core.state.phase (leaves.runs is)
-    (stands.room (still_asks core.setting answer stands.at may)) in omega arith)
-keeps_room core answer next pairs room stands may (gives_up needs) longer wider = tt
+    (stands.room (still_asks core.setting stands.at may)) in omega arith)
+keeps_room core answer next pairs room stands may (gives_up other follows needs) longer wider = tt
 
 -- Before any answer
 
@@ -417,8 +409,8 @@ module _ (core : RunCore) (limits : IsWithinLimits core.setting.options) (empty 
   begins_well : misfit ≡ None → core.state ≡ stages its_inputs → Begins core.setting.process core.setting.inputs core.setting.options core
   begins_well fits is =
       let l : IsLone core.setting its_inputs = record { fit = ap (λ (r : Option ToolInput). unless_misfit r its_inputs) fits; limits = limits } in
-      let plans : Replans (scene_of core.setting) (Loads_what_is_held (scene_of core.setting)) at_first [] (Compute ∷ []) =
-      subst (λ (x : Scene). Replans x (Loads_what_is_held x) at_first [] (Compute ∷ [])) (sym (same core.setting its_inputs l)) refl in
+      let plans : Replans (scene_of core.setting) (LoadsHeld (scene_of core.setting)) at_first [] (Compute ∷ []) =
+      subst (λ (x : Scene). Replans x (LoadsHeld x) at_first [] (Compute ∷ [])) (sym (same core.setting its_inputs l)) refl in
       record {
         stands = record {
           happened = at_first;
@@ -441,18 +433,17 @@ module _ (core : RunCore) (limits : IsWithinLimits core.setting.options) (empty 
       scene_is (Err (Cause.Kind input.id)) (ap (λ (r : Option ToolInput). unless_misfit r its_inputs) bad) in
       let scene : scene_of core.setting ≡ refused_scene core.setting input =
       ap (λ w. let s : Scene = record { walker = w; options = core.setting.options } in s) walks in
-      let plans : Replans (scene_of core.setting) (Loads_what_is_held (scene_of core.setting)) at_first [] [] =
-      subst (λ (x : Scene). Replans x (Loads_what_is_held x) at_first [] []) (sym scene) refl in
-      let ended_so : end_of (scene_of core.setting) [] ≡ Some (Fails_for_good [] (Cause.Kind input.id)) =
-      subst (λ (x : Scene). end_of x [] ≡ Some (Fails_for_good [] (Cause.Kind input.id))) (sym scene) refl in
+      let plans : Replans (scene_of core.setting) (LoadsHeld (scene_of core.setting)) at_first [] [] =
+      subst (λ (x : Scene). Replans x (LoadsHeld x) at_first [] []) (sym scene) refl in
+      let ended_so : EndsSo (scene_of core.setting) at_first [] (fails_permanently [] (Cause.Kind input.id)) =
+      subst (λ (x : Scene). EndsSo x at_first [] (fails_permanently [] (Cause.Kind input.id))) (sym scene) (fails _ refl refl refl refl) in
       record {
         stands = record {
           happened = at_first;
           marks = [];
           goes = subst (λ (t : List Pair). IsRunSoFar core.setting t at_first []) (sym empty) (begins [] plans);
           at = subst (λ (st : State). IsAt core.setting at_first [] st) (sym is)
-              (ended at_first [] (Fails_for_good [] (Cause.Kind input.id))
-              (record { idle = refl; ended = ended_so }));
+              (ended at_first [] (fails_permanently [] (Cause.Kind input.id)) ended_so);
           blames = subst (λ (st : State). Blames (entries_of core.pairs.items) st) (sym is) (record { flying = none_started (entries_of core.pairs.items); rightly = tt });
           room = room_ended (vec_len core.pairs) (vec_capacity core.pairs) core.state _ (ap (λ (st : State). st.phase) is);
         };

@@ -13,7 +13,7 @@ use Rattle.cwl_value.specs.declared.value.FileVal.{FileVal, roll-FileVal, fold-F
 use Rattle.cwl_value.specs.declared.value.DirVal.{DirVal, roll-DirVal, fold-DirVal}
 use Rattle.cwl_value.proofs.Induction.{Cases, induction}
 use Rattle.proc_host.specs.declared.found.Found.{Found}
-use Rattle.run_rules.specs.Words.{Name, Fields, by_name}
+use Rattle.run_rules.specs.Words.{Name, Fields, last_by_name}
 use Rattle.run_rules.specs.Collected.{file_at}
 use Rattle.run_rules.specs.Made.{value_moved, file_moved, dir_moved, fields_moved}
 use Rattle.run_rules.specs.Delivered.{located, location_place, object_of}
@@ -167,7 +167,7 @@ module _ {X Y : Type 0} (f : X → Y) where
       map_sorted (with_value e.0 e.1 sorted) es
       ∙ ap (λ (done : List (Name × Y)). fold (λ sorted e. with_value e.0 e.1 sorted) done (map_values f es)) (map_with_value e.0 e.1 sorted)
 
-  pub map_by_name : (es : List (Name × X)) → map_values f (by_name es) ≡ by_name (map_values f es)
+  pub map_by_name : (es : List (Name × X)) → map_values f (last_by_name es) ≡ last_by_name (map_values f es)
   map_by_name es = map_sorted [] es
 
 erased-object : (es : Fields) → erased (roll-Value (Value-F.Fields es)) ≡ roll-Value (Value-F.Fields (fields_erased es))
@@ -175,6 +175,6 @@ erased-object es = search (rules, the_lemmas)
 
 pub keeps_the_value : (outdir : Name) (outputs : Fields) → erased (located outdir outputs) ≡ object_of (fields_erased outputs)
 keeps_the_value outdir outputs =
-    erased-object (by_name (fields_moved (location_place outdir) outputs))
+    erased-object (last_by_name (fields_moved (location_place outdir) outputs))
     ∙ ap (λ (es : Fields). roll-Value (Value-F.Fields es))
-    (map_by_name erased (fields_moved (location_place outdir) outputs) ∙ ap by_name (fields_erased_moved (location_place outdir) outputs))
+    (map_by_name erased (fields_moved (location_place outdir) outputs) ∙ ap last_by_name (fields_erased_moved (location_place outdir) outputs))

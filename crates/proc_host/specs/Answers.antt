@@ -1,0 +1,35 @@
+-- Which answers each call can have, and which children are in flight after one.
+use Rattle.std.specs.Prelude.{ℕ, List, [], ◌∷◌, ◌++◌, Contains}
+use Rattle.command_line.specs.declared.launch.Launch.{Launch}
+use Rattle.proc_host.specs.declared.call.HostAnswer.{HostAnswer}
+use Rattle.proc_host.specs.declared.call.HostFault.{HostFault}
+use Rattle.proc_host.specs.declared.call.HostRequest.{HostRequest}
+use Rattle.proc_host.specs.declared.child.ChildEnd.{ChildEnd}
+use Rattle.proc_host.specs.declared.found.Found.{Found}
+use Rattle.proc_host.specs.declared.plan.StagePlan.{StagePlan}
+use Rattle.proc_host.specs.Tickets.{IsFresh, without}
+
+-- a call's own fault, by which alone it fails
+abbrev pub fault_of : HostRequest → HostFault
+fault_of (HostRequest.Stage plan number) = HostFault.Stage
+fault_of (HostRequest.Start launch) = HostFault.Start
+fault_of HostRequest.Collect = HostFault.Collect
+fault_of (HostRequest.Scan folder) = HostFault.Scan
+fault_of (HostRequest.Deliver plan) = HostFault.Deliver
+
+-- an answer that a call can give where these children run: a new ticket is none of theirs, and a child that ended is one
+-- of them
+pub data CanAnswer (running : List ℕ) : HostRequest → HostAnswer → Type 0 where
+  is_staged : (plan : StagePlan) (number : ℕ) → CanAnswer running (HostRequest.Stage plan number) HostAnswer.Done
+  is_started : (launch : Launch) (ticket : ℕ) → IsFresh ticket running →
+      CanAnswer running (HostRequest.Start launch) (HostAnswer.Started ticket)
+  has_ended : (ending : ChildEnd) → Contains running ending.ticket → CanAnswer running HostRequest.Collect (HostAnswer.Ended ending)
+  is_listed : (folder : List ℕ) (found : List Found) → CanAnswer running (HostRequest.Scan folder) (HostAnswer.Listed found)
+  is_delivered : (plan : StagePlan) → CanAnswer running (HostRequest.Deliver plan) HostAnswer.Done
+  has_failed : (request : HostRequest) → CanAnswer running request (HostAnswer.Failed (fault_of request))
+
+-- the children in flight after an answer, where one that has ended is closed
+abbrev pub flying_with : List ℕ → HostAnswer → List ℕ
+flying_with flying (HostAnswer.Started ticket) = flying ++ ticket ∷ []
+flying_with flying (HostAnswer.Ended ending) = without ending.ticket flying
+flying_with flying answer = flying

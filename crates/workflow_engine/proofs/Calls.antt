@@ -1,0 +1,46 @@
+-- What a host answers to a call, the call can be answered.
+use Rattle.std.proofs.Common.{◌≡◌, ◌≢◌, ◌∙◌, ℕ, List, Result, Ok, Err, IfOk, sym, subst}
+use Rattle.std.specs.declared.alloc.AllocError.{AllocError}
+use Rattle.proc_host.specs.Answers.{CanAnswer, has_failed, fault_of}
+use Rattle.proc_host.specs.Log.{answer_behind, answer_behind_error, FailsOnlyBy, IsOnly}
+use Rattle.proc_host.specs.declared.call.HostAnswer.{HostAnswer}
+use Rattle.proc_host.specs.declared.call.HostError.{HostError}
+use Rattle.proc_host.specs.declared.call.HostFault.{HostFault}
+use Rattle.proc_host.specs.declared.call.HostRequest.{HostRequest}
+use Rattle.run_rules.specs.Answers.{MayAnswer, by_host}
+use Rattle.run_rules.specs.declared.request.Answer.{Answer}
+use Rattle.run_rules.specs.declared.request.Request.{Request}
+use Rattle.run_rules.specs.Words.{JobPlace}
+use Rattle.workflow_engine.specs.Gains.{answered}
+
+module _ (running : List ℕ) (request : HostRequest) where
+  by_error : (error : HostError) → IsOnly (fault_of request) error → IfOk (answered (answer_behind_error error)) (CanAnswer running request)
+  by_error (HostError.Fault fault) own = subst (λ (f : HostFault). CanAnswer running request (HostAnswer.Failed f)) (sym own) (has_failed request)
+  by_error HostError.OutOfMemory own = tt
+
+  by_result : {T : Type 0} (answer : T → HostAnswer) (r : Result T HostError) → ((x : T) → CanAnswer running request (answer x)) →
+      FailsOnlyBy (fault_of request) r → IfOk (answered (answer_behind answer r)) (CanAnswer running request)
+  by_result answer (Ok x) can own = can x
+  by_result answer (Err error) can own = by_error error own
+
+  abbrev Told : Result HostAnswer AllocError → Type 0
+  Told result = IfOk result (CanAnswer running request)
+
+  -- a fault is the call's own
+  pub fault_told : (error : HostError) (result : Result HostAnswer AllocError) → result ≡ answered (answer_behind_error error) →
+      IsOnly (fault_of request) error → IfOk result (CanAnswer running request)
+  fault_told error result is own = subst Told (sym is) (by_error error own)
+
+  -- and each answer is one of the call's
+  pub answer_told : {T : Type 0} (answer : T → HostAnswer) (r : Result T HostError) (result : Result HostAnswer AllocError) →
+      result ≡ answered (answer_behind answer r) → ((x : T) → CanAnswer running request (answer x)) → FailsOnlyBy (fault_of request) r →
+      IfOk result (CanAnswer running request)
+  answer_told answer r result is can own = subst Told (sym is) (by_result answer r can own)
+
+-- and what it answers to what a run asks may be taken
+pub may_take : (flying running : List ℕ) (asked : Request) (place : JobPlace) (request : HostRequest) (answer : HostAnswer) → asked ≡ Request.Host place request →
+    (asked ≢ Request.Finished → flying ≡ running) → CanAnswer running request answer → MayAnswer flying asked (Answer.Host answer)
+may_take flying running asked place request answer is flies can =
+    let same : flying ≡ running = flies (λ finished. let never : Request.Host place request ≡ Request.Finished = sym is ∙ finished in cc) in
+    subst (λ (r : Request). MayAnswer flying r (Answer.Host answer)) (sym is)
+    (subst (λ (tickets : List ℕ). MayAnswer tickets (Request.Host place request) (Answer.Host answer)) (sym same) (by_host place request answer can))
