@@ -1,13 +1,18 @@
 # Needs bash, make, python3 (3.8 or later) and the Rattle toolchain, whose command is rt.
-.PHONY: build help demo test gate-cost wrong-bodies
+.PHONY: build install help demo test gate-cost wrong-bodies
 
 # Proves and builds the program, and prints its path.
 build:
 	@scripts/build
 
+# Puts the proved program into PREFIX/bin as deparohi.
+install:
+	@scripts/install "$(PREFIX)"
+
 # The minutes are of four shared processors of two cores.
 help:
 	@echo "make               prove and build the program, and print its path (about 35 minutes the first time, then seconds)"
+	@echo "make install       put the proved program there as PREFIX/bin/deparohi, PREFIX=DIR names the place"
 	@echo "make demo          run the worked example, unproved, for a first look (about 2 minutes)"
 	@echo "make test          the whole gate: every proof from nothing, the tests, the programs, the wrong bodies in must-fail/"
 	@echo "                   (42 minutes)"

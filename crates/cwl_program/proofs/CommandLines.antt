@@ -9,7 +9,8 @@ use Rattle.clap.specs.declared.parser.matches.ArgMatches.TheViews.{out-ArgMatche
 use Rattle.std.specs.Box.{box_value}
 use Rattle.clap.proofs.OnLiterals.{clap_on_literals}
 use Rattle.clap.proofs.WalkLemmas.{first_value-rows}
-use Rattle.cwl_program.specs.CommandLine.{Asks, asks, command_line, file_named, needing_subcommand}
+use Rattle.cwl_program.specs.CommandLine.{Asks, Wish, asks, check, command_line, needing_subcommand, run, wish_in, wished}
+use Rattle.cwl_program.specs.RunWords.{RunWish, run_wish}
 
 simple : is_simple command_line ≡ true
 unfolding clap_on_literals
@@ -19,19 +20,19 @@ simple_and_free : is_simple_and_free command_line ≡ true
 unfolding clap_on_literals
 simple_and_free = refl
 
--- words that are taken ask for what their subcommand names
-pub asked : (a : App) (words : List Text) (file : Option Text) (rows : Option (Text × List Row))
+-- words that are taken ask for what their subcommand asks for
+pub asked : (a : App) (words : List Text) (wish : Wish) (rows : Option (Text × List Row))
     → a ≡ command_line
     → (is_simple a ≡ true → rows ≡ subcommand_of a words)
     → (is_simple_and_free a ≡ true → fault_of a words ≡ [])
-    → file ≡ option_and_then file_named rows
-    → Asks words file
-asked a words file rows is_it matches kinds chosen =
+    → wish ≡ wished rows
+    → Asks words wish
+asked a words wish rows is_it matches kinds chosen =
     let rows_are : rows ≡ subcommand_of command_line words =
     subst (λ (b : App). is_simple b ≡ true → rows ≡ subcommand_of b words) is_it matches simple in
     let taken : fault_of command_line words ≡ [] =
     subst (λ (b : App). is_simple_and_free b ≡ true → fault_of b words ≡ []) is_it kinds simple_and_free in
-    subst (λ (f : Option Text). Asks words f) (sym (chosen ∙ ap (option_and_then file_named) rows_are)) (asks taken)
+    subst (λ (w : Wish). Asks words w) (sym (chosen ∙ ap wished rows_are)) (asks taken)
 
 abbrev got : {A : Type 0} → A → Option A → A
 got other None = other
@@ -49,10 +50,22 @@ both : {A B C : Type 0} (f : A → B) (g : A → C) (o : Option A) (b : B) (c : 
 both f g None b c by_first by_second = cc
 both f g (Some x) b c by_first by_second = ap₂ some_pair (ap (got b) by_first) (ap (got c) by_second)
 
-or_empty : (given : Option (Bor (List ℕ))) (empty : Bor (List ℕ)) (o : Option Text)
-    → option_map (λ s. s.now) given ≡ o → empty.now ≡ [] → (unwrap_or given empty).now ≡ unwrap_or o []
-or_empty None empty o is_o none = subst (λ (p : Option Text). empty.now ≡ unwrap_or p []) is_o none
-or_empty (Some s) empty o is_o none = subst (λ (p : Option Text). s.now ≡ unwrap_or p []) is_o refl
+-- the text that is read, or another where there is none
+pub or_other : (given : Option (Bor (List ℕ))) (text other : Bor (List ℕ)) (o : Option Text) (t : Text)
+    → option_map (λ s. s.now) given ≡ o → text ≡ unwrap_or given other → other.now ≡ t → text.now ≡ unwrap_or o t
+or_other None text other o t is_o is_it is_other =
+    ap (λ (s : Bor (List ℕ)). s.now) is_it ∙ subst (λ (p : Option Text). other.now ≡ unwrap_or p t) is_o is_other
+or_other (Some s) text other o t is_o is_it is_other =
+    ap (λ (s : Bor (List ℕ)). s.now) is_it ∙ subst (λ (p : Option Text). s.now ≡ unwrap_or p t) is_o refl
+
+-- what the matches of a subcommand hold
+pub named_rows : (m words : ArgMatches) (name : Text)
+    → subcommand_name_of m ≡ Some name
+    → option_map (λ (p : Text × List Row). p.1) (subcommand_rows (out-ArgMatches m).subcommand) ≡ Some (rows_of (found_of words))
+    → subcommand_rows_of m ≡ some_pair name (rows_of (found_of words))
+named_rows m words name named rows =
+    both (λ b. (out-SubCommand (box_value b)).name.now) (λ b. rows_of (found_of (out-SubCommand (box_value b)).matches))
+    (out-ArgMatches m).subcommand name (rows_of (found_of words)) named rows
 
 -- the file that is read of the matches of `check`
 pub file_checked : (m words : ArgMatches) (given : Option (Bor (List ℕ))) (file empty : Bor (List ℕ))
@@ -60,13 +73,16 @@ pub file_checked : (m words : ArgMatches) (given : Option (Bor (List ℕ))) (fil
     → option_map (λ (p : Text × List Row). p.1) (subcommand_rows (out-ArgMatches m).subcommand) ≡ Some (rows_of (found_of words))
     → option_map (λ s. s.now) given ≡ first_value (found_of words) (codes "CERTIFICATE")
     → file ≡ unwrap_or given empty → empty.now ≡ []
-    → Some file.now ≡ option_and_then file_named (subcommand_rows_of m)
+    → check file.now ≡ wished (subcommand_rows_of m)
 file_checked m words given file empty name rows value is_file none =
-    let named : subcommand_rows_of m ≡ some_pair (codes "check") (rows_of (found_of words)) =
-    both (λ b. (out-SubCommand (box_value b)).name.now) (λ b. rows_of (found_of (out-SubCommand (box_value b)).matches))
-    (out-ArgMatches m).subcommand (codes "check") (rows_of (found_of words)) name rows in
     let text : file.now ≡ unwrap_or (first_of (codes "CERTIFICATE") (rows_of (found_of words))) [] =
-    ap (λ (s : Bor (List ℕ)). s.now) is_file
-    ∙ or_empty given empty (first_of (codes "CERTIFICATE") (rows_of (found_of words)))
-    (value ∙ first_value-rows (found_of words) (codes "CERTIFICATE")) none in
-    ap Some text ∙ ap (option_and_then file_named) (sym named)
+    or_other given file empty _ [] (value ∙ first_value-rows (found_of words) (codes "CERTIFICATE")) is_file none in
+    ap check text ∙ ap wished (sym (named_rows m words (codes "check") name rows))
+
+-- what is read of the matches of `run`
+pub run_wished : (m words : ArgMatches) (wish : RunWish)
+    → subcommand_name_of m ≡ Some (codes "run")
+    → option_map (λ (p : Text × List Row). p.1) (subcommand_rows (out-ArgMatches m).subcommand) ≡ Some (rows_of (found_of words))
+    → wish ≡ run_wish (rows_of (found_of words))
+    → run wish ≡ wished (subcommand_rows_of m)
+run_wished m words wish name rows is_it = ap run is_it ∙ ap wished (sym (named_rows m words (codes "run") name rows))

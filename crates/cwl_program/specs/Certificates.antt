@@ -8,27 +8,27 @@ use Rattle.plan_checker.specs.Broken.{IsFirstBroken}
 use Rattle.plan_checker.specs.Certificate.{IsCertificate}
 use Rattle.plan_checker.specs.Format.{IsTextOf, IsFirstBad}
 use Rattle.plan_checker.specs.Plan.{cost}
-use Rattle.cwl_program.specs.declared.ending.Ending.{Ending}
-use Rattle.cwl_program.specs.declared.ending.Ending.TheVariants.{Output, Broken, Refused, Fault}
-use Rattle.cwl_program.specs.declared.ending.Fault.TheVariants as faults
-use Rattle.cwl_program.specs.declared.ending.Refusal.TheVariants as refusals
+use Rattle.cwl_program.specs.declared.exit.Exit.{Exit}
+use Rattle.cwl_program.specs.declared.exit.Exit.TheVariants.{Output, Broken, Refused, Fault}
+use Rattle.cwl_program.specs.declared.exit.Fault.TheVariants as faults
+use Rattle.cwl_program.specs.declared.exit.Refusal.TheVariants as refusals
 
 -- the line for a certificate of this cost
 abbrev pub ok_line : ℕ → List ℕ
 ok_line total = codes "ok " ++ decimal total
 
 -- what is said of a graph, a plan and charges: that they are a certificate, or the first rule that they break
-pub data IsJudgement (graph : List Vertex) (marks : List Mark) (charges : Charges) : Ending → Type 0 where
+pub data IsJudgement (graph : List Vertex) (marks : List Mark) (charges : Charges) : Exit → Type 0 where
   holds : IsCertificate graph marks charges → IsJudgement graph marks charges (Output (ok_line (cost graph marks)))
   breaks : (rule : Rule) → IsFirstBroken graph marks charges rule → IsJudgement graph marks charges (Broken rule)
 
 -- what is said of bytes: they are the text of these three, or no such text
-pub data IsVerdict (bytes : List ℕ) : Ending → Type 0 where
-  judges : {ending : Ending} (graph : List Vertex) (marks : List Mark) (charges : Charges) →
-      IsTextOf bytes graph marks charges → IsJudgement graph marks charges ending → IsVerdict bytes ending
+pub data IsVerdict (bytes : List ℕ) : Exit → Type 0 where
+  judges : {exit : Exit} (graph : List Vertex) (marks : List Mark) (charges : Charges) →
+      IsTextOf bytes graph marks charges → IsJudgement graph marks charges exit → IsVerdict bytes exit
   unreadable : (line : ℕ) → IsFirstBad bytes line → IsVerdict bytes (Refused refusals.Certificate)
 
 -- what is said of a certificate's file
-pub data IsCheck : Ending → Type 0 where
-  read : {ending : Ending} (bytes : List ℕ) → IsVerdict bytes ending → IsCheck ending
+pub data IsCheck : Exit → Type 0 where
+  read : {exit : Exit} (bytes : List ℕ) → IsVerdict bytes exit → IsCheck exit
   unread : IsCheck (Fault faults.Input)

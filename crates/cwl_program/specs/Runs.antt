@@ -15,21 +15,21 @@ use Rattle.run_rules.specs.declared.outcome.RunFault.{RunFault}
 use Rattle.run_rules.specs.declared.outcome.RunFault.TheVariants as run_faults
 use Rattle.run_rules.specs.declared.setting.Options.{Options}
 use Rattle.workflow_engine.specs.Gains.{RunsOn}
-use Rattle.cwl_program.specs.declared.ending.Ending.{Ending}
-use Rattle.cwl_program.specs.declared.ending.Ending.TheVariants as endings
-use Rattle.cwl_program.specs.declared.ending.Fault.{Fault}
-use Rattle.cwl_program.specs.declared.ending.Fault.TheVariants as faults
-use Rattle.cwl_program.specs.declared.ending.Refusal.{Refusal}
+use Rattle.cwl_program.specs.declared.exit.Exit.{Exit}
+use Rattle.cwl_program.specs.declared.exit.Exit.TheVariants as exits
+use Rattle.cwl_program.specs.declared.exit.Fault.{Fault}
+use Rattle.cwl_program.specs.declared.exit.Fault.TheVariants as faults
+use Rattle.cwl_program.specs.declared.exit.Refusal.{Refusal}
 
 -- the place of a job as JSON text, as `"main/step[0]"`
 abbrev pub place_json : List Segment → List ℕ
 place_json place = compact_text (json_of (values.Text (job_text place)))
 
 -- the output object in one line, or which job failed and how
-abbrev pub outcome_ending : Outcome → Ending
-outcome_ending (outcomes.Success outputs) = endings.Output (compact_text (json_of outputs))
-outcome_ending (outcomes.PermanentFail place cause) = endings.Permanent (place_json place)
-outcome_ending (outcomes.TemporaryFail place) = endings.Temporary (place_json place)
+abbrev pub outcome_exit : Outcome → Exit
+outcome_exit (outcomes.Success outputs) = exits.Output (compact_text (json_of outputs))
+outcome_exit (outcomes.PermanentFail place cause) = exits.Permanent (place_json place)
+outcome_exit (outcomes.TemporaryFail place) = exits.Temporary (place_json place)
 
 -- a run that has no outcome is a fault
 abbrev pub fault_of : RunFault → Fault
@@ -37,16 +37,18 @@ fault_of (run_faults.Host fault running) = faults.Host fault
 fault_of run_faults.TooManyJobs = faults.TooManyJobs
 fault_of run_faults.OutOfMemory = faults.OutOfMemory
 
-abbrev pub run_ending : Result Report RunFault → Ending
-run_ending (Ok report) = outcome_ending report.outcome
-run_ending (Err fault) = endings.Fault (fault_of fault)
+abbrev pub run_exit : Result Report RunFault → Exit
+run_exit (Ok report) = outcome_exit report.outcome
+run_exit (Err fault) = exits.Fault (fault_of fault)
 
 -- how a run of a document on inputs ends the program
-pub data IsRunEnding : Ending → Type 0 where
+pub data IsRunExit : Exit → Type 0 where
   -- a host's log gained a run, and the program ends as that run
   ran : (before after : List Entry) (process : Process) (inputs : Fields) (options : Options) (result : Result Report RunFault) →
-      RunsOn before after process inputs options result → IsRunEnding (run_ending result)
+      RunsOn before after process inputs options result → IsRunExit (run_exit result)
   -- the document or the inputs are refused
-  refused : (refusal : Refusal) → IsRunEnding (endings.Refused refusal)
-  -- the inputs are no object
-  no_object : IsRunEnding (endings.Fault faults.Input)
+  refused : (refusal : Refusal) → IsRunExit (exits.Refused refusal)
+  -- the work folder can't be made
+  no_work : IsRunExit (exits.Fault faults.Work)
+  -- the document or the inputs can't be read, or the inputs are no object
+  no_object : IsRunExit (exits.Fault faults.Input)

@@ -5,15 +5,15 @@ use Rattle.clap.specs.Words.{IsAmong, Text, fault_of}
 use Rattle.clap.specs.declared.error.ErrorKind.{ErrorKind}
 use Rattle.clap.specs.declared.error.ErrorKind.TheVariants.{DisplayHelp, DisplayVersion}
 use Rattle.cwl_program.specs.Certificates.{IsCheck}
-use Rattle.cwl_program.specs.CommandLine.{Asks, command_line, file_of}
-use Rattle.cwl_program.specs.Runs.{IsRunEnding}
+use Rattle.cwl_program.specs.CommandLine.{Asks, command_line, wish_of}
+use Rattle.cwl_program.specs.Runs.{IsRunExit}
 use Rattle.cwl_program.specs.Status.{status_of}
 use Rattle.cwl_program.specs.Words.{name_of, word_of, refusal_code}
 use Rattle.cwl_program.specs.declared.command.Choice.{Choice}
-use Rattle.cwl_program.specs.declared.command.Choice.TheVariants.{Demo, Check}
-use Rattle.cwl_program.specs.declared.ending.Ending.{Ending}
-use Rattle.cwl_program.specs.declared.ending.Ending.TheVariants.{Output, Broken, Permanent, Temporary, Refused, Fault}
-use Rattle.cwl_program.specs.declared.ending.Fault.TheVariants as faults
+use Rattle.cwl_program.specs.declared.command.Choice.TheVariants.{Demo, Check, Run}
+use Rattle.cwl_program.specs.declared.exit.Exit.{Exit}
+use Rattle.cwl_program.specs.declared.exit.Exit.TheVariants.{Output, Broken, Permanent, Temporary, Refused, Fault}
+use Rattle.cwl_program.specs.declared.exit.Fault.TheVariants as faults
 
 -- the bytes that a writer holds, where they are known
 abbrev pub Held : Type 0
@@ -24,7 +24,7 @@ abbrev pub IsGiven : List ℕ → Held → Held → Held → Held → Type 0
 IsGiven line old new other other_new = Appends old new (line ++ codes "\n") × (other_new ≡ other)
 
 -- results on the output, and what went wrong on the errors
-abbrev pub Prints : Ending → (out out_new err err_new : Held) → Type 0
+abbrev pub Prints : Exit → (out out_new err err_new : Held) → Type 0
 Prints (Output line) out out_new err err_new = IsGiven line out out_new err err_new
 Prints (Broken rule) out out_new err err_new = IsGiven (codes "broken " ++ name_of rule) out out_new err err_new
 Prints (Permanent place) out out_new err err_new = IsGiven (codes "permanentFail " ++ place) err err_new out out_new
@@ -33,13 +33,14 @@ Prints (Refused refusal) out out_new err err_new = IsGiven (codes "refused: " ++
 Prints (Fault fault) out out_new err err_new = IsGiven (codes "fault: " ++ word_of fault) err err_new out out_new
 
 -- what the choice comes to
-abbrev pub IsEndOf : Choice → Ending → Type 0
-IsEndOf Demo ending = IsRunEnding ending
-IsEndOf (Check file) ending = IsCheck ending
+abbrev pub IsEndOf : Choice → Exit → Type 0
+IsEndOf Demo exit = IsRunExit exit
+IsEndOf (Check file) exit = IsCheck exit
+IsEndOf (Run run) exit = IsRunExit exit
 
 -- the end that these words lead to
-pub data LeadsTo (words : List Text) : Ending → Type 0 where
-  chooses : {ending : Ending} (choice : Choice) → Asks words (file_of choice) → IsEndOf choice ending → LeadsTo words ending
+pub data LeadsTo (words : List Text) : Exit → Type 0 where
+  chooses : {exit : Exit} (choice : Choice) → Asks words (wish_of choice) → IsEndOf choice exit → LeadsTo words exit
   out_of_memory : LeadsTo words (Fault faults.OutOfMemory)
 
 -- `clap` answers with what is wrong, and not with the help that the words ask for
@@ -54,15 +55,15 @@ pub data Explains (kind : ErrorKind) (out out_new err err_new : Held) : ℕ → 
   unwritten : Explains kind out out_new err err_new 3
 
 -- an end is said in its line, with its status
-pub data Says (ending : Ending) (out out_new err err_new : Held) : ℕ → Type 0 where
-  says : Prints ending out out_new err err_new → Says ending out out_new err err_new (status_of ending)
+pub data Says (exit : Exit) (out out_new err err_new : Held) : ℕ → Type 0 where
+  says : Prints exit out out_new err err_new → Says exit out out_new err err_new (status_of exit)
   -- a write failed
-  fails : Says ending out out_new err err_new 3
+  fails : Says exit out out_new err err_new 3
 
 -- what is written and answered for these words
 pub data Tells (words : List Text) (out out_new err err_new : Held) (status : ℕ) : Type 0 where
   -- the words lead to this end
-  ends : (ending : Ending) → LeadsTo words ending → Says ending out out_new err err_new status →
+  ends : (exit : Exit) → LeadsTo words exit → Says exit out out_new err err_new status →
       Tells words out out_new err err_new status
   -- the words ask for help, or are refused, by a kind that they may be refused by
   explains : (kind : ErrorKind) → IsAmong kind (fault_of command_line words) →

@@ -5,10 +5,10 @@ use Rattle.cwl_value.specs.Codes.{code_of as value_code}
 use Rattle.plan_checker.specs.declared.broken.Broken.{Broken}
 use Rattle.plan_checker.specs.declared.broken.Broken.TheVariants as rules
 use Rattle.proc_host.specs.Faults.{code_of as host_code}
-use Rattle.cwl_program.specs.declared.ending.Fault.{Fault}
-use Rattle.cwl_program.specs.declared.ending.Fault.TheVariants as faults
-use Rattle.cwl_program.specs.declared.ending.Refusal.{Refusal}
-use Rattle.cwl_program.specs.declared.ending.Refusal.TheVariants as refusals
+use Rattle.cwl_program.specs.declared.exit.Fault.{Fault}
+use Rattle.cwl_program.specs.declared.exit.Fault.TheVariants as faults
+use Rattle.cwl_program.specs.declared.exit.Refusal.{Refusal}
+use Rattle.cwl_program.specs.declared.exit.Refusal.TheVariants as refusals
 
 abbrev pub name_of : Broken → List ℕ
 name_of rules.MarkCount = codes "MarkCount"
@@ -31,5 +31,6 @@ refusal_code refusals.Certificate = codes "X1"
 abbrev pub word_of : Fault → List ℕ
 word_of (faults.Host fault) = host_code fault
 word_of faults.Input = codes "input"
+word_of faults.Work = codes "work"
 word_of faults.TooManyJobs = codes "TooManyJobs"
 word_of faults.OutOfMemory = codes "OutOfMemory"

@@ -1,7 +1,7 @@
 ghost use Rattle.std.specs.Prelude.{◌≡◌, IfOk, decimal};
 ghost use Rattle.cwl_program.specs.Certificates.{IsCheck, IsJudgement, IsVerdict, ok_line};
 
-use crate::ending::{Ending, Fault, Refusal};
+use crate::exit::{Exit, Fault, Refusal};
 use plain_data::Text;
 use plan_checker::{CertificateError, Charges, Graph, Plan, check, read_certificate};
 use std::alloc::{AllocError, Global};
@@ -9,7 +9,7 @@ use std::rt::Files;
 use std::{fs, io};
 
 /// Says what the certificate in a file shows.
-pub fn ending_of_check<R: AllocGlobal + Files>(rt: &R, file: &str) -> Result<Ending, AllocError>
+pub fn exit_of_check<R: AllocGlobal + Files>(rt: &R, file: &str) -> Result<Exit, AllocError>
     ensures { IfOk result IsCheck }
 {
     match fs::read(rt, file) {
@@ -19,40 +19,40 @@ pub fn ending_of_check<R: AllocGlobal + Files>(rt: &R, file: &str) -> Result<End
 }
 
 /// A file that can't be read is a fault of the input, except for a read that was out of memory.
-fn unread(error: &io::Error) -> Result<Ending, AllocError>
-    ensures { IfOk result (λ ending. ending ≡ Ending.Fault Fault.Input) }
+fn unread(error: &io::Error) -> Result<Exit, AllocError>
+    ensures { IfOk result (λ exit. exit ≡ Exit.Fault Fault.Input) }
 {
     match error.kind() {
         io::ErrorKind::OutOfMemory => Err(AllocError),
-        _ => Ok(Ending::Fault(Fault::Input)),
+        _ => Ok(Exit::Fault(Fault::Input)),
     }
 }
 
 /// Says whether these bytes are a certificate, which shows its plan to be a cheapest one: `ok` with its cost, the first
 /// rule that is broken, or that they are no certificate's text.
-fn verdict(alloc: Global, bytes: &[u8]) -> Result<Ending, AllocError>
+fn verdict(alloc: Global, bytes: &[u8]) -> Result<Exit, AllocError>
     ensures { IfOk result (IsVerdict bytes.now) }
 {
     match read_certificate(alloc, bytes) {
         Ok(read) => judged(alloc, &read),
-        Err(CertificateError::NotACertificate(_)) => Ok(Ending::Refused(Refusal::Certificate)),
+        Err(CertificateError::NotACertificate(_)) => Ok(Exit::Refused(Refusal::Certificate)),
         Err(CertificateError::OutOfMemory) => Err(AllocError),
     }
 }
 
-fn judged(alloc: Global, read: &(Graph, Plan, Charges)) -> Result<Ending, AllocError>
+fn judged(alloc: Global, read: &(Graph, Plan, Charges)) -> Result<Exit, AllocError>
     ensures { IfOk result (IsJudgement read.now.0 read.now.1.marks read.now.2) }
 {
     match check(&read.0, &read.1, &read.2) {
         Ok(cost) => said_ok(alloc, cost),
-        Err(broken) => Ok(Ending::Broken(broken)),
+        Err(broken) => Ok(Exit::Broken(broken)),
     }
 }
 
-fn said_ok(alloc: Global, cost: u64) -> Result<Ending, AllocError>
-    ensures { IfOk result (λ ending. ending ≡ Ending.Output (ok_line cost)) }
+fn said_ok(alloc: Global, cost: u64) -> Result<Exit, AllocError>
+    ensures { IfOk result (λ exit. exit ≡ Exit.Output (ok_line cost)) }
 {
-    Ok(Ending::Output(ok_text(alloc, cost)?))
+    Ok(Exit::Output(ok_text(alloc, cost)?))
 }
 
 fn ok_text(alloc: Global, cost: u64) -> Result<Text, AllocError>

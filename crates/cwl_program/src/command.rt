@@ -1,8 +1,9 @@
-ghost use Rattle.std.specs.Prelude.{◌≡◌, IfOk, IfErr, map, option_map, option_and_then};
+ghost use Rattle.std.specs.Prelude.{◌≡◌, IfOk, IfErr, map};
 ghost use Rattle.clap.specs.Words.{HasKind, app_of, fault_of, kind_of, subcommand_rows_of};
-ghost use Rattle.cwl_program.specs.CommandLine.{Asks, command_line, file_named, file_of};
+ghost use Rattle.cwl_program.specs.CommandLine.{Asks, command_line, wish_of, wished};
 ghost use Rattle.std.specs.Prelude.{string_bytes};
 
+use crate::run_words::{RunWords, run_command, run_words};
 use clap::error::ErrorKind;
 use clap::{Arg, ArgAction, ArgMatches, Command, Error};
 use std::alloc::Global;
@@ -14,6 +15,8 @@ pub enum Choice<'a> {
     Demo,
     /// Check the certificate in this file.
     Check(&'a str),
+    /// Run a tool.
+    Run(RunWords<'a>),
 }
 
 fn command<'a>(alloc: Global) -> Result<Command<'a>, Error>
@@ -32,13 +35,14 @@ fn command<'a>(alloc: Global) -> Result<Command<'a>, Error>
         .about("Runs documents of the Common Workflow Language")
         .subcommand_required(true)
         .subcommand(demo)?
-        .subcommand(check)?;
+        .subcommand(check)?
+        .subcommand(run_command(alloc)?)?;
     Ok(whole)
 }
 
 /// Reads the command line. An `Err` has the text for the user: help, or what is wrong.
 pub fn choice_of<'a>(alloc: Global, words: &'a [String]) -> Result<Choice<'a>, Error>
-    ensures ok { IfOk result (λ choice. Asks (map (λ word. string_bytes word) words.entry.now) (file_of choice)) }
+    ensures ok { IfOk result (λ choice. Asks (map (λ word. string_bytes word) words.entry.now) (wish_of choice)) }
     ensures err { IfErr result (HasKind (fault_of command_line (map (λ word. string_bytes word) words.entry.now))) }
 {
     let matches = command(alloc)?.try_get_matches_from(words)?;
@@ -46,10 +50,11 @@ pub fn choice_of<'a>(alloc: Global, words: &'a [String]) -> Result<Choice<'a>, E
 }
 
 fn chosen<'a>(matches: &ArgMatches<'a>) -> Choice<'a>
-    ensures { file_of result ≡ option_and_then file_named (subcommand_rows_of matches.now) }
+    ensures { wish_of result ≡ wished (subcommand_rows_of matches.now) }
 {
     match matches.subcommand() {
         Some(("check", words)) => Choice::Check(words.get_str("CERTIFICATE").unwrap_or("")),
+        Some(("run", words)) => Choice::Run(run_words(words)),
         _ => Choice::Demo,
     }
 }

@@ -1,9 +1,9 @@
 ghost use Rattle.std.specs.Prelude.{IfOk};
 ghost use Rattle.run_core.specs.Limits.{IsWithinLimits};
-ghost use Rattle.cwl_program.specs.Runs.{IsRunEnding};
+ghost use Rattle.cwl_program.specs.Runs.{IsRunExit};
 
-use crate::ending::{Ending, Fault, Refusal};
-use crate::report::ending_of_run;
+use crate::exit::{Exit, Fault, Refusal};
+use crate::report::exit_of_run;
 use cwl_document::{DocumentRefusal, Process, read_process};
 use cwl_value::{Value, ValueRefusal, read_value};
 use plain_data::{Items, Keyed, Text};
@@ -24,18 +24,18 @@ const SUM: &str = "a9993e364706816aba3e25717850c26c9cd0d89d";
 
 /// Runs the worked example over a host that answers from a script.
 #[tactic(auto, using(crate::specs::Runs::refused))]
-pub fn ending_of_demo(alloc: Global, path: &str) -> Result<Ending, AllocError>
-    ensures { IfOk result IsRunEnding }
+pub fn exit_of_demo(alloc: Global, path: &str) -> Result<Exit, AllocError>
+    ensures { IfOk result IsRunExit }
 {
     match read_process(alloc, DOCUMENT.as_bytes()) {
         Ok(process) => on_inputs(alloc, process, path),
         Err(DocumentRefusal::OutOfMemory) => Err(AllocError),
-        Err(refusal) => Ok(Ending::Refused(Refusal::Document(refusal))),
+        Err(refusal) => Ok(Exit::Refused(Refusal::Document(refusal))),
     }
 }
 
-fn on_inputs(alloc: Global, process: Process, path: &str) -> Result<Ending, AllocError>
-    ensures { IfOk result IsRunEnding }
+fn on_inputs(alloc: Global, process: Process, path: &str) -> Result<Exit, AllocError>
+    ensures { IfOk result IsRunExit }
 {
     match read_value(alloc, INPUTS.as_bytes()) {
         Ok(value) => on_value(alloc, process, value, path),
@@ -47,26 +47,26 @@ fn on_inputs(alloc: Global, process: Process, path: &str) -> Result<Ending, Allo
 }
 
 #[tactic(auto, using(crate::specs::Runs::no_object))]
-fn on_value(alloc: Global, process: Process, value: Value, path: &str) -> Result<Ending, AllocError>
-    ensures { IfOk result IsRunEnding }
+fn on_value(alloc: Global, process: Process, value: Value, path: &str) -> Result<Exit, AllocError>
+    ensures { IfOk result IsRunExit }
 {
     match value {
         Value::Fields(inputs) => in_world(alloc, process, inputs, path),
         other => {
             mem::drop(other);
             mem::drop(process);
-            Ok(Ending::Fault(Fault::Input))
+            Ok(Exit::Fault(Fault::Input))
         }
     }
 }
 
 #[tactic(auto, using(crate::specs::Runs::refused))]
-fn refused_inputs(refusal: ValueRefusal) -> Result<Ending, AllocError>
-    ensures { IfOk result IsRunEnding }
+fn refused_inputs(refusal: ValueRefusal) -> Result<Exit, AllocError>
+    ensures { IfOk result IsRunExit }
 {
     match refusal {
         ValueRefusal::OutOfMemory => Err(AllocError),
-        refusal => Ok(Ending::Refused(Refusal::Inputs(refusal))),
+        refusal => Ok(Exit::Refused(Refusal::Inputs(refusal))),
     }
 }
 
@@ -75,8 +75,8 @@ fn in_world(
     process: Process,
     inputs: Keyed<Value>,
     path: &str,
-) -> Result<Ending, AllocError>
-    ensures { IfOk result IsRunEnding }
+) -> Result<Exit, AllocError>
+    ensures { IfOk result IsRunExit }
 {
     let world = world_of(alloc, path)?;
     ended(alloc, process, inputs, world)
@@ -87,17 +87,17 @@ fn ended(
     process: Process,
     inputs: Keyed<Value>,
     world: World,
-) -> Result<Ending, AllocError>
+) -> Result<Exit, AllocError>
     requires { IsWithinLimits world.options }
-    ensures { IfOk result IsRunEnding }
+    ensures { IfOk result IsRunExit }
 {
     let World { options, script } = world;
     let mut host = Scripted::new(alloc, script, 0);
     let report = run(alloc, &mut host, process, inputs, options);
-    let ending = ending_of_run(alloc, &report);
+    let exit = exit_of_run(alloc, &report);
     mem::drop(report);
     mem::drop(host);
-    ending
+    exit
 }
 
 /// What the example's run is done with.
@@ -127,7 +127,7 @@ fn script(alloc: Global) -> Result<Items<Reply>, AllocError> {
     let mut script = Items::new(alloc);
     script.push(Reply::Stage)?;
     script.push(Reply::Start)?;
-    script.push(Reply::Collect(proc_host::Ending {
+    script.push(Reply::Collect(proc_host::ChildEnd {
         ticket: 1,
         code: Some(0),
         millis: 1000,

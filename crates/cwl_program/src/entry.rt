@@ -4,16 +4,18 @@ ghost use Rattle.cwl_program.specs.CommandLine.{Asks, command_line};
 ghost use Rattle.cwl_program.specs.Tells.{Explains, IsEndOf, LeadsTo, Says, Tells};
 ghost use Rattle.std.specs.Result.{result_unwrap_or};
 
-use crate::certificate::ending_of_check;
+use crate::certificate::exit_of_check;
 use crate::command::{Choice, choice_of};
-use crate::demo::ending_of_demo;
-use crate::ending::{Ending, Fault};
+use crate::demo::exit_of_demo;
+use crate::exit::{Exit, Fault};
+use crate::run::exit_of_tool;
 use clap::Error;
 use clap::error::ErrorKind;
+use process_machine::World;
 use std::alloc::AllocError;
 use std::io::Write;
-use std::process::ExitCode;
-use std::rt::Files;
+use std::process::{ExitCode, Stdio};
+use std::rt::Env;
 use std::{env, io};
 
 /// The status of a fault, and of a command line that is refused.
@@ -52,67 +54,70 @@ fn words(rt: &HostRuntime) -> io::Result<Vec<String>> {
 ///
 /// Returns the exit status: 0 success, 1 a permanent failure or a broken certificate, 2 a temporary failure, 33 a refused
 /// document, input or certificate, 3 any other fault. A write that fails ends with 3.
-pub fn main_run<R: AllocGlobal + Files, O: Write, E: Write>(
+pub fn main_run<R: World + Env, O: Write, E: Write>(
     rt: &R,
     words: &[String],
     path: &str,
     out: &mut O,
     err: &mut E,
 ) -> u8
+where
+    R::File: Into<Stdio>,
     ensures { Tells (map (λ word. string_bytes word) words.now) (O.contents out.old) (O.contents out.new) (E.contents err.old) (E.contents err.new) result }
 {
-    match ending_of(rt, words, path) {
-        Ok(ending) => say(&ending, out, err),
+    match exit_of(rt, words, path) {
+        Ok(exit) => say(&exit, out, err),
         Err(error) => explain(&error, out, err),
     }
 }
 
 /// Says how the program ends.
-fn say<O: Write, E: Write>(ending: &Ending, out: &mut O, err: &mut E) -> u8
-    ensures { Says ending.now (O.contents out.old) (O.contents out.new) (E.contents err.old) (E.contents err.new) result }
+fn say<O: Write, E: Write>(exit: &Exit, out: &mut O, err: &mut E) -> u8
+    ensures { Says exit.now (O.contents out.old) (O.contents out.new) (E.contents err.old) (E.contents err.new) result }
 {
-    match ending.print(out, err) {
-        Ok(()) => ending.status(),
+    match exit.print(out, err) {
+        Ok(()) => exit.status(),
         Err(_) => FAULT,
     }
 }
 
 /// Returns the end that the words lead to, or `clap`'s error.
 #[tactic(auto, using(crate::specs::Tells::out_of_memory))]
-fn ending_of<R: AllocGlobal + Files>(rt: &R, words: &[String], path: &str) -> Result<Ending, Error>
+fn exit_of<R: World + Env>(rt: &R, words: &[String], path: &str) -> Result<Exit, Error>
+where
+    R::File: Into<Stdio>,
     ensures ok { IfOk result (LeadsTo (map (λ word. string_bytes word) words.now)) }
     ensures other { IfErr result (λ e. kind_of e ≢ ErrorKind.OutOfMemory) }
     ensures err { IfErr result (HasKind (fault_of command_line (map (λ word. string_bytes word) words.now))) }
 {
     match choice_of(rt.alloc(), words) {
-        Ok(choice) => Ok(ending_or_fault(end_of_choice(rt, &choice, path))),
+        Ok(choice) => Ok(exit_or_fault(end_of_choice(rt, &choice, path))),
         Err(error) if matches!(error.kind(), ErrorKind::OutOfMemory) => {
-            Ok(Ending::Fault(Fault::OutOfMemory))
+            Ok(Exit::Fault(Fault::OutOfMemory))
         }
         Err(error) => Err(error),
     }
 }
 
-fn end_of_choice<R: AllocGlobal + Files>(
-    rt: &R,
-    choice: &Choice,
-    path: &str,
-) -> Result<Ending, AllocError>
+fn end_of_choice<R: World + Env>(rt: &R, choice: &Choice, path: &str) -> Result<Exit, AllocError>
+where
+    R::File: Into<Stdio>,
     ensures { IfOk result (IsEndOf choice.now) }
 {
     match choice {
-        Choice::Demo => ending_of_demo(rt.alloc(), path),
-        Choice::Check(file) => ending_of_check(rt, file),
+        Choice::Demo => exit_of_demo(rt.alloc(), path),
+        Choice::Check(file) => exit_of_check(rt, file),
+        Choice::Run(words) => exit_of_tool(rt, words, path),
     }
 }
 
 /// Out of memory ends the program as a fault.
-fn ending_or_fault(ended: Result<Ending, AllocError>) -> Ending
-    ensures { result ≡ result_unwrap_or ended (Ending.Fault Fault.OutOfMemory) }
+fn exit_or_fault(ended: Result<Exit, AllocError>) -> Exit
+    ensures { result ≡ result_unwrap_or ended (Exit.Fault Fault.OutOfMemory) }
 {
     match ended {
-        Ok(ending) => ending,
-        Err(AllocError) => Ending::Fault(Fault::OutOfMemory),
+        Ok(exit) => exit,
+        Err(AllocError) => Exit::Fault(Fault::OutOfMemory),
     }
 }
 

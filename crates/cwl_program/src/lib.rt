@@ -1,4 +1,4 @@
-//! The program behind a command line: `deparohi demo` and `deparohi check CERTIFICATE`.
+//! The program behind a command line: `deparohi run DOCUMENT [INPUTS]`, `deparohi demo` and `deparohi check CERTIFICATE`.
 //!
 //! `main_run` is the whole program over two writers, and `program` hands it the words, `PATH`, the standard output and
 //! the standard error. Its contract, `Tells`, says which words lead to which end, and which line and status say it:
@@ -9,8 +9,11 @@
 mod certificate;
 mod command;
 mod demo;
-mod ending;
 mod entry;
+mod exit;
+mod paths;
 mod report;
+mod run;
+mod run_words;
 
 pub use entry::{main_run, program};

@@ -1,29 +1,29 @@
 ghost use Rattle.std.specs.Prelude.{◌≡◌, IfOk};
-ghost use Rattle.cwl_program.specs.Runs.{fault_of, outcome_ending, place_json, run_ending};
+ghost use Rattle.cwl_program.specs.Runs.{fault_of, outcome_exit, place_json, run_exit};
 
-use crate::ending::{Ending, Fault};
+use crate::exit::{Exit, Fault};
 use cwl_value::{JobPlace, Value, canonical_text, place_text};
 use plain_data::Text;
 use run_core::{Outcome, Report, RunFault};
 use std::alloc::{AllocError, Global};
 
 /// Says how a run ends the program.
-pub fn ending_of_run(alloc: Global, run: &Result<Report, RunFault>) -> Result<Ending, AllocError>
-    ensures { IfOk result (λ ending. ending ≡ run_ending run.now) }
+pub fn exit_of_run(alloc: Global, run: &Result<Report, RunFault>) -> Result<Exit, AllocError>
+    ensures { IfOk result (λ exit. exit ≡ run_exit run.now) }
 {
     match run {
         Ok(report) => of_outcome(alloc, &report.outcome),
-        Err(fault) => Ok(Ending::Fault(of_fault(fault))),
+        Err(fault) => Ok(Exit::Fault(of_fault(fault))),
     }
 }
 
-fn of_outcome(alloc: Global, outcome: &Outcome) -> Result<Ending, AllocError>
-    ensures { IfOk result (λ ending. ending ≡ outcome_ending outcome.now) }
+fn of_outcome(alloc: Global, outcome: &Outcome) -> Result<Exit, AllocError>
+    ensures { IfOk result (λ exit. exit ≡ outcome_exit outcome.now) }
 {
     match outcome {
-        Outcome::Success(outputs) => Ok(Ending::Output(canonical_text(alloc, outputs)?)),
-        Outcome::PermanentFail(place, _) => Ok(Ending::Permanent(place_in(alloc, place)?)),
-        Outcome::TemporaryFail(place) => Ok(Ending::Temporary(place_in(alloc, place)?)),
+        Outcome::Success(outputs) => Ok(Exit::Output(canonical_text(alloc, outputs)?)),
+        Outcome::PermanentFail(place, _) => Ok(Exit::Permanent(place_in(alloc, place)?)),
+        Outcome::TemporaryFail(place) => Ok(Exit::Temporary(place_in(alloc, place)?)),
     }
 }
 

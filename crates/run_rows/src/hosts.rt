@@ -4,7 +4,7 @@ use crate::requests::requests;
 use crate::script::script_of;
 use command_line::Launch;
 use plain_data::{Items, Keyed, Text};
-use proc_host::{Ending, Host, HostError, Scripted, StagePlan, Ticket};
+use proc_host::{ChildEnd, Host, HostError, Scripted, StagePlan, Ticket};
 use row_io::{Row, RowFault, quoted};
 use std::alloc::{AllocError, Global};
 
@@ -120,7 +120,7 @@ fn collected(alloc: Global, host: &mut Scripted) -> Result<String, RowFault> {
     }
 }
 
-fn end_json(alloc: Global, end: Ending) -> Result<String, RowFault> {
+fn end_json(alloc: Global, end: ChildEnd) -> Result<String, RowFault> {
     let mut list = List::new(alloc)?;
     list.push_number(alloc, end.ticket)?;
     match end.code {

@@ -1,5 +1,5 @@
 use plain_data::{Items, Text};
-use proc_host::{Ending, Found, Reply};
+use proc_host::{ChildEnd, Found, Reply};
 use row_io::{Row, RowFault};
 use serde_json::Value as Json;
 use std::alloc::Global;
@@ -34,8 +34,8 @@ fn bare_reply(json: &Json) -> Option<Reply> {
     Some(Reply::Deliver)
 }
 
-fn end_of(json: &Json) -> Result<Ending, RowFault> {
-    Ok(Ending {
+fn end_of(json: &Json) -> Result<ChildEnd, RowFault> {
+    Ok(ChildEnd {
         ticket: number_at(json, 0)?,
         code: code_of(json.get(1).ok_or(RowFault::BadArgument)?)?,
         millis: number_at(json, 2)?,

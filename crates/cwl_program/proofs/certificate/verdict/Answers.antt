@@ -3,7 +3,7 @@ use Rattle.cwl_program.specs.Certificates.{judges, unreadable}
 use Rattle.cwl_program.proofs.certificate.verdict.Goals as goal
 
 pub returns-in-Ok : goal.returns-in-Ok
-returns-in-Ok c = IfOk-weaker c.judged.result _ _ (λ ending h. judges _ _ _ c.in-Ok.ensures.read h) c.judged.ensures
+returns-in-Ok c = IfOk-weaker c.judged.result _ _ (λ exit h. judges _ _ _ c.in-Ok.ensures.read h) c.judged.ensures
 
 pub returns-in-Err-NotACertificate : goal.returns-in-Err-NotACertificate
 returns-in-Err-NotACertificate c =

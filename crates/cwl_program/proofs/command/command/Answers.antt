@@ -24,4 +24,7 @@ returns-clause-ok c =
     ∙ ap needing_subcommand (ap app_of_fields c.about-2.ensures ∙ c.new-4.ensures.app) in
     let with_demo : app_of c.in_ok-subcommand.field-0 ≡ with_subcommand (needing_subcommand (new_app (codes "deparohi"))) (new_app (codes "demo")).top =
     c.in_ok-subcommand.ensures.shape demo_local ∙ ap₂ with_subcommand whole_is (ap (λ (a : App). a.top) demo_is) in
-    c.in_ok-whole.ensures.shape check_local ∙ ap₂ with_subcommand with_demo (ap (λ (a : App). a.top) check_is)
+    let with_check : app_of c.in_ok-subcommand-2.field-0 ≡ with_subcommand (with_subcommand (needing_subcommand (new_app (codes "deparohi"))) (new_app (codes "demo")).top) check_command.top =
+    c.in_ok-subcommand-2.ensures.shape check_local ∙ ap₂ with_subcommand with_demo (ap (λ (a : App). a.top) check_is) in
+    c.in_ok-whole.ensures.shape c.in_ok-run_command.ensures.local
+    ∙ ap₂ with_subcommand with_check (ap (λ (a : App). a.top) c.in_ok-run_command.ensures.ok)

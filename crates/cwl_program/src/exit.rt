@@ -13,7 +13,7 @@ use std::io::Write;
 
 /// How the program ends, and what it says.
 #[derive(Drop)]
-pub enum Ending {
+pub enum Exit {
     /// A line for standard output.
     Output(Text),
     /// A certificate breaks this rule.
@@ -42,6 +42,8 @@ pub enum Fault {
     Host(HostFault),
     /// A file can't be read, or the inputs are no object.
     Input,
+    /// The work folder is there already, or can't be made.
+    Work,
     /// A run has more jobs than the limits allow.
     TooManyJobs,
     OutOfMemory,
@@ -68,6 +70,7 @@ impl Fault {
         match self {
             Fault::Host(fault) => fault.code(),
             Fault::Input => "input",
+            Fault::Work => "work",
             Fault::TooManyJobs => "TooManyJobs",
             Fault::OutOfMemory => "OutOfMemory",
         }
@@ -93,17 +96,17 @@ fn rule_name(broken: Broken) -> &'static str
     }
 }
 
-impl Ending {
+impl Exit {
     /// Returns the exit status.
     pub fn status(&self) -> u8
         ensures { result ≡ status_of self.now }
     {
         match self {
-            Ending::Output(_) => 0,
-            Ending::Broken(_) | Ending::Permanent(_) => 1,
-            Ending::Temporary(_) => 2,
-            Ending::Fault(_) => 3,
-            Ending::Refused(_) => 33,
+            Exit::Output(_) => 0,
+            Exit::Broken(_) | Exit::Permanent(_) => 1,
+            Exit::Temporary(_) => 2,
+            Exit::Fault(_) => 3,
+            Exit::Refused(_) => 33,
         }
     }
 
@@ -112,12 +115,12 @@ impl Ending {
         ensures { OnOk result (Prints self.now (O.contents out.old) (O.contents out.new) (E.contents err.old) (E.contents err.new)) }
     {
         match self {
-            Ending::Output(line) => writeln!(out, "{line}"),
-            Ending::Broken(broken) => writeln!(out, "broken {}", rule_name(*broken)),
-            Ending::Permanent(place) => writeln!(err, "permanentFail {place}"),
-            Ending::Temporary(place) => writeln!(err, "temporaryFail {place}"),
-            Ending::Refused(refusal) => writeln!(err, "refused: {}", refusal.code()),
-            Ending::Fault(fault) => writeln!(err, "fault: {}", fault.word()),
+            Exit::Output(line) => writeln!(out, "{line}"),
+            Exit::Broken(broken) => writeln!(out, "broken {}", rule_name(*broken)),
+            Exit::Permanent(place) => writeln!(err, "permanentFail {place}"),
+            Exit::Temporary(place) => writeln!(err, "temporaryFail {place}"),
+            Exit::Refused(refusal) => writeln!(err, "refused: {}", refusal.code()),
+            Exit::Fault(fault) => writeln!(err, "fault: {}", fault.word()),
         }
     }
 }

@@ -1,0 +1,19 @@
+use Rattle.std.proofs.Common.{◌≡◌, ◌∙◌, refl, codes, option_map}
+use Rattle.std.specs.Prelude.{unwrap_or}
+use Rattle.clap.specs.Words.{first_of, found_of, rows_of}
+use Rattle.clap.proofs.WalkLemmas.{first_value-rows}
+use Rattle.cwl_program.proofs.CommandLines.{or_other}
+use Rattle.cwl_program.proofs.run_words.run_words.Goals as goal
+
+pub returns : goal.returns
+returns c =
+    let found = found_of c.args.words.now in
+    let document : c.unwrap_or.result.now ≡ unwrap_or (first_of (codes "DOCUMENT") (rows_of found)) (codes "") =
+    or_other _ _ _ _ (codes "") (c.get_str.ensures ∙ first_value-rows found (codes "DOCUMENT")) c.unwrap_or.ensures refl in
+    let inputs : option_map (λ s. s.now) c.get_str-2.result ≡ first_of (codes "INPUTS") (rows_of found) =
+    c.get_str-2.ensures ∙ first_value-rows found (codes "INPUTS") in
+    let work : c.unwrap_or-2.result.now ≡ unwrap_or (first_of (codes "work") (rows_of found)) (codes "cwl-work") =
+    or_other _ _ _ _ (codes "cwl-work") (c.get_str-3.ensures ∙ first_value-rows found (codes "work")) c.unwrap_or-2.ensures refl in
+    let outdir : c.unwrap_or-3.result.now ≡ unwrap_or (first_of (codes "outdir") (rows_of found)) (codes ".") =
+    or_other _ _ _ _ (codes ".") (c.get_str-4.ensures ∙ first_value-rows found (codes "outdir")) c.unwrap_or-3.ensures refl in
+    rw (document, inputs, work, outdir) refl

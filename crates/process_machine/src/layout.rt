@@ -1,0 +1,68 @@
+//! The folders of a run.
+
+use crate::copying::copy_file;
+use crate::trouble::Trouble;
+use crate::world::World;
+use proc_host::{Move, StagePlan};
+use std::alloc::{AllocError, Global};
+use std::fs;
+
+/// Makes the folder of a job with `out`, `tmp` and `in` in it, and copies the files of its plan into `in`.
+///
+/// The job's folder has to be absent.
+pub(crate) fn lay_out<R: World>(
+    rt: &R,
+    work: &str,
+    plan: &StagePlan,
+    number: u64,
+) -> Result<(), Trouble> {
+    let folder = job_folder(rt.alloc(), work, number)?;
+    fs::create_dir(rt, folder.as_str())?;
+    for name in ["out", "tmp", "in"] {
+        let part = joined(rt.alloc(), folder.as_str(), name)?;
+        fs::create_dir(rt, part.as_str())?;
+    }
+    let inputs = joined(rt.alloc(), folder.as_str(), "in")?;
+    copy_all(rt, plan.moves.as_slice(), inputs.as_str())
+}
+
+fn job_folder(alloc: Global, work: &str, number: u64) -> Result<String, AllocError> {
+    format!(in alloc; "{work}/j{number}")
+}
+
+pub(crate) fn joined(alloc: Global, folder: &str, name: &str) -> Result<String, AllocError> {
+    format!(in alloc; "{folder}/{name}")
+}
+
+/// Copies files to their targets, each of which has to be below this folder. Folders are made where they are absent.
+pub(crate) fn copy_all<R: World>(rt: &R, moves: &[Move], below: &str) -> Result<(), Trouble> {
+    for planned in moves {
+        let target = planned.target.as_str();
+        if !is_below(target, below) {
+            return Err(Trouble::Failed);
+        }
+        make_parent(rt, target)?;
+        copy_file(rt, planned.source.as_str(), target)?;
+    }
+    Ok(())
+}
+
+fn make_parent<R: World>(rt: &R, path: &str) -> Result<(), Trouble> {
+    match path.rsplit_once('/') {
+        Some((parent, _)) => Ok(fs::create_dir_all(rt, parent)?),
+        None => Ok(()),
+    }
+}
+
+// Whether a path goes on from a folder, by names alone.
+fn is_below(path: &str, folder: &str) -> bool {
+    match path.strip_prefix(folder) {
+        Some(rest) => rest.starts_with('/') && rest.len() > 1 && !climbs(rest),
+        None => false,
+    }
+}
+
+// Whether a path goes up at one of its components.
+fn climbs(path: &str) -> bool {
+    path.split('/').any(|component| component == "..")
+}

@@ -1,0 +1,161 @@
+//! The start of a child.
+ghost use Rattle.std.specs.Prelude.{◌≡◌, [], List, ℕ, Some, IfOk, OnOk, true};
+ghost use Rattle.std.specs.Process.{SameEnv, SameOtherVars, SameProgramAndArgs, clears_env, command_args, command_program, command_var};
+ghost use Rattle.process_machine.specs.Launched.{IsOf, Keeps, text_under};
+
+use crate::layout::joined;
+use crate::trouble::Trouble;
+use crate::world::World;
+use command_line::{Launch, Variable};
+use plain_data::Text;
+use std::alloc::{AllocError, Global};
+use std::fs;
+use std::fs::{File, OpenFile};
+use std::process::{Child, Command, OpenProcess, Stdio};
+use std::time::Instant;
+
+/// A child that was not collected yet.
+#[derive(Drop)]
+pub(crate) struct Flying<P: OpenProcess> {
+    pub ticket: u64,
+    pub child: Child<P>,
+    pub started: Instant,
+}
+
+/// Starts the child of a launch.
+pub(crate) fn spawned<R: World>(
+    rt: &R,
+    launch: &Launch,
+    ticket: u64,
+) -> Result<Flying<R::Started>, Trouble>
+where
+    R::File: Into<Stdio>,
+{
+    let mut command = command_of(rt.alloc(), launch)?;
+    set_input(rt, &launch.stdin, &mut command)?;
+    set_outputs(rt, launch, &mut command)?;
+    let started = Instant::now(rt)?;
+    let child = begun(rt, &mut command, launch)?;
+    Ok(Flying {
+        ticket,
+        child,
+        started,
+    })
+}
+
+// Starts a command, which has to be its launch's.
+fn begun<R: World>(
+    rt: &R,
+    command: &mut Command,
+    _launch: &Launch,
+) -> Result<Child<R::Started>, Trouble>
+    requires { IsOf _launch.now command.old }
+{
+    Ok(command.spawn(rt)?)
+}
+
+// The command of a launch, without its streams.
+fn command_of(alloc: Global, launch: &Launch) -> Result<Command, Trouble>
+    ensures { IfOk result (IsOf launch.now) }
+{
+    let Some((program, words)) = launch.words.as_slice().split_first() else {
+        return Err(Trouble::Failed);
+    };
+    let mut command = command_in(alloc, program, launch.env.as_slice())?;
+    add_words(&mut command, words)?;
+    command.current_dir(launch.dir.as_str())?;
+    Ok(command)
+}
+
+// A program without arguments, in this environment alone.
+fn command_in(alloc: Global, program: &Text, env: &[Variable]) -> Result<Command, Trouble>
+    ensures program { IfOk result (λ command. command_program command ≡ program.now) }
+    ensures args { IfOk result (λ command. command_args command ≡ []) }
+    ensures alone { IfOk result (λ command. clears_env command ≡ true) }
+    ensures env { IfOk result (λ command. (name : List ℕ) → command_var command name ≡ text_under name env.now) }
+{
+    let mut command = Command::new(alloc, program.as_str())?;
+    command.env_clear();
+    for variable in env {
+        set_variable(&mut command, variable)?;
+    }
+    Ok(command)
+}
+
+fn set_variable(command: &mut Command, variable: &Variable) -> Result<(), AllocError>
+    ensures set { OnOk result (command_var command.new variable.now.name ≡ Some (Some variable.now.text)) }
+    ensures others { OnOk result (SameOtherVars command.old command.new variable.now.name) }
+    ensures call { OnOk result (SameProgramAndArgs command.old command.new) }
+    ensures clears { OnOk result (clears_env command.new ≡ clears_env command.old) }
+{
+    command.env(variable.name.as_str(), variable.text.as_str())?;
+    Ok(())
+}
+
+fn add_words(command: &mut Command, words: &[Text]) -> Result<(), Trouble>
+    requires { command_args command.old ≡ [] }
+    ensures args { OnOk result (command_args command.new ≡ words.now) }
+    ensures program { OnOk result (command_program command.new ≡ command_program command.old) }
+    ensures env { OnOk result (SameEnv command.old command.new) }
+{
+    for word in words {
+        command.arg(word.as_str())?;
+    }
+    Ok(())
+}
+
+// The child reads this file, or nothing.
+fn set_input<R: World>(rt: &R, path: &Option<Text>, command: &mut Command) -> Result<(), Trouble>
+where
+    R::File: Into<Stdio>,
+    ensures { Keeps command.old command.new }
+{
+    match path {
+        None => {
+            command.stdin(Stdio::null());
+        }
+        Some(path) => {
+            if !fs::metadata(rt, path.as_str())?.is_file() {
+                return Err(Trouble::Failed);
+            }
+            command.stdin(File::open(rt, path.as_str())?);
+        }
+    }
+    Ok(())
+}
+
+// The child's output and messages go to the files of these names in its folder, or nowhere. Where both have one name,
+// they share one file.
+fn set_outputs<R: World>(rt: &R, launch: &Launch, command: &mut Command) -> Result<(), Trouble>
+where
+    R::File: Into<Stdio>,
+    ensures { Keeps command.old command.new }
+{
+    match (&launch.stdout, &launch.stderr) {
+        (Some(output), Some(messages)) if output.equals(messages) => {
+            let file = created(rt, &launch.dir, output)?;
+            command.stdout(file.try_clone()?);
+            command.stderr(file);
+        }
+        (output, messages) => {
+            command.stdout(stream_to(rt, &launch.dir, output)?);
+            command.stderr(stream_to(rt, &launch.dir, messages)?);
+        }
+    }
+    Ok(())
+}
+
+fn stream_to<R: World>(rt: &R, folder: &Text, name: &Option<Text>) -> Result<Stdio, Trouble>
+where
+    R::File: Into<Stdio>,
+{
+    match name {
+        None => Ok(Stdio::null()),
+        Some(name) => Ok(created(rt, folder, name)?.into()),
+    }
+}
+
+fn created<R: World>(rt: &R, folder: &Text, name: &Text) -> Result<R::File, Trouble> {
+    let path = joined(rt.alloc(), folder.as_str(), name.as_str())?;
+    Ok(File::create(rt, path.as_str())?)
+}
