@@ -13,7 +13,6 @@ mod distinct;
 mod fields;
 mod forms;
 mod kept;
-mod links;
 mod lists;
 mod objects;
 mod parameters;
@@ -23,7 +22,6 @@ mod refusal;
 mod tool;
 
 pub use distinct::{Distinct, Identified};
-pub use links::{Merge, Pick};
 pub use process::{Binding, CwlType, OutputSource, Process, Tool, ToolInput, ToolOutput};
 pub use read::read_process;
 pub use refusal::DocumentRefusal;

@@ -1,9 +1,7 @@
 //! Reads types from the JSON of a document.
 ghost use Rattle.std.specs.Prelude.{◌≡◌, [], ◌∷◌, ◌++◌, None, IfOk, OnOk};
 ghost use Rattle.serde_json.specs.View.{view, items_view, members_view};
-ghost use Rattle.document_table.specs.Walk.{fault_in};
 ghost use Rattle.cwl_types.specs.Named.{row_seen};
-ghost use Rattle.document_table.specs.declared.form.Form.{Form};
 ghost use Rattle.cwl_types.specs.Types.{binding_in, items_in, is_array, member_named, object_type, symbols_in, text_type, texts_in, type_in, types_in};
 
 use crate::named::{NamedType, named_type};
@@ -12,9 +10,8 @@ use plain_data::{Items, Text};
 use serde_json::{Map, Value};
 use std::alloc::{AllocError, Global};
 
-/// The members of the type that a value stands for, where the value keeps to the table of fields.
+/// The members of the type that a value stands for.
 pub fn read_type(alloc: Global, value: &Value) -> Result<Items<MemberType>, AllocError>
-    requires { fault_in Form.Type (view value.now) ≡ None }
     ensures { IfOk result (λ members. members ≡ type_in (view value.now)) }
 {
     let mut members = Items::new(alloc);

@@ -10,6 +10,8 @@ use std::alloc::{AllocError, Global};
 use std::io;
 use std::process::ExitCode;
 
+mod process;
+mod tool;
 mod types;
 
 struct Calls;
@@ -19,6 +21,7 @@ impl Answers for Calls {
         match row.call() {
             "read_document" => read(alloc, row),
             "read_nested_list" => read_nested_list(alloc, row),
+            "read_unlinked" => process::read(alloc, row),
             "read_type" => types::read(alloc, row),
             _ => Err(RowFault::UnknownCall),
         }

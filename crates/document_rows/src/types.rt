@@ -22,7 +22,11 @@ pub(crate) fn read(alloc: Global, row: &Row) -> Result<String, RowFault> {
 }
 
 #[cycle(members)]
-fn put_members(alloc: Global, out: &mut String, members: &[MemberType]) -> Result<(), RowFault> {
+pub(crate) fn put_members(
+    alloc: Global,
+    out: &mut String,
+    members: &[MemberType],
+) -> Result<(), RowFault> {
     out.push_str("[")?;
     let mut later = false;
     for member in members {

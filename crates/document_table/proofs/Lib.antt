@@ -1,1 +1,3 @@
+pub mod Faultless
+pub mod Ids
 pub mod Seen

@@ -1,5 +1,6 @@
 pub mod Codes
 pub mod Documents
+pub mod Entries
 pub mod Faults
 pub mod Layouts
 pub mod Leaves

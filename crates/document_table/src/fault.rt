@@ -133,7 +133,7 @@ impl From<AllocError> for DocumentError {
 }
 
 /// The fault at the value itself.
-pub(crate) fn here(alloc: Global, cause: Cause) -> DocumentFault
+pub fn here(alloc: Global, cause: Cause) -> DocumentFault
     ensures { result ≡ here cause }
 {
     DocumentFault {
@@ -143,11 +143,7 @@ pub(crate) fn here(alloc: Global, cause: Cause) -> DocumentFault
 }
 
 /// The fault of a value, seen from the value that has it in a field.
-pub(crate) fn under(
-    alloc: Global,
-    name: &str,
-    fault: DocumentFault,
-) -> Result<DocumentFault, AllocError>
+pub fn under(alloc: Global, name: &str, fault: DocumentFault) -> Result<DocumentFault, AllocError>
     ensures { IfOk result (λ outer. outer ≡ under name.now fault) }
 {
     let DocumentFault { cause, mut outward } = fault;

@@ -7,8 +7,10 @@
 
 mod depth;
 mod document;
+mod entry;
 mod fault;
 mod form;
+mod laws;
 mod layout;
 mod leaf;
 mod repeats;
@@ -18,6 +20,11 @@ mod walk;
 
 pub use depth::nests_within;
 pub use document::{MOST_NESTING, first_fault, read_document};
-pub use fault::{Cause, DocumentError, DocumentFault, Way};
+pub use entry::{entries, main_field};
+pub use fault::{Cause, DocumentError, DocumentFault, Way, here, under};
 pub use form::{Form, Kind};
+pub use laws::{
+    entries_have_their_form, fields_have_their_forms, processes_are_tools_or_workflows,
+    required_fields_are_there, subjects_in_a_list_differ,
+};
 pub use walk::fault_in;

@@ -51,7 +51,7 @@ fn names_in(alloc: Global, kind: Kind, items: &Vec<Value>) -> Result<Vec<&str>, 
     Ok(names)
 }
 
-fn name_in(kind: Kind, item: &Value) -> Option<&str>
+pub(crate) fn name_in(kind: Kind, item: &Value) -> Option<&str>
     ensures { option_map (λ name. name.now) result ≡ name_in kind (view item.now) }
 {
     match item {

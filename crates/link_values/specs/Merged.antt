@@ -5,8 +5,8 @@ use Rattle.cwl_value.specs.declared.value.DirVal.{DirVal}
 use Rattle.cwl_value.specs.declared.value.FileVal.{FileVal}
 use Rattle.cwl_value.specs.declared.value.Value.{Value, out-Value, roll-Value}
 use Rattle.cwl_value.specs.declared.value.Value.TheOpen.{Value-F}
-use Rattle.cwl_document.specs.declared.links.Merge.{Merge}
-use Rattle.cwl_document.specs.declared.links.Merge.TheVariants.{Nested, Flattened}
+use Rattle.cwl_process.specs.declared.links.Merge.{Merge}
+use Rattle.cwl_process.specs.declared.links.Merge.TheVariants.{Nested, Flattened}
 
 abbrev pub list_of : List Value → Value
 list_of values = roll-Value (Value-F.List values)

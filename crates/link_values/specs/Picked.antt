@@ -5,8 +5,8 @@ use Rattle.cwl_value.specs.declared.value.DirVal.{DirVal}
 use Rattle.cwl_value.specs.declared.value.FileVal.{FileVal}
 use Rattle.cwl_value.specs.declared.value.Value.{Value, out-Value}
 use Rattle.cwl_value.specs.declared.value.Value.TheOpen.{Value-F}
-use Rattle.cwl_document.specs.declared.links.Pick.{Pick}
-use Rattle.cwl_document.specs.declared.links.Pick.TheVariants.{FirstNonNull, TheOnlyNonNull, AllNonNull}
+use Rattle.cwl_process.specs.declared.links.Pick.{Pick}
+use Rattle.cwl_process.specs.declared.links.Pick.TheVariants.{FirstNonNull, TheOnlyNonNull, AllNonNull}
 use Rattle.link_values.specs.declared.fault.LinkError.{LinkError}
 use Rattle.link_values.specs.declared.fault.LinkError.TheVariants.{Refused, OutOfMemory}
 use Rattle.link_values.specs.declared.fault.LinkFault.{LinkFault}

@@ -1,10 +1,10 @@
 //! One value made of the values of all links.
 
 ghost use Rattle.std.specs.Prelude.{◌≡◌, ◌≢◌, ◌++◌, Some, None, IfOk, IsOk, OnOk};
-ghost use Rattle.cwl_document.specs.declared.links.Merge.TheVariants.{Flattened};
+ghost use Rattle.cwl_process.specs.declared.links.Merge.TheVariants.{Flattened};
 ghost use Rattle.link_values.specs.Merged.{merged, items_or_one};
 
-use cwl_document::Merge;
+use cwl_process::Merge;
 use cwl_value::Value;
 use plain_data::Items;
 use std::alloc::{AllocError, Global};

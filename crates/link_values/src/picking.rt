@@ -6,7 +6,7 @@ ghost use Rattle.link_values.specs.Merged.{items_or_one};
 ghost use Rattle.link_values.specs.Picked.{is_something, IsFirst, IsPicked, IsNoPick, IsNotFirst, IsNotOne};
 
 use crate::fault::{LinkError, LinkFault};
-use cwl_document::Pick;
+use cwl_process::Pick;
 use cwl_value::Value;
 use plain_data::Items;
 use std::alloc::{AllocError, Global};

@@ -1,0 +1,4 @@
+pub mod Forms
+pub mod Levels
+pub mod Requirements
+pub mod Slashes

@@ -1,0 +1,29 @@
+-- Which bytes are a document of which process (CWL v1.2, "Syntax").
+use Rattle.std.specs.Prelude.{◌≡◌, ◌⊎◌, ⊤, ℕ, List, Option, Some, None}
+use Rattle.serde_json.specs.Data.{Data}
+use Rattle.document_table.specs.Documents.{HasFault, IsDocument}
+use Rattle.document_table.specs.declared.document.TheConstants.{MOST_NESTING}
+use Rattle.document_table.specs.declared.fault.DocumentError.{DocumentError}
+use Rattle.document_table.specs.declared.fault.DocumentError.TheVariants.{Refused, OutOfMemory}
+use Rattle.document_table.specs.declared.fault.DocumentFault.{DocumentFault}
+use Rattle.cwl_process.specs.Acting.{nothing_asked}
+use Rattle.cwl_process.specs.Processes.{process_in}
+use Rattle.cwl_process.specs.Together.{process_fault}
+use Rattle.cwl_process.specs.declared.process.Process.{Process}
+
+-- the process of a document on its own
+abbrev pub unlinked_in : Data → Process
+unlinked_in d = process_in MOST_NESTING nothing_asked d
+
+-- what its fields say together that they may not
+abbrev pub fault_together : Data → Option DocumentFault
+fault_together d = process_fault MOST_NESTING d
+
+-- The bytes keep to the table of fields, their fields go together, and they represent that process.
+abbrev pub IsUnlinked : List ℕ → Process → Type 0
+IsUnlinked bytes process = (d : Data) × IsDocument bytes d × (fault_together d ≡ None) × (process ≡ unlinked_in d)
+
+-- The bytes don't keep to the table, and that fault is the first; or they do, and that is the first of what doesn't go together.
+abbrev pub IsRefused : DocumentError → List ℕ → Type 0
+IsRefused (Refused fault) bytes = HasFault fault bytes ⊎ ((d : Data) × IsDocument bytes d × (fault_together d ≡ Some fault))
+IsRefused OutOfMemory bytes = ⊤

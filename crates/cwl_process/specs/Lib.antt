@@ -1,0 +1,11 @@
+pub mod Acting
+pub mod Bindings
+pub mod Documents
+pub mod Links
+pub mod Parameters
+pub mod Processes
+pub mod Simple
+pub mod Together
+pub mod Tools
+pub mod Workflows
+pub mod formers

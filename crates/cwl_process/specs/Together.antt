@@ -1,0 +1,95 @@
+-- What fields of a document say together, beside the table (CWL v1.2, Command Line Tool Description, "stdin", "stdout", "stderr"; Workflow
+-- Description, "WorkflowStep"): one input at most stands for the standard input, and an output that is a stream has no binding. A default
+-- is a value without Files and Directories (own, until they are resolved).
+use Rattle.std.specs.Prelude.{ℕ, zero, suc, ◌&&◌, ◌||◌, List, [], ◌∷◌, Bool, true, false, Option, Some, None, is_some, option_map, if◌then◌else◌, codes}
+use Rattle.std.specs.Option.{option_map_or}
+use Rattle.std.specs.Str.{bytes_eq}
+use Rattle.serde_json.specs.Data.{Data, null, boolean, number, string, array, object, Items, no_items, item, Members, no_members, member}
+use Rattle.serde_json.specs.Find.{as_str, get}
+use Rattle.document_table.specs.Entries.{class_in, entries, main_field}
+use Rattle.document_table.specs.Faults.{here, under}
+use Rattle.document_table.specs.Walk.{or_else}
+use Rattle.document_table.specs.declared.fault.Cause.TheVariants.{WrongForm}
+use Rattle.document_table.specs.declared.fault.DocumentFault.{DocumentFault}
+use Rattle.document_table.specs.declared.form.Kind.{Kind}
+use Rattle.document_table.specs.declared.form.Kind.TheVariants as kind
+use Rattle.cwl_process.specs.Parameters.{is_text}
+use Rattle.cwl_process.specs.Processes.{is_workflow}
+
+-- what is wrong with a field, seen from its object
+abbrev pub at_field : List ℕ → Option DocumentFault → Option DocumentFault
+at_field name fault = option_map (under name) fault
+
+-- the first that is wrong with what is in a list or a map of objects
+abbrev pub first_in : (Data → Option DocumentFault) → List (List ℕ × Data) → Option DocumentFault
+first_in fault_of [] = None
+first_in fault_of (e ∷ es) = or_else (at_field e.0 (fault_of e.1)) (first_in fault_of es)
+
+abbrev pub first_at : Kind → (Data → Option DocumentFault) → List ℕ → Data → Option DocumentFault
+first_at kind fault_of name d = option_map_or (λ v. at_field name (first_in fault_of (entries kind v))) (get name d) None
+
+-- ---- streams
+
+abbrev pub is_of_type : List ℕ → Data → Bool
+is_of_type name d = option_map_or (is_text name) (main_field (codes "type") d) false
+
+-- an input of the type `stdin` where the standard input is taken already
+abbrev pub stdin_fault : Bool → List (List ℕ × Data) → Option DocumentFault
+stdin_fault taken [] = None
+stdin_fault taken (e ∷ es) =
+    if is_of_type (codes "stdin") e.1 && taken then Some (under e.0 (here WrongForm)) else stdin_fault (taken || is_of_type (codes "stdin") e.1) es
+
+abbrev pub inputs_fault : Data → Option DocumentFault
+inputs_fault d = option_map_or (λ v. at_field (codes "inputs") (stdin_fault (is_some (get (codes "stdin") d)) (entries kind.ToolInput v))) (get (codes "inputs") d) None
+
+abbrev pub is_stream : Data → Bool
+is_stream d = is_of_type (codes "stdout") d || is_of_type (codes "stderr") d
+
+abbrev pub output_fault : Data → Option DocumentFault
+output_fault d = if is_stream d && is_some (get (codes "outputBinding") d) then Some (under (codes "outputBinding") (here WrongForm)) else None
+
+-- ---- defaults
+
+abbrev pub is_file_class : List ℕ → Bool
+is_file_class class = bytes_eq class (codes "File") || bytes_eq class (codes "Directory")
+
+-- a File or Directory is in it, at any depth
+abbrev mutual
+  pub holds_file : Data → Bool
+  holds_file null = false
+  holds_file (boolean b) = false
+  holds_file (number n) = false
+  holds_file (string s) = false
+  holds_file (array ds) = items_hold_file ds
+  holds_file (object ms) = is_file_class (class_in (object ms)) || members_hold_file ms
+
+  pub items_hold_file : Items → Bool
+  items_hold_file no_items = false
+  items_hold_file (item d ds) = holds_file d || items_hold_file ds
+
+  pub members_hold_file : Members → Bool
+  members_hold_file no_members = false
+  members_hold_file (member name d ms) = holds_file d || members_hold_file ms
+
+abbrev pub default_fault : Data → Option DocumentFault
+default_fault d = if option_map_or holds_file (get (codes "default") d) false then Some (under (codes "default") (here WrongForm)) else None
+
+-- ---- processes
+
+abbrev pub tool_fault : Data → Option DocumentFault
+tool_fault d = or_else (inputs_fault d) (or_else (first_at kind.ToolInput default_fault (codes "inputs") d) (first_at kind.ToolOutput output_fault (codes "outputs") d))
+
+-- a text names a process of another document
+abbrev pub run_fault : (Data → Option DocumentFault) → Data → Option DocumentFault
+run_fault inner d = if is_some (as_str d) then None else inner d
+
+abbrev pub step_fault : (Data → Option DocumentFault) → Data → Option DocumentFault
+step_fault inner d = or_else (first_at kind.StepInput default_fault (codes "in") d) (at_field (codes "run") (option_map_or (run_fault inner) (get (codes "run") d) None))
+
+abbrev pub workflow_fault : (Data → Option DocumentFault) → Data → Option DocumentFault
+workflow_fault inner d = or_else (first_at kind.WorkflowInput default_fault (codes "inputs") d) (first_at kind.Step (step_fault inner) (codes "steps") d)
+
+-- what is wrong first with a process that keeps to the table, with so many workflows inside one another at most
+unfoldable pub process_fault : ℕ → Data → Option DocumentFault
+process_fault zero d = None
+process_fault (suc levels) d = if is_workflow d then workflow_fault (process_fault levels) d else tool_fault d

@@ -1,0 +1,72 @@
+//! Values under ids, in the order of their document.
+ghost use Rattle.std.specs.Prelude.{◌≡◌, [], length, ◌↔◌, IsTrue, IfOk, bytes_eq};
+ghost use Rattle.std.specs.List.{IsDistinct};
+ghost use Rattle.std.specs.Map.{keys_of};
+
+use plain_data::Text;
+use std::alloc::{AllocError, Global};
+use std::marker::Model;
+
+/// Values under ids: in the order of the list, or of the bytes of the map's keys, and no id twice.
+#[derive(Drop)]
+pub struct Entries<T> {
+    held: Vec<(Text, T)>,
+}
+
+impl<T> Model for Entries<T> {
+    ghost use Rattle.std.specs.Prelude.{List, ℕ, bytes_eq};
+    ghost use Rattle.std.specs.Coded.{coded_list, coded×, coded_ℕ};
+    ghost use Rattle.std.specs.List.{IsDistinct};
+    ghost use Rattle.std.specs.Map.{keys_of};
+
+    ghost Value = { List (List ℕ × T) };
+
+    ghost coded = { coded_list (coded× (coded_list coded_ℕ) T.code) };
+
+    ghost view = { λ fields. fields.held.items };
+
+    ghost invariant = { λ fields. IsDistinct bytes_eq (keys_of fields.held.items) };
+}
+
+impl<T> Entries<T> {
+    /// The same entries, of which no two have one id, without memory.
+    pub(crate) fn from_distinct(held: Vec<(Text, T)>) -> Entries<T>
+        requires { IsDistinct bytes_eq (keys_of held.items) }
+        ensures { result ≡ held.items }
+    {
+        Entries { held }
+    }
+
+    pub fn as_slice(&self) -> &[(Text, T)]
+        ensures entries { result.now ≡ self.now }
+        ensures ids { IsDistinct bytes_eq (keys_of result.now) }
+    {
+        self.held.as_slice()
+    }
+
+    pub fn len(&self) -> usize
+        ensures { result ≡ length self.now }
+    {
+        self.held.len()
+    }
+
+    pub fn is_empty(&self) -> bool
+        ensures { IsTrue result ↔ (self.now ≡ []) }
+    {
+        self.held.is_empty()
+    }
+}
+
+impl Entries<Text> {
+    /// The same entries in memory of their own.
+    pub fn clone_in(&self, alloc: Global) -> Result<Entries<Text>, AllocError>
+        ensures { IfOk result (λ copy. copy ≡ self.now) }
+    {
+        let mut copies = Vec::new(alloc);
+        for entry in self.as_slice() {
+            let id = entry.0.copied(alloc)?;
+            copies.push((id, entry.1.copied(alloc)?))?;
+        }
+        Ok(Entries::from_distinct(copies))
+    }
+}

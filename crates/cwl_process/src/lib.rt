@@ -1,0 +1,36 @@
+//! The processes of CWL v1.2: tools and workflows, read from the bytes of a document.
+//!
+//! `read_unlinked` gives exactly the process that a document represents (`specs/Documents.antt`): every field of the one table of
+//! `document_table`, lists and maps in their order, and the processes inside it. A refusal is exactly the first thing that is
+//! wrong, with its place. A step that names a process of another document keeps the name.
+//!
+//! That ids differ is a fact of the type `Entries`.
+#![tactic(auto)]
+
+mod acting;
+mod bindings;
+mod document;
+mod entries;
+mod from_entry;
+mod laws;
+mod links;
+mod parameters;
+mod process;
+mod read_links;
+mod read_tool;
+mod read_workflow;
+mod simple;
+mod together;
+mod tool;
+mod workflow;
+
+pub use document::read_unlinked;
+pub use entries::Entries;
+pub use laws::levels_never_decide;
+pub use links::{Links, Merge, Pick, Source};
+pub use process::{Process, Run, RunName};
+pub use tool::{
+    Acting, Asked, Binding, ExitCodes, InputType, OutputBinding, OutputType, SecondaryFile,
+    Streams, Tool, ToolInput, ToolOutput,
+};
+pub use workflow::{Step, StepInput, Workflow, WorkflowInput, WorkflowOutput};

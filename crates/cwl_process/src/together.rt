@@ -1,0 +1,308 @@
+//! Checks what fields of a document say together.
+ghost use Rattle.std.specs.Prelude.{◌≡◌, ◌||◌, IfOk, OnOk, is_some, map, codes};
+ghost use Rattle.serde_json.specs.Find.{get};
+ghost use Rattle.serde_json.specs.View.{view, items_view, members_view};
+ghost use Rattle.document_table.specs.Entries.{class_in, entry_seen};
+ghost use Rattle.document_table.specs.Faults.{under};
+ghost use Rattle.document_table.specs.declared.form.Kind.TheVariants as kind;
+ghost use Rattle.cwl_process.specs.Together.{at_field, default_fault, first_at, first_in, holds_file, inputs_fault, is_file_class, is_of_type, is_stream, items_hold_file, members_hold_file, output_fault, process_fault, run_fault, step_fault, stdin_fault, tool_fault, workflow_fault};
+
+use crate::read_workflow::is_workflow;
+use document_table::{Cause, DocumentFault, Kind, entries, here, main_field, under};
+use serde_json::{Map, Value};
+use std::alloc::{AllocError, Global};
+
+/// What is wrong first with a process that keeps to the table, with so many workflows inside one another
+/// at most.
+#[cycle(together)]
+#[tactic(auto, using(crate::proofs::Levels::fault_at_nothing))]
+pub(crate) fn process_fault(
+    alloc: Global,
+    levels: usize,
+    value: &Value,
+) -> Result<Option<DocumentFault>, AllocError>
+    ensures { IfOk result (λ fault. fault ≡ process_fault levels (view value.now)) }
+{
+    if levels == 0 {
+        return Ok(None);
+    }
+    if is_workflow(value) {
+        return workflow_fault(alloc, levels - 1, value);
+    }
+    tool_fault(alloc, value)
+}
+
+#[cycle(together)]
+fn workflow_fault(
+    alloc: Global,
+    levels: usize,
+    value: &Value,
+) -> Result<Option<DocumentFault>, AllocError>
+    ensures { IfOk result (λ fault. fault ≡ workflow_fault (process_fault levels) (view value.now)) }
+{
+    match defaults_fault(alloc, Kind::WorkflowInput, "inputs", value)? {
+        Some(fault) => Ok(Some(fault)),
+        None => steps_fault(alloc, levels, value),
+    }
+}
+
+#[cycle(together)]
+fn steps_fault(
+    alloc: Global,
+    levels: usize,
+    value: &Value,
+) -> Result<Option<DocumentFault>, AllocError>
+    ensures { IfOk result (λ fault. fault
+        ≡ first_at kind.Step (step_fault (process_fault levels)) (codes "steps") (view value.now)) }
+{
+    let Some(found) = value.get("steps") else {
+        return Ok(None);
+    };
+    let all = entries(alloc, Kind::Step, found)?;
+    let fault = first_step_fault(alloc, levels, all.as_slice())?;
+    at_field(alloc, "steps", fault)
+}
+
+#[cycle(together)]
+fn first_step_fault(
+    alloc: Global,
+    levels: usize,
+    all: &[(&str, &Value)],
+) -> Result<Option<DocumentFault>, AllocError>
+    ensures { IfOk result (λ fault. fault
+        ≡ first_in (step_fault (process_fault levels)) (map entry_seen all.now)) }
+{
+    for entry in all {
+        if let Some(fault) = step_fault(alloc, levels, entry.1)? {
+            return Ok(Some(under(alloc, entry.0, fault)?));
+        }
+    }
+    Ok(None)
+}
+
+#[cycle(together)]
+fn step_fault(
+    alloc: Global,
+    levels: usize,
+    value: &Value,
+) -> Result<Option<DocumentFault>, AllocError>
+    ensures { IfOk result (λ fault. fault ≡ step_fault (process_fault levels) (view value.now)) }
+{
+    if let Some(fault) = defaults_fault(alloc, Kind::StepInput, "in", value)? {
+        return Ok(Some(fault));
+    }
+    let Some(found) = value.get("run") else {
+        return Ok(None);
+    };
+    if found.as_str().is_some() {
+        return Ok(None);
+    }
+    let fault = process_fault(alloc, levels, found)?;
+    at_field(alloc, "run", fault)
+}
+
+/// What is wrong with a field, seen from its object.
+fn at_field(
+    alloc: Global,
+    name: &str,
+    fault: Option<DocumentFault>,
+) -> Result<Option<DocumentFault>, AllocError>
+    ensures { IfOk result (λ outer. outer ≡ at_field name.now fault) }
+{
+    match fault {
+        None => Ok(None),
+        Some(fault) => Ok(Some(under(alloc, name, fault)?)),
+    }
+}
+
+fn tool_fault(alloc: Global, value: &Value) -> Result<Option<DocumentFault>, AllocError>
+    ensures { IfOk result (λ fault. fault ≡ tool_fault (view value.now)) }
+{
+    if let Some(fault) = inputs_fault(alloc, value)? {
+        return Ok(Some(fault));
+    }
+    match defaults_fault(alloc, Kind::ToolInput, "inputs", value)? {
+        Some(fault) => Ok(Some(fault)),
+        None => outputs_fault(alloc, value),
+    }
+}
+
+// ---- streams
+
+fn inputs_fault(alloc: Global, value: &Value) -> Result<Option<DocumentFault>, AllocError>
+    ensures { IfOk result (λ fault. fault ≡ inputs_fault (view value.now)) }
+{
+    let Some(found) = value.get("inputs") else {
+        return Ok(None);
+    };
+    let all = entries(alloc, Kind::ToolInput, found)?;
+    let fault = stdin_fault(alloc, value.get("stdin").is_some(), all.as_slice())?;
+    at_field(alloc, "inputs", fault)
+}
+
+/// An input of the type `stdin` where the standard input is taken already.
+fn stdin_fault(
+    alloc: Global,
+    taken: bool,
+    all: &[(&str, &Value)],
+) -> Result<Option<DocumentFault>, AllocError>
+    ensures { IfOk result (λ fault. fault ≡ stdin_fault taken (map entry_seen all.now)) }
+{
+    let mut is_taken = taken;
+    for entry in all {
+        let is_stdin = is_of_type("stdin", entry.1);
+        if is_stdin && is_taken {
+            return Ok(Some(under(alloc, entry.0, here(alloc, Cause::WrongForm))?));
+        }
+        is_taken = is_taken || is_stdin;
+    }
+    Ok(None)
+}
+
+fn is_of_type(name: &str, value: &Value) -> bool
+    ensures { result ≡ is_of_type name.now (view value.now) }
+{
+    match main_field("type", value) {
+        None => false,
+        Some(found) => match found.as_str() {
+            None => false,
+            Some(text) => text == name,
+        },
+    }
+}
+
+fn outputs_fault(alloc: Global, value: &Value) -> Result<Option<DocumentFault>, AllocError>
+    ensures { IfOk result (λ fault. fault
+        ≡ first_at kind.ToolOutput output_fault (codes "outputs") (view value.now)) }
+{
+    let Some(found) = value.get("outputs") else {
+        return Ok(None);
+    };
+    let all = entries(alloc, Kind::ToolOutput, found)?;
+    let fault = first_output_fault(alloc, all.as_slice())?;
+    at_field(alloc, "outputs", fault)
+}
+
+fn first_output_fault(
+    alloc: Global,
+    all: &[(&str, &Value)],
+) -> Result<Option<DocumentFault>, AllocError>
+    ensures { IfOk result (λ fault. fault ≡ first_in output_fault (map entry_seen all.now)) }
+{
+    for entry in all {
+        if let Some(fault) = output_fault(alloc, entry.1)? {
+            return Ok(Some(under(alloc, entry.0, fault)?));
+        }
+    }
+    Ok(None)
+}
+
+fn output_fault(alloc: Global, value: &Value) -> Result<Option<DocumentFault>, AllocError>
+    ensures { IfOk result (λ fault. fault ≡ output_fault (view value.now)) }
+{
+    if is_stream(value) && value.get("outputBinding").is_some() {
+        return Ok(Some(under(alloc, "outputBinding", here(alloc, Cause::WrongForm))?));
+    }
+    Ok(None)
+}
+
+fn is_stream(value: &Value) -> bool
+    ensures { result ≡ is_stream (view value.now) }
+{
+    is_of_type("stdout", value) || is_of_type("stderr", value)
+}
+
+// ---- defaults
+
+fn defaults_fault(
+    alloc: Global,
+    kind: Kind,
+    name: &str,
+    value: &Value,
+) -> Result<Option<DocumentFault>, AllocError>
+    ensures { IfOk result
+        (λ fault. fault ≡ first_at kind default_fault name.now (view value.now)) }
+{
+    let Some(found) = value.get(name) else {
+        return Ok(None);
+    };
+    let all = entries(alloc, kind, found)?;
+    let fault = first_default_fault(alloc, all.as_slice())?;
+    at_field(alloc, name, fault)
+}
+
+fn first_default_fault(
+    alloc: Global,
+    all: &[(&str, &Value)],
+) -> Result<Option<DocumentFault>, AllocError>
+    ensures { IfOk result (λ fault. fault ≡ first_in default_fault (map entry_seen all.now)) }
+{
+    for entry in all {
+        if let Some(fault) = default_fault(alloc, entry.1)? {
+            return Ok(Some(under(alloc, entry.0, fault)?));
+        }
+    }
+    Ok(None)
+}
+
+fn default_fault(alloc: Global, value: &Value) -> Result<Option<DocumentFault>, AllocError>
+    ensures { IfOk result (λ fault. fault ≡ default_fault (view value.now)) }
+{
+    let holds = match value.get("default") {
+        None => false,
+        Some(found) => holds_file(found),
+    };
+    if holds {
+        return Ok(Some(under(alloc, "default", here(alloc, Cause::WrongForm))?));
+    }
+    Ok(None)
+}
+
+/// Whether a File or Directory is in the value, at any depth.
+#[cycle(files)]
+fn holds_file(value: &Value) -> bool
+    ensures { result ≡ holds_file (view value.now) }
+{
+    match value {
+        Value::Array(items) => items_hold_file(items),
+        Value::Object(members) => is_file(value) || members_hold_file(members),
+        Value::Null | Value::Bool(_) | Value::Number(_) | Value::String(_) => false,
+    }
+}
+
+fn is_file(value: &Value) -> bool
+    ensures { result ≡ is_file_class (class_in (view value.now)) }
+{
+    match value.get("class") {
+        None => false,
+        Some(class) => match class.as_str() {
+            None => false,
+            Some(class) => class == "File" || class == "Directory",
+        },
+    }
+}
+
+#[cycle(files)]
+fn items_hold_file(items: &Vec<Value>) -> bool
+    ensures { result ≡ items_hold_file (items_view items.now.items) }
+{
+    for item in items {
+        if holds_file(item) {
+            return true;
+        }
+    }
+    false
+}
+
+#[cycle(files)]
+fn members_hold_file(members: &Map<String, Value>) -> bool
+    ensures { result ≡ members_hold_file (members_view members.now.entries) }
+{
+    for (name, value) in members.iter() {
+        let _ = name;
+        if holds_file(value) {
+            return true;
+        }
+    }
+    false
+}
