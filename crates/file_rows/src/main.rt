@@ -1,9 +1,10 @@
-//! Rows of output files: each line of `stdin` is a call, and the same line of `stdout` has its answer.
+//! Rows of input and output files: each line of `stdin` is a call, and the same line of `stdout` has its answer.
 //!
 //! A refusal is answered by its code.
 #![tactic(auto)]
 
 mod globs;
+mod plans;
 
 use row_io::{Answers, Row, RowFault, answer_rows};
 use std::alloc::Global;
@@ -16,6 +17,7 @@ impl Answers for Calls {
     fn answer(&self, alloc: Global, row: &Row) -> Result<String, RowFault> {
         match row.call() {
             "matches" => globs::answer(alloc, row),
+            "stage_plan" | "deliver_plan" => plans::answer(alloc, row),
             _ => Err(RowFault::UnknownCall),
         }
     }

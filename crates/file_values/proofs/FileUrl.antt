@@ -1,5 +1,5 @@
 -- A path's location is the text of a URL whose path is the escaped one, so the URL Standard's parser gives that URL.
-use Rattle.std.proofs.Common.{◌≡◌, ◌≢◌, ℕ, ◌+◌, ◌<◌, true, false, ◌==◌, List, [], ◌∷◌, ◌++◌, length, get_or, drop, map, codes, All, Some, None, Ok, inl, inr, refl, sym, ap, subst, ◌∙◌, arith, append-nil, IsUtf8, lit<}
+use Rattle.std.proofs.Common.{◌≡◌, ◌≢◌, ℕ, ◌<◌, true, false, ◌==◌, List, [], ◌∷◌, ◌++◌, length, get_or, drop, map, codes, All, Some, None, Ok, inl, inr, refl, sym, ap, subst, ◌∙◌, arith, append-nil, IsUtf8, lit<}
 use Rattle.std.specs.List.{slice_split}
 use Rattle.std.proofs.lemmas.Bool.{eq-eqb, cond-true, true≢false}
 use Rattle.std.proofs.lemmas.Bool.Decides.{nat_tests}

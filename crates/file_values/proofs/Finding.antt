@@ -10,42 +10,44 @@ use Rattle.plain_data.proofs.ByName.{by_name_along, by_name_taken}
 use Rattle.cwl_value.specs.declared.value.Value.{Value}
 use Rattle.file_values.specs.Location.{Finds, and_map, and_then, Refuses}
 use Rattle.file_values.specs.Resolved.{all_found, fields_found, any_of}
-use Rattle.file_values.specs.declared.refusal.FileRefusal.{FileRefusal}
+use Rattle.file_values.specs.declared.refusal.FileError.{FileError}
+use Rattle.file_values.specs.declared.refusal.FileError.TheVariants.{Refused, OutOfMemory}
+use Rattle.file_values.specs.declared.refusal.FileFault.{FileFault}
 
 -- ---- refusals of a step are those of the whole
 
-pub refused_here : {S T : Type 0} (r : Finds S) (f : S → Finds T) (long : Bool) (e : FileRefusal) → Refuses r long e → Refuses (and_then r f) long e
-refused_here r f long e (inl memory) = inl memory
-refused_here r f long e (inr (inl is)) = inr (inl (ap (λ r. and_then r f) is))
-refused_here r f long e (inr (inr far)) = inr (inr far)
+pub refused_here : {S T : Type 0} (r : Finds S) (f : S → Finds T) (long : Bool) (e : FileError) → Refuses r long e → Refuses (and_then r f) long e
+refused_here r f long OutOfMemory h = tt
+refused_here r f long (Refused e) (inl is) = inl (ap (λ r. and_then r f) is)
+refused_here r f long (Refused e) (inr far) = inr far
 
-pub refused_after : {S T : Type 0} (r : Finds S) (f : S → Finds T) (x : S) (long : Bool) (e : FileRefusal) → r ≡ Ok x → Refuses (f x) long e → Refuses (and_then r f) long e
-refused_after r f x long e before (inl memory) = inl memory
-refused_after r f x long e before (inr (inl is)) = inr (inl (ap (λ r. and_then r f) before ∙ is))
-refused_after r f x long e before (inr (inr far)) = inr (inr far)
+pub refused_after : {S T : Type 0} (r : Finds S) (f : S → Finds T) (x : S) (long : Bool) (e : FileError) → r ≡ Ok x → Refuses (f x) long e → Refuses (and_then r f) long e
+refused_after r f x long OutOfMemory before h = tt
+refused_after r f x long (Refused e) before (inl is) = inl (ap (λ r. and_then r f) before ∙ is)
+refused_after r f x long (Refused e) before (inr far) = inr far
 
-pub refused_map : {S T : Type 0} (f : S → T) (r : Finds S) (long : Bool) (e : FileRefusal) → Refuses r long e → Refuses (and_map f r) long e
-refused_map f r long e (inl memory) = inl memory
-refused_map f r long e (inr (inl is)) = inr (inl (ap (and_map f) is))
-refused_map f r long e (inr (inr far)) = inr (inr far)
+pub refused_map : {S T : Type 0} (f : S → T) (r : Finds S) (long : Bool) (e : FileError) → Refuses r long e → Refuses (and_map f r) long e
+refused_map f r long OutOfMemory h = tt
+refused_map f r long (Refused e) (inl is) = inl (ap (and_map f) is)
+refused_map f r long (Refused e) (inr far) = inr far
 
-pub refused_left : {T : Type 0} (r : Finds T) (long other : Bool) (e : FileRefusal) → Refuses r long e → Refuses r (long || other) e
-refused_left r long other e (inl memory) = inl memory
-refused_left r long other e (inr (inl is)) = inr (inl is)
-refused_left r long other e (inr (inr far)) = inr (inr (far.0, ap (λ b. b || other) far.1))
+pub refused_left : {T : Type 0} (r : Finds T) (long other : Bool) (e : FileError) → Refuses r long e → Refuses r (long || other) e
+refused_left r long other OutOfMemory h = tt
+refused_left r long other (Refused e) (inl is) = inl is
+refused_left r long other (Refused e) (inr far) = inr (far.0, ap (λ b. b || other) far.1)
 
-pub refused_right : {T : Type 0} (r : Finds T) (other long : Bool) (e : FileRefusal) → Refuses r long e → Refuses r (other || long) e
-refused_right r other long e (inl memory) = inl memory
-refused_right r other long e (inr (inl is)) = inr (inl is)
-refused_right r other long e (inr (inr far)) = inr (inr (far.0, or_right other long far.1))
+pub refused_right : {T : Type 0} (r : Finds T) (other long : Bool) (e : FileError) → Refuses r long e → Refuses r (other || long) e
+refused_right r other long OutOfMemory h = tt
+refused_right r other long (Refused e) (inl is) = inl is
+refused_right r other long (Refused e) (inr far) = inr (far.0, or_right other long far.1)
 
 -- a refusal by the definition, whatever is long
-pub refused_any : {T : Type 0} (r : Finds T) (long : Bool) (e : FileRefusal) → Refuses r false e → Refuses r long e
-refused_any r long e (inl memory) = inl memory
-refused_any r long e (inr (inl is)) = inr (inl is)
-refused_any r long e (inr (inr far)) = absurd (true≢false (sym far.1))
+pub refused_any : {T : Type 0} (r : Finds T) (long : Bool) (e : FileError) → Refuses r false e → Refuses r long e
+refused_any r long OutOfMemory h = tt
+refused_any r long (Refused e) (inl is) = inl is
+refused_any r long (Refused e) (inr far) = absurd (true≢false (sym far.1))
 
-pub moved : {T : Type 0} (r s : Finds T) (b c : Bool) (e : FileRefusal) → r ≡ s → b ≡ c → Refuses s c e → Refuses r b e
+pub moved : {T : Type 0} (r s : Finds T) (b c : Bool) (e : FileError) → r ≡ s → b ≡ c → Refuses s c e → Refuses r b e
 moved r s b c e same flag h = subst (λ x. Refuses x b e) (sym same) (subst (λ x. Refuses s x e) (sym flag) h)
 
 module _ {T : Type 0} where
@@ -68,7 +70,7 @@ module _ {T : Type 0} where
   all_found-push rs r xs x before now = all_found-append rs (r ∷ []) ∙ rw (before, now) refl
 
   -- the first refusal is that of the whole
-  all_found-stop : (rs : List (Finds T)) (r : Finds T) (rest : List (Finds T)) (xs : List T) (e : FileRefusal) → all_found rs ≡ Ok xs → r ≡ Err e → all_found (rs ++ r ∷ rest) ≡ Err e
+  all_found-stop : (rs : List (Finds T)) (r : Finds T) (rest : List (Finds T)) (xs : List T) (e : FileFault) → all_found rs ≡ Ok xs → r ≡ Err e → all_found (rs ++ r ∷ rest) ≡ Err e
   all_found-stop rs r rest xs e before now = all_found-append rs (r ∷ rest) ∙ rw (before, now) refl
 
 any_of-there : (before after : List Bool) (flag : Bool) → flag ≡ true → any_of (before ++ flag ∷ after) ≡ true
@@ -79,13 +81,13 @@ module _ {S T : Type 0} (f : S → Finds T) where
   pub found_more : (done : List S) (x : S) (found : List T) (y : T) → all_found (map f done) ≡ Ok found → f x ≡ Ok y → all_found (map f (done ++ x ∷ [])) ≡ Ok (found ++ y ∷ [])
   found_more done x found y before now = ap all_found (map-append f done (x ∷ [])) ∙ all_found-push (map f done) (f x) found y before now
 
-  pub found_stop : (g : S → Bool) (done : List S) (x : S) (rest : List S) (found : List T) (e : FileRefusal) → all_found (map f done) ≡ Ok found → Refuses (f x) (g x) e
+  pub found_stop : (g : S → Bool) (done : List S) (x : S) (rest : List S) (found : List T) (e : FileError) → all_found (map f done) ≡ Ok found → Refuses (f x) (g x) e
       → Refuses (all_found (map f (done ++ x ∷ rest))) (any_of (map g (done ++ x ∷ rest))) e
-  found_stop g done x rest found e before (inl memory) = inl memory
-  found_stop g done x rest found e before (inr (inl is)) =
-      inr (inl (ap all_found (map-append f done (x ∷ rest)) ∙ all_found-stop (map f done) (f x) (map f rest) found e before is))
-  found_stop g done x rest found e before (inr (inr far)) =
-      inr (inr (far.0, ap any_of (map-append g done (x ∷ rest)) ∙ any_of-there (map g done) (map g rest) (g x) far.1))
+  found_stop g done x rest found OutOfMemory before h = tt
+  found_stop g done x rest found (Refused e) before (inl is) =
+      inl (ap all_found (map-append f done (x ∷ rest)) ∙ all_found-stop (map f done) (f x) (map f rest) found e before is)
+  found_stop g done x rest found (Refused e) before (inr far) =
+      inr (far.0, ap any_of (map-append g done (x ∷ rest)) ∙ any_of-there (map g done) (map g rest) (g x) far.1)
 
 -- at an index of a list
 whole : {S : Type 0} (xs : List S) (k : ℕ) (x : S) → k < length xs → x ≡ get_or xs k x → xs ≡ take k xs ++ x ∷ drop (k + 1) xs
@@ -96,7 +98,7 @@ module _ {S T : Type 0} (f : S → Finds T) where
   items_more xs k x found y within is before now =
       ap (λ l. all_found (map f l)) (take_more xs k x within ∙ ap (λ z. take k xs ++ z ∷ []) (sym is)) ∙ found_more f (take k xs) x found y before now
 
-  pub items_stop : (g : S → Bool) (xs : List S) (k : ℕ) (x : S) (found : List T) (e : FileRefusal) → k < length xs → x ≡ get_or xs k x → all_found (map f (take k xs)) ≡ Ok found → Refuses (f x) (g x) e
+  pub items_stop : (g : S → Bool) (xs : List S) (k : ℕ) (x : S) (found : List T) (e : FileError) → k < length xs → x ≡ get_or xs k x → all_found (map f (take k xs)) ≡ Ok found → Refuses (f x) (g x) e
       → Refuses (all_found (map f xs)) (any_of (map g xs)) e
   items_stop g xs k x found e within is before now =
       subst (λ l. Refuses (all_found (map f l)) (any_of (map g l)) e) (sym (whole xs k x within is)) (found_stop f g (take k xs) x (drop (k + 1) xs) found e before now)
@@ -118,7 +120,7 @@ pub fields_more : (f : Value → Finds Value) (done : List (Field Value)) (e : F
 fields_more f done e found v before now =
     fields-as_found f (done ++ e ∷ []) ∙ found_more (field_found f) done e found (e.0, v) (sym (fields-as_found f done) ∙ before) (ap (and_map (λ v. (e.0, v))) now)
 
-pub fields_stop : (f : Value → Finds Value) (g : Value → Bool) (done : List (Field Value)) (e : Field Value) (rest found : List (Field Value)) (why : FileRefusal) → fields_found (map_values f done) ≡ Ok found → Refuses (f e.1) (g e.1) why
+pub fields_stop : (f : Value → Finds Value) (g : Value → Bool) (done : List (Field Value)) (e : Field Value) (rest found : List (Field Value)) (why : FileError) → fields_found (map_values f done) ≡ Ok found → Refuses (f e.1) (g e.1) why
     → Refuses (fields_found (map_values f (done ++ e ∷ rest))) (any_of (map (λ e. e.1) (map_values g (done ++ e ∷ rest)))) why
 fields_stop f g done e rest found why before now =
     let all = done ++ e ∷ rest in
@@ -145,7 +147,7 @@ pub fields_more_at : (f : Value → Finds Value) (es : List (Field Value)) (k : 
 fields_more_at f es k e found v within is before now =
     ap (λ l. fields_found (map_values f l)) (take_more es k e within ∙ ap (λ z. take k es ++ z ∷ []) (sym is)) ∙ fields_more f (take k es) e found v before now
 
-pub fields_stop_at : (f : Value → Finds Value) (g : Value → Bool) (es : List (Field Value)) (k : ℕ) (e : Field Value) (found : List (Field Value)) (why : FileRefusal) → k < length es → e ≡ get_or es k e → fields_found (map_values f (take k es)) ≡ Ok found → Refuses (f e.1) (g e.1) why
+pub fields_stop_at : (f : Value → Finds Value) (g : Value → Bool) (es : List (Field Value)) (k : ℕ) (e : Field Value) (found : List (Field Value)) (why : FileError) → k < length es → e ≡ get_or es k e → fields_found (map_values f (take k es)) ≡ Ok found → Refuses (f e.1) (g e.1) why
     → Refuses (fields_found (map_values f es)) (any_of (map (λ e. e.1) (map_values g es))) why
 fields_stop_at f g es k e found why within is before now =
     subst (λ l. Refuses (fields_found (map_values f l)) (any_of (map (λ e. e.1) (map_values g l))) why) (sym (whole es k e within is)) (fields_stop f g (take k es) e (drop (k + 1) es) found why before now)

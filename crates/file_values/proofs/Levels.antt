@@ -8,7 +8,7 @@ use Rattle.cwl_value.specs.declared.value.Value.{Value, the_lemmas}
 use Rattle.cwl_value.specs.declared.value.Value.TheOpen.{FileVal-F, DirVal-F}
 use Rattle.cwl_value.specs.declared.value.FileVal.{FileVal, out-FileVal, roll-FileVal}
 use Rattle.cwl_value.specs.declared.value.DirVal.{DirVal, out-DirVal, roll-DirVal}
-use Rattle.file_values.specs.declared.refusal.FileRefusal.{FileRefusal}
+use Rattle.file_values.specs.declared.refusal.FileError.{FileError}
 use Rattle.file_values.specs.Location.{Finds, and_map, and_then, Refuses}
 use Rattle.file_values.specs.Resolved.{all_found, any_of, place_resolved, named, file_at, listing_resolved, resolved, file_resolved, dir_resolved, has_long, file_has_long, dir_has_long, is_long_place}
 use Rattle.file_values.proofs.Finding.{refused_here, refused_after, refused_left, refused_right, refused_any, moved}
@@ -40,21 +40,21 @@ module _ (base : Parts) where
   file_long-out : (f : FileVal) → file_has_long base f ≡ file_long (out-FileVal f)
   file_long-out f = search (rules, the_lemmas, file_long-roll)
 
-  pub file_at_place : (f : FileVal) (e : FileRefusal) → Refuses (place_resolved base (out-FileVal f).place) (is_long_place base (out-FileVal f).place) e → Refuses (file_resolved base f) (file_has_long base f) e
+  pub file_at_place : (f : FileVal) (e : FileError) → Refuses (place_resolved base (out-FileVal f).place) (is_long_place base (out-FileVal f).place) e → Refuses (file_resolved base f) (file_has_long base f) e
   file_at_place f e h =
       moved _ _ _ _ e (file_resolved-out f) (file_long-out f) (refused_left _ _ _ e (refused_here (place_resolved base (out-FileVal f).place) _ _ e h))
 
-  pub file_at_name : (f : FileVal) (place : Place) (e : FileRefusal) → place_resolved base (out-FileVal f).place ≡ Ok place → Refuses (named (out-FileVal f).basename place) false e → Refuses (file_resolved base f) (file_has_long base f) e
+  pub file_at_name : (f : FileVal) (place : Place) (e : FileError) → place_resolved base (out-FileVal f).place ≡ Ok place → Refuses (named (out-FileVal f).basename place) false e → Refuses (file_resolved base f) (file_has_long base f) e
   file_at_name f place e placed h =
       moved _ _ _ _ e (file_resolved-out f) (file_long-out f) (refused_any _ _ e (refused_after (place_resolved base (out-FileVal f).place) _ place _ e placed (refused_here (named (out-FileVal f).basename place) _ _ e h)))
 
-  pub file_at_items : (f : FileVal) (place : Place) (name : List ℕ) (e : FileRefusal) → place_resolved base (out-FileVal f).place ≡ Ok place → named (out-FileVal f).basename place ≡ Ok name
+  pub file_at_items : (f : FileVal) (place : Place) (name : List ℕ) (e : FileError) → place_resolved base (out-FileVal f).place ≡ Ok place → named (out-FileVal f).basename place ≡ Ok name
       → Refuses (all_found (map (resolved base) (out-FileVal f).secondary)) (any_of (map (has_long base) (out-FileVal f).secondary)) e → Refuses (file_resolved base f) (file_has_long base f) e
   file_at_items f place name e placed has_name h =
       moved _ _ _ _ e (file_resolved-out f) (file_long-out f)
       (refused_right _ _ _ e (refused_after (place_resolved base (out-FileVal f).place) _ place _ e placed (refused_after (named (out-FileVal f).basename place) _ name _ e has_name (refused_here (all_found (map (resolved base) (out-FileVal f).secondary)) _ _ e h))))
 
-  pub file_at_beside : (f : FileVal) (place : Place) (name : List ℕ) (found : List Value) (e : FileRefusal) → place_resolved base (out-FileVal f).place ≡ Ok place → named (out-FileVal f).basename place ≡ Ok name
+  pub file_at_beside : (f : FileVal) (place : Place) (name : List ℕ) (found : List Value) (e : FileError) → place_resolved base (out-FileVal f).place ≡ Ok place → named (out-FileVal f).basename place ≡ Ok name
       → all_found (map (resolved base) (out-FileVal f).secondary) ≡ Ok found → Refuses (at (out-FileVal f) place name found) false e → Refuses (file_resolved base f) (file_has_long base f) e
   file_at_beside f place name found e placed has_name has_found h =
       moved _ _ _ _ e (file_resolved-out f) (file_long-out f)
@@ -86,10 +86,10 @@ module _ (base : Parts) where
   dir_long-out : (d : DirVal) → dir_has_long base d ≡ dir_long (out-DirVal d)
   dir_long-out d = search (rules, the_lemmas, dir_long-roll)
 
-  pub dir_at_place : (d : DirVal) (e : FileRefusal) → Refuses (place_resolved base (out-DirVal d).place) (is_long_place base (out-DirVal d).place) e → Refuses (dir_resolved base d) (dir_has_long base d) e
+  pub dir_at_place : (d : DirVal) (e : FileError) → Refuses (place_resolved base (out-DirVal d).place) (is_long_place base (out-DirVal d).place) e → Refuses (dir_resolved base d) (dir_has_long base d) e
   dir_at_place d e h =
       moved _ _ _ _ e (dir_resolved-out d) (dir_long-out d) (refused_left _ _ _ e (refused_here (place_resolved base (out-DirVal d).place) _ _ e h))
 
-  pub dir_at_name : (d : DirVal) (place : Place) (e : FileRefusal) → place_resolved base (out-DirVal d).place ≡ Ok place → Refuses (named (out-DirVal d).basename place) false e → Refuses (dir_resolved base d) (dir_has_long base d) e
+  pub dir_at_name : (d : DirVal) (place : Place) (e : FileError) → place_resolved base (out-DirVal d).place ≡ Ok place → Refuses (named (out-DirVal d).basename place) false e → Refuses (dir_resolved base d) (dir_has_long base d) e
   dir_at_name d place e placed h =
       moved _ _ _ _ e (dir_resolved-out d) (dir_long-out d) (refused_any _ _ e (refused_after (place_resolved base (out-DirVal d).place) _ place _ e placed (refused_here (named (out-DirVal d).basename place) _ _ e h)))

@@ -6,8 +6,9 @@ use Rattle.sha1.specs.Sha1.{Holds}
 use Rattle.sha1.specs.declared.Sha1.{Sha1}
 use Rattle.file_values.specs.Sum.{AddsPiece, SumsAll, SumsHeld, SumRefuses, most_bytes}
 use Rattle.file_values.specs.declared.sum.FileSum.{FileSum}
-use Rattle.file_values.specs.declared.refusal.FileRefusal.{FileRefusal}
-use Rattle.file_values.specs.declared.refusal.FileRefusal.TheVariants.{Read, OutOfMemory}
+use Rattle.file_values.specs.declared.refusal.FileError.{FileError}
+use Rattle.file_values.specs.declared.refusal.FileError.TheVariants.{Refused, OutOfMemory}
+use Rattle.file_values.specs.declared.refusal.FileFault.TheVariants.{Read}
 
 -- the hasher holds what was read so far, and this is how much
 pub record IsSoFar (before after : Option (List ℕ)) (hasher : Sha1) (size : ℕ) : Type 0 where
@@ -28,7 +29,7 @@ so_far_more a b c hasher hashed size room count s p = record {
 }
 
 -- the piece that was nothing ends it
-pub sums_all : (a b c : Option (List ℕ)) (hasher hashed : Sha1) (size room count : ℕ) (r : Result FileSum FileRefusal) → IsSoFar a b hasher size → AddsPiece b c hasher hashed room count → count ≡ 0
+pub sums_all : (a b c : Option (List ℕ)) (hasher hashed : Sha1) (size room count : ℕ) (r : Result FileSum FileError) → IsSoFar a b hasher size → AddsPiece b c hasher hashed room count → count ≡ 0
     → IfOk r (SumsHeld hashed size) → IfOk r (SumsAll a c)
 sums_all a b c hasher hashed size room count (Ok found) s p none sums =
     let all = so_far_more a b c hasher hashed size room count s p in
@@ -36,11 +37,11 @@ sums_all a b c hasher hashed size room count (Ok found) s p none sums =
     (all.bytes, all.consumed, p.ends none, sums all.bytes all.held (all.counted ∙ same))
 sums_all a b c hasher hashed size room count (Err e) s p none sums = tt
 
-pub memory_wanting : (a c : Option (List ℕ)) (failed : Bool) (r : Result FileSum FileRefusal) → IfErr r (λ e. e ≡ OutOfMemory) → IfErr r (SumRefuses a c failed)
+pub memory_wanting : (a c : Option (List ℕ)) (failed : Bool) (r : Result FileSum FileError) → IfErr r (λ e. e ≡ OutOfMemory) → IfErr r (SumRefuses a c failed)
 memory_wanting a c failed (Ok found) h = tt
 memory_wanting a c failed (Err e) h = inl h
 
-pub on_ok : (r : Result FileSum FileRefusal) (P : Type 0) → P → OnOk r P
+pub on_ok : (r : Result FileSum FileError) (P : Type 0) → P → OnOk r P
 on_ok (Ok found) P h = h
 on_ok (Err e) P h = tt
 
@@ -49,7 +50,7 @@ pub fits_more : (size count len : ℕ) → count ≤ min len (2 ^ 61 - 1 - size)
 fits_more size count len fits within = omega arith
 
 -- the reader gave as much as SHA-1 takes
-pub bound_met : (a b : Option (List ℕ)) (hasher : Sha1) (size : ℕ) (failed : Bool) → IsSoFar a b hasher size → size ≤ 2 ^ 61 - 1 → 2 ^ 61 - 1 ≤ size → SumRefuses a b failed Read
+pub bound_met : (a b : Option (List ℕ)) (hasher : Sha1) (size : ℕ) (failed : Bool) → IsSoFar a b hasher size → size ≤ 2 ^ 61 - 1 → 2 ^ 61 - 1 ≤ size → SumRefuses a b failed (Refused Read)
 bound_met a b hasher size failed s low high =
     let is : size ≡ most_bytes = omega arith in
     inr (refl, inr (s.bytes, s.consumed, s.counted ∙ is))

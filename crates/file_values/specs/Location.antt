@@ -5,12 +5,14 @@ use Rattle.percent_encoding.specs.Percent.{percent_encode_byte, percent_decode}
 use Rattle.url.specs.Parts.{Parts, kind_of, has_host, serialize}
 use Rattle.url.specs.Parser.{Parsed, parse_url}
 use Rattle.url.specs.Scheme.{is_file}
-use Rattle.file_values.specs.declared.refusal.FileRefusal.{FileRefusal}
-use Rattle.file_values.specs.declared.refusal.FileRefusal.TheVariants.{NotAFileUrl, NotUtf8, OutOfMemory}
+use Rattle.file_values.specs.declared.refusal.FileFault.{FileFault}
+use Rattle.file_values.specs.declared.refusal.FileFault.TheVariants.{NotAFileUrl, NotUtf8}
+use Rattle.file_values.specs.declared.refusal.FileError.{FileError}
+use Rattle.file_values.specs.declared.refusal.FileError.TheVariants.{Refused, OutOfMemory}
 
 -- what is found, or why not
 abbrev pub Finds : Type 0 → Type 0
-Finds T = Result T FileRefusal
+Finds T = Result T FileFault
 
 abbrev pub and_map : {S T : Type 0} → (S → T) → Finds S → Finds T
 and_map f (Ok x) = Ok (f x)
@@ -79,5 +81,6 @@ abbrev pub is_long : Parts → List ℕ → Bool
 is_long base location = nat_le (2 ^ 24) (length (serialize base) + length location)
 
 -- F2 comes where the definition says so or the text is that long, every other refusal where the definition says so; out of memory may come at any time
-abbrev pub Refuses : {T : Type 0} → Finds T → Bool → FileRefusal → Type 0
-Refuses found long e = (e ≡ OutOfMemory) ⊎ ((found ≡ Err e) ⊎ ((e ≡ NotAFileUrl) × (long ≡ true)))
+abbrev pub Refuses : {T : Type 0} → Finds T → Bool → FileError → Type 0
+Refuses found long (Refused fault) = (found ≡ Err fault) ⊎ ((fault ≡ NotAFileUrl) × (long ≡ true))
+Refuses found long OutOfMemory = Unit {0}

@@ -14,7 +14,7 @@ use Rattle.cwl_value.specs.declared.value.FileVal.{FileVal, roll-FileVal, fold-F
 use Rattle.cwl_value.specs.declared.value.DirVal.{DirVal, roll-DirVal, fold-DirVal}
 use Rattle.file_values.specs.Location.{Finds, and_map, and_then, located, placed, is_long}
 use Rattle.file_values.specs.Names.{last_component}
-use Rattle.file_values.specs.declared.refusal.FileRefusal.TheVariants.{NotAFileUrl}
+use Rattle.file_values.specs.declared.refusal.FileFault.TheVariants.{NotAFileUrl}
 
 -- each of them, or the first refusal
 abbrev pub all_found : {T : Type 0} → List (Finds T) → Finds (List T)

@@ -5,8 +5,9 @@ use Rattle.sha1.specs.Sha1.{sha1, Holds}
 use Rattle.sha1.specs.declared.Sha1.{Sha1}
 use Rattle.hex.specs.Hex.{encode_lower}
 use Rattle.file_values.specs.declared.sum.FileSum.{FileSum}
-use Rattle.file_values.specs.declared.refusal.FileRefusal.{FileRefusal}
-use Rattle.file_values.specs.declared.refusal.FileRefusal.TheVariants.{Read, OutOfMemory}
+use Rattle.file_values.specs.declared.refusal.FileError.{FileError}
+use Rattle.file_values.specs.declared.refusal.FileError.TheVariants.{Refused, OutOfMemory}
+use Rattle.file_values.specs.declared.refusal.FileFault.TheVariants.{Read}
 
 -- SHA-1 in lower case digits, and the number of bytes
 pub record IsSumOf (bytes : List ℕ) (found : FileSum) : Type 0 where
@@ -30,8 +31,8 @@ abbrev pub ReadsMost : Option (List ℕ) → Option (List ℕ) → Type 0
 ReadsMost before after = (bytes : List ℕ) × Consumes before after bytes × (length bytes ≡ most_bytes)
 
 -- why there is no sum: the reader failed, or it gave as many bytes as SHA-1 takes; out of memory may come at any time
-abbrev pub SumRefuses : Option (List ℕ) → Option (List ℕ) → Bool → FileRefusal → Type 0
-SumRefuses before after failed e = (e ≡ OutOfMemory) ⊎ ((e ≡ Read) × ((failed ≡ true) ⊎ ReadsMost before after))
+abbrev pub SumRefuses : Option (List ℕ) → Option (List ℕ) → Bool → FileError → Type 0
+SumRefuses before after failed e = (e ≡ OutOfMemory) ⊎ ((e ≡ Refused Read) × ((failed ≡ true) ⊎ ReadsMost before after))
 
 -- a piece of this many bytes, at most as many as there is room for, was read and put behind what was hashed; none only at the end
 pub record AddsPiece (before after : Option (List ℕ)) (hasher hashed : Sha1) (room count : ℕ) : Type 0 where

@@ -3,7 +3,7 @@ ghost use Rattle.std.specs.Prelude.{◌≡◌, false, Ok, IfOk, IfErr};
 ghost use Rattle.file_values.specs.Location.{Refuses};
 ghost use Rattle.file_values.specs.Resolved as spec;
 
-use crate::refusal::FileRefusal;
+use crate::refusal::{FileError, FileFault};
 use cwl_value::{Value, is_taken, names_differ};
 use plain_data::{Items, Text};
 use std::alloc::{AllocError, Global};
@@ -13,7 +13,7 @@ pub(crate) fn distinct_beside(
     alloc: Global,
     name: &Text,
     values: Items<Value>,
-) -> Result<Items<Value>, FileRefusal>
+) -> Result<Items<Value>, FileError>
     ensures ok { IfOk result (λ vs. spec.distinct_beside name.now values ≡ Ok vs) }
     ensures err { IfErr result (Refuses (spec.distinct_beside name.now values) false) }
 {
@@ -21,7 +21,7 @@ pub(crate) fn distinct_beside(
         Ok(values)
     } else {
         drop(values);
-        Err(FileRefusal::NotAFileUrl)
+        Err(FileError::Refused(FileFault::NotAFileUrl))
     }
 }
 
@@ -29,7 +29,7 @@ pub(crate) fn distinct_beside(
 pub(crate) fn distinct_inside(
     alloc: Global,
     values: Items<Value>,
-) -> Result<Items<Value>, FileRefusal>
+) -> Result<Items<Value>, FileError>
     ensures ok { IfOk result (λ vs. spec.distinct_inside values ≡ Ok vs) }
     ensures err { IfErr result (Refuses (spec.distinct_inside values) false) }
 {
@@ -37,7 +37,7 @@ pub(crate) fn distinct_inside(
         Ok(values)
     } else {
         drop(values);
-        Err(FileRefusal::NotAFileUrl)
+        Err(FileError::Refused(FileFault::NotAFileUrl))
     }
 }
 

@@ -5,7 +5,7 @@ ghost use Rattle.url.specs.Parts.{kind_of};
 ghost use Rattle.url.specs.Scheme.{is_file};
 ghost use Rattle.file_values.specs.Location as spec;
 
-use crate::refusal::FileRefusal;
+use crate::refusal::{FileError, FileFault};
 use percent_encoding::{DecodeError, percent_decode_str, percent_encode_byte};
 use std::alloc::{AllocError, Global};
 use url::{ParseError, Url};
@@ -40,7 +40,7 @@ fn stays(byte: u8) -> bool
 ///
 /// `NotAFileUrl` where the location is none, for its length too, or the URL has another scheme than `file`, a host, a
 /// query or a fragment; `NotUtf8` where its path is no text once the escapes are read; `OutOfMemory`.
-pub fn location_to_path(alloc: Global, location: &str, base: &Url) -> Result<String, FileRefusal>
+pub fn location_to_path(alloc: Global, location: &str, base: &Url) -> Result<String, FileError>
     ensures ok { IfOk result (λ path. spec.located base.now location.now ≡ Ok (string_bytes path)) }
     ensures err { IfErr result (spec.Refuses (spec.located base.now location.now) (spec.is_long base.now location.now)) }
 {
@@ -50,15 +50,15 @@ pub fn location_to_path(alloc: Global, location: &str, base: &Url) -> Result<Str
 
 // The location on the base. `url` reports out of memory and a URL of 4 GB in the same way,
 // and no short one is that long.
-fn joined(location: &str, base: &Url) -> Result<Url, FileRefusal>
+fn joined(location: &str, base: &Url) -> Result<Url, FileError>
     ensures ok { IfOk result (λ url. spec.joined base.now location.now ≡ Ok url) }
     ensures err { IfErr result (spec.Refuses (spec.joined base.now location.now) (spec.is_long base.now location.now)) }
 {
     match base.join(location) {
         Ok(url) => Ok(url),
-        Err(ParseError::OutOfMemory) => Err(FileRefusal::OutOfMemory),
-        Err(ParseError::Overflow) if !is_long(location, base) => Err(FileRefusal::OutOfMemory),
-        Err(_) => Err(FileRefusal::NotAFileUrl),
+        Err(ParseError::OutOfMemory) => Err(FileError::OutOfMemory),
+        Err(ParseError::Overflow) if !is_long(location, base) => Err(FileError::OutOfMemory),
+        Err(_) => Err(FileError::Refused(FileFault::NotAFileUrl)),
     }
 }
 
@@ -72,14 +72,14 @@ fn is_long(location: &str, base: &Url) -> bool
 }
 
 // The path that a URL names.
-fn path_of(alloc: Global, url: &Url) -> Result<String, FileRefusal>
+fn path_of(alloc: Global, url: &Url) -> Result<String, FileError>
     ensures ok { IfOk result (λ path. spec.path_of url.now ≡ Ok (string_bytes path)) }
     ensures err { IfErr result (spec.Refuses (spec.path_of url.now) false) }
 {
     if names_a_file(url) {
         decoded(alloc, url.path())
     } else {
-        Err(FileRefusal::NotAFileUrl)
+        Err(FileError::Refused(FileFault::NotAFileUrl))
     }
 }
 
@@ -108,19 +108,19 @@ fn has_fragment(url: &Url) -> bool
 }
 
 // The text that an escaped path stands for.
-fn decoded(alloc: Global, path: &str) -> Result<String, FileRefusal>
+fn decoded(alloc: Global, path: &str) -> Result<String, FileError>
     ensures ok { IfOk result (λ text. spec.text_of (percent_decode path.now) ≡ Ok (string_bytes text)) }
     ensures err { IfErr result (spec.Refuses (spec.text_of (percent_decode path.now)) false) }
 {
     match percent_decode_str(path).decode_utf8(alloc) {
         Ok(text) => Ok(text.into_owned(alloc)?),
-        Err(DecodeError::OutOfMemory) => Err(FileRefusal::OutOfMemory),
-        Err(DecodeError::Utf8(_)) => Err(FileRefusal::NotUtf8),
+        Err(DecodeError::OutOfMemory) => Err(FileError::OutOfMemory),
+        Err(DecodeError::Utf8(_)) => Err(FileError::Refused(FileFault::NotUtf8)),
     }
 }
 
 /// A path as it is written, added to the folder of the base unless it is absolute.
-pub(crate) fn path_on(alloc: Global, path: &str, base: &Url) -> Result<String, FileRefusal>
+pub(crate) fn path_on(alloc: Global, path: &str, base: &Url) -> Result<String, FileError>
     ensures ok { IfOk result (λ whole. spec.placed base.now path.now ≡ Ok (string_bytes whole)) }
     ensures err { IfErr result (spec.Refuses (spec.placed base.now path.now) (spec.is_long base.now (codes "."))) }
 {

@@ -10,7 +10,7 @@ ghost use Rattle.file_values.specs.Resolved as spec;
 use crate::distinct::{distinct_beside, distinct_inside};
 use crate::location::{location_to_path, path_on};
 use crate::names::last_component;
-use crate::refusal::FileRefusal;
+use crate::refusal::{FileError, FileFault};
 use cwl_value::{DirVal, FileVal, Place, Value};
 use plain_data::{Items, Keyed, Text};
 use std::alloc::{AllocError, Global};
@@ -23,7 +23,7 @@ use url::Url;
 ///
 /// `NotAFileUrl` and `NotUtf8` as of `location_to_path`; `NotAFileUrl` too where a path gives no name, or names that
 /// have to differ don't: those of a File and its secondary files, and those of a listing; `OutOfMemory`.
-pub fn resolve(alloc: Global, value: Value, base: &Url) -> Result<Value, FileRefusal>
+pub fn resolve(alloc: Global, value: Value, base: &Url) -> Result<Value, FileError>
     ensures ok { IfOk result (λ v. spec.resolved base.now value ≡ Ok v) }
     ensures err { IfErr result (Refuses (spec.resolved base.now value) (spec.has_long base.now value)) }
 {
@@ -31,7 +31,7 @@ pub fn resolve(alloc: Global, value: Value, base: &Url) -> Result<Value, FileRef
 }
 
 #[cycle(resolve)]
-fn resolved(alloc: Global, value: &Value, base: &Url) -> Result<Value, FileRefusal>
+fn resolved(alloc: Global, value: &Value, base: &Url) -> Result<Value, FileError>
     ensures ok { IfOk result (λ v. spec.resolved base.now value.now ≡ Ok v) }
     ensures err { IfErr result (Refuses (spec.resolved base.now value.now) (spec.has_long base.now value.now)) }
 {
@@ -48,7 +48,7 @@ fn resolved(alloc: Global, value: &Value, base: &Url) -> Result<Value, FileRefus
 }
 
 #[cycle(resolve)]
-fn resolved_file(alloc: Global, file: &FileVal, base: &Url) -> Result<FileVal, FileRefusal>
+fn resolved_file(alloc: Global, file: &FileVal, base: &Url) -> Result<FileVal, FileError>
     ensures ok { IfOk result (λ f. spec.file_resolved base.now file.now ≡ Ok f) }
     ensures err { IfErr result (Refuses (spec.file_resolved base.now file.now) (spec.file_has_long base.now file.now)) }
 {
@@ -59,7 +59,7 @@ fn resolved_file(alloc: Global, file: &FileVal, base: &Url) -> Result<FileVal, F
 }
 
 #[cycle(resolve)]
-fn resolved_dir(alloc: Global, dir: &DirVal, base: &Url) -> Result<DirVal, FileRefusal>
+fn resolved_dir(alloc: Global, dir: &DirVal, base: &Url) -> Result<DirVal, FileError>
     ensures ok { IfOk result (λ d. spec.dir_resolved base.now dir.now ≡ Ok d) }
     ensures err { IfErr result (Refuses (spec.dir_resolved base.now dir.now) (spec.dir_has_long base.now dir.now)) }
 {
@@ -88,7 +88,7 @@ fn resolved_items(
     alloc: Global,
     items: &Items<Value>,
     base: &Url,
-) -> Result<Items<Value>, FileRefusal>
+) -> Result<Items<Value>, FileError>
     ensures ok { IfOk result (λ vs. spec.all_found (map (spec.resolved base.now) items.now) ≡ Ok vs) }
     ensures err { IfErr result (Refuses (spec.all_found (map (spec.resolved base.now) items.now)) (spec.any_of (map (spec.has_long base.now) items.now))) }
 {
@@ -104,7 +104,7 @@ fn resolved_fields(
     alloc: Global,
     fields: &Keyed<Value>,
     base: &Url,
-) -> Result<Keyed<Value>, FileRefusal>
+) -> Result<Keyed<Value>, FileError>
     ensures ok { IfOk result (λ es. spec.fields_found (map_values (spec.resolved base.now) fields.now) ≡ Ok es) }
     ensures err { IfErr result (Refuses (spec.fields_found (map_values (spec.resolved base.now) fields.now)) (spec.any_of (map (λ e. e.1) (map_values (spec.has_long base.now) fields.now)))) }
 {
@@ -123,7 +123,7 @@ fn file_at(
     place: Place,
     name: Text,
     found: Items<Value>,
-) -> Result<FileVal, FileRefusal>
+) -> Result<FileVal, FileError>
     ensures ok { IfOk result (λ f. spec.file_at (out-FileVal file.now).checksum (out-FileVal file.now).size (out-FileVal file.now).contents place name found ≡ Ok f) }
     ensures err { IfErr result (Refuses (spec.file_at (out-FileVal file.now).checksum (out-FileVal file.now).size (out-FileVal file.now).contents place name found) false) }
 {
@@ -148,7 +148,7 @@ fn texts_of(alloc: Global, file: &FileVal) -> Result<(Option<Text>, Option<Text>
 }
 
 // A location as the path that it names, and a path joined to the base's folder.
-fn resolved_place(alloc: Global, place: &Place, base: &Url) -> Result<Place, FileRefusal>
+fn resolved_place(alloc: Global, place: &Place, base: &Url) -> Result<Place, FileError>
     ensures ok { IfOk result (λ p. spec.place_resolved base.now place.now ≡ Ok p) }
     ensures err { IfErr result (Refuses (spec.place_resolved base.now place.now) (spec.is_long_place base.now place.now)) }
 {
@@ -167,7 +167,7 @@ fn resolved_place(alloc: Global, place: &Place, base: &Url) -> Result<Place, Fil
 }
 
 // The basename, or the last component of the place's path.
-fn named(alloc: Global, basename: &Option<Text>, place: &Place) -> Result<Text, FileRefusal>
+fn named(alloc: Global, basename: &Option<Text>, place: &Place) -> Result<Text, FileError>
     ensures ok { IfOk result (λ name. spec.named basename.now place.now ≡ Ok name) }
     ensures err { IfErr result (Refuses (spec.named basename.now place.now) false) }
 {
@@ -186,7 +186,7 @@ fn path_at(place: &Place) -> &str
     }
 }
 
-fn name_in(alloc: Global, path: &str) -> Result<Text, FileRefusal>
+fn name_in(alloc: Global, path: &str) -> Result<Text, FileError>
     ensures ok { IfOk result (λ name. spec.name_in path.now ≡ Ok name) }
     ensures err { IfErr result (Refuses (spec.name_in path.now) false) }
 {
@@ -194,7 +194,7 @@ fn name_in(alloc: Global, path: &str) -> Result<Text, FileRefusal>
     if may_name(name) {
         Ok(Text::from_text(alloc, name)?)
     } else {
-        Err(FileRefusal::NotAFileUrl)
+        Err(FileError::Refused(FileFault::NotAFileUrl))
     }
 }
 

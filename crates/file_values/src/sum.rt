@@ -1,14 +1,13 @@
 //! Sums of what readers give.
-ghost use Rattle.std.specs.Prelude.{◌≡◌, ◌<◌, true, false, min, length, IfOk, IfErr, OnOk};
+ghost use Rattle.std.specs.Prelude.{◌≡◌, ◌<◌, true, false, min, length, IfOk, IfErr, OnOk, OnErr};
 ghost use Rattle.file_values.specs.Sum.{SumsAll, SumsHeld, SumRefuses, AddsPiece};
-ghost use Rattle.file_values.specs.declared.refusal.FileRefusal.TheVariants.{Read as ReadRefused, OutOfMemory};
+ghost use Rattle.file_values.specs.declared.refusal.FileError.TheVariants.{OutOfMemory};
 
-use crate::reader::Watched;
-use crate::refusal::FileRefusal;
+use crate::reader::{ByteReader, ReadFailed};
+use crate::refusal::{FileError, FileFault};
 use plain_data::Text;
 use sha1::Sha1;
 use std::alloc::Global;
-use std::io::Read;
 
 /// The sum of a file (CWL v1.2, File: `checksum` and `size`).
 #[derive(Debug, Drop, PartialEq)]
@@ -31,11 +30,11 @@ const MOST_BYTES: u64 = (1 << 61) - 1;
 ///
 /// # Errors
 ///
-/// `Read` where a read failed, or where 2^61 - 1 bytes were read before the end was met; `OutOfMemory`.
-pub fn sum_of<R: Read>(alloc: Global, reader: &mut Watched<R>) -> Result<FileSum, FileRefusal>
-    ensures ok { IfOk result (SumsAll (R.remaining reader.old.reader) (R.remaining reader.new.reader)) }
-    ensures whole { OnOk result (reader.new.failed ≡ false) }
-    ensures err { IfErr result (SumRefuses (R.remaining reader.old.reader) (R.remaining reader.new.reader) reader.new.failed) }
+/// `Read` where a read failed, or had failed before, and where 2^61 - 1 bytes were read before the end was met.
+pub fn sum_of<S: ByteReader>(alloc: Global, reader: &mut S) -> Result<FileSum, FileError>
+    ensures ok { IfOk result (SumsAll (S.left reader.old) (S.left reader.new)) }
+    ensures whole { OnOk result ((S.failed reader.old ≡ false) × (S.failed reader.new ≡ false)) }
+    ensures err { IfErr result (SumRefuses (S.left reader.old) (S.left reader.new) (S.failed reader.new)) }
 {
     let mut block = vec![in alloc; 0u8; BLOCK]?;
     let mut hasher = Sha1::new();
@@ -47,11 +46,11 @@ pub fn sum_of<R: Read>(alloc: Global, reader: &mut Watched<R>) -> Result<FileSum
         }
         size += count as u64;
     }
-    Err(FileRefusal::Read)
+    Err(FileError::Refused(FileFault::Read))
 }
 
 // The sum of what the hasher holds, which are so many bytes.
-fn finished(alloc: Global, hasher: Sha1, size: u64) -> Result<FileSum, FileRefusal>
+fn finished(alloc: Global, hasher: Sha1, size: u64) -> Result<FileSum, FileError>
     ensures ok { IfOk result (SumsHeld hasher size) }
     ensures err { IfErr result (λ e. e ≡ OutOfMemory) }
 {
@@ -63,21 +62,22 @@ fn finished(alloc: Global, hasher: Sha1, size: u64) -> Result<FileSum, FileRefus
 }
 
 // Reads into the block once, at most so many bytes, and puts what was read behind what the hasher holds.
-fn add_piece<R: Read>(
-    reader: &mut Watched<R>,
+fn add_piece<S: ByteReader>(
+    reader: &mut S,
     hasher: &mut Sha1,
     block: &mut [u8],
     most: u64,
-) -> Result<usize, FileRefusal>
+) -> Result<usize, ReadFailed>
     requires block { 0 < length block.old }
     requires most { 0 < most }
-    ensures ok { IfOk result (AddsPiece (R.remaining reader.old.reader) (R.remaining reader.new.reader) hasher.old hasher.new (min (length block.old) most)) }
-    ensures whole { OnOk result (reader.new.failed ≡ false) }
-    ensures err { IfErr result (λ e. (e ≡ ReadRefused) × (reader.new.failed ≡ true)) }
+    ensures ok { IfOk result (AddsPiece (S.left reader.old) (S.left reader.new) hasher.old hasher.new (min (length block.old) most)) }
+    ensures before { OnOk result (S.failed reader.old ≡ false) }
+    ensures after { OnOk result (S.failed reader.new ≡ false) }
+    ensures err { OnErr result (S.failed reader.new ≡ true) }
 {
     let room = room_for(block.len(), most);
     let part = &mut block[..room];
-    let count = reader.read(part)?;
+    let count = reader.read_once(part)?;
     hasher.update(&part[..count]);
     Ok(count)
 }

@@ -1,9 +1,9 @@
 -- Where a run of bytes that pass a test ends, and where a segment does.
-use Rattle.std.proofs.Common.{◌≡◌, ℕ, Bool, true, false, true≢false, not, ◌==◌, ◌&&◌, ◌||◌, List, [], ◌∷◌, ◌++◌, append_assoc, refl, sym, ap, subst, ◌∙◌, eq-eqb}
+use Rattle.std.proofs.Common.{◌≡◌, ℕ, Bool, true, false, true≢false, not, ◌==◌, ◌&&◌, ◌||◌, List, [], ◌∷◌, ◌++◌, append_assoc, refl, sym, ap, ◌∙◌, eq-eqb}
 use Rattle.std.specs.List.{list_all, list_any}
 use Rattle.std.specs.Char.{is_ascii_digit}
 use Rattle.param_refs.specs.Grammar.{is_symbol_byte, is_symbol, is_quoted, is_number, IsSegment, AreSegments, IsReference}
-use Rattle.param_refs.specs.Scans.{first_passes, starts_symbol}
+use Rattle.param_refs.specs.inner.Scans.{first_passes, starts_symbol}
 use Rattle.param_refs.specs.declared.template.Reference.{Reference}
 use Rattle.param_refs.specs.declared.template.Segment.{Segment}
 use Rattle.param_refs.specs.declared.template.Segment.TheVariants.{Key, Index}

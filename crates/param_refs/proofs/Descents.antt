@@ -1,5 +1,5 @@
 -- The descent, step by step.
-use Rattle.std.proofs.Common.{◌≡◌, ◌==◌, ℕ, suc, ◌+◌, ◌<◌, add-one, ne_eqb, arith, Bool, true, false, List, [], ◌∷◌, ◌++◌, length, drop, drop-cons, get_or, Option, Some, None, option_map, Result, Ok, Err, refl, sym, ap, ◌∙◌, append_assoc, rules}
+use Rattle.std.proofs.Common.{◌≡◌, ◌==◌, ℕ, suc, ◌+◌, ◌<◌, add-one, ne_eqb, arith, Bool, List, [], ◌∷◌, ◌++◌, length, drop, drop-cons, get_or, Some, None, option_map, Ok, Err, refl, sym, ap, ◌∙◌, append_assoc, rules}
 use Rattle.std.specs.Option.{ok_or}
 use Rattle.cwl_value.specs.declared.value.Value.{Value, the_lemmas}
 use Rattle.cwl_value.specs.declared.value.Value as value

@@ -1,6 +1,6 @@
 -- Where a path's last slash is.
-use Rattle.std.proofs.Common.{◌≡◌, ◌≢◌, ℕ, ◌+◌, ◌-◌, ◌<◌, ◌≤◌, true, false, not, ◌==◌, List, [], length, get_or, take, refl, ap, ◌∙◌, arith, ne_eqb, eq-eqb}
-use Rattle.std.specs.List.{before_last, suffix_len}
+use Rattle.std.proofs.Common.{◌≡◌, ◌≢◌, ℕ, ◌+◌, ◌-◌, ◌<◌, true, not, ◌==◌, List, [], length, get_or, take, ap, arith, ne_eqb, eq-eqb}
+use Rattle.std.specs.List.{suffix_len}
 use Rattle.std.proofs.lemmas.List.Sums.{suffix_len_is}
 use Rattle.param_refs.specs.Keys.{dirname}
 

@@ -1,5 +1,5 @@
 -- Parts joined to a text, one after another.
-use Rattle.std.proofs.Common.{◌≡◌, ℕ, suc, ◌+◌, ◌<◌, add-one, List, [], ◌∷◌, ◌++◌, length, drop, drop-cons, get_or, Option, Some, None, Ok, Err, refl, sym, ap, ◌∙◌}
+use Rattle.std.proofs.Common.{◌≡◌, ℕ, suc, ◌+◌, ◌<◌, add-one, List, ◌∷◌, ◌++◌, length, drop, drop-cons, get_or, Option, Ok, Err, sym, ap, ◌∙◌}
 use Rattle.cwl_value.specs.declared.value.Value.{Value}
 use Rattle.param_refs.specs.Descent.{Gives, and_then, and_map}
 use Rattle.param_refs.specs.Evaluation.{part_text, joined}
@@ -7,7 +7,7 @@ use Rattle.param_refs.specs.declared.fault.RefFault.{RefFault}
 use Rattle.param_refs.specs.declared.template.Part.{Part}
 use Rattle.param_refs.proofs.Descents.{join_more}
 
-module _ (inputs : Value) (runtime : Option Value) (own : Value) where
+module _ (inputs : List (List ℕ × Value)) (runtime : Option Value) (own : Value) where
   cut_here : (ps : List Part) (i : ℕ) (p : Part) → i < length ps → p ≡ get_or ps i p → drop i ps ≡ p ∷ drop (i + 1) ps
   cut_here ps i p within is = drop-cons ps i p within ∙ ap (λ q. q ∷ drop (suc i) ps) (sym is) ∙ ap (λ n. p ∷ drop n ps) (sym (add-one i))
 

@@ -4,6 +4,9 @@ pub mod Cut
 pub mod Descents
 pub mod Folders
 pub mod Joined
+pub mod Kept
+pub mod Parses
 pub mod Readings
 pub mod Scanned
 pub mod Settled
+pub mod Values

@@ -1,10 +1,10 @@
 -- What a text reads as, from its first part.
-use Rattle.std.proofs.Common.{◌≡◌, ◌≢◌, ℕ, zero, suc, ◌+◌, ◌-◌, ◌<◌, ◌≤◌, Bool, true, false, true≢false, not, ◌==◌, ◌&&◌, ◌||◌, List, [], ◌∷◌, ◌++◌, length, take, drop, get_or, length-take-le, take-append-drop, Option, Some, None, Bor, MatchOption, length-append, append_assoc, append-nil, Result, Ok, Err, ◌⊎◌, inl, inr, refl, sym, ap, subst, ◌∙◌, arith, codes}
+use Rattle.std.proofs.Common.{◌≡◌, ◌≢◌, ℕ, zero, suc, ◌+◌, ◌<◌, ◌≤◌, Bool, true, false, true≢false, not, ◌==◌, ◌||◌, List, [], ◌∷◌, ◌++◌, length, take, drop, get_or, length-take-le, take-append-drop, Option, Some, None, Bor, MatchOption, length-append, append_assoc, append-nil, Result, Ok, Err, ◌⊎◌, inl, inr, refl, sym, ap, subst, ◌∙◌, arith, codes}
 use Rattle.std.proofs.lemmas.Bool.{eqb-true}
 use Rattle.std.specs.Str.{IsCharBoundary}
 use Rattle.std.proofs.Math.Seq.{drop-append_seam}
 use Rattle.param_refs.specs.Grammar.{opens, has_opening, is_plain, is_end, IsReference, BeginsNone, with_part, Reads}
-use Rattle.param_refs.specs.Scans.{IsOpening, ReferenceThen, PartThen}
+use Rattle.param_refs.specs.inner.Scans.{IsOpening, ReferenceThen, PartThen}
 use Rattle.param_refs.specs.declared.fault.RefFault.{RefFault}
 use Rattle.param_refs.specs.declared.fault.RefFault.TheVariants.{NotAReference}
 use Rattle.param_refs.specs.declared.template.Part.{Part}

@@ -1,5 +1,5 @@
 -- What the scanner's steps find.
-use Rattle.std.proofs.Common.{◌≡◌, ◌≢◌, ℕ, ◌+◌, ◌<◌, ◌-◌, ◌≤◌, suc, Bool, true, false, true≢false, not, ◌==◌, ◌||◌, List, [], ◌∷◌, ◌++◌, length, take, drop, get_or, get_or-take, length-take-le, take-append-drop, eq-eqb, ne_eqb, inl, inr, length-append, append_assoc, append-nil, refl, sym, ap, subst, ◌∙◌, arith, codes}
+use Rattle.std.proofs.Common.{◌≡◌, ◌≢◌, ℕ, ◌+◌, ◌<◌, ◌-◌, suc, true, false, true≢false, not, ◌==◌, ◌||◌, List, [], ◌∷◌, ◌++◌, length, take, drop, get_or, get_or-take, length-take-le, take-append-drop, eq-eqb, ne_eqb, inl, inr, length-append, append_assoc, append-nil, refl, sym, ap, subst, ◌∙◌, arith, codes}
 use Rattle.std.specs.List.{list_all, list_any}
 use Rattle.std.specs.Str.{IsUtf8, IsCharBoundary}
 use Rattle.std.proofs.lemmas.Bool.Decides.{eqb_tells, nat_tests}
@@ -7,11 +7,10 @@ use Rattle.std.proofs.lemmas.List.Sums.{AllPass-from_list_all}
 use Rattle.std.proofs.lemmas.Str.{IsCharBoundary-after_ascii}
 use Rattle.std.specs.Char.{is_ascii_digit}
 use Rattle.param_refs.specs.Grammar.{is_symbol_byte, is_symbol, is_quoted, is_number, IsSegment, AreSegments, IsReference, BeginsNone}
-use Rattle.param_refs.specs.Scans.{first_passes, starts_symbol, IsSymbolLength, SymbolThen, QuotedThen, IsQuote, NoQuotes, NoQuoted, NumberThen, NoNumber, SegmentThen, NoSegment, SegmentsThen, ReferenceThen}
-use Rattle.param_refs.specs.declared.template.Reference.{Reference}
+use Rattle.param_refs.specs.inner.Scans.{starts_symbol, IsSymbolLength, SymbolThen, QuotedThen, IsQuote, NoQuotes, NoQuoted, NumberThen, NoNumber, SegmentThen, NoSegment, SegmentsThen, ReferenceThen}
 use Rattle.param_refs.specs.declared.template.Segment.{Segment}
 use Rattle.param_refs.specs.declared.template.Segment.TheVariants.{Key, Index}
-use Rattle.param_refs.proofs.Cut.{both, both_first, both_second, clean, all_clean, neither_part, differ, differ_next, cut, symbol-all, symbol-first, number-all, number-first, quoted-all, segment_same, segment-no_closing, segment-no_symbol, segments-no_symbol}
+use Rattle.param_refs.proofs.Cut.{both, both_first, both_second, clean, all_clean, neither_part, differ, cut, symbol-all, symbol-first, number-all, quoted-all, segment_same, segment-no_closing, segments-no_symbol}
 
 -- after a period
 
@@ -234,7 +233,7 @@ one_more x y ss s AreSegments.no_segment is = subst (λ (t : List ℕ). AreSegme
 one_more x y ss s (AreSegments.segment a b t those is' are) is =
     subst (λ (z : List ℕ). AreSegments z (t ∷ (those ++ s ∷ []))) (sym (append_assoc a b y)) (AreSegments.segment a (b ++ y) t (those ++ s ∷ []) is' (one_more b y those s are is))
 
-peel : (rest after : List ℕ) (s : Segment) → SegmentThen rest s after → (y left : List ℕ) (more : List Segment) → rest ≡ y ++ 41 ∷ left → AreSegments y more
+pub peel : (rest after : List ℕ) (s : Segment) → SegmentThen rest s after → (y left : List ℕ) (more : List Segment) → rest ≡ y ++ 41 ∷ left → AreSegments y more
     → (z : List ℕ) × (others : List Segment) × (more ≡ s ∷ others) × (after ≡ z ++ 41 ∷ left) × AreSegments z others
 peel rest after s h y left more e AreSegments.no_segment = absurd (segment-no_closing h.front after left s h.is (sym h.parts ∙ e))
 peel rest after s h y left more e (AreSegments.segment a b t those is are) =
@@ -257,7 +256,7 @@ so_far_more text rest after ss s h next =
 pub so_far_pushed : (text rest after : List ℕ) (ss ts : List Segment) (s : Segment) → SoFar text ss rest → SegmentThen rest s after → ts ≡ ss ++ s ∷ [] → SoFar text ts after
 so_far_pushed text rest after ss ts s h next is = subst (λ (us : List Segment). SoFar text us after) (sym is) (so_far_more text rest after ss s h next)
 
-last : (rest : List ℕ) → NoSegment rest → (y left : List ℕ) (more : List Segment) → rest ≡ y ++ 41 ∷ left → AreSegments y more → (more ≡ []) × (rest ≡ 41 ∷ left)
+pub last : (rest : List ℕ) → NoSegment rest → (y left : List ℕ) (more : List Segment) → rest ≡ y ++ 41 ∷ left → AreSegments y more → (more ≡ []) × (rest ≡ 41 ∷ left)
 last rest none y left more e AreSegments.no_segment = (refl, e)
 last rest none y left more e (AreSegments.segment a b t those is are) = absurd (none a (b ++ 41 ∷ left) t (e ∙ append_assoc a b (41 ∷ left)) is)
 

@@ -1,6 +1,6 @@
 -- A text has one reading at most.
-use Rattle.std.proofs.Common.{◌≡◌, ℕ, Bool, true, false, true≢false, not, List, [], ◌∷◌, ◌++◌, Result, Ok, Err, refl, sym, ap, ◌∙◌, arith}
-use Rattle.param_refs.specs.Grammar.{opens, is_plain, is_end, is_escaped, IsReference, with_part, Reads, IsReading}
+use Rattle.std.proofs.Common.{◌≡◌, ℕ, Bool, true, false, true≢false, not, List, [], ◌∷◌, ◌++◌, Result, refl, sym, ap, ◌∙◌}
+use Rattle.param_refs.specs.Grammar.{opens, is_plain, is_end, is_escaped, IsReference, Reads, IsReading}
 use Rattle.param_refs.specs.declared.fault.RefFault.{RefFault}
 use Rattle.param_refs.specs.declared.template.Part.{Part}
 use Rattle.param_refs.specs.declared.template.Part.TheVariants.{Plain, Referred}

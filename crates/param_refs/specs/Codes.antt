@@ -1,7 +1,7 @@
 -- The short names of faults.
 use Rattle.std.specs.Prelude.{ℕ, List, codes}
 use Rattle.param_refs.specs.declared.fault.RefFault.{RefFault}
-use Rattle.param_refs.specs.declared.fault.RefFault.TheVariants.{NotAReference, BackslashOut, NoName, NoField, WrongKind, IndexOut, OutOfMemory}
+use Rattle.param_refs.specs.declared.fault.RefFault.TheVariants.{NotAReference, BackslashOut, NoName, NoField, WrongKind, IndexOut}
 
 abbrev pub code_of : RefFault → List ℕ
 code_of NotAReference = codes "P1"
@@ -10,4 +10,3 @@ code_of NoName = codes "P3"
 code_of NoField = codes "P4"
 code_of WrongKind = codes "P5"
 code_of IndexOut = codes "P6"
-code_of OutOfMemory = codes "memory"

@@ -72,9 +72,9 @@ has_outdir None = false
 has_outdir (Some runtime) = has_outdir_level (out-Value runtime)
 
 -- what the first symbol stands for
-abbrev pub root : Value → Option Value → Value → List ℕ → Gives Value
+abbrev pub root : List (List ℕ × Value) → Option Value → Value → List ℕ → Gives Value
 root inputs runtime own symbol =
-    if bytes_eq symbol (codes "inputs") then Ok inputs
+    if bytes_eq symbol (codes "inputs") then Ok (value.Fields inputs)
     else (if bytes_eq symbol (codes "runtime") then ok_or runtime NoName
     else (if bytes_eq symbol (codes "self") then Ok own
     else (if bytes_eq symbol (codes "null") then Ok value.Null

@@ -1,5 +1,5 @@
 -- The value of a text with references (CWL v1.2, "Parameter references").
-use Rattle.std.specs.Prelude.{ℕ, Bool, true, false, if◌then◌else◌, List, [], ◌∷◌, ◌++◌, filter, not, Option, Some, None, Ok}
+use Rattle.std.specs.Prelude.{ℕ, Bool, false, if◌then◌else◌, List, [], ◌∷◌, ◌++◌, Option, Some, None, Ok}
 use Rattle.std.specs.Char.{is_ascii_whitespace}
 use Rattle.std.specs.List.{list_all}
 use Rattle.serde_json.specs.Written.{compact_text}
@@ -37,7 +37,7 @@ level_text v _ = compact_text (json_of (erased v))
 abbrev pub text_of_value : Value → List ℕ
 text_of_value v = level_text v (out-Value v)
 
-module _ (inputs : Value) (runtime : Option Value) (own : Value) where
+module _ (inputs : List (List ℕ × Value)) (runtime : Option Value) (own : Value) where
   abbrev pub reference_value : Reference → Gives Value
   reference_value r = and_then (root inputs runtime own r.symbol) (descent (has_outdir runtime) r.segments)
 

@@ -6,5 +6,6 @@ pub mod Keys
 pub mod Laws
 pub mod Listings
 pub mod Locations
-pub mod Reached
-pub mod Scans
+pub mod Parsed
+pub mod Refused
+pub mod inner

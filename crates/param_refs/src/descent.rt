@@ -1,18 +1,19 @@
 //! From a value along the segments of a reference.
-ghost use Rattle.std.specs.Prelude.{◌≡◌, ◌≢◌, Ok, Err, IfOk, IfErr, length, pos, slice_get};
+ghost use Rattle.std.specs.Prelude.{◌≡◌, Ok, Err, Bool, IfOk, IfErr, length, pos, slice_get};
 ghost use Rattle.std.specs.Option.{option_copied};
 ghost use Rattle.cwl_value.specs.declared.value.Value as value;
 ghost use Rattle.cwl_value.specs.declared.value.Value.{out-Value};
-ghost use Rattle.param_refs.specs.Reached.{reached};
+ghost use Rattle.param_refs.specs.inner.Reached.{reached};
 ghost use Rattle.param_refs.specs.Descent.{step, by_key, by_index, number_of, descent, has_outdir};
-ghost use Rattle.param_refs.specs.declared.fault.RefFault.TheVariants.{OutOfMemory};
+ghost use Rattle.param_refs.specs.Refused.{IsError};
+ghost use Rattle.param_refs.specs.declared.fault.RefError.TheVariants.{OutOfMemory};
 
-use crate::fault::RefFault;
+use crate::fault::{RefError, RefFault};
 use crate::index::{character, index_of};
 use crate::keys::{dir_value, file_value};
 use crate::template::Segment;
-use cwl_value::Value;
-use plain_data::{Items, Text};
+use cwl_value::{Value, copy_fields};
+use plain_data::{Items, Keyed, Text};
 use std::alloc::Global;
 
 /// The value that one reaches from a value along segments. Paths show where `with_places` says so.
@@ -22,9 +23,9 @@ pub(crate) fn descend(
     value: &Value,
     segments: &[Segment],
     with_places: bool,
-) -> Result<Value, RefFault>
+) -> Result<Value, RefError>
     ensures ok { IfOk result (λ found. descent with_places segments.now value.now ≡ Ok found) }
-    ensures err { IfErr result (λ e. e ≢ OutOfMemory → descent with_places segments.now value.now ≡ Err e) }
+    ensures err { IfErr result (IsError (descent with_places segments.now value.now)) }
 {
     if let Value::Text(text) = value {
         return descend_text(alloc, text, segments, with_places);
@@ -42,6 +43,40 @@ pub(crate) fn descend(
     }
 }
 
+/// The same from an object's fields on, which are lent without the value that they are.
+#[tactic(auto, using(crate::proofs::Descents::descended, crate::proofs::Descents::stopped, crate::proofs::Descents::no_segments))]
+pub(crate) fn descend_fields(
+    alloc: Global,
+    fields: &Keyed<Value>,
+    segments: &[Segment],
+    with_places: bool,
+) -> Result<Value, RefError>
+    ensures ok { IfOk result (λ found. descent with_places segments.now (value.Fields fields.now) ≡ Ok found) }
+    ensures err { IfErr result (IsError (descent with_places segments.now (value.Fields fields.now))) }
+{
+    let Some((segment, rest)) = segments.split_first() else {
+        return Ok(Value::Fields(copy_fields(alloc, fields)?));
+    };
+    match field(fields, segment) {
+        Ok(inner) => descend(alloc, inner, rest, with_places),
+        Err(fault) => Err(RefError::Refused(fault)),
+    }
+}
+
+// The field that a segment leads to.
+fn field<'v>(fields: &'v Keyed<Value>, segment: &Segment) -> Result<&'v Value, RefFault>
+    ensures ok { IfOk result (λ found. (with_places is_last : Bool) → step with_places is_last segment.now (value.Fields fields.now) ≡ Ok found.now) }
+    ensures err { IfErr result (λ fault. (with_places is_last : Bool) → step with_places is_last segment.now (value.Fields fields.now) ≡ Err fault) }
+{
+    let Segment::Key(key) = segment else {
+        return Err(RefFault::WrongKind);
+    };
+    match fields.get(key.as_str()) {
+        None => Err(RefFault::NoField),
+        Some(inner) => Ok(inner),
+    }
+}
+
 /// A value that a segment leads to: one inside the value that it leads from, or one of its own.
 #[derive(Drop)]
 pub(crate) enum Reached<'v> {
@@ -55,9 +90,9 @@ fn step<'v>(
     segment: &Segment,
     is_last: bool,
     with_places: bool,
-) -> Result<Reached<'v>, RefFault>
+) -> Result<Reached<'v>, RefError>
     ensures ok { IfOk result (λ found. step with_places is_last segment.now value.now ≡ Ok (reached found)) }
-    ensures err { IfErr result (λ e. e ≢ OutOfMemory → step with_places is_last segment.now value.now ≡ Err e) }
+    ensures err { IfErr result (IsError (step with_places is_last segment.now value.now)) }
 {
     match segment {
         Segment::Key(key) => by_key(alloc, value, key.as_str(), is_last, with_places),
@@ -71,53 +106,53 @@ fn by_key<'v>(
     key: &str,
     is_last: bool,
     with_places: bool,
-) -> Result<Reached<'v>, RefFault>
+) -> Result<Reached<'v>, RefError>
     ensures ok { IfOk result (λ found. by_key with_places is_last key.now (out-Value value.now) ≡ Ok (reached found)) }
-    ensures err { IfErr result (λ e. e ≢ OutOfMemory → by_key with_places is_last key.now (out-Value value.now) ≡ Err e) }
+    ensures err { IfErr result (IsError (by_key with_places is_last key.now (out-Value value.now))) }
 {
     match value {
         Value::Fields(fields) => match fields.get(key) {
-            None => Err(RefFault::NoField),
+            None => Err(RefError::Refused(RefFault::NoField)),
             Some(inner) => Ok(Reached::Inside(inner)),
         },
         Value::FileVal(file) => match file_value(alloc, file, key, with_places)? {
-            None => Err(RefFault::NoField),
+            None => Err(RefError::Refused(RefFault::NoField)),
             Some(inner) => Ok(Reached::Made(inner)),
         },
         Value::DirVal(dir) => match dir_value(alloc, dir, key, with_places)? {
-            None => Err(RefFault::NoField),
+            None => Err(RefError::Refused(RefFault::NoField)),
             Some(inner) => Ok(Reached::Made(inner)),
         },
         Value::List(items) if is_last && key == "length" => { Ok(Reached::Made(length_of(items)?)) }
-        _ => Err(RefFault::WrongKind),
+        _ => Err(RefError::Refused(RefFault::WrongKind)),
     }
 }
 
 // No list is so long that its length is past an i64's greatest: that one would have no memory.
-fn length_of(items: &Items<Value>) -> Result<Value, RefFault>
+fn length_of(items: &Items<Value>) -> Result<Value, RefError>
     ensures ok { IfOk result (λ found. found ≡ value.Whole (pos (length items.now))) }
     ensures err { IfErr result (λ e. e ≡ OutOfMemory) }
 {
     match i64::try_from(items.len()) {
         Ok(length) => Ok(Value::Whole(length)),
-        Err(_) => Err(RefFault::OutOfMemory),
+        Err(_) => Err(RefError::OutOfMemory),
     }
 }
 
-fn by_index<'v>(alloc: Global, value: &'v Value, digits: &str) -> Result<Reached<'v>, RefFault>
+fn by_index<'v>(alloc: Global, value: &'v Value, digits: &str) -> Result<Reached<'v>, RefError>
     ensures ok { IfOk result (λ found. by_index (number_of digits.now) (out-Value value.now) ≡ Ok (reached found)) }
-    ensures err { IfErr result (λ e. e ≢ OutOfMemory → by_index (number_of digits.now) (out-Value value.now) ≡ Err e) }
+    ensures err { IfErr result (IsError (by_index (number_of digits.now) (out-Value value.now))) }
 {
     match value {
         Value::List(items) => match item(items, digits) {
-            None => Err(RefFault::IndexOut),
+            None => Err(RefError::Refused(RefFault::IndexOut)),
             Some(item) => Ok(Reached::Inside(item)),
         },
         Value::Text(text) => match character(alloc, text, digits)? {
-            None => Err(RefFault::IndexOut),
+            None => Err(RefError::Refused(RefFault::IndexOut)),
             Some(character) => Ok(Reached::Made(Value::Text(character))),
         },
-        _ => Err(RefFault::WrongKind),
+        _ => Err(RefError::Refused(RefFault::WrongKind)),
     }
 }
 
@@ -139,16 +174,16 @@ fn descend_text(
     text: &Text,
     segments: &[Segment],
     with_places: bool,
-) -> Result<Value, RefFault>
+) -> Result<Value, RefError>
     ensures ok { IfOk result (λ found. descent with_places segments.now (value.Text text.now) ≡ Ok found) }
-    ensures err { IfErr result (λ e. e ≢ OutOfMemory → descent with_places segments.now (value.Text text.now) ≡ Err e) }
+    ensures err { IfErr result (IsError (descent with_places segments.now (value.Text text.now))) }
 {
     let mut found = text.copied(alloc)?;
     for segment in segments {
         match segment {
-            Segment::Key(_) => return Err(RefFault::WrongKind),
+            Segment::Key(_) => return Err(RefError::Refused(RefFault::WrongKind)),
             Segment::Index(digits) => match character(alloc, &found, digits.as_str())? {
-                None => return Err(RefFault::IndexOut),
+                None => return Err(RefError::Refused(RefFault::IndexOut)),
                 Some(character) => found = character,
             },
         }

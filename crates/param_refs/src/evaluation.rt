@@ -1,5 +1,5 @@
 //! From a template to its value.
-ghost use Rattle.std.specs.Prelude.{◌≡◌, ◌≢◌, Ok, Err, IfOk, IfErr};
+ghost use Rattle.std.specs.Prelude.{◌≡◌, Ok, IfOk, IfErr};
 ghost use Rattle.std.specs.Option.{option_copied};
 ghost use Rattle.std.specs.List.{list_all};
 ghost use Rattle.std.specs.Char.{is_ascii_whitespace};
@@ -7,13 +7,13 @@ ghost use Rattle.serde_json.specs.Written.{compact_text};
 ghost use Rattle.cwl_value.specs.Erased.{erased};
 ghost use Rattle.cwl_value.specs.Json.{json_of};
 ghost use Rattle.param_refs.specs.Descent.{root};
-ghost use Rattle.param_refs.specs.Reached.{reached};
+ghost use Rattle.param_refs.specs.inner.Origins.{origin_value};
 ghost use Rattle.param_refs.specs.Evaluation.{template_value, reference_value, part_text, joined, alone, is_blank, is_all_blank, text_of_value};
-ghost use Rattle.param_refs.specs.declared.fault.RefFault.TheVariants.{OutOfMemory};
+ghost use Rattle.param_refs.specs.Refused.{IsError};
 
 use crate::context::Context;
-use crate::descent::{Reached, descend, has_outdir};
-use crate::fault::RefFault;
+use crate::descent::{descend, descend_fields, has_outdir};
+use crate::fault::{RefError, RefFault};
 use crate::template::{Part, Reference, Template};
 use cwl_value::{Value, canonical_text, erased};
 use plain_data::Text;
@@ -24,9 +24,9 @@ impl Template {
     ///
     /// A text that is one reference, with at most ASCII white space around it, has the reference's value. Of any other
     /// the parts are joined to a text, each value that is no text as its JSON without places.
-    pub fn value(&self, context: &Context<'_>) -> Result<Value, RefFault>
+    pub fn value(&self, context: &Context<'_>) -> Result<Value, RefError>
         ensures ok { IfOk result (λ value. template_value context.now.inputs.now (option_copied context.now.runtime) context.now.own.now self.now ≡ Ok value) }
-        ensures err { IfErr result (λ e. e ≢ OutOfMemory → template_value context.now.inputs.now (option_copied context.now.runtime) context.now.own.now self.now ≡ Err e) }
+        ensures err { IfErr result (IsError (template_value context.now.inputs.now (option_copied context.now.runtime) context.now.own.now self.now)) }
     {
         let parts = self.parts.as_slice();
         match alone(parts) {
@@ -76,9 +76,9 @@ fn is_white(text: &str) -> bool
         .all(|byte| byte.is_ascii_whitespace())
 }
 
-fn joined(alloc: Global, context: &Context<'_>, parts: &[Part]) -> Result<Text, RefFault>
+fn joined(alloc: Global, context: &Context<'_>, parts: &[Part]) -> Result<Text, RefError>
     ensures ok { IfOk result (λ text. joined context.now.inputs.now (option_copied context.now.runtime) context.now.own.now parts.now ≡ Ok text) }
-    ensures err { IfErr result (λ e. e ≢ OutOfMemory → joined context.now.inputs.now (option_copied context.now.runtime) context.now.own.now parts.now ≡ Err e) }
+    ensures err { IfErr result (IsError (joined context.now.inputs.now (option_copied context.now.runtime) context.now.own.now parts.now)) }
 {
     let mut text = String::new(alloc);
     for part in parts {
@@ -88,9 +88,9 @@ fn joined(alloc: Global, context: &Context<'_>, parts: &[Part]) -> Result<Text, 
     Ok(Text::from_string(text))
 }
 
-fn part_text(alloc: Global, context: &Context<'_>, part: &Part) -> Result<Text, RefFault>
+fn part_text(alloc: Global, context: &Context<'_>, part: &Part) -> Result<Text, RefError>
     ensures ok { IfOk result (λ text. part_text context.now.inputs.now (option_copied context.now.runtime) context.now.own.now part.now ≡ Ok text) }
-    ensures err { IfErr result (λ e. e ≢ OutOfMemory → part_text context.now.inputs.now (option_copied context.now.runtime) context.now.own.now part.now ≡ Err e) }
+    ensures err { IfErr result (IsError (part_text context.now.inputs.now (option_copied context.now.runtime) context.now.own.now part.now)) }
 {
     match part {
         Part::Plain(plain) => Ok(plain.copied(alloc)?),
@@ -126,35 +126,40 @@ fn reference_value(
     alloc: Global,
     context: &Context<'_>,
     reference: &Reference,
-) -> Result<Value, RefFault>
+) -> Result<Value, RefError>
     ensures ok { IfOk result (λ value. reference_value context.now.inputs.now (option_copied context.now.runtime) context.now.own.now reference.now ≡ Ok value) }
-    ensures err { IfErr result (λ e. e ≢ OutOfMemory → reference_value context.now.inputs.now (option_copied context.now.runtime) context.now.own.now reference.now ≡ Err e) }
+    ensures err { IfErr result (IsError (reference_value context.now.inputs.now (option_copied context.now.runtime) context.now.own.now reference.now)) }
 {
     let segments = reference.segments.as_slice();
     let with_places = has_outdir(context.runtime);
     match root(context, reference.symbol.as_str())? {
-        Reached::Inside(value) => descend(alloc, value, segments, with_places),
-        Reached::Made(value) => {
-            let found = descend(alloc, &value, segments, with_places);
-            drop(value);
-            found
-        }
+        Origin::Inputs => descend_fields(alloc, context.inputs, segments, with_places),
+        Origin::Lent(value) => descend(alloc, value, segments, with_places),
+        Origin::Null => descend(alloc, &Value::Null, segments, with_places),
     }
 }
 
-// What the first symbol of a reference stands for.
-fn root<'a>(context: &Context<'a>, symbol: &str) -> Result<Reached<'a>, RefFault>
-    ensures ok { IfOk result (λ found. root context.now.inputs.now (option_copied context.now.runtime) context.now.own.now symbol.now ≡ Ok (reached found)) }
-    ensures err { IfErr result (λ e. root context.now.inputs.now (option_copied context.now.runtime) context.now.own.now symbol.now ≡ Err e) }
+/// What the first symbol of a reference stands for.
+#[derive(Clone, Copy, Drop)]
+pub(crate) enum Origin<'a> {
+    /// The inputs, as an object.
+    Inputs,
+    Lent(&'a Value),
+    Null,
+}
+
+fn root<'a>(context: &Context<'a>, symbol: &str) -> Result<Origin<'a>, RefError>
+    ensures ok { IfOk result (λ found. root context.now.inputs.now (option_copied context.now.runtime) context.now.own.now symbol.now ≡ Ok (origin_value context.now.inputs.now found)) }
+    ensures err { IfErr result (IsError (root context.now.inputs.now (option_copied context.now.runtime) context.now.own.now symbol.now)) }
 {
     match symbol {
-        "inputs" => Ok(Reached::Inside(context.inputs)),
+        "inputs" => Ok(Origin::Inputs),
         "runtime" => match context.runtime {
-            None => Err(RefFault::NoName),
-            Some(runtime) => Ok(Reached::Inside(runtime)),
+            None => Err(RefError::Refused(RefFault::NoName)),
+            Some(runtime) => Ok(Origin::Lent(runtime)),
         },
-        "self" => Ok(Reached::Inside(context.own)),
-        "null" => Ok(Reached::Made(Value::Null)),
-        _ => Err(RefFault::NoName),
+        "self" => Ok(Origin::Lent(context.own)),
+        "null" => Ok(Origin::Null),
+        _ => Err(RefError::Refused(RefFault::NoName)),
     }
 }

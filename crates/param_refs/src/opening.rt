@@ -2,7 +2,7 @@
 ghost use Rattle.std.specs.Prelude.{◌≡◌, ◌==◌};
 ghost use Rattle.std.specs.List.{list_any};
 ghost use Rattle.param_refs.specs.Grammar.{opens, is_escaped};
-ghost use Rattle.param_refs.specs.Scans.{IsOpening};
+ghost use Rattle.param_refs.specs.inner.Scans.{IsOpening};
 
 /// Where the first `$(` or `${` of a text begins, or the text's length.
 pub(crate) fn opening(text: &str) -> usize

@@ -1,10 +1,13 @@
 //! From a text to its template.
-ghost use Rattle.std.specs.Prelude.{◌≡◌, ◌≢◌, Err, IfOk, IfErr, MatchOption, ◌<◌, length, List, ℕ, ◌∷◌};
-ghost use Rattle.param_refs.specs.declared.fault.RefFault.TheVariants.{OutOfMemory};
-ghost use Rattle.param_refs.specs.Grammar.{IsReading, Reads};
-ghost use Rattle.param_refs.specs.Scans.{PartThen};
+ghost use Rattle.std.specs.Prelude.{◌≡◌, ◌≢◌, Ok, Err, IfOk, IfErr, MatchOption, ◌<◌, length, List, ℕ, ◌∷◌};
+ghost use Rattle.param_refs.specs.declared.fault.RefFault.{RefFault};
+ghost use Rattle.param_refs.specs.declared.fault.RefError.TheVariants.{Refused};
+ghost use Rattle.param_refs.specs.Grammar.{Reads};
+ghost use Rattle.param_refs.specs.Parsed.{parsed};
+ghost use Rattle.param_refs.specs.Refused.{IsError};
+ghost use Rattle.param_refs.specs.inner.Scans.{PartThen};
 
-use crate::fault::RefFault;
+use crate::fault::{RefError, RefFault};
 use crate::opening::{is_escaped, opening};
 use crate::scanner::reference;
 use crate::template::{Part, Template};
@@ -16,19 +19,21 @@ impl Template {
     ///
     /// A text that has `$(` or `${` and a backslash anywhere is refused as `BackslashOut`. Else `${`, or a `$(` that
     /// begins no reference, is refused as `NotAReference`. Any other text stands for itself.
-    pub fn read(alloc: Global, text: &str) -> Result<Template, RefFault>
-        ensures { result ≢ Err OutOfMemory → IsReading text.now result }
+    pub fn read(alloc: Global, text: &str) -> Result<Template, RefError>
+        ensures ok { IfOk result (λ template. parsed text.now ≡ Ok template) }
+        ensures err { IfErr result (IsError (parsed text.now)) }
     {
         if is_escaped(text) {
-            return Err(RefFault::BackslashOut);
+            return Err(RefError::Refused(RefFault::BackslashOut));
         }
         let parts = parts(alloc, text)?;
         Ok(Template { parts, alloc })
     }
 }
 
-fn parts(alloc: Global, text: &str) -> Result<Items<Part>, RefFault>
-    ensures { result ≢ Err OutOfMemory → Reads text.now result }
+fn parts(alloc: Global, text: &str) -> Result<Items<Part>, RefError>
+    ensures ok { IfOk result (λ parts. Reads text.now (Ok parts)) }
+    ensures err { IfErr result (λ e. (fault : RefFault) → e ≡ Refused fault → Reads text.now (Err fault)) }
 {
     let mut found = Items::new(alloc);
     let mut rest = text;
@@ -41,10 +46,10 @@ fn parts(alloc: Global, text: &str) -> Result<Items<Part>, RefFault>
 }
 
 // The first part of a text that isn't empty, and what follows it.
-fn part(alloc: Global, text: &str) -> Result<(Part, &str), RefFault>
+fn part(alloc: Global, text: &str) -> Result<(Part, &str), RefError>
     requires { 0 < length text.now }
     ensures ok { IfOk result (λ taken. PartThen text.now taken.0 taken.1.now) }
-    ensures err { IfErr result (λ e. e ≢ OutOfMemory → Reads text.now (Err e)) }
+    ensures err { IfErr result (λ e. (fault : RefFault) → e ≡ Refused fault → Reads text.now (Err fault)) }
 {
     let (plain, rest) = text.split_at(opening(text));
     if !plain.is_empty() {
@@ -52,7 +57,7 @@ fn part(alloc: Global, text: &str) -> Result<(Part, &str), RefFault>
         return Ok((Part::Plain(copy), rest));
     }
     let Some(inside) = inside(text) else {
-        return Err(RefFault::NotAReference);
+        return Err(RefError::Refused(RefFault::NotAReference));
     };
     let (reference, rest) = reference(alloc, inside)?;
     Ok((Part::Referred(reference), rest))

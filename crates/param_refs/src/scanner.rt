@@ -3,26 +3,28 @@ ghost use Rattle.std.specs.Prelude.{◌≡◌, ◌<◌, ◌≢◌, ◌++◌, ◌
 ghost use Rattle.std.specs.Char.{is_ascii_digit};
 ghost use Rattle.std.specs.List.{list_all};
 ghost use Rattle.param_refs.specs.Grammar.{is_symbol_byte, is_number, BeginsNone};
-ghost use Rattle.param_refs.specs.Scans.{starts_symbol, IsSymbolLength, SymbolThen, QuotedThen, IsQuote, NoQuotes, NoQuoted, NumberThen, NoNumber, segment_of, SegmentThen, NoSegment, SegmentsThen, ReferenceThen};
-ghost use Rattle.param_refs.specs.declared.fault.RefFault.TheVariants.{OutOfMemory, NotAReference};
+ghost use Rattle.param_refs.specs.inner.Scans.{starts_symbol, IsSymbolLength, SymbolThen, QuotedThen, IsQuote, NoQuotes, NoQuoted, NumberThen, NoNumber, segment_of, SegmentThen, NoSegment, SegmentsThen, ReferenceThen};
+ghost use Rattle.param_refs.specs.declared.fault.RefFault.{RefFault};
+ghost use Rattle.param_refs.specs.declared.fault.RefFault.TheVariants.{NotAReference};
+ghost use Rattle.param_refs.specs.declared.fault.RefError.TheVariants.{Refused};
 
-use crate::fault::RefFault;
+use crate::fault::{RefError, RefFault};
 use crate::opening::has_backslash;
 use crate::template::{Reference, Segment};
 use plain_data::{Items, Text};
 use std::alloc::{AllocError, Global};
 
 /// Takes the reference off a text that begins with one, once `$(` is off, and gives what follows it.
-pub(crate) fn reference(alloc: Global, text: &str) -> Result<(Reference, &str), RefFault>
+pub(crate) fn reference(alloc: Global, text: &str) -> Result<(Reference, &str), RefError>
     ensures ok { IfOk result (λ taken. ReferenceThen (codes "$(" ++ text.now) taken.0 taken.1.now) }
-    ensures err { IfErr result (λ e. e ≢ OutOfMemory → (e ≡ NotAReference) × BeginsNone (codes "$(" ++ text.now)) }
+    ensures err { IfErr result (λ e. (fault : RefFault) → e ≡ Refused fault → (fault ≡ NotAReference) × BeginsNone (codes "$(" ++ text.now)) }
 {
     let Some((symbol, rest)) = symbol(text) else {
-        return Err(RefFault::NotAReference);
+        return Err(RefError::Refused(RefFault::NotAReference));
     };
     let (segments, rest) = segments(alloc, rest)?;
     let Some(rest) = rest.strip_prefix(')') else {
-        return Err(RefFault::NotAReference);
+        return Err(RefError::Refused(RefFault::NotAReference));
     };
     let symbol = Text::from_text(alloc, symbol)?;
     Ok((Reference { symbol, segments }, rest))

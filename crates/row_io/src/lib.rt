@@ -21,10 +21,12 @@
 //! and its `main` returns `answer_rows(&rt, &Calls)`.
 #![tactic(auto)]
 
+mod answer;
 mod fault;
 mod program;
 mod row;
 
+pub use answer::AnswerText;
 pub use fault::RowFault;
 pub use program::{Answers, answer_rows, line_answered};
 pub use row::{Row, json_text, quoted};

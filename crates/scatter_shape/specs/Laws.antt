@@ -1,3 +1,4 @@
+-- What holds of all scatters, in the words of the standard; each law is the contract of a function in src/laws.rt.
 use Rattle.std.specs.Prelude.{◌≡◌, ◌<◌, ℕ, List, [], ◌∷◌, ◌⊎◌, ◌↔◌, map, fold, replicate, All, AllPairs, Contains, Option, Some, None, slice_set}
 use Rattle.cwl_value.specs.declared.value.Value.{Value}
 use Rattle.scatter_shape.specs.declared.shape.Method.{Method}

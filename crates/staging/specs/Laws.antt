@@ -1,6 +1,9 @@
 -- What holds of all patterns and names, in the words of the standard.
-use Rattle.std.specs.Prelude.{◌≡◌, ℕ, ◌==◌, Bool, true, false, List, ◌∷◌, map, count_by}
+use Rattle.std.specs.Prelude.{◌≡◌, ℕ, ◌==◌, Bool, true, false, List, ◌∷◌, map, count_by, Contains}
 use Rattle.staging.specs.Glob.{Glob}
+use Rattle.staging.specs.Placing.{ArePlaced}
+use Rattle.staging.specs.declared.group.Member.{Member}
+use Rattle.staging.specs.declared.group.Placed.{Placed}
 use Rattle.staging.specs.declared.item.PatternItem.{PatternItem}
 use Rattle.staging.specs.declared.item.PatternItem.TheVariants.{Literal}
 
@@ -23,3 +26,25 @@ SameComponents = (pattern : List PatternItem) (name : List ℕ) → Glob true pa
 -- a name that begins with a period is matched only by a pattern that begins with one
 abbrev pub HiddenByPeriodAlone : Type 0
 HiddenByPeriodAlone = (pattern : List PatternItem) (name : List ℕ) → Glob true pattern (46 ∷ name) → (rest : List PatternItem) × (pattern ≡ Literal 46 ∷ rest)
+
+-- the files of a group have different names
+abbrev pub NamesDiffer : List Member → Type 0
+NamesDiffer group = (m n : Member) → Contains group m → Contains group n → m.name ≡ n.name → m ≡ n
+
+-- a file of a group, in its folder
+pub record StandsIn (placed : List Placed) (p : Placed) (m : Member) : Type 0 where
+  pub placed_there : Contains placed p
+  pub member : Contains p.members m
+
+-- in one folder one name is that of one file: files of different sources are never put in one place
+abbrev pub SourcesNeverMeet : Type 0
+SourcesNeverMeet = (holds_others : Bool) (groups : List (List Member)) (placed : List Placed) → ArePlaced holds_others groups placed → ((p : Placed) → Contains placed p → NamesDiffer p.members)
+    → (p q : Placed) (m n : Member) → StandsIn placed p m → StandsIn placed q n → p.folder ≡ q.folder → m.name ≡ n.name → m.source ≡ n.source
+
+-- each group has a folder, in their order
+abbrev pub EachGroupIsPlaced : Type 0
+EachGroupIsPlaced = (holds_others : Bool) (groups : List (List Member)) (placed : List Placed) → ArePlaced holds_others groups placed → map (λ (p : Placed). p.members) placed ≡ groups
+
+-- and groups with the same places and names share one
+abbrev pub OneGroupOneFolder : Type 0
+OneGroupOneFolder = (holds_others : Bool) (groups : List (List Member)) (placed : List Placed) → ArePlaced holds_others groups placed → (p q : Placed) → Contains placed p → Contains placed q → p.members ≡ q.members → p.folder ≡ q.folder

@@ -1,5 +1,7 @@
 pub mod Codes
 pub mod Glob
+pub mod Groups
 pub mod Laws
+pub mod Placing
 pub mod Reading
 pub mod inner

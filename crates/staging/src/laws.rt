@@ -1,6 +1,6 @@
-//! What holds of all patterns and names: each law is the contract of a function that does nothing.
+//! What holds of all patterns, names and folders: each law is the contract of a function that does nothing.
 
-ghost use Rattle.staging.specs.Laws.{TextMatchesItself, TextMatchesNoOther, SameComponents, HiddenByPeriodAlone};
+ghost use Rattle.staging.specs.Laws.{TextMatchesItself, TextMatchesNoOther, SameComponents, HiddenByPeriodAlone, SourcesNeverMeet, EachGroupIsPlaced, OneGroupOneFolder};
 
 /// A pattern without `*`, `?` and brackets matches its own text and no other name.
 pub fn text_matches_itself_alone()
@@ -16,4 +16,12 @@ pub fn same_components()
 /// A name that begins with a period is matched only by a pattern that begins with one.
 pub fn hidden_by_a_period_alone()
     ensures { HiddenByPeriodAlone }
+{}
+
+/// Each group that is placed has one folder, which groups with the same places and names share, and in one folder no
+/// name is that of two sources.
+pub fn sources_never_meet()
+    ensures apart { SourcesNeverMeet }
+    ensures each { EachGroupIsPlaced }
+    ensures one { OneGroupOneFolder }
 {}

@@ -1,21 +1,32 @@
-//! Finds a job's output files by their names (CWL v1.2, CommandLineTool, "CommandOutputBinding").
+//! Finds a job's output files by their names (CWL v1.2, CommandLineTool, "CommandOutputBinding"), and plans where files go.
 //!
 //! - `Pattern::read` reads a pattern, exactly as `specs/Reading.antt` has it, or says what is wrong with it.
 //! - `Pattern::matches` says exactly which names a pattern matches: those that the rules of `specs/Glob.antt` relate to it.
 //!   It takes no memory, and its steps are bounded by the product of the two lengths.
+//! - `stage_plan` and `deliver_plan` plan where files are copied to. `place_groups` puts each group of files exactly where
+//!   `specs/Placing.antt` has it, so that in one folder no name is that of two sources (`sources_never_meet`).
 #![tactic(auto)]
 
 mod bracket;
 mod characters;
 mod fault;
+mod group;
+mod groups;
 mod item;
 mod laws;
 mod matching;
 mod pattern;
+mod placing;
+mod plan;
 mod reading;
 mod syntax;
 
 pub use fault::{GlobError, GlobFault};
+pub use group::{Member, Placed};
 pub use item::{Bracket, CharRange, PatternItem};
-pub use laws::{hidden_by_a_period_alone, same_components, text_matches_itself_alone};
+pub use laws::{
+    hidden_by_a_period_alone, same_components, sources_never_meet, text_matches_itself_alone,
+};
 pub use pattern::Pattern;
+pub use placing::place_groups;
+pub use plan::{Move, StagePlan, deliver_plan, stage_plan};

@@ -1,9 +1,9 @@
 //! From a text to its pattern.
-ghost use Rattle.std.specs.Prelude.{◌≡◌, ◌<◌, ◌≤◌, ◌∷◌, [], Ok, length, IfOk, IfErr, MatchOption};
+ghost use Rattle.std.specs.Prelude.{◌≡◌, ◌<◌, ◌≤◌, ◌∷◌, [], Ok, true, length, IfOk, IfErr, MatchOption};
 ghost use Rattle.std.specs.List.{list_any};
 ghost use Rattle.std.specs.Str.{chars};
 ghost use Rattle.staging.specs.Reading.{body, has_falling, is_falling, Reads, IsReading, Refuses};
-ghost use Rattle.staging.specs.inner.Scans.{ItemThen, single_item};
+ghost use Rattle.staging.specs.inner.Scans.{ItemThen, single_item, none_closed};
 
 use crate::bracket::bracket;
 use crate::characters::{after, first_char, is_empty};
@@ -52,17 +52,26 @@ fn items(alloc: Global, text: &str) -> Result<Items<PatternItem>, AllocError>
 {
     let mut items = Items::new(alloc);
     let mut rest = text;
-    while let Some((item, after)) = first_item(alloc, rest)? {
+    let mut unclosed = false;
+    while let Some((item, after, still)) = first_item(alloc, rest, unclosed)? {
         items.push(item)?;
         rest = after;
+        unclosed = still;
     }
     Ok(items)
 }
 
-// The item at the front of a text, and what follows it; none at the end, and none for a last `/`.
-fn first_item(alloc: Global, text: &str) -> Result<Option<(PatternItem, &str)>, AllocError>
+// The item at the front of a text, and what follows it; none at the end, and none for a last `/`. Both flags say that no
+// further bracket of this component is closed, so that its end is looked for once in a component and not at each `[`.
+fn first_item(
+    alloc: Global,
+    text: &str,
+    unclosed: bool,
+) -> Result<Option<(PatternItem, &str, bool)>, AllocError>
+    requires { unclosed ≡ true → none_closed (chars text.now) ≡ true }
     ensures exact { IfOk result (λ found. MatchOption found (Reads (chars text.now) []) (λ taken. ItemThen (chars text.now) taken.0 (chars taken.1.now))) }
     ensures shorter { IfOk result (λ found. MatchOption found (Reads (chars text.now) []) (λ taken. length taken.1.now < length text.now)) }
+    ensures unclosed { IfOk result (λ found. MatchOption found (Reads (chars text.now) []) (λ taken. taken.2 ≡ true → none_closed (chars taken.1.now) ≡ true)) }
 {
     let Some((first, rest)) = first_char(text) else {
         return Ok(None);
@@ -71,9 +80,9 @@ fn first_item(alloc: Global, text: &str) -> Result<Option<(PatternItem, &str)>, 
         return Ok(None);
     }
     if first == '[' {
-        return Ok(Some(opened(alloc, rest)?));
+        return Ok(Some(opened(alloc, rest, unclosed)?));
     }
-    Ok(Some((single(first), rest)))
+    Ok(Some((single(first), rest, unclosed && first != '/')))
 }
 
 // An item of one character that isn't `[`.
@@ -88,13 +97,22 @@ fn single(character: char) -> PatternItem
 }
 
 // The item that begins with a `[`, where `text` follows it.
-fn opened(alloc: Global, text: &str) -> Result<(PatternItem, &str), AllocError>
+fn opened(
+    alloc: Global,
+    text: &str,
+    unclosed: bool,
+) -> Result<(PatternItem, &str, bool), AllocError>
+    requires { unclosed ≡ true → none_closed (91 ∷ chars text.now) ≡ true }
     ensures exact { IfOk result (λ taken. ItemThen (91 ∷ chars text.now) taken.0 (chars taken.1.now)) }
     ensures shorter { IfOk result (λ taken. length taken.1.now ≤ length text.now) }
+    ensures unclosed { IfOk result (λ taken. taken.2 ≡ true → none_closed (chars taken.1.now) ≡ true) }
 {
+    if unclosed {
+        return Ok((PatternItem::Literal('['), text, true));
+    }
     match bracket(alloc, text)? {
-        None => Ok((PatternItem::Literal('['), text)),
-        Some((bracket, rest)) => Ok((PatternItem::OneOf(bracket), rest)),
+        None => Ok((PatternItem::Literal('['), text, true)),
+        Some((bracket, rest)) => Ok((PatternItem::OneOf(bracket), rest, false)),
     }
 }
 

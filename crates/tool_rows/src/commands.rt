@@ -1,41 +1,20 @@
 //! Builds the commands of rows.
-use crate::documents::{refused, text_of};
-use crate::writing::{close_list, code, coded, put_text, put_text_or_null, put_texts};
-use command_line::{BuildError, BuildFault, Launch, Runtime, Variable, build, stdout_name};
-use cwl_document::{Process, Tool, read_process};
+use crate::writing::{close_list, code, coded, put_text_or_null, put_texts};
+use command_line::{BuildError, BuildFault, Launch, Runtime, Variable, build};
+use cwl_document::Tool;
 use cwl_value::{Value, read_value};
 use plain_data::{Keyed, Text};
-use row_io::{Row, RowFault, json_text, quoted};
+use row_io::{AnswerText, Row, RowFault, json_text};
 use std::alloc::{AllocError, Global};
+use std::mem;
 
-/// The launch of the row's tool with its `inputs`.
-pub(crate) fn built(alloc: Global, row: &Row) -> Result<String, RowFault> {
-    let text = text_of(alloc, row)?;
-    match read_process(alloc, text.as_bytes()) {
-        Ok(Process::Tool(tool)) => launch_of(alloc, &tool, row, false),
-        Err(refusal) => refused(alloc, &refusal),
-    }
-}
-
-/// A copy of that launch.
-pub(crate) fn copied(alloc: Global, row: &Row) -> Result<String, RowFault> {
-    let text = text_of(alloc, row)?;
-    match read_process(alloc, text.as_bytes()) {
-        Ok(Process::Tool(tool)) => launch_of(alloc, &tool, row, true),
-        Err(refusal) => refused(alloc, &refusal),
-    }
-}
-
-/// The name of the file that an output of type `stdout` collects.
-pub(crate) fn named_stream(alloc: Global, row: &Row) -> Result<String, RowFault> {
-    let text = text_of(alloc, row)?;
-    match read_process(alloc, text.as_bytes()) {
-        Ok(Process::Tool(tool)) => quoted(alloc, stdout_name(&tool)),
-        Err(refusal) => refused(alloc, &refusal),
-    }
-}
-
-fn launch_of(alloc: Global, tool: &Tool, row: &Row, copy: bool) -> Result<String, RowFault> {
+/// The launch of a tool with the row's `inputs`, or a copy of it.
+pub(crate) fn launch_of(
+    alloc: Global,
+    tool: &Tool,
+    row: &Row,
+    copy: bool,
+) -> Result<String, RowFault> {
     let inputs = inputs_of(alloc, row)?;
     let outcome = launched(alloc, tool, &inputs, row)?;
     outcome_text(alloc, &outcome, copy)
@@ -59,9 +38,13 @@ fn inputs_of(alloc: Global, row: &Row) -> Result<Keyed<Value>, RowFault> {
 }
 
 fn fields_in(alloc: Global, text: &str) -> Result<Keyed<Value>, RowFault> {
-    match read_value(alloc, text.as_bytes()) {
+    let read = read_value(alloc, text.as_bytes());
+    match read {
         Ok(Value::Fields(fields)) => Ok(fields),
-        _ => Err(RowFault::BadArgument),
+        other => {
+            mem::drop(other);
+            Err(RowFault::BadArgument)
+        }
     }
 }
 
@@ -103,45 +86,41 @@ fn copy_text(alloc: Global, launch: &Launch) -> Result<String, RowFault> {
 }
 
 fn launch_text(alloc: Global, launch: &Launch) -> Result<String, RowFault> {
-    let mut out = String::new(alloc);
-    put_launch(alloc, &mut out, launch)?;
-    Ok(out)
+    let mut out = AnswerText::new(alloc);
+    out.put("{\"words\":");
+    put_texts(&mut out, launch.words.as_slice());
+    out.put(",\"env\":");
+    put_variables(&mut out, launch.env.as_slice());
+    put_streams(&mut out, launch);
+    out.put(",\"dir\":");
+    out.put_quoted(launch.dir.as_str());
+    out.put("}");
+    out.finish()
 }
 
-fn put_launch(alloc: Global, out: &mut String, launch: &Launch) -> Result<(), RowFault> {
-    out.push_str("{\"words\":")?;
-    put_texts(alloc, out, launch.words.as_slice())?;
-    out.push_str(",\"env\":")?;
-    put_variables(alloc, out, launch.env.as_slice())?;
-    put_streams(alloc, out, launch)?;
-    out.push_str(",\"dir\":")?;
-    put_text(alloc, out, launch.dir.as_str())?;
-    Ok(out.push_str("}")?)
+fn put_streams(out: &mut AnswerText, launch: &Launch) {
+    out.put(",\"stdin\":");
+    put_text_or_null(out, &launch.stdin);
+    out.put(",\"stdout\":");
+    put_text_or_null(out, &launch.stdout);
+    out.put(",\"stderr\":");
+    put_text_or_null(out, &launch.stderr);
 }
 
-fn put_streams(alloc: Global, out: &mut String, launch: &Launch) -> Result<(), RowFault> {
-    out.push_str(",\"stdin\":")?;
-    put_text_or_null(alloc, out, &launch.stdin)?;
-    out.push_str(",\"stdout\":")?;
-    put_text_or_null(alloc, out, &launch.stdout)?;
-    out.push_str(",\"stderr\":")?;
-    put_text_or_null(alloc, out, &launch.stderr)
-}
-
-fn put_variables(alloc: Global, out: &mut String, env: &[Variable]) -> Result<(), RowFault> {
+fn put_variables(out: &mut AnswerText, env: &[Variable]) {
     let mut before = "[";
     for variable in env {
-        out.push_str(before)?;
-        put_variable(alloc, out, variable)?;
+        out.put(before);
+        put_variable(out, variable);
         before = ",";
     }
     close_list(out, before)
 }
 
-fn put_variable(alloc: Global, out: &mut String, variable: &Variable) -> Result<(), RowFault> {
-    out.push_str("[")?;
-    put_text(alloc, out, variable.name.as_str())?;
-    out.push_str(",")?;
-    put_text(alloc, out, variable.text.as_str())?;
-    Ok(out.push_str("]")?)
+fn put_variable(out: &mut AnswerText, variable: &Variable) {
+    out.put("[");
+    out.put_quoted(variable.name.as_str());
+    out.put(",");
+    out.put_quoted(variable.text.as_str());
+    out.put("]");
 }

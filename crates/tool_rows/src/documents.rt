@@ -1,35 +1,64 @@
-//! Reads the documents of rows.
-use crate::writing::{close_list, code, coded, put_text, put_text_or_null, put_texts};
+//! Reads the documents of rows, and answers what is asked of them.
+use crate::commands::launch_of;
+use crate::writing::{close_list, code, coded, put_text_or_null, put_texts};
+use command_line::stdout_name;
 use cwl_document::{
     Binding, CwlType, DocumentRefusal, OutputSource, Process, Tool, ToolInput, ToolOutput,
     read_process,
 };
-use row_io::{Row, RowFault, json_text};
+use row_io::{AnswerText, Row, RowFault, json_text, quoted};
 use std::alloc::{AllocError, Global};
+use std::mem;
 
-/// The tool that the row's document describes.
-pub(crate) fn read(alloc: Global, row: &Row) -> Result<String, RowFault> {
-    let text = text_of(alloc, row)?;
-    read_text(alloc, text.as_str())
+/// What is asked of a row's tool.
+#[derive(Clone, Copy, Drop)]
+pub(crate) enum Asked {
+    /// All that was read of it.
+    Tool,
+    /// What tells it apart from another tool.
+    Written,
+    /// Its launch with the row's `inputs`.
+    Launch,
+    /// A copy of that launch.
+    Copy,
+    /// The name of the file that an output of type `stdout` collects.
+    Stream,
 }
 
-/// What is read of `levels` lists inside one another.
-pub(crate) fn read_nested_list(alloc: Global, row: &Row) -> Result<String, RowFault> {
+/// Answers what is asked of the tool that the row's document describes.
+pub(crate) fn of_document(alloc: Global, row: &Row, asked: Asked) -> Result<String, RowFault> {
+    let text = text_of(alloc, row)?;
+    of_text(alloc, text.as_str(), row, asked)
+}
+
+/// Answers what is read of `levels` lists inside one another.
+pub(crate) fn of_nested_list(alloc: Global, row: &Row) -> Result<String, RowFault> {
     let text = nested_list(alloc, row.natural("levels")?)?;
-    read_text(alloc, text.as_str())
+    of_text(alloc, text.as_str(), row, Asked::Tool)
 }
 
-/// What of the row's document tells two tools apart.
-pub(crate) fn written(alloc: Global, row: &Row) -> Result<String, RowFault> {
-    let text = text_of(alloc, row)?;
-    match read_process(alloc, text.as_bytes()) {
-        Ok(Process::Tool(tool)) => Ok(String::from_str(alloc, tool.written.as_str())?),
-        Err(refusal) => refused(alloc, &refusal),
+fn of_text(alloc: Global, text: &str, row: &Row, asked: Asked) -> Result<String, RowFault> {
+    let process = read_process(alloc, text.as_bytes());
+    let answer = match &process {
+        Ok(Process::Tool(tool)) => of_tool(alloc, tool, row, asked),
+        Err(refusal) => refused(alloc, refusal),
+    };
+    mem::drop(process);
+    answer
+}
+
+fn of_tool(alloc: Global, tool: &Tool, row: &Row, asked: Asked) -> Result<String, RowFault> {
+    match asked {
+        Asked::Tool => tool_text(alloc, tool),
+        Asked::Written => code(alloc, tool.written.as_str()),
+        Asked::Launch => launch_of(alloc, tool, row, false),
+        Asked::Copy => launch_of(alloc, tool, row, true),
+        Asked::Stream => quoted(alloc, stdout_name(tool)),
     }
 }
 
 /// The text of the row's document.
-pub(crate) fn text_of(alloc: Global, row: &Row) -> Result<String, RowFault> {
+fn text_of(alloc: Global, row: &Row) -> Result<String, RowFault> {
     match row.find("document") {
         Some(json) => json_text(alloc, json),
         None => Ok(String::from_str(alloc, row.text("text")?)?),
@@ -37,7 +66,7 @@ pub(crate) fn text_of(alloc: Global, row: &Row) -> Result<String, RowFault> {
 }
 
 /// The answer for a document that is refused.
-pub(crate) fn refused(alloc: Global, refusal: &DocumentRefusal) -> Result<String, RowFault> {
+fn refused(alloc: Global, refusal: &DocumentRefusal) -> Result<String, RowFault> {
     match refusal {
         DocumentRefusal::OutOfMemory => Err(RowFault::OutOfMemory),
         DocumentRefusal::MissingField(name)
@@ -62,51 +91,40 @@ fn nested_list(alloc: Global, levels: u64) -> Result<String, AllocError> {
     Ok(text)
 }
 
-fn read_text(alloc: Global, text: &str) -> Result<String, RowFault> {
-    match read_process(alloc, text.as_bytes()) {
-        Ok(Process::Tool(tool)) => tool_text(alloc, &tool),
-        Err(refusal) => refused(alloc, &refusal),
-    }
-}
-
 fn tool_text(alloc: Global, tool: &Tool) -> Result<String, RowFault> {
-    let mut out = String::new(alloc);
-    put_tool(alloc, &mut out, tool)?;
-    Ok(out)
+    let mut out = AnswerText::new(alloc);
+    out.put("{\"baseCommand\":");
+    put_texts(&mut out, tool.base_command.as_slice());
+    out.put(",\"inputs\":");
+    put_inputs(&mut out, tool.inputs.as_slice());
+    out.put(",\"outputs\":");
+    put_outputs(&mut out, tool.outputs.as_slice());
+    out.put(",\"stdout\":");
+    put_text_or_null(&mut out, &tool.stdout);
+    out.put("}");
+    out.finish()
 }
 
-fn put_tool(alloc: Global, out: &mut String, tool: &Tool) -> Result<(), RowFault> {
-    out.push_str("{\"baseCommand\":")?;
-    put_texts(alloc, out, tool.base_command.as_slice())?;
-    out.push_str(",\"inputs\":")?;
-    put_inputs(alloc, out, tool.inputs.as_slice())?;
-    out.push_str(",\"outputs\":")?;
-    put_outputs(alloc, out, tool.outputs.as_slice())?;
-    out.push_str(",\"stdout\":")?;
-    put_text_or_null(alloc, out, &tool.stdout)?;
-    Ok(out.push_str("}")?)
-}
-
-fn put_inputs(alloc: Global, out: &mut String, inputs: &[ToolInput]) -> Result<(), RowFault> {
+fn put_inputs(out: &mut AnswerText, inputs: &[ToolInput]) {
     let mut before = "[";
     for input in inputs {
-        out.push_str(before)?;
-        put_input(alloc, out, input)?;
+        out.put(before);
+        put_input(out, input);
         before = ",";
     }
     close_list(out, before)
 }
 
-fn put_input(alloc: Global, out: &mut String, input: &ToolInput) -> Result<(), RowFault> {
-    out.push_str("{\"id\":")?;
-    put_text(alloc, out, input.id.as_str())?;
-    out.push_str(",\"type\":")?;
-    put_text(alloc, out, type_name(input.kind))?;
+fn put_input(out: &mut AnswerText, input: &ToolInput) {
+    out.put("{\"id\":");
+    out.put_quoted(input.id.as_str());
+    out.put(",\"type\":");
+    out.put_quoted(type_name(input.kind));
     if let Some(binding) = &input.binding {
-        out.push_str(",\"inputBinding\":")?;
-        put_binding(alloc, out, binding)?;
+        out.put(",\"inputBinding\":");
+        put_binding(out, binding);
     }
-    Ok(out.push_str("}")?)
+    out.put("}");
 }
 
 fn type_name(kind: CwlType) -> &'static str {
@@ -117,32 +135,30 @@ fn type_name(kind: CwlType) -> &'static str {
     }
 }
 
-fn put_binding(alloc: Global, out: &mut String, binding: &Binding) -> Result<(), RowFault> {
-    out.push_str("{\"position\":")?;
-    let position = binding.position.to_string(alloc)?;
-    out.push_str(position.as_str())?;
-    out.push_str(",\"prefix\":")?;
-    put_text_or_null(alloc, out, &binding.prefix)?;
-    out.push_str(",\"separate\":")?;
-    out.push_str(if binding.separate { "true" } else { "false" })?;
-    Ok(out.push_str("}")?)
+fn put_binding(out: &mut AnswerText, binding: &Binding) {
+    out.put("{\"position\":");
+    out.put_whole(i64::from(binding.position));
+    out.put(",\"prefix\":");
+    put_text_or_null(out, &binding.prefix);
+    out.put(",\"separate\":");
+    out.put_flag(binding.separate);
+    out.put("}");
 }
 
-fn put_outputs(alloc: Global, out: &mut String, outputs: &[ToolOutput]) -> Result<(), RowFault> {
+fn put_outputs(out: &mut AnswerText, outputs: &[ToolOutput]) {
     let mut before = "[";
     for output in outputs {
-        out.push_str(before)?;
-        put_output(alloc, out, output)?;
+        out.put(before);
+        put_output(out, output);
         before = ",";
     }
     close_list(out, before)
 }
 
-fn put_output(alloc: Global, out: &mut String, output: &ToolOutput) -> Result<(), RowFault> {
-    out.push_str("{\"id\":")?;
-    put_text(alloc, out, output.id.as_str())?;
+fn put_output(out: &mut AnswerText, output: &ToolOutput) {
+    out.put("{\"id\":");
+    out.put_quoted(output.id.as_str());
     match output.source {
-        OutputSource::Stdout => out.push_str(",\"type\":\"stdout\"")?,
+        OutputSource::Stdout => out.put(",\"type\":\"stdout\"}"),
     }
-    Ok(out.push_str("}")?)
 }

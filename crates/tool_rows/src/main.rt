@@ -4,6 +4,7 @@
 //! code, with what it names in brackets.
 #![tactic(auto)]
 
+use documents::{Asked, of_document, of_nested_list};
 use row_io::{Answers, Row, RowFault, answer_rows};
 use std::alloc::Global;
 use std::io;
@@ -18,12 +19,12 @@ struct Calls;
 impl Answers for Calls {
     fn answer(&self, alloc: Global, row: &Row) -> Result<String, RowFault> {
         match row.call() {
-            "read_process" => documents::read(alloc, row),
-            "read_nested_list" => documents::read_nested_list(alloc, row),
-            "written" => documents::written(alloc, row),
-            "build" => commands::built(alloc, row),
-            "copied_launch" => commands::copied(alloc, row),
-            "stdout_name" => commands::named_stream(alloc, row),
+            "read_process" => of_document(alloc, row, Asked::Tool),
+            "read_nested_list" => of_nested_list(alloc, row),
+            "written" => of_document(alloc, row, Asked::Written),
+            "build" => of_document(alloc, row, Asked::Launch),
+            "copied_launch" => of_document(alloc, row, Asked::Copy),
+            "stdout_name" => of_document(alloc, row, Asked::Stream),
             _ => Err(RowFault::UnknownCall),
         }
     }

@@ -1,7 +1,7 @@
 use crate::names::pair;
 use crate::values::{coded, value_of};
 use cwl_value::{FileVal, Place, Value};
-use file_values::{FileRefusal, location_to_path, path_to_location, resolve, there_and_back};
+use file_values::{FileError, location_to_path, path_to_location, resolve, there_and_back};
 use plain_data::Text;
 use row_io::{Row, RowFault, quoted};
 use std::alloc::Global;
@@ -36,10 +36,10 @@ fn back(alloc: Global, row: &Row) -> Result<String, RowFault> {
     found(alloc, &there_and_back(alloc, path, &base))
 }
 
-fn found(alloc: Global, path: &Result<String, FileRefusal>) -> Result<String, RowFault> {
+fn found(alloc: Global, path: &Result<String, FileError>) -> Result<String, RowFault> {
     match path {
         Ok(path) => quoted(alloc, path.as_str()),
-        Err(refusal) => coded(alloc, refusal.code()),
+        Err(error) => coded(alloc, code_of(error)),
     }
 }
 
@@ -55,16 +55,23 @@ fn resolved(alloc: Global, row: &Row) -> Result<String, RowFault> {
     answer
 }
 
-fn resolved_value(alloc: Global, row: &Row) -> Result<Result<Value, FileRefusal>, RowFault> {
+fn resolved_value(alloc: Global, row: &Row) -> Result<Result<Value, FileError>, RowFault> {
     let base = base(alloc)?;
     let value = value_of(alloc, row, "value")?;
     Ok(resolve(alloc, value, &base))
 }
 
-fn shown(alloc: Global, found: &Result<Value, FileRefusal>) -> Result<String, RowFault> {
+fn shown(alloc: Global, found: &Result<Value, FileError>) -> Result<String, RowFault> {
     match found {
         Ok(value) => listed(alloc, value),
-        Err(refusal) => coded(alloc, refusal.code()),
+        Err(error) => coded(alloc, code_of(error)),
+    }
+}
+
+pub(crate) fn code_of(error: &FileError) -> &'static str {
+    match error {
+        FileError::Refused(fault) => fault.code(),
+        FileError::OutOfMemory => "memory",
     }
 }
 

@@ -1,6 +1,6 @@
 //! What is kept under texts.
 use crate::values::{coded, value_in, value_of, written, written_last};
-use cwl_value::Value;
+use cwl_value::{Value, copy_fields};
 use plain_data::{Keyed, RepeatedName, Text};
 use row_io::{Row, RowFault};
 use serde_json::Value as Json;
@@ -51,9 +51,17 @@ fn entry_of(alloc: Global, entry: &Json) -> Result<(Text, Value), RowFault> {
 }
 
 fn inserted(alloc: Global, row: &Row) -> Result<String, RowFault> {
-    let mut fields = fields_of(value_of(alloc, row, "fields")?)?;
-    let before = put(alloc, &mut fields, row)?;
-    pair_text(alloc, before, fields)
+    let given = value_of(alloc, row, "fields")?;
+    let fields = fields_of(alloc, &given);
+    drop(given);
+    inserted_text(alloc, row, fields?)
+}
+
+fn inserted_text(alloc: Global, row: &Row, mut fields: Keyed<Value>) -> Result<String, RowFault> {
+    let before = put(alloc, &mut fields, row);
+    let answer = pair_text(alloc, &before, fields);
+    drop(before);
+    answer
 }
 
 fn put(alloc: Global, fields: &mut Keyed<Value>, row: &Row) -> Result<Value, RowFault> {
@@ -62,18 +70,28 @@ fn put(alloc: Global, fields: &mut Keyed<Value>, row: &Row) -> Result<Value, Row
     Ok(before.unwrap_or(Value::Null))
 }
 
-fn fields_of(value: Value) -> Result<Keyed<Value>, RowFault> {
+fn fields_of(alloc: Global, value: &Value) -> Result<Keyed<Value>, RowFault> {
     match value {
-        Value::Fields(fields) => Ok(fields),
+        Value::Fields(fields) => Ok(copy_fields(alloc, fields)?),
         _ => Err(RowFault::BadArgument),
     }
 }
 
 // The value that was there, and the fields.
-fn pair_text(alloc: Global, before: Value, fields: Keyed<Value>) -> Result<String, RowFault> {
-    let before = written_last(alloc, before);
+fn pair_text(
+    alloc: Global,
+    before: &Result<Value, RowFault>,
+    fields: Keyed<Value>,
+) -> Result<String, RowFault> {
     let fields = fields_text(alloc, fields)?;
-    let before = before?;
+    match before {
+        Ok(before) => beside(alloc, before, fields.as_str()),
+        Err(_) => Err(RowFault::BadArgument),
+    }
+}
+
+fn beside(alloc: Global, before: &Value, fields: &str) -> Result<String, RowFault> {
+    let before = written(alloc, before)?;
     Ok(format!(in alloc; "[{before},{fields}]")?)
 }
 

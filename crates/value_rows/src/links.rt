@@ -1,5 +1,5 @@
-use crate::values::{coded, value_in, written};
-use cwl_document::{Merge, Pick};
+use crate::values::{coded, value_in, written, written_last};
+use cwl_process::{Merge, Pick};
 use cwl_value::Value;
 use link_values::{LinkError, merge, pick};
 use row_io::{Row, RowFault};
@@ -19,7 +19,7 @@ pub(crate) fn answer(alloc: Global, row: &Row) -> Result<String, RowFault> {
 fn merged(alloc: Global, row: &Row) -> Result<String, RowFault> {
     let method = merge_of(row.text("method")?)?;
     let values = values_in(alloc, row.list("values")?)?;
-    written(alloc, &merge(alloc, method, values)?)
+    written_last(alloc, merge(alloc, method, values)?)
 }
 
 fn merge_of(name: &str) -> Result<Option<Merge>, RowFault> {
@@ -42,7 +42,14 @@ fn values_in(alloc: Global, list: &[Json]) -> Result<Vec<Value>, RowFault> {
 fn picked(alloc: Global, row: &Row) -> Result<String, RowFault> {
     let method = pick_of(row.text("method")?)?;
     let value = value_in(alloc, row.json("value")?)?;
-    match &pick(alloc, method, value) {
+    let found = pick(alloc, method, value);
+    let answer = picked_text(alloc, &found);
+    drop(found);
+    answer
+}
+
+fn picked_text(alloc: Global, found: &Result<Value, LinkError>) -> Result<String, RowFault> {
+    match found {
         Ok(value) => written(alloc, value),
         Err(error) => coded(alloc, code_of(error)),
     }

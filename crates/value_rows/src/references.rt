@@ -1,23 +1,17 @@
-use crate::values::{coded, value_of, written_last};
+use crate::values::{coded, value_of, written};
 use cwl_value::Value;
-use param_refs::{Context, RefFault, Template};
-use plain_data::Items;
+use param_refs::{Context, RefError, Template};
+use plain_data::{Items, Keyed};
 use row_io::{Row, RowFault};
 use std::alloc::Global;
 
-/// The value of a text where references may speak of `inputs`, of `self`, and of `runtime` where the row has one. An
-/// argument that is left out is null.
+/// The value of a text where references may speak of `inputs`, of `self`, and of `runtime` where the row has one. Inputs
+/// that are left out are none, and a `self` that is left out is null.
 pub(crate) fn answer(alloc: Global, row: &Row) -> Result<String, RowFault> {
     let given = given_in(alloc, row)?;
-    let [inputs, own, runtime] = given.as_slice() else {
-        return Err(RowFault::BadArgument);
-    };
-    let seen = if row.find("runtime").is_some() {
-        Some(runtime)
-    } else {
-        None
-    };
-    evaluated(alloc, row.text("text")?, inputs, seen, own)
+    let answer = evaluated(alloc, row, &given);
+    drop(given);
+    answer
 }
 
 // One list in place of three values, since what is dropped at each way out is then one thing.
@@ -31,36 +25,36 @@ fn given_in(alloc: Global, row: &Row) -> Result<Items<Value>, RowFault> {
 
 fn value_or_null(alloc: Global, row: &Row, argument: &str) -> Result<Value, RowFault> {
     match row.find(argument) {
-        None => Ok(Value::Null),
         Some(_) => value_of(alloc, row, argument),
+        None if argument == "inputs" => Ok(Value::Fields(Keyed::new(alloc))),
+        None => Ok(Value::Null),
     }
 }
 
-fn evaluated<'a>(
-    alloc: Global,
-    text: &str,
-    inputs: &'a Value,
-    runtime: Option<&'a Value>,
-    own: &'a Value,
-) -> Result<String, RowFault> {
-    match value_in(alloc, text, inputs, runtime, own) {
-        Ok(value) => written_last(alloc, value),
-        Err(fault) => coded(alloc, fault.code()),
-    }
-}
-
-fn value_in<'a>(
-    alloc: Global,
-    text: &str,
-    inputs: &'a Value,
-    runtime: Option<&'a Value>,
-    own: &'a Value,
-) -> Result<Value, RefFault> {
+fn evaluated(alloc: Global, row: &Row, given: &Items<Value>) -> Result<String, RowFault> {
+    let [Value::Fields(inputs), own, runtime] = given.as_slice() else {
+        return Err(RowFault::BadArgument);
+    };
     let context = Context {
         inputs,
-        runtime,
+        runtime: row.find("runtime").map(|_given| runtime),
         own,
     };
+    let found = value_in(alloc, row.text("text")?, &context);
+    let answer = answer_text(alloc, &found);
+    drop(found);
+    answer
+}
+
+fn answer_text(alloc: Global, found: &Result<Value, RefError>) -> Result<String, RowFault> {
+    match found {
+        Ok(value) => written(alloc, value),
+        Err(RefError::Refused(fault)) => coded(alloc, fault.code()),
+        Err(RefError::OutOfMemory) => coded(alloc, "memory"),
+    }
+}
+
+fn value_in(alloc: Global, text: &str, context: &Context<'_>) -> Result<Value, RefError> {
     let template = Template::read(alloc, text)?;
-    template.value(&context)
+    template.value(context)
 }

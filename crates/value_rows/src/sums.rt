@@ -1,4 +1,5 @@
 //! Sums of texts that are read in pieces.
+use crate::files::code_of;
 use crate::names::pair;
 use file_values::{Watched, sum_of};
 use row_io::{Row, RowFault, quoted};
@@ -55,7 +56,7 @@ fn summed(alloc: Global, pieces: Pieces<'_>) -> Result<String, RowFault> {
             let text = quoted(alloc, sum.sum.as_str())?;
             Ok(format!(in alloc; "[{text},{}]", sum.size)?)
         }
-        Err(refusal) => pair(alloc, refusal.code(), failed_word(reader.failed)),
+        Err(error) => pair(alloc, code_of(&error), failed_word(reader.failed)),
     }
 }
 

@@ -39,10 +39,24 @@ fn order_word(one: &Text, other: &Text) -> &'static str {
 
 fn listed(alloc: Global, row: &Row) -> Result<String, RowFault> {
     let mut texts = texts_of(alloc, row.list("texts")?)?;
-    let copy = copy_text(alloc, &texts)?;
-    let joined = joined(alloc, &texts)?;
-    let last = last_text(alloc, &mut texts)?;
-    Ok(format!(in alloc; "[{copy},{joined},{last}]")?)
+    let answer = list_text(alloc, &mut texts);
+    drop(texts);
+    answer
+}
+
+// One text that grows, in place of three that are alive together.
+fn list_text(alloc: Global, texts: &mut Items<Text>) -> Result<String, RowFault> {
+    let mut answer = String::from_str(alloc, "[")?;
+    push_part(&mut answer, &copy_text(alloc, texts)?, ",")?;
+    push_part(&mut answer, &joined(alloc, texts)?, ",")?;
+    push_part(&mut answer, &last_text(alloc, texts)?, "]")?;
+    Ok(answer)
+}
+
+fn push_part(answer: &mut String, part: &String, end: &str) -> Result<(), RowFault> {
+    answer.push_str(part.as_str())?;
+    answer.push_str(end)?;
+    Ok(())
 }
 
 fn texts_of(alloc: Global, list: &[Json]) -> Result<Items<Text>, RowFault> {

@@ -1,8 +1,8 @@
 -- What the reader's parts find. No public contract cites this.
-use Rattle.std.specs.Prelude.{◌≡◌, ℕ, Bool, true, false, ◌==◌, if◌then◌else◌, List, [], ◌∷◌, ◌++◌, take}
+use Rattle.std.specs.Prelude.{◌≡◌, ℕ, Bool, true, false, not, ◌&&◌, ◌||◌, ◌==◌, if◌then◌else◌, List, [], ◌∷◌, ◌++◌, take}
 use Rattle.std.specs.List.{list_all}
 use Rattle.std.specs.Str.{chars}
-use Rattle.staging.specs.Reading.{Reads, Ranges, IsBracket, is_inside}
+use Rattle.staging.specs.Reading.{Reads, Ranges, IsBracket, is_inside, is_closed}
 use Rattle.staging.specs.declared.item.CharRange.{CharRange}
 use Rattle.staging.specs.declared.item.Bracket.{Bracket}
 use Rattle.staging.specs.declared.item.PatternItem.{PatternItem}
@@ -45,3 +45,8 @@ pub record BracketThen (text : List ℕ) (bracket : Bracket) (rest : List ℕ) :
 
 abbrev pub single_item : ℕ → PatternItem
 single_item c = (if c == 42 then Run else (if c == 63 then One else Literal c))
+
+-- no bracket of this component is closed
+abbrev pub none_closed : List ℕ → Bool
+none_closed [] = true
+none_closed (c ∷ text) = c == 47 || (not (c == 91 && is_closed text) && none_closed text)

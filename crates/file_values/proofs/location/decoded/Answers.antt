@@ -1,4 +1,4 @@
-use Rattle.std.proofs.Common.{◌⊎◌, Ok, inl, inr, ⊎_elim, IsUtf8, sym, ap, subst, ◌∙◌}
+use Rattle.std.proofs.Common.{Ok, inl, ⊎_elim, IsUtf8, sym, ap, subst, ◌∙◌}
 use Rattle.std.specs.Str.{is_utf8}
 use Rattle.std.proofs.lemmas.Bool.{cond-true, cond-false, cases_Bool}
 use Rattle.std.proofs.lemmas.Str.{IsUtf8-from_is_utf8, is_utf8-from_IsUtf8}
@@ -18,5 +18,5 @@ returns-in-Err-Utf8-clause-err c =
     let same = c.percent_decode_str.ensures.bytes in
     ⊎_elim
     (λ text. let memory = c.in-Err-Utf8.ensures.utf8 (subst IsUtf8 (sym same) (IsUtf8-from_is_utf8 bytes text)) in cc)
-    (λ none. inr (inl (cond-false _ _ _ none)))
+    (λ none. inl (cond-false _ _ _ none))
     (cases_Bool (is_utf8 bytes))

@@ -1,4 +1,4 @@
-use Rattle.std.proofs.Common.{◌≡◌, true, false, length, refl, le-ltb, arith}
+use Rattle.std.proofs.Common.{◌≡◌, true, false, length, le-ltb, arith}
 use Rattle.param_refs.specs.Grammar.{has_opening}
 use Rattle.param_refs.proofs.Readings.{has_opening-at, has_opening-past}
 use Rattle.param_refs.proofs.opening.is_escaped.Goals as goal

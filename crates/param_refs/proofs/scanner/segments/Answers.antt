@@ -1,6 +1,6 @@
 use Rattle.std.proofs.Common.{List, sym, subst, rules}
 use Rattle.param_refs.specs.declared.template.Segment.{Segment}
-use Rattle.param_refs.specs.Scans.{SegmentThen, NoSegment}
+use Rattle.param_refs.specs.inner.Scans.{SegmentThen, NoSegment}
 use Rattle.param_refs.proofs.Scanned.{SoFar, so_far_begins, so_far_pushed, so_far_ends, segment_shorter}
 use Rattle.param_refs.proofs.scanner.segments.Goals as goal
 

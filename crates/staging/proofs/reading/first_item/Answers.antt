@@ -26,3 +26,10 @@ returns-clause-exact c =
       | else-first-eq47-via-then-first-eq47+else-is_empty w ↦ and-right (c.in-Some.first == 47) (is_empty (chars c.in-Some.rest.now)) (sym w.is_empty.ensures ∙ w.if-is_empty.false)
       | else-first-eq47-via-else-first-eq47 w ↦ and-left (c.in-Some.first == 47) (is_empty (chars c.in-Some.rest.now)) (ne_eqb c.in-Some.first 47 w.if-first-eq47.false)
     ])
+
+pub returns-in_default-clause-unclosed : goal.returns-in_default-clause-unclosed
+returns-in_default-clause-unclosed c = end_reads (chars c.args.text.now) c.in_default.ensures
+
+pub returns-then-is_empty-clause-unclosed : goal.returns-then-is_empty-clause-unclosed
+returns-then-is_empty-clause-unclosed c =
+    last_slash_reads (chars c.args.text.now) (chars c.in-Some.rest.now) c.in-Some.first c.in-Some.ensures.0 c.if-first-eq47.true (sym c.is_empty.ensures ∙ c.if-is_empty.true)

@@ -1,7 +1,6 @@
 -- The value that a segment leads to, wherever it lies. No public contract cites this.
 use Rattle.cwl_value.specs.declared.value.Value.{Value}
 use Rattle.param_refs.specs.declared.descent.Reached.{Reached}
-use Rattle.param_refs.specs.declared.descent.Reached.TheVariants as Reached
 
 abbrev pub reached : Reached → Value
 reached (Reached.Inside inner) = inner.now

@@ -1,12 +1,11 @@
 -- What the scanner finds at the front of a text, part by part. No public contract cites this.
-use Rattle.std.specs.Prelude.{◌≡◌, ◌⊎◌, ℕ, ◌<◌, ◌≤◌, Bool, true, false, List, [], ◌∷◌, ◌++◌, length, take, drop, codes, Result}
+use Rattle.std.specs.Prelude.{◌≡◌, ◌⊎◌, ℕ, ◌<◌, ◌≤◌, Bool, true, false, List, [], ◌∷◌, ◌++◌, length, take, drop, Result}
 use Rattle.std.specs.List.{list_all}
 use Rattle.param_refs.specs.Grammar.{is_symbol_byte, is_symbol, is_quoted, is_number, IsSegment, AreSegments, IsReference, opens, Reads, with_part}
 use Rattle.param_refs.specs.declared.fault.RefFault.{RefFault}
 use Rattle.param_refs.specs.declared.template.Part.{Part}
 use Rattle.param_refs.specs.declared.template.Reference.{Reference}
 use Rattle.param_refs.specs.declared.scanner.Piece.{Piece}
-use Rattle.param_refs.specs.declared.scanner.Piece.TheVariants as Piece
 use Rattle.param_refs.specs.declared.template.Segment.{Segment}
 use Rattle.param_refs.specs.declared.template.Segment.TheVariants.{Key, Index}
 

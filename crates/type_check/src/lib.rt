@@ -1,0 +1,13 @@
+//! Which values fit a type of CWL v1.2, and which types overlap, so that a link between them can carry a value.
+//!
+//! - `fits` says exactly whether a value is one of a type's (`specs/Fits.antt`).
+//! - `overlaps` says exactly whether two types may have a value in common (`specs/Overlaps.antt`).
+//!
+//! Neither takes memory. What a type is, `cwl_types` says: a list of members, of which a value has to fit one.
+#![tactic(auto)]
+
+mod fitting;
+mod overlapping;
+
+pub use fitting::fits;
+pub use overlapping::overlaps;
