@@ -4,7 +4,7 @@ use Rattle.std.specs.List.{list_all}
 use Rattle.std.proofs.lemmas.List.{get_or-map, length-map}
 use Rattle.std.proofs.lemmas.List.Elements.{Contains-get_or}
 use Rattle.cwl_value.specs.declared.value.Value.{Value}
-use Rattle.cwl_document.specs.declared.process.Tool.{Tool}
+use Rattle.cwl_process.specs.declared.tool.Tool.{Tool}
 use Rattle.command_line.specs.declared.fault.BuildFault.TheVariants.{NotText, EmptyCommand}
 use Rattle.command_line.specs.declared.fault.LaunchText.{LaunchText}
 use Rattle.command_line.specs.declared.fault.LaunchText.TheVariants.{BaseCommand, Input, EnvVariable}

@@ -1,17 +1,18 @@
 -- That a sort of a tool's bindings by their keys puts them in order.
-use Rattle.std.proofs.Common.{◌≡◌, ℕ, List, [], ◌∷◌, true, false, Some, None, Ordering, Less, Equal, Greater, map, refl, subst, sym, ◌∙◌, bytes_eq}
+use Rattle.std.proofs.Common.{◌≡◌, ℕ, List, [], ◌∷◌, true, false, Some, None, Ordering, Less, Equal, Greater, refl, subst, sym, ◌∙◌, bytes_eq}
 use Rattle.std.specs.Cmp.{IsTotalOrder, on_total, then_total, int_cmp_total}
 use Rattle.std.specs.Cmp.Lexicographic.{nat_list_cmp_total, nat_list_eq_equiv}
 use Rattle.std.specs.List.{AllByRecursion, IsDistinct, cons_option, filter_map}
 use Rattle.std.specs.List.Sorted.{IsPermutation, IsSortedBy}
+use Rattle.std.specs.Map.{keys_of}
 use Rattle.std.specs.Option.{option_map}
 use Rattle.std.specs.Ordering.{int_cmp, is_lt, is_eq, eq_by_cmp, ordering_then}
 use Rattle.std.proofs.lemmas.List.Sorted.{Contains-permutation, IsPermutation-sym}
 use Rattle.std.proofs.lemmas.Map.Keys.{IsDistinct-IsPermutation, IsDistinct-cons, IsDistinct-head, IsDistinct-tail}
 use Rattle.std.proofs.lemmas.Map.Lookups.{exact_bytes}
 use Rattle.plain_data.specs.ByName.{name_cmp}
-use Rattle.cwl_document.specs.declared.process.ToolInput.{ToolInput}
-use Rattle.cwl_document.specs.declared.process.Tool.{Tool}
+use Rattle.cwl_process.specs.declared.tool.ToolInput.{ToolInput}
+use Rattle.cwl_process.specs.declared.tool.Tool.{Tool}
 use Rattle.command_line.specs.Order.{Bound, bound_by, bound_in, bindings_of, key_cmp, AreInOrder}
 use Rattle.command_line.proofs.Rising.{rising_from_sorted, eq_by_cmp_flips}
 
@@ -39,27 +40,27 @@ apart a b differ = elim (eq_by_cmp key_cmp a b) as (λ t. eq_by_cmp key_cmp a b 
 ] refl
 
 -- a binding whose id no later input has
-pub apart_from : (b : Bound) (inputs : List ToolInput) → AllByRecursion (λ id. bytes_eq b.id id ≡ false) (map (λ input. input.id) inputs) → AllByRecursion (λ c. eq_by_cmp key_cmp b c ≡ false) (filter_map bound_in inputs)
+pub apart_from : (b : Bound) (inputs : List (List ℕ × ToolInput)) → AllByRecursion (λ id. bytes_eq b.id id ≡ false) (keys_of inputs) → AllByRecursion (λ c. eq_by_cmp key_cmp b c ≡ false) (filter_map bound_in inputs)
 apart_from b [] differ = tt
-apart_from b (input ∷ rest) differ = elim input.binding as (λ o. AllByRecursion (λ c. eq_by_cmp key_cmp b c ≡ false) (cons_option (option_map (bound_by input.id) o) (filter_map bound_in rest))) [
+apart_from b (input ∷ rest) differ = elim input.1.binding as (λ o. AllByRecursion (λ c. eq_by_cmp key_cmp b c ≡ false) (cons_option (option_map (bound_by input.0) o) (filter_map bound_in rest))) [
   | None ↦ apart_from b rest differ.1
-  | Some binding ↦ (apart b (bound_by input.id binding) differ.0, apart_from b rest differ.1)
+  | Some binding ↦ (apart b (bound_by input.0 binding) differ.0, apart_from b rest differ.1)
 ]
 
 -- no two bindings of a tool have one key
-bindings_distinct : (inputs : List ToolInput) → IsDistinct bytes_eq (map (λ input. input.id) inputs) → IsDistinct (eq_by_cmp key_cmp) (filter_map bound_in inputs)
+bindings_distinct : (inputs : List (List ℕ × ToolInput)) → IsDistinct bytes_eq (keys_of inputs) → IsDistinct (eq_by_cmp key_cmp) (filter_map bound_in inputs)
 unfolding IsDistinct
 bindings_distinct [] distinct = tt
 bindings_distinct (input ∷ rest) distinct =
-    let ids = map (λ (i : ToolInput). i.id) rest in
-    let others : IsDistinct (eq_by_cmp key_cmp) (filter_map bound_in rest) = bindings_distinct rest (IsDistinct-tail bytes_eq input.id ids distinct) in
-    elim input.binding as (λ o. IsDistinct (eq_by_cmp key_cmp) (cons_option (option_map (bound_by input.id) o) (filter_map bound_in rest))) [
+    let ids = keys_of rest in
+    let others : IsDistinct (eq_by_cmp key_cmp) (filter_map bound_in rest) = bindings_distinct rest (IsDistinct-tail bytes_eq input.0 ids distinct) in
+    elim input.1.binding as (λ o. IsDistinct (eq_by_cmp key_cmp) (cons_option (option_map (bound_by input.0) o) (filter_map bound_in rest))) [
       | None ↦ others
-      | Some binding ↦ IsDistinct-cons (eq_by_cmp key_cmp) (bound_by input.id binding) (filter_map bound_in rest) (apart_from (bound_by input.id binding) rest (IsDistinct-head bytes_eq input.id ids distinct)) others
+      | Some binding ↦ IsDistinct-cons (eq_by_cmp key_cmp) (bound_by input.0 binding) (filter_map bound_in rest) (apart_from (bound_by input.0 binding) rest (IsDistinct-head bytes_eq input.0 ids distinct)) others
     ]
 
 -- a tool's bindings in another order, whose keys do not fall, are in order
-pub in_order_from_sort : (tool : Tool) (bound : List Bound) → IsDistinct bytes_eq (map (λ input. input.id) tool.inputs) → IsPermutation (bindings_of tool) bound → IsSortedBy (λ a b. is_lt (key_cmp a b)) bound → AreInOrder tool bound
+pub in_order_from_sort : (tool : Tool) (bound : List Bound) → IsDistinct bytes_eq (keys_of tool.inputs) → IsPermutation (bindings_of tool) bound → IsSortedBy (λ a b. is_lt (key_cmp a b)) bound → AreInOrder tool bound
 in_order_from_sort tool bound distinct moved sorted = record {
   rising = rising_from_sorted key_total bound sorted
       (IsDistinct-IsPermutation (eq_by_cmp key_cmp) (eq_by_cmp_flips key_total) (bindings_of tool) bound moved (bindings_distinct tool.inputs distinct));

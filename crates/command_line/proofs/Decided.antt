@@ -1,9 +1,10 @@
 -- Each tool has a launch, or a cause of refusal holds.
-use Rattle.std.proofs.Common.{◌≡◌, ◌≢◌, ℕ, ◌&&◌, Bool, true, false, List, [], ◌∷◌, ◌++◌, map, Option, Some, None, IsSome, IfSome, Contains, unwrap_or, refl, sym, ap, subst, ◌∙◌, ◌⊎◌, inl, inr, bytes_eq, Ordering, Less, Equal, Greater, arith}
+use Rattle.std.proofs.Common.{◌≡◌, ◌≢◌, ℕ, ◌&&◌, Bool, true, false, List, [], ◌∷◌, ◌++◌, Option, Some, None, IsSome, IfSome, Contains, unwrap_or, refl, sym, ap, subst, ◌∙◌, ◌⊎◌, inl, inr, bytes_eq, Ordering, Less, Equal, Greater, arith}
 use Rattle.std.specs.Prelude.{◌↔◌, All}
 use Rattle.std.specs.Cmp.{IsTotalOrder}
 use Rattle.std.specs.List.{AllByRecursion, AllPass, IsDistinct, cons_option, filter_map, flat_map, list_all}
 use Rattle.std.specs.List.Sorted.{IsStrictlySortedBy}
+use Rattle.std.specs.Map.{keys_of}
 use Rattle.std.specs.Option.{option_map}
 use Rattle.std.specs.Ordering.{eq_by_cmp, is_eq, ordering_reverse}
 use Rattle.std.proofs.lemmas.List.Elements.{All-from_recursion, All-contains}
@@ -11,8 +12,8 @@ use Rattle.std.proofs.lemmas.List.Folds.{list_all-append}
 use Rattle.std.proofs.lemmas.List.Sums.{AllPass-from_list_all}
 use Rattle.std.proofs.lemmas.Map.Keys.{IsDistinct-head, IsDistinct-tail, sorted_head, sorted_tail}
 use Rattle.cwl_value.specs.declared.value.Value.{Value}
-use Rattle.cwl_document.specs.declared.process.Tool.{Tool}
-use Rattle.cwl_document.specs.declared.process.ToolInput.{ToolInput}
+use Rattle.cwl_process.specs.declared.tool.Tool.{Tool}
+use Rattle.cwl_process.specs.declared.tool.ToolInput.{ToolInput}
 use Rattle.command_line.specs.declared.fault.BuildFault.{BuildFault}
 use Rattle.command_line.specs.declared.fault.LaunchText.{LaunchText}
 use Rattle.command_line.specs.declared.launch.Launch.{Launch}
@@ -130,14 +131,14 @@ one_more b bindings apart others =
       );
     }
 
-ordered : (inputs : List ToolInput) → IsDistinct bytes_eq (map (λ input. input.id) inputs) → Ordered (filter_map bound_in inputs)
+ordered : (inputs : List (List ℕ × ToolInput)) → IsDistinct bytes_eq (keys_of inputs) → Ordered (filter_map bound_in inputs)
 ordered [] distinct = no_bindings
 ordered (input ∷ rest) distinct =
-    let ids = map (λ (i : ToolInput). i.id) rest in
-    let others : Ordered (filter_map bound_in rest) = ordered rest (IsDistinct-tail bytes_eq input.id ids distinct) in
-    elim input.binding as (λ o. Ordered (cons_option (option_map (bound_by input.id) o) (filter_map bound_in rest))) [
+    let ids = keys_of rest in
+    let others : Ordered (filter_map bound_in rest) = ordered rest (IsDistinct-tail bytes_eq input.0 ids distinct) in
+    elim input.1.binding as (λ o. Ordered (cons_option (option_map (bound_by input.0) o) (filter_map bound_in rest))) [
       | None ↦ others
-      | Some binding ↦ one_more (bound_by input.id binding) (filter_map bound_in rest) (apart_from (bound_by input.id binding) rest (IsDistinct-head bytes_eq input.id ids distinct)) others
+      | Some binding ↦ one_more (bound_by input.0 binding) (filter_map bound_in rest) (apart_from (bound_by input.0 binding) rest (IsDistinct-head bytes_eq input.0 ids distinct)) others
     ]
 
 -- A launch, where all its texts are plain, and else the cause
@@ -252,5 +253,5 @@ module _ (tool : Tool) (inputs : List (List ℕ × Value)) (runtime : Runtime) w
           inr (BuildFault.NotText LaunchText.BaseCommand, IsRefused.in_base_command found.0 found.1 found.2)
     ]
 
-  pub launch_or_refusal : IsDistinct bytes_eq (map (λ input. input.id) tool.inputs) → LaunchOrRefusal
+  pub launch_or_refusal : IsDistinct bytes_eq (keys_of tool.inputs) → LaunchOrRefusal
   launch_or_refusal distinct = by_base (ordered tool.inputs distinct)

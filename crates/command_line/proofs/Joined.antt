@@ -5,7 +5,7 @@ use Rattle.std.proofs.lemmas.List.{flat_map_more, take_more}
 use Rattle.std.proofs.lemmas.List.Elements.{All-more, All-map}
 use Rattle.std.proofs.lemmas.List.Folds.{flat_map-map}
 use Rattle.cwl_value.specs.declared.value.Value.{Value}
-use Rattle.cwl_document.specs.declared.process.Tool.{Tool}
+use Rattle.cwl_process.specs.declared.tool.Tool.{Tool}
 use Rattle.command_line.specs.declared.order.BoundInput.{BoundInput}
 use Rattle.command_line.specs.Order.{AreInOrder}
 use Rattle.command_line.specs.inner.View.{bound_of}

@@ -1,5 +1,5 @@
 -- The definitions, computed on the worked rows.
-use Rattle.std.proofs.Common.{◌≡◌, ℕ, pos, negsuc, true, false, List, [], ◌∷◌, Some, None, refl, codes}
+use Rattle.std.proofs.Common.{◌≡◌, ℕ, ℤ, pos, negsuc, Bool, true, false, List, [], ◌∷◌, Option, Some, None, refl, codes}
 use Rattle.std.specs.Fmt.{digits}
 use Rattle.std.proofs.lemmas.List.Elements.{All-cons, All-nil}
 use Rattle.std.proofs.lemmas.List.Sums.{AllPass-from_list_all}
@@ -7,9 +7,14 @@ use Rattle.std.specs.List.Sorted.{IsStrictlySortedBy}
 use Rattle.std.specs.Option.{IsSome}
 use Rattle.cwl_value.specs.declared.value.Value.{Value, roll-Value, out-roll-Value}
 use Rattle.cwl_value.specs.declared.value.Value.TheOpen.{Value-F}
-use Rattle.cwl_document.specs.declared.process.CwlType.{CwlType}
-use Rattle.cwl_document.specs.declared.process.OutputSource.{OutputSource}
-use Rattle.cwl_document.specs.declared.process.Tool.{Tool}
+use Rattle.cwl_types.specs.declared.types.MemberType as member
+use Rattle.cwl_types.specs.declared.types.PlainType.{PlainType}
+use Rattle.cwl_process.specs.Acting.{nothing_asked}
+use Rattle.cwl_process.specs.declared.tool.InputType.{InputType}
+use Rattle.cwl_process.specs.declared.tool.OutputType.{OutputType}
+use Rattle.cwl_process.specs.declared.tool.Tool.{Tool}
+use Rattle.cwl_process.specs.declared.tool.ToolInput.{ToolInput}
+use Rattle.cwl_process.specs.declared.tool.ToolOutput.{ToolOutput}
 use Rattle.command_line.specs.declared.fault.BuildFault.TheVariants.{NotText, EmptyCommand}
 use Rattle.command_line.specs.declared.fault.LaunchText.{LaunchText}
 use Rattle.command_line.specs.declared.launch.Launch.{Launch}
@@ -29,14 +34,33 @@ none_rises = tt
 
 -- Row `hello`: `printf` of a text into `out.txt`.
 
-abbrev pub hello : Tool
-hello = record {
-  base_command = codes "printf" ∷ [];
-  inputs = record { id = codes "t"; kind = CwlType.Text; binding = Some (record { position = pos 1; prefix = None; separate = true }) } ∷ [];
-  outputs = record { id = codes "out"; source = OutputSource.Stdout } ∷ [];
-  stdout = Some (codes "out.txt");
-  written = codes "{}";
+-- a tool that asks for nothing else
+abbrev pub a_tool : List (List ℕ) → List (List ℕ × ToolInput) → List (List ℕ × ToolOutput) → Option (List ℕ) → Tool
+a_tool words inputs outputs stdout = record {
+  base_command = words;
+  arguments = [];
+  inputs = inputs;
+  outputs = outputs;
+  streams = record { stdin = None; stdout = stdout; stderr = None };
+  exit_codes = record { success = []; temporary = []; permanent = [] };
+  asked = nothing_asked;
 }
+
+-- an input of a type by its name, with a binding
+abbrev pub bound_to : PlainType → ℤ → Option (List ℕ) → Bool → ToolInput
+bound_to kind position prefix separate = record {
+  kind = InputType.Members (member.Plain kind ∷ []);
+  default = None;
+  binding = Some (record { position = position; prefix = prefix; separate = separate; item_separator = None; value_from = None });
+  load_contents = false;
+  secondary_files = [];
+}
+
+abbrev pub of_stdout : ToolOutput
+of_stdout = record { kind = OutputType.Stdout; binding = None; secondary_files = [] }
+
+abbrev pub hello : Tool
+hello = a_tool (codes "printf" ∷ []) ((codes "t", bound_to PlainType.Text (pos 1) None true) ∷ []) ((codes "out", of_stdout) ∷ []) (Some (codes "out.txt"))
 
 abbrev pub abc : List (List ℕ × Value)
 abc = (codes "t", roll-Value (Value-F.Text (codes "abc"))) ∷ []
@@ -90,14 +114,14 @@ launch_of_hello = record {
 
 -- `hello` with a stream in a folder: a stream name has no slash, else B3
 abbrev pub into_a_folder : Tool
-into_a_folder = record hello { stdout = Some (codes "a/b") }
+into_a_folder = a_tool hello.base_command hello.inputs hello.outputs (Some (codes "a/b"))
 
 pub a_stream_name_has_no_slash : IsRefused into_a_folder abc folders (NotText LaunchText.Stdout)
 a_stream_name_has_no_slash = IsRefused.in_stdout (codes "a/b") refl refl
 
 -- no base command and nothing else is B4 (row `same-position`)
 abbrev pub nothing : Tool
-nothing = record { base_command = []; inputs = []; outputs = []; stdout = None; written = codes "{}" }
+nothing = a_tool [] [] [] None
 
 pub an_empty_command_is_refused : IsRefused nothing [] folders EmptyCommand
 an_empty_command_is_refused = IsRefused.no_word (record {
@@ -110,13 +134,7 @@ an_empty_command_is_refused = IsRefused.no_word (record {
 -- Row `echo`: a number after its prefix, in one word.
 
 abbrev pub echo : Tool
-echo = record {
-  base_command = codes "echo" ∷ [];
-  inputs = record { id = codes "n"; kind = CwlType.Int; binding = Some (record { position = pos 0; prefix = Some (codes "-n"); separate = false }) } ∷ [];
-  outputs = [];
-  stdout = None;
-  written = codes "{}";
-}
+echo = a_tool (codes "echo" ∷ []) ((codes "n", bound_to PlainType.Int (pos 0) (Some (codes "-n")) false) ∷ []) [] None
 
 abbrev pub below_zero : List (List ℕ × Value)
 below_zero = (codes "n", roll-Value (Value-F.Whole (negsuc 6))) ∷ []

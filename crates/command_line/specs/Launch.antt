@@ -3,9 +3,9 @@
 use Rattle.std.specs.Prelude.{◌≡◌, ◌≢◌, ℕ, Bool, true, false, not, ◌==◌, ◌&&◌, List, [], ◌∷◌, Option, Some, None, IfSome, Contains, codes, unwrap_or, length}
 use Rattle.std.specs.List.{AllPass, list_any, list_all}
 use Rattle.cwl_value.specs.declared.value.Value.{Value}
-use Rattle.cwl_document.specs.declared.process.Tool.{Tool}
-use Rattle.cwl_document.specs.declared.process.OutputSource.{OutputSource}
-use Rattle.cwl_document.specs.declared.process.OutputSource.TheVariants as source
+use Rattle.cwl_process.specs.declared.tool.Tool.{Tool}
+use Rattle.cwl_process.specs.declared.tool.OutputType.{OutputType}
+use Rattle.cwl_process.specs.declared.tool.OutputType.TheVariants as output_type
 use Rattle.command_line.specs.declared.fault.BuildFault.{BuildFault}
 use Rattle.command_line.specs.declared.fault.BuildFault.TheVariants.{NotText, EmptyCommand}
 use Rattle.command_line.specs.declared.fault.LaunchText.TheVariants.{BaseCommand, Input, Stdout, EnvVariable}
@@ -19,13 +19,15 @@ use Rattle.command_line.specs.Words.{words_of, AreWords, is_plain}
 
 -- The file that an output of type `stdout` collects. The standard leaves the name open where the tool gives none.
 abbrev pub stream_name : Tool → List ℕ
-stream_name tool = unwrap_or tool.stdout (codes "cwl.stdout")
+stream_name tool = unwrap_or tool.streams.stdout (codes "cwl.stdout")
 
-abbrev pub is_stdout : OutputSource → Bool
-is_stdout source.Stdout = true
+abbrev pub is_stdout : OutputType → Bool
+is_stdout output_type.Stdout = true
+is_stdout output_type.Stderr = false
+is_stdout (output_type.Members kinds) = false
 
 abbrev pub collects_stdout : Tool → Bool
-collects_stdout tool = list_any (λ output. is_stdout output.source) tool.outputs
+collects_stdout tool = list_any (λ output. is_stdout output.1.kind) tool.outputs
 
 -- Standard output goes to a file where the tool names it or an output collects it, and else nowhere.
 abbrev pub stream_of : Option (List ℕ) → Bool → Option (List ℕ)
@@ -34,7 +36,7 @@ stream_of None true = Some (codes "cwl.stdout")
 stream_of None false = None
 
 abbrev pub stdout_of : Tool → Option (List ℕ)
-stdout_of tool = stream_of tool.stdout (collects_stdout tool)
+stdout_of tool = stream_of tool.streams.stdout (collects_stdout tool)
 
 -- the name of a file right in the output folder: not empty, without `/`
 abbrev pub is_file_name : List ℕ → Bool

@@ -1,8 +1,9 @@
 -- What the definitions of this crate settle.
-use Rattle.std.specs.Prelude.{◌≡◌, ◌⊎◌, ℕ, List, map, bytes_eq}
+use Rattle.std.specs.Prelude.{◌≡◌, ◌⊎◌, ℕ, List, bytes_eq}
 use Rattle.std.specs.List.{IsDistinct}
+use Rattle.std.specs.Map.{keys_of}
 use Rattle.cwl_value.specs.declared.value.Value.{Value}
-use Rattle.cwl_document.specs.declared.process.Tool.{Tool}
+use Rattle.cwl_process.specs.declared.tool.Tool.{Tool}
 use Rattle.command_line.specs.declared.fault.BuildFault.{BuildFault}
 use Rattle.command_line.specs.declared.launch.Launch.{Launch}
 use Rattle.command_line.specs.declared.runtime.Runtime.{Runtime}
@@ -23,5 +24,5 @@ LaunchExcludesRefusal = (tool : Tool) (inputs : List (List ℕ × Value)) (runti
 
 -- and one or the other, where no two inputs have one id
 abbrev pub LaunchOrRefusal : Type 0
-LaunchOrRefusal = (tool : Tool) (inputs : List (List ℕ × Value)) (runtime : Runtime) → IsDistinct bytes_eq (map (λ input. input.id) tool.inputs)
+LaunchOrRefusal = (tool : Tool) (inputs : List (List ℕ × Value)) (runtime : Runtime) → IsDistinct bytes_eq (keys_of tool.inputs)
     → ((launch : Launch) × IsLaunch tool inputs runtime launch) ⊎ ((fault : BuildFault) × IsRefused tool inputs runtime fault)

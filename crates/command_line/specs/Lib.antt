@@ -2,5 +2,6 @@ pub mod Fault
 pub mod Launch
 pub mod Laws
 pub mod Order
+pub mod Plain
 pub mod Words
 pub mod inner

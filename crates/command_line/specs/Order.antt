@@ -6,9 +6,9 @@ use Rattle.std.specs.List.Sorted.{IsStrictlySortedBy}
 use Rattle.std.specs.Ordering.{int_cmp, on, then_cmp}
 use Rattle.std.specs.declared.cmp.Ordering.{Ordering}
 use Rattle.plain_data.specs.ByName.{name_cmp}
-use Rattle.cwl_document.specs.declared.process.Binding.{Binding}
-use Rattle.cwl_document.specs.declared.process.ToolInput.{ToolInput}
-use Rattle.cwl_document.specs.declared.process.Tool.{Tool}
+use Rattle.cwl_process.specs.declared.tool.Binding.{Binding}
+use Rattle.cwl_process.specs.declared.tool.ToolInput.{ToolInput}
+use Rattle.cwl_process.specs.declared.tool.Tool.{Tool}
 
 -- An input that adds to the command: its binding and its id.
 pub record Bound : Type 0 where
@@ -21,8 +21,8 @@ abbrev pub bound_by : List ℕ → Binding → Bound
 bound_by id binding = record { position = binding.position; id = id; prefix = binding.prefix; separate = binding.separate }
 
 -- an input without a binding adds nothing
-abbrev pub bound_in : ToolInput → Option Bound
-bound_in input = option_map (bound_by input.id) input.binding
+abbrev pub bound_in : List ℕ × ToolInput → Option Bound
+bound_in input = option_map (bound_by input.0) input.1.binding
 
 -- the inputs with a binding
 abbrev pub bindings_of : Tool → List Bound

@@ -8,7 +8,7 @@ use Rattle.cwl_value.specs.declared.value.DirVal.{DirVal}
 use Rattle.cwl_value.specs.declared.value.FileVal.{FileVal}
 use Rattle.cwl_value.specs.declared.value.Value.{Value, out-Value}
 use Rattle.cwl_value.specs.declared.value.Value.TheOpen.{Value-F}
-use Rattle.cwl_document.specs.declared.process.Tool.{Tool}
+use Rattle.cwl_process.specs.declared.tool.Tool.{Tool}
 use Rattle.command_line.specs.Order.{Bound, AreInOrder}
 
 -- a text after its prefix: two words where they are separate, and else one

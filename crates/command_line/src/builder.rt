@@ -1,11 +1,12 @@
 ghost use Rattle.std.specs.Prelude.{IfOk, IfErr};
 ghost use Rattle.command_line.specs.Launch.{IsLaunch, IsError};
+ghost use Rattle.command_line.specs.Plain.{IsPlainTool};
 
 use crate::environment::environment;
 use crate::stream::stdout_file;
 use crate::words::words;
 use crate::{BuildError, BuildFault, Launch, Runtime};
-use cwl_document::Tool;
+use cwl_process::Tool;
 use cwl_value::Value;
 use plain_data::Keyed;
 use std::alloc::Global;
@@ -21,6 +22,7 @@ pub fn build(
     inputs: &Keyed<Value>,
     runtime: &Runtime,
 ) -> Result<Launch, BuildError>
+    requires { IsPlainTool tool.now }
     ensures launch { IfOk result (IsLaunch tool.now inputs.now runtime.now) }
     ensures refused { IfErr result (IsError tool.now inputs.now runtime.now) }
 {

@@ -14,6 +14,7 @@ mod launch;
 mod laws;
 mod order;
 mod plain;
+mod plain_tool;
 mod runtime;
 mod stream;
 mod words;
@@ -25,5 +26,6 @@ pub use laws::{
     every_tool_has_a_launch_or_is_refused, launch_excludes_refusal, launch_is_settled,
     words_are_settled,
 };
+pub use plain_tool::is_plain_tool;
 pub use runtime::Runtime;
 pub use stream::stdout_name;

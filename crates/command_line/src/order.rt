@@ -3,7 +3,7 @@ ghost use Rattle.std.specs.List.{filter_map};
 ghost use Rattle.command_line.specs.Order.{AreInOrder, bound_in};
 ghost use Rattle.command_line.specs.inner.View.{bound_of};
 
-use cwl_document::{Tool, ToolInput};
+use cwl_process::{Tool, ToolInput};
 use plain_data::Text;
 use std::alloc::{AllocError, Global};
 
@@ -32,15 +32,15 @@ pub(crate) fn in_order(alloc: Global, tool: &Tool) -> Result<Vec<BoundInput<'_>>
 }
 
 /// The inputs that have a binding, as listed.
-fn as_listed(alloc: Global, inputs: &[ToolInput]) -> Result<Vec<BoundInput<'_>>, AllocError>
+fn as_listed(alloc: Global, inputs: &[(Text, ToolInput)]) -> Result<Vec<BoundInput<'_>>, AllocError>
     ensures { IfOk result (λ rows. map bound_of rows.items ≡ filter_map bound_in inputs.now) }
 {
     let mut rows = Vec::new(alloc);
     for input in inputs {
-        if let Some(binding) = &input.binding {
+        if let Some(binding) = &input.1.binding {
             let key = Key {
                 position: binding.position,
-                name: input.id.as_str(),
+                name: input.0.as_str(),
             };
             rows.push(BoundInput {
                 key,

@@ -4,7 +4,7 @@ ghost use Rattle.command_line.specs.inner.Steps.{StreamError};
 
 use crate::plain::is_plain;
 use crate::{BuildError, BuildFault, LaunchText};
-use cwl_document::{OutputSource, Tool};
+use cwl_process::{OutputType, Tool};
 use plain_data::Text;
 use std::alloc::Global;
 
@@ -13,7 +13,7 @@ use std::alloc::Global;
 pub fn stdout_name(tool: &Tool) -> &str
     ensures { result.now ≡ stream_name tool.now }
 {
-    match &tool.stdout {
+    match &tool.streams.stdout {
         Some(name) => name.as_str(),
         None => "cwl.stdout",
     }
@@ -25,7 +25,7 @@ pub(crate) fn stdout_file(alloc: Global, tool: &Tool) -> Result<Option<Text>, Bu
     ensures name { IfOk result (λ file. IfSome file (λ name. is_file_name name ≡ true)) }
     ensures refused { IfErr result (StreamError tool.now) }
 {
-    if tool.stdout.is_none() && !collects_stdout(tool) {
+    if tool.streams.stdout.is_none() && !collects_stdout(tool) {
         return Ok(None);
     }
     let name = stdout_name(tool);
@@ -42,7 +42,7 @@ fn collects_stdout(tool: &Tool) -> bool
     tool.outputs
         .as_slice()
         .iter()
-        .any(|output| matches!(output.source, OutputSource::Stdout))
+        .any(|output| matches!(output.1.kind, OutputType::Stdout))
 }
 
 /// Whether the text names a file right in a folder.

@@ -11,7 +11,7 @@ ghost use Rattle.command_line.specs.declared.runtime.Runtime.{Runtime};
 use crate::order::{BoundInput, in_order};
 use crate::plain::{all_plain, not_text_in_input};
 use crate::{BuildError, BuildFault, LaunchText};
-use cwl_document::Tool;
+use cwl_process::Tool;
 use cwl_value::Value;
 use plain_data::{Items, Keyed, Text};
 use std::alloc::{AllocError, Global};

@@ -7,7 +7,7 @@ use Rattle.command_line.specs.declared.fault.LaunchText.TheVariants.{Input, Stdo
 use Rattle.command_line.specs.declared.fault.BuildError.{BuildError}
 use Rattle.command_line.specs.declared.fault.BuildError.TheVariants.{Refused, OutOfMemory}
 use Rattle.command_line.specs.declared.launch.Variable.{Variable}
-use Rattle.cwl_document.specs.declared.process.Tool.{Tool}
+use Rattle.cwl_process.specs.declared.tool.Tool.{Tool}
 use Rattle.command_line.specs.Launch.{are_plain_words, is_file_name, stdout_of}
 use Rattle.command_line.specs.Order.{Bound}
 use Rattle.command_line.specs.Words.{is_plain, words_of}
