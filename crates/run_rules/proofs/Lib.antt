@@ -5,6 +5,7 @@ pub mod TranscriptTells
 pub mod SuccessCollects
 pub mod OneJob
 pub mod NothingFollows
+pub mod Scenes
 pub mod Few
 pub mod RootPlace
 pub mod RightEnds

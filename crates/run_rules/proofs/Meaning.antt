@@ -1,7 +1,7 @@
 -- What the ends of a lone tool say of computing it.
 use Rattle.std.proofs.Common.{◌≡◌, [], Some, None, Ok, Err, option_map, refl, ap}
 use Rattle.cwl_value.specs.Erased.{fields_erased}
-use Rattle.cwl_document.specs.declared.process.Tool.{Tool}
+use Rattle.cwl_process.specs.declared.tool.Tool.{Tool}
 use Rattle.run_rules.specs.declared.outcome.Cause.{Cause}
 use Rattle.run_rules.specs.Words.{Fields}
 use Rattle.run_rules.specs.Key.{key}

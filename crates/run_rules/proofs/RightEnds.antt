@@ -3,14 +3,15 @@ use Rattle.std.specs.Prelude.{◌&&◌, nat_lt, is_some}
 use Rattle.std.specs.List.{list_any}
 use Rattle.std.proofs.Common.{◌≡◌, ◌∙◌, ◌⊎◌, inl, inr, ◌==◌, Bool, true, false, cond, List, [], ◌∷◌, ◌++◌, length, filter, find, reverse, Option, Some, None, Result, Ok, Err, option_map, refl, sym, ap, subst}
 use Rattle.cwl_value.specs.Erased.{fields_erased}
-use Rattle.cwl_document.specs.declared.process.Tool.{Tool}
+use Rattle.cwl_process.specs.declared.tool.Tool.{Tool}
+use Rattle.cwl_process.specs.declared.workflow.Workflow.{Workflow}
 use Rattle.run_rules.specs.declared.outcome.Cause.{Cause}
 use Rattle.run_rules.specs.declared.request.Pair.{Pair}
 use Rattle.run_rules.specs.declared.setting.Options.{Options}
 use Rattle.run_rules.specs.declared.setting.Setting.{Setting}
 use Rattle.run_rules.specs.Words.{Fields, JobPlace, is_same_place}
 use Rattle.run_rules.specs.Inputs.{inputs_for}
-use Rattle.run_rules.specs.Jobs.{Walker, tool_walk, result, all_named, outs_of, output_names, tool_of}
+use Rattle.run_rules.specs.Jobs.{tool_walk, result, all_named, outs_of, output_names}
 use Rattle.run_rules.specs.Made.{fields_made}
 use Rattle.run_rules.specs.Unfold.{Resolved, or_else}
 use Rattle.run_rules.specs.Key.{key}
@@ -24,8 +25,9 @@ use Rattle.run_rules.specs.Plans.{LoadsHeld}
 use Rattle.run_rules.specs.Honest.{AgreesAt, AgreesFrom, IsHonest, Means}
 use Rattle.run_rules.specs.Run.{Goes, IsRun}
 use Rattle.run_rules.proofs.Few.{no_fault}
-use Rattle.run_rules.proofs.Lone.{lone, walker_tool}
+use Rattle.run_rules.proofs.Lone.{lone}
 use Rattle.run_rules.proofs.Meaning.{fails, gives, misfit_fails}
+use Rattle.run_rules.proofs.Scenes.{scene_by, unknown, by_process, never_settled, stays_first}
 use Rattle.run_rules.proofs.RootPlace.{EventAtRoot, AllAtRoot, its_job, job_at_root, goes_at_root}
 use Rattle.run_rules.proofs.SuccessCollects.{success_is_result, failure_settles}
 
@@ -68,7 +70,7 @@ module _ (tool : Tool) (inputs : Fields) (options : Options) (world : World) whe
   breaks_rightly es (child_signalled at) place cause root agrees is =
       absurd (now_is_not_for_good (nat_lt (length (filter (gives_up at) es)) options.retries) at place cause is)
   breaks_rightly es (job_staged at number) place cause root agrees is = absurd cc
-  breaks_rightly es (job_started at ticket) place cause root agrees is = absurd cc
+  breaks_rightly es (job_started at launch ticket) place cause root agrees is = absurd cc
   breaks_rightly es (child_exited ticket) place cause root agrees is = absurd cc
   breaks_rightly es (job_succeeded at outputs) place cause root agrees is = absurd cc
   breaks_rightly es result_delivered place cause root agrees is = absurd cc
@@ -105,7 +107,7 @@ module _ (tool : Tool) (inputs : Fields) (options : Options) (world : World) whe
       agrees.0 (its_job tool inputs options) (job_at_root tool inputs options es) ∙ ap (λ (x : Resolved). Some x.outputs) same
   collects_rightly es (job_succeeded (segment ∷ rest) outputs ∷ later) r agrees is = collects_rightly (es ++ job_succeeded (segment ∷ rest) outputs ∷ []) later r agrees.1 is
   collects_rightly es (job_staged place number ∷ later) r agrees is = collects_rightly (es ++ job_staged place number ∷ []) later r agrees.1 is
-  collects_rightly es (job_started place ticket ∷ later) r agrees is = collects_rightly (es ++ job_started place ticket ∷ []) later r agrees.1 is
+  collects_rightly es (job_started place launch ticket ∷ later) r agrees is = collects_rightly (es ++ job_started place launch ticket ∷ []) later r agrees.1 is
   collects_rightly es (child_exited ticket ∷ later) r agrees is = collects_rightly (es ++ child_exited ticket ∷ []) later r agrees.1 is
   collects_rightly es (job_failed place cause ∷ later) r agrees is = collects_rightly (es ++ job_failed place cause ∷ []) later r agrees.1 is
   collects_rightly es (child_signalled place ∷ later) r agrees is = collects_rightly (es ++ child_signalled place ∷ []) later r agrees.1 is
@@ -129,10 +131,7 @@ module _ (tool : Tool) (inputs : Fields) (options : Options) (world : World) whe
       eval_by world s.walker ≡ Some (fields_erased outputs)
   succeeds_rightly es outputs agrees is = by_resolved es outputs (find is_root (resolved es)) refl agrees is
 
--- A lone tool, whether its inputs are of their types or not
-
-abbrev scene_by : Tool → Options → Result Fields Cause → Scene
-scene_by tool options inputs = record { walker = tool_walk tool [] inputs; options = options }
+-- A tool, whether its inputs are of their types or not
 
 means_rightly : (tool : Tool) (options : Options) (inputs : Result Fields Cause) (Plans : Progress → List Mark → Type 0) (t : List Pair) (f : Progress)
     (marks : List Mark) (end : End) (world : World) → Goes (scene_by tool options inputs) Plans t f marks →
@@ -150,15 +149,28 @@ means_rightly tool options inputs Plans t f marks (fails_temporarily place) worl
 means_rightly tool options inputs Plans t f marks beyond_limits world goes ends agrees = tt
 means_rightly tool options inputs Plans t f marks (ended_by_host fault running) world goes ends agrees = tt
 
+-- A workflow, of which nothing is known
+
+unknown_rightly : (workflow : Workflow) (options : Options) (Plans : Progress → List Mark → Type 0) (t : List Pair) (f : Progress)
+    (marks : List Mark) (end : End) (world : World) → Goes (unknown workflow options) Plans t f marks →
+    EndsSo (unknown workflow options) f marks end → MeansBy (unknown workflow options) world end
+unknown_rightly workflow options Plans t f marks (succeeds_with outputs) world goes ends =
+    ap (option_map fields_erased) (success_is_result (unknown workflow options) outputs ends)
+unknown_rightly workflow options Plans t f marks (fails_permanently place cause) world goes ends =
+    absurd (never_settled workflow options f (fails_permanently place cause) (stays_first workflow options goes)
+    (failure_settles (unknown workflow options) place cause ends))
+unknown_rightly workflow options Plans t f marks (fails_temporarily place) world goes ends = tt
+unknown_rightly workflow options Plans t f marks beyond_limits world goes ends = tt
+unknown_rightly workflow options Plans t f marks (ended_by_host fault running) world goes ends = tt
+
 pub ends_rightly : (setting : Setting) (t : List Pair) (end : End) (run : IsRun setting t end) (world : World) →
     IsHonest setting world run.happened.events → Means setting world end
 ends_rightly setting t end run world honest =
-    let its_inputs : Result Fields Cause = inputs_for (tool_of setting.process).inputs setting.inputs in
-    let its_scene : Scene = scene_by (tool_of setting.process) setting.options its_inputs in
-    let same : scene_of setting ≡ its_scene =
-    ap (λ (w : Walker). let s : Scene = record { walker = w; options = setting.options } in s) (walker_tool setting.process setting.inputs) in
-    means_of setting world end (subst (λ (x : Scene). MeansBy x world end) (sym same)
-    (means_rightly (tool_of setting.process) setting.options its_inputs (LoadsHeld (scene_of setting)) t run.happened run.marks end world
-    (subst (λ (x : Scene). Goes x (LoadsHeld (scene_of setting)) t run.happened run.marks) same run.goes)
-    (subst (λ (x : Scene). EndsSo x run.happened run.marks end) same run.ended)
-    (subst (λ (x : Scene). AgreesFrom x world [] run.happened.events) same honest)))
+    let f : Progress = run.happened in
+    let marks : List Mark = run.marks in
+    means_of setting world end
+    (by_process setting (λ (x : Scene). Goes x (LoadsHeld x) t f marks → EndsSo x f marks end → AgreesFrom x world [] f.events → MeansBy x world end)
+    (λ tool goes ends agrees. let its_inputs : Result Fields Cause = inputs_for tool.inputs setting.inputs in
+        means_rightly tool setting.options its_inputs (LoadsHeld (scene_by tool setting.options its_inputs)) t f marks end world goes ends agrees)
+    (λ workflow goes ends agrees. unknown_rightly workflow setting.options (LoadsHeld (unknown workflow setting.options)) t f marks end world goes ends)
+    run.goes run.ended honest)

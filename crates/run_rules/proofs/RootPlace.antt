@@ -4,7 +4,7 @@ use Rattle.std.specs.List.{All}
 use Rattle.std.proofs.Common.{◌≡◌, ◌∙◌, ℕ, ◌==◌, not, List, [], ◌∷◌, ◌++◌, find, fold, reverse, Some, None, refl, sym, ap}
 use Rattle.std.proofs.lemmas.List.Elements.{All-nil, All-push, All-filter, All-contains}
 use Rattle.command_line.specs.declared.launch.Launch.{Launch}
-use Rattle.cwl_document.specs.declared.process.Tool.{Tool}
+use Rattle.cwl_process.specs.declared.tool.Tool.{Tool}
 use Rattle.proc_host.specs.declared.call.HostRequest.{HostRequest}
 use Rattle.run_rules.specs.declared.request.Request.{Request}
 use Rattle.run_rules.specs.declared.request.Pair.{Pair}
@@ -23,7 +23,7 @@ use Rattle.run_rules.proofs.Lone.{lone}
 use Rattle.run_rules.proofs.OneJob.{one_job}
 
 abbrev pub EventAtRoot : Event → Type 0
-EventAtRoot (job_started place ticket) = place ≡ []
+EventAtRoot (job_started place launch ticket) = place ≡ []
 EventAtRoot (job_failed place cause) = place ≡ []
 EventAtRoot _ = Unit {0}
 
@@ -59,7 +59,7 @@ abbrev FlightAtRoot : Flight → Type 0
 FlightAtRoot flight = flight.1 ≡ []
 
 flight_at_root : (flying : List Flight) (e : Event) → All FlightAtRoot flying → EventAtRoot e → All FlightAtRoot (flight_after flying e)
-flight_at_root flying (job_started place ticket) roots root = All-push FlightAtRoot flying (ticket, place) roots root
+flight_at_root flying (job_started place launch ticket) roots root = All-push FlightAtRoot flying (ticket, place) roots root
 flight_at_root flying (child_exited ticket) roots root = All-filter (λ (f : Flight). not (f.0 == ticket)) FlightAtRoot flying roots
 flight_at_root flying (job_staged place number) roots root = roots
 flight_at_root flying (job_succeeded place outputs) roots root = roots
@@ -107,8 +107,8 @@ module _ (tool : Tool) (inputs : Fields) (options : Options) where
     step_at_root may (exits_well place e there class) = (flight_place f.events place e.ticket roots.events there, (tt, tt))
     step_at_root may (exits_by_signal place e there class) = (tt, (tt, (tt, tt)))
     step_at_root may (exits_badly place e there class) = (tt, (tt, (flight_place f.events place e.ticket roots.events there, tt)))
-    step_at_root may (collects place folder found job outputs known is) = (tt, (tt, tt))
-    step_at_root may (collects_none place folder found job cause known is) = (tt, (place_of_job f.events place job known, tt))
+    step_at_root may (collects place folder found job launch outputs known started is) = (tt, (tt, tt))
+    step_at_root may (collects_none place folder found job launch cause known started is) = (tt, (place_of_job f.events place job known, tt))
     step_at_root may (delivers place plan) = (tt, (tt, tt))
     step_at_root may loses_collect = (tt, (tt, tt))
     step_at_root may (call_fails place request other) = (tt, (tt, tt))

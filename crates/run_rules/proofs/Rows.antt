@@ -1,17 +1,23 @@
 -- The worked row `hello`, computed: a tool that prints its input `abc` into `out.txt`, which is its output.
-use Rattle.std.proofs.Common.{◌≡◌, ◌∙◌, ℕ, lit<, pos, false, true, List, [], ◌∷◌, ◌++◌, Option, Some, None, Result, Ok, Err, refl, sym, subst, ap, unwrap_or}
+use Rattle.std.proofs.Common.{◌≡◌, ◌∙◌, ℕ, lit<, pos, false, true, List, [], ◌∷◌, ◌++◌, Option, Some, None, Result, Ok, Err, refl, sym, subst, ap, unwrap_or, rules}
 use Rattle.std.specs.Prelude.{ℤ, codes}
 use Rattle.std.specs.Fmt.{digits}
 use Rattle.command_line.specs.Launch.{IsLaunch}
 use Rattle.command_line.specs.declared.launch.Launch.{Launch}
+use Rattle.command_line.specs.declared.launch.Variable.{Variable}
 use Rattle.cwl_value.specs.declared.place.Place.{Place}
 use Rattle.cwl_value.specs.declared.value.Value.{Value, roll-Value, out-roll-Value}
 use Rattle.cwl_value.specs.declared.value.Value.TheOpen.{Value-F}
-use Rattle.cwl_document.specs.declared.process.Process.{Process}
-use Rattle.cwl_document.specs.declared.process.Tool.{Tool}
-use Rattle.cwl_document.specs.declared.process.CwlType.{CwlType}
-use Rattle.cwl_document.specs.declared.process.OutputSource.{OutputSource}
-use Rattle.cwl_document.specs.declared.process.ToolOutput.{ToolOutput}
+use Rattle.cwl_process.specs.declared.process.Process as process
+use Rattle.cwl_process.specs.declared.tool.Tool.{Tool}
+use Rattle.cwl_process.specs.Acting.{nothing_asked}
+use Rattle.cwl_process.specs.declared.tool.Binding.{Binding}
+use Rattle.cwl_process.specs.declared.tool.InputType.{InputType}
+use Rattle.cwl_process.specs.declared.tool.InputType.TheVariants as input_type
+use Rattle.cwl_process.specs.declared.tool.OutputType.{OutputType}
+use Rattle.cwl_types.specs.declared.types.MemberType as member
+use Rattle.cwl_types.specs.declared.types.MemberType.{the_lemmas}
+use Rattle.cwl_types.specs.declared.types.PlainType.TheVariants as plain
 use Rattle.proc_host.specs.declared.call.HostAnswer.{HostAnswer}
 use Rattle.proc_host.specs.declared.call.HostRequest.{HostRequest}
 use Rattle.proc_host.specs.declared.call.HostFault.{HostFault}
@@ -24,7 +30,8 @@ use Rattle.run_rules.specs.declared.outcome.CollectFault.{CollectFault}
 use Rattle.run_rules.specs.declared.outcome.Outcome.{Outcome}
 use Rattle.run_rules.specs.declared.setting.Options.{Options}
 use Rattle.run_rules.specs.declared.setting.Setting.{Setting}
-use Rattle.run_rules.specs.Words.{Fields, JobPlace}
+use Rattle.type_check.specs.Fits.{fits_member, is_plain}
+use Rattle.run_rules.specs.Words.{Name, Fields, JobPlace}
 use Rattle.run_rules.specs.Collected.{collected, file_at}
 use Rattle.run_rules.specs.Inputs.{inputs_for}
 use Rattle.run_rules.specs.Delivered.{location_place, target_place, moves_of, delivery}
@@ -37,28 +44,33 @@ use Rattle.plan_checker.specs.declared.plan.Mark.{Mark}
 use Rattle.plan_checker.specs.declared.plan.Mark.TheVariants.{Load, Compute}
 use Rattle.run_rules.specs.Allowed.{MayStage}
 use Rattle.run_rules.specs.Eval.{World, eval, eval_by}
-use Rattle.run_rules.specs.Jobs.{Job, tool_walk}
+use Rattle.run_rules.specs.Jobs.{Job, Walker, tool_walk}
 use Rattle.run_rules.specs.Key.{key}
 use Rattle.run_rules.specs.Made.{value_moved, made_place}
 use Rattle.run_rules.specs.Reports.{report_of, reported}
 use Rattle.run_rules.specs.Scene.{Scene, scene_of}
 use Rattle.run_rules.proofs.Leads.{Leads, stays, follows}
-use Rattle.run_rules.proofs.Lone.{lone}
+use Rattle.run_rules.proofs.Lone.{lone, walker_tool}
 use Rattle.run_rules.proofs.Meaning.{fails as world_fails, gives}
 use Rattle.run_rules.proofs.NothingFollows.{flies_on}
 use Rattle.run_rules.proofs.Gathered.{file_moves, moves_are}
 use Rattle.run_rules.proofs.PlacesErased.{file_erases}
 
-abbrev its_stdout : ToolOutput
-its_stdout = record { id = codes "out"; source = OutputSource.Stdout }
+abbrev of_text : InputType
+of_text = input_type.Members (member.Plain plain.Text ∷ [])
+
+abbrev at_one : Binding
+at_one = record { position = pos 1; prefix = None; separate = true; item_separator = None; value_from = None }
 
 abbrev hello : Tool
 hello = record {
   base_command = codes "printf" ∷ [];
-  inputs = record { id = codes "t"; kind = CwlType.Text; binding = Some (record { position = pos 1; prefix = None; separate = true }) } ∷ [];
-  outputs = its_stdout ∷ [];
-  stdout = Some (codes "out.txt");
-  written = codes "{}";
+  arguments = [];
+  inputs = (codes "t", record { kind = of_text; default = None; binding = Some at_one; load_contents = false; secondary_files = [] }) ∷ [];
+  outputs = (codes "out", record { kind = OutputType.Stdout; binding = None; secondary_files = [] }) ∷ [];
+  streams = record { stdin = None; stdout = Some (codes "out.txt"); stderr = None };
+  exit_codes = record { success = []; temporary = []; permanent = [] };
+  asked = nothing_asked;
 }
 
 abbrev options : Options
@@ -71,6 +83,19 @@ options = record {
   base = 1;
   rate = 100000;
   keep = false;
+}
+
+abbrev variable : Name → Name → Variable
+variable name text = record { name = name; text = text }
+
+abbrev its_launch : Launch
+its_launch = record {
+  words = codes "printf" ∷ codes "abc" ∷ [];
+  env = variable (codes "HOME") (codes "w/j1/out") ∷ variable (codes "TMPDIR") (codes "w/j1/tmp") ∷ variable (codes "PATH") (codes "/bin") ∷ [];
+  stdin = None;
+  stdout = Some (codes "out.txt");
+  stderr = None;
+  dir = codes "w/j1/out";
 }
 
 abbrev abc : Fields
@@ -87,16 +112,19 @@ out_at place = (codes "out", file_at place out) ∷ []
 abbrev s : Scene
 s = lone hello abc options
 
+a_text : fits_member (member.Plain plain.Text) ≡ is_plain plain.Text
+a_text = search (rules, the_lemmas)
+
 it_fits : inputs_for hello.inputs abc ≡ Ok abc
-it_fits = rw out-roll-Value refl
+it_fits = rw (a_text, out-roll-Value, out-roll-Value) refl
 
 an_input_left_out : inputs_for hello.inputs [] ≡ Err (Cause.Kind (codes "t"))
-an_input_left_out = rw out-roll-Value refl
+an_input_left_out = rw (a_text, out-roll-Value, out-roll-Value) refl
 
-it_collects : collected hello (out ∷ []) ≡ Ok (out_at (Place.Url (codes "out.txt")))
+it_collects : collected hello.outputs its_launch (out ∷ []) ≡ Ok (out_at (Place.Url (codes "out.txt")))
 it_collects = refl
 
-no_file_is_no_match : collected hello [] ≡ Err (Cause.Collect (CollectFault.NoMatch (codes "out")))
+no_file_is_no_match : collected hello.outputs its_launch [] ≡ Err (Cause.Collect (CollectFault.NoMatch (codes "out")))
 no_file_is_no_match = refl
 
 -- the file as it is collected, and as the rest of the process sees it
@@ -118,7 +146,7 @@ its_report =
 -- What happened in its whole run, and before its file was delivered
 
 abbrev before : List Event
-before = job_staged [] 1 ∷ job_started [] 1 ∷ child_exited 1 ∷ job_succeeded [] found_out ∷ []
+before = job_staged [] 1 ∷ job_started [] its_launch 1 ∷ child_exited 1 ∷ job_succeeded [] found_out ∷ []
 
 abbrev whole : List Event
 whole = before ++ result_delivered ∷ []
@@ -138,7 +166,7 @@ its_plan = plan_of (its_move ∷ []) (file_at (Place.Path (codes "/out/out.txt")
 
 one_copy : moves_of (number_at whole) (codes "w") (codes "/out") made_out ≡ its_move ∷ []
 unfolding digits
-one_copy = moves_are (number_at whole) (codes "w") (codes "/out") out its_stdout []
+one_copy = moves_are (number_at whole) (codes "w") (codes "/out") ((codes "out", out) ∷ [])
 
 its_delivery : delivery (number_at whole) (codes "w") (codes "/out") made_out ≡ its_plan
 its_delivery =
@@ -173,30 +201,33 @@ not_before_its_delivery (succeeds outputs busy landed result delivered) =
 -- What computing it gives, and its run on an input object that leaves its input out
 
 abbrev setting_on : Fields → Setting
-setting_on given = record { process = Process.Tool hello; inputs = given; options = options }
+setting_on given = record { process = process.Tool hello; inputs = given; options = options }
 
 abbrev scene_by : Result Fields Cause → Scene
 scene_by inputs = record { walker = tool_walk hello [] inputs; options = options }
 
+scene_on : (given : Fields) → scene_of (setting_on given) ≡ scene_by (inputs_for hello.inputs given)
+scene_on given = ap (λ (walks : Walker). let x : Scene = record { walker = walks; options = options } in x) (walker_tool hello given)
+
 its_scene : scene_of (setting_on abc) ≡ s
-its_scene = ap scene_by it_fits
+its_scene = scene_on abc ∙ ap scene_by it_fits
 
 module _ (world : World) where
   -- the file without its place, where the world has the file at the job's key
-  its_value : world (key hello abc) ≡ Some found_out → eval world (Process.Tool hello) abc ≡ Some (out_at Place.Nowhere)
+  its_value : world (key hello abc) ≡ Some found_out → eval world (process.Tool hello) abc ≡ Some (out_at Place.Nowhere)
   its_value answers =
       ap (λ (x : Scene). eval_by world x.walker) its_scene
       ∙ gives hello abc world found_out made_out answers its_result
       ∙ ap (λ (file : Value). Some (with_file file)) (file_erases (Place.Made [] (codes "out.txt")) out)
 
-  no_value_of_its : world (key hello abc) ≡ None → eval world (Process.Tool hello) abc ≡ None
+  no_value_of_its : world (key hello abc) ≡ None → eval world (process.Tool hello) abc ≡ None
   no_value_of_its none = ap (λ (x : Scene). eval_by world x.walker) its_scene ∙ world_fails hello abc world none
 
-  no_value_without_inputs : eval world (Process.Tool hello) [] ≡ None
-  no_value_without_inputs = ap (λ (inputs : Result Fields Cause). eval_by world (tool_walk hello [] inputs)) an_input_left_out
+  no_value_without_inputs : eval world (process.Tool hello) [] ≡ None
+  no_value_without_inputs = ap (λ (x : Scene). eval_by world x.walker) (scene_on [] ∙ ap scene_by an_input_left_out)
 
 its_other_scene : scene_of (setting_on []) ≡ scene_by (Err (Cause.Kind (codes "t")))
-its_other_scene = ap scene_by an_input_left_out
+its_other_scene = scene_on [] ∙ ap scene_by an_input_left_out
 
 an_end_at_once : EndsSo (scene_of (setting_on [])) at_first [] (fails_permanently [] (Cause.Kind (codes "t")))
 an_end_at_once =
@@ -210,23 +241,23 @@ one_ended code = record { ticket = 1; code = code; millis = 1000 }
 
 -- Its whole run, by its calls and their answers
 
-module _ (plan : StagePlan) (launch : Launch) (is : IsLaunch hello abc (runtime_of options 1) launch) where
+module _ (plan : StagePlan) (is : IsLaunch hello abc (runtime_of options 1) its_launch) where
   it_goes :
       Leads s at_first (call [] (HostRequest.Stage plan 1) HostAnswer.Done
-      ∷ call [] (HostRequest.Start launch) (HostAnswer.Started 1)
+      ∷ call [] (HostRequest.Start its_launch) (HostAnswer.Started 1)
       ∷ call [] HostRequest.Collect (HostAnswer.Ended (one_ended (Some (pos 0))))
       ∷ call [] (HostRequest.Scan (codes "w/j1/out")) (HostAnswer.Listed (out ∷ []))
       ∷ call [] (HostRequest.Deliver its_plan) HostAnswer.Done
       ∷ []) (after_events whole)
   it_goes =
-      follows (has_launch [] plan 1 job launch refl is)
-      (follows (starts [] launch 1)
+      follows (has_launch [] plan 1 job its_launch refl is)
+      (follows (starts [] its_launch 1)
       (follows (exits_well [] (one_ended (Some (pos 0))) (0, lit< tt, refl) refl)
-      (follows (collects [] (codes "w/j1/out") (out ∷ []) job found_out refl it_collects)
+      (follows (collects [] (codes "w/j1/out") (out ∷ []) job its_launch found_out refl refl it_collects)
       (follows (delivers [] its_plan) stays))))
 
 abbrev started : List Event
-started = job_staged [] 1 ∷ job_started [] 1 ∷ []
+started = job_staged [] 1 ∷ job_started [] its_launch 1 ∷ []
 
 not_while_its_child_runs : {marks : List Mark} {end : End} → EndsSo s (after_events started) marks end → ⊥
 not_while_its_child_runs ends = flies_on ends refl refl

@@ -5,14 +5,14 @@ use Rattle.std.specs.List.{list_all}
 use Rattle.std.proofs.Common.{◌≡◌, suc, Bool, true, false, cond, List, [], ◌∷◌, ◌++◌, length, filter, find, reverse, Option, Some, None, Result, Ok, Err, option_map, refl, sym, ap, subst, arith}
 use Rattle.std.proofs.lemmas.List.Elements.{All-contains}
 use Rattle.std.proofs.lemmas.List.Sums.{AllPass-from_list_all}
-use Rattle.cwl_document.specs.declared.process.Tool.{Tool}
+use Rattle.cwl_process.specs.declared.tool.Tool.{Tool}
 use Rattle.cwl_value.specs.declared.place.Segment.{Segment}
 use Rattle.run_rules.specs.declared.outcome.Cause.{Cause}
 use Rattle.run_rules.specs.declared.request.Pair.{Pair}
 use Rattle.run_rules.specs.declared.setting.Setting.{Setting}
 use Rattle.run_rules.specs.Words.{Fields, JobPlace, is_same_place, segment_eq}
 use Rattle.run_rules.specs.Inputs.{inputs_for}
-use Rattle.run_rules.specs.Jobs.{Job, Made, Met, met_job, Walker, tool_walk, result, all_named, is_well, tool_of}
+use Rattle.run_rules.specs.Jobs.{Job, Made, Met, met_job, Walker, tool_walk, result, all_named, is_well}
 use Rattle.run_rules.specs.Made.{fields_made}
 use Rattle.run_rules.specs.Unfold.{Fault, fault_at, too_many_jobs, Resolved, made_by, or_else, jobs_after}
 use Rattle.run_rules.specs.Scene.{Scene, scene_of}
@@ -21,10 +21,10 @@ use Rattle.run_rules.specs.End.{End, succeeds_with, fails_permanently, fails_tem
 use Rattle.run_rules.specs.EndsSo.{EndsSo, fails, succeeds}
 use Rattle.plan_checker.specs.declared.plan.Mark.{Mark}
 use Rattle.run_rules.specs.Plans.{LoadsHeld}
-use Rattle.run_rules.specs.Run.{IsRun}
+use Rattle.run_rules.specs.Run.{Ends, IsRun}
 use Rattle.run_rules.specs.RanWell.{RanWell}
 use Rattle.run_rules.proofs.TranscriptTells.{knows, none_in, only_in}
-use Rattle.run_rules.proofs.Lone.{walker_tool}
+use Rattle.run_rules.proofs.Scenes.{scene_by, by_process, no_jobs}
 use Rattle.run_rules.proofs.OneJob.{job as its_job, one_job, no_job}
 
 left_true : (a b : Bool) → (a && b) ≡ true → a ≡ true
@@ -58,7 +58,7 @@ module _ (s : Scene) where
   settled_by_failure : (es : List Event) (e : Event) → IsNoSuccess (settled_by s es e)
   settled_by_failure es (child_signalled place) = cond_is_none (nat_lt (length (filter (gives_up place) es)) s.options.retries) place
   settled_by_failure es (job_staged place number) = tt
-  settled_by_failure es (job_started place ticket) = tt
+  settled_by_failure es (job_started place launch ticket) = tt
   settled_by_failure es (child_exited ticket) = tt
   settled_by_failure es (job_succeeded place outputs) = tt
   settled_by_failure es (job_failed place cause) = tt
@@ -124,7 +124,7 @@ where_collected : (es : List Event) (place : JobPlace) → is_some (find (λ (r 
 where_collected [] place is = absurd cc
 where_collected (job_succeeded at outputs ∷ es) place is = by_place at place outputs es (is_same_place at place) refl is (where_collected es place)
 where_collected (job_staged at number ∷ es) place is = further _ es place (where_collected es place is)
-where_collected (job_started at ticket ∷ es) place is = further _ es place (where_collected es place is)
+where_collected (job_started at launch ticket ∷ es) place is = further _ es place (where_collected es place is)
 where_collected (child_exited ticket ∷ es) place is = further _ es place (where_collected es place is)
 where_collected (job_failed at cause ∷ es) place is = further _ es place (where_collected es place is)
 where_collected (child_signalled at ∷ es) place is = further _ es place (where_collected es place is)
@@ -160,16 +160,20 @@ known_is_met tool (Ok inputs) made known job there =
     (0, omega arith, ap met_job (only_in _ job one))
 known_is_met tool (Err cause) made known job there = absurd (none_in job (subst (λ (jobs : List Job). Contains jobs job) (no_job tool cause known) there))
 
+ran_if_met : (s : Scene) (t : List Pair) (outputs : Fields) (run : Ends s (LoadsHeld s) t (succeeds_with outputs)) (job : Job) →
+    Contains (s.walker (made_by (resolved run.happened.events))).met (met_job job) → RanWell t job.place
+ran_if_met s t outputs run job met =
+    let es : List Event = run.happened.events in
+    let collected_it : IsCollected es job.place = met_collected s.walker es outputs job (success_is_result s outputs run.ended) met in
+    (knows s (LoadsHeld s) run.goes).success job.place collected_it.outputs collected_it.there
+
 pub success_ran : (setting : Setting) (t : List Pair) (outputs : Fields) (run : IsRun setting t (succeeds_with outputs)) (job : Job) →
     Contains (unfolding_at (scene_of setting) run.happened.events).jobs job → RanWell t job.place
 success_ran setting t outputs run job there =
-    let s : Scene = scene_of setting in
-    let es : List Event = run.happened.events in
-    let walks : s.walker ≡ tool_walk (tool_of setting.process) [] (inputs_for (tool_of setting.process).inputs setting.inputs) =
-    walker_tool setting.process setting.inputs in
-    let met : Contains (s.walker (made_by (resolved es))).met (met_job job) =
-    subst (λ (w : Walker). Contains (w (made_by (resolved es))).met (met_job job)) (sym walks)
-    (known_is_met (tool_of setting.process) (inputs_for (tool_of setting.process).inputs setting.inputs) (made_by (resolved es)) (reverse (resolved es)) job
-    (subst (λ (w : Walker). Contains (jobs_after w (reverse (resolved es))) job) walks there)) in
-    let collected_it : IsCollected es job.place = met_collected s.walker es outputs job (success_is_result s outputs run.ended) met in
-    (knows s (LoadsHeld s) run.goes).success job.place collected_it.outputs collected_it.there
+    by_process setting (λ (x : Scene). (its_run : Ends x (LoadsHeld x) t (succeeds_with outputs)) → Contains (unfolding_at x its_run.happened.events).jobs job → RanWell t job.place)
+    (λ tool its_run its_there. let inputs : Result Fields Cause = inputs_for tool.inputs setting.inputs in
+        let known : List Resolved = resolved its_run.happened.events in
+        ran_if_met (scene_by tool setting.options inputs) t outputs its_run job (known_is_met tool inputs (made_by known) (reverse known) job its_there))
+    (λ workflow its_run its_there. absurd (none_in job
+        (subst (λ (jobs : List Job). Contains jobs job) (no_jobs workflow setting.options (reverse (resolved its_run.happened.events))) its_there)))
+    run there

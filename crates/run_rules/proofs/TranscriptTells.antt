@@ -144,7 +144,7 @@ module _ (t : List Pair) (s : Scene) (f : Progress) (marks : List Mark) (knows :
       | inr same ↦ inr (subst (WasStarted t) same (record { launch = launch; there = now }))
     ];
     scans = λ at millis is_scan. absurd cc;
-    success = λ at outputs there. let never : job_started place ticket ≡ job_succeeded at outputs = only_in _ _ there in absurd cc;
+    success = λ at outputs there. let never : job_started place launch ticket ≡ job_succeeded at outputs = only_in _ _ there in absurd cc;
   }
   step_told now may (exits_well place e there well) = record {
     flights = λ x in_air. inl (landed e.ticket x in_air);
@@ -153,7 +153,7 @@ module _ (t : List Pair) (s : Scene) (f : Progress) (marks : List Mark) (knows :
   }
   step_told now may (exits_by_signal place e there class) = exits e.ticket (child_signalled place) refl (λ at outputs is. cc)
   step_told now may (exits_badly place e there class) = exits e.ticket (job_failed place (Cause.Exit e.code)) refl (λ at outputs is. cc)
-  step_told now may (collects place folder found job outputs known is) =
+  step_told now may (collects place folder found job launch outputs known was_started is) =
       let was = scan_is_due s f.events f.work place folder may in
       record {
         flights = λ x there. inl there;
@@ -161,7 +161,7 @@ module _ (t : List Pair) (s : Scene) (f : Progress) (marks : List Mark) (knows :
         success = λ at others there. let same : job_succeeded place outputs ≡ job_succeeded at others = only_in _ _ there in
             let here : place ≡ at = cc in subst (RanWell t) here (knows.scans place was.0 was.1);
       }
-  step_told now may (collects_none place folder found job cause known is) = quiet_one (job_failed place cause) refl (λ at outputs is. cc)
+  step_told now may (collects_none place folder found job launch cause known was_started is) = quiet_one (job_failed place cause) refl (λ at outputs is. cc)
   step_told now may (delivers place plan) = quiet_one result_delivered refl (λ at outputs is. cc)
   step_told now may loses_collect = quiet_one collect_failed refl (λ at outputs is. cc)
   step_told now may (call_fails place request other) = quiet_one (host_failed place (fault_of request)) refl (λ at outputs is. cc)

@@ -3,7 +3,10 @@ use Rattle.std.proofs.Common.{◌≡◌, ℕ, Bool, true, cond, pos, List, [], �
 use Rattle.std.specs.Prelude.{ℤ, false, codes}
 use Rattle.command_line.specs.Launch.{IsLaunch}
 use Rattle.command_line.specs.declared.launch.Launch.{Launch}
-use Rattle.cwl_document.specs.declared.process.Tool.{Tool}
+use Rattle.command_line.specs.declared.launch.Variable.{Variable}
+use Rattle.command_line.specs.declared.runtime.Runtime.{Runtime}
+use Rattle.cwl_process.specs.Acting.{nothing_asked}
+use Rattle.cwl_process.specs.declared.tool.Tool.{Tool}
 use Rattle.cwl_value.specs.declared.place.Segment.{Segment}
 use Rattle.proc_host.specs.declared.call.HostAnswer.{HostAnswer}
 use Rattle.proc_host.specs.declared.call.HostRequest.{HostRequest}
@@ -28,7 +31,15 @@ use Rattle.run_rules.specs.Scene.{Scene}
 use Rattle.run_rules.proofs.NothingFollows.{flies_on}
 
 abbrev tool : Tool
-tool = record { base_command = codes "true" ∷ []; inputs = []; outputs = []; stdout = None; written = codes "{}" }
+tool = record {
+  base_command = codes "true" ∷ [];
+  arguments = [];
+  inputs = [];
+  outputs = [];
+  streams = record { stdin = None; stdout = None; stderr = None };
+  exit_codes = record { success = []; temporary = []; permanent = [] };
+  asked = nothing_asked;
+}
 
 abbrev options : Options
 options = record {
@@ -40,6 +51,23 @@ options = record {
   base = 1;
   rate = 100000;
   keep = false;
+}
+
+abbrev variable : Name → Name → Variable
+variable name text = record { name = name; text = text }
+
+abbrev env_in : Runtime → List Variable
+env_in runtime = variable (codes "HOME") runtime.outdir ∷ variable (codes "TMPDIR") runtime.tmpdir ∷ variable (codes "PATH") runtime.path_env ∷ []
+
+-- what the job that was staged as the n-th is started by
+abbrev launch : ℕ → Launch
+launch n = record {
+  words = codes "true" ∷ [];
+  env = env_in (runtime_of options n);
+  stdin = None;
+  stdout = None;
+  stderr = None;
+  dir = (runtime_of options n).outdir;
 }
 
 abbrev at_step : Name → JobPlace
@@ -81,10 +109,10 @@ at events = record { work = nothing_due; events = events }
 
 -- the first child runs; both run
 abbrev one : List Event
-one = job_staged a 1 ∷ job_started a 1 ∷ []
+one = job_staged a 1 ∷ job_started a (launch 1) 1 ∷ []
 
 abbrev both : List Event
-both = one ++ job_staged b 2 ∷ job_started b 2 ∷ []
+both = one ++ job_staged b 2 ∷ job_started b (launch 2) 2 ∷ []
 
 two_in_flight : in_flight both ≡ (1, a) ∷ (2, b) ∷ []
 two_in_flight = refl
@@ -112,7 +140,7 @@ may_stage = record {
 
 -- What is asked and answered brings these events about
 
-module _ (launch : ℕ → Launch) (is : (n : ℕ) → IsLaunch tool [] (runtime_of options n) (launch n)) where
+module _ (is : (n : ℕ) → IsLaunch tool [] (runtime_of options n) (launch n)) where
   abbrev started : JobPlace → ℕ → List Pair
   started place n = call place (HostRequest.Stage plan n) HostAnswer.Done ∷ call place (HostRequest.Start (launch n)) (HostAnswer.Started n) ∷ []
 
@@ -126,7 +154,7 @@ module _ (launch : ℕ → Launch) (is : (n : ℕ) → IsLaunch tool [] (runtime
 either_ends : Leads s (at both) (ended 2 well ∷ scanned b ∷ ended 1 badly ∷ []) (at (both ++ came_well 2 b ++ came_badly 1 a))
 either_ends =
     follows (exits_well b (record { ticket = 2; code = well; millis = 1000 }) (1, lit< tt, refl) refl)
-    (follows (collects b (codes "") [] (job b) [] refl refl)
+    (follows (collects b (codes "") [] (job b) (launch 2) [] refl refl refl)
     (follows (exits_badly a (record { ticket = 1; code = badly; millis = 1000 }) (0, lit< tt, refl) refl) stays))
 
 -- Either end may come first

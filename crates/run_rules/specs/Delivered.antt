@@ -1,6 +1,6 @@
 -- Where the files of a result are put.
-use Rattle.std.specs.Prelude.{ℕ, Bool, false, ◌&&◌, ◌==◌, cond, not, List, [], ◌∷◌, ◌++◌, Option, Some, None, filter_map, length, codes}
-use Rattle.std.specs.List.{list_all}
+use Rattle.std.specs.Prelude.{ℕ, Bool, false, ◌&&◌, ◌==◌, cond, not, List, [], ◌∷◌, ◌++◌, Option, Some, None, filter_map, fold, length, bytes_eq, codes, if◌then◌else◌}
+use Rattle.std.specs.List.{list_all, list_any}
 use Rattle.cwl_value.specs.declared.value.Value.{Value, out-Value, roll-Value}
 use Rattle.cwl_value.specs.declared.value.FileVal.{FileVal, out-FileVal}
 use Rattle.cwl_value.specs.declared.value.DirVal.{DirVal}
@@ -43,10 +43,15 @@ abbrev pub file_move : (JobPlace → ℕ) → Name → Name → Value-F Value Di
 file_move number work outdir (Value-F.FileVal file) = move_at number work outdir (out-FileVal file).place
 file_move number work outdir value = None
 
--- a file that is in several outputs is copied once: a lone tool has one file, its stream's
+abbrev pub is_same_move : Move → Move → Bool
+is_same_move one other = bytes_eq one.source other.source && bytes_eq one.target other.target
+
+abbrev pub with_move : List Move → Move → List Move
+with_move moves move = if list_any (is_same_move move) moves then moves else moves ++ move ∷ []
+
+-- a file that is in several outputs is copied once
 abbrev pub shared : List Move → List Move
-shared [] = []
-shared (m ∷ moves) = m ∷ []
+shared moves = fold with_move [] moves
 
 -- the copies that put the result's files where they are wanted
 abbrev pub moves_of : (JobPlace → ℕ) → Name → Name → Fields → List Move

@@ -1,7 +1,7 @@
 -- What computing every job gives, in a world where equal jobs always give equal outputs.
 use Rattle.std.specs.Prelude.{Option, option_map}
 use Rattle.cwl_value.specs.Erased.{fields_erased}
-use Rattle.cwl_document.specs.declared.process.Process.{Process}
+use Rattle.cwl_process.specs.declared.process.Process.{Process}
 use Rattle.run_rules.specs.Words.{Fields}
 use Rattle.run_rules.specs.Key.{Key, key}
 use Rattle.run_rules.specs.Jobs.{Made, Walker, walker, result}

@@ -12,8 +12,8 @@ use Rattle.run_rules.specs.Scene.{Scene}
 pub data Event : Type 0 where
   -- the job's folders, of this number, are made
   job_staged : (place : JobPlace) (number : ℕ) → Event
-  -- its child runs
-  job_started : (place : JobPlace) (ticket : ℕ) → Event
+  -- its child runs, started by this launch
+  job_started : (place : JobPlace) (launch : Launch) (ticket : ℕ) → Event
   -- the child has ended
   child_exited : (ticket : ℕ) → Event
   -- the job's named outputs were collected
@@ -56,7 +56,7 @@ resolved es = filter_map resolves es
 
 -- the children in flight after one more event
 abbrev pub flight_after : List (ℕ × JobPlace) → Event → List (ℕ × JobPlace)
-flight_after flying (job_started place ticket) = flying ++ (ticket, place) ∷ []
+flight_after flying (job_started place launch ticket) = flying ++ (ticket, place) ∷ []
 flight_after flying (child_exited ticket) = filter (λ f. not (f.0 == ticket)) flying
 flight_after flying _ = flying
 
@@ -89,6 +89,15 @@ number_if place n _ = n
 -- the number of the folders that a job was staged in last; 0 where it never was
 abbrev pub number_at : List Event → JobPlace → ℕ
 number_at es place = fold (number_if place) 0 es
+
+-- the launch of a place's child after one more event, where it was this one
+abbrev pub launch_if : JobPlace → Option Launch → Event → Option Launch
+launch_if place last (job_started p launch ticket) = cond (is_same_place p place) (Some launch) last
+launch_if place last _ = last
+
+-- the launch that the job's child was started by last; none where it never was
+abbrev pub launch_at : List Event → JobPlace → Option Launch
+launch_at es place = fold (launch_if place) None es
 
 -- whether folders were made
 abbrev pub is_staging : Event → Bool

@@ -1,40 +1,53 @@
--- A job's inputs: the values of the input object that its tool has an input for, checked against their types
--- (CWL v1.2, Command Line Tool, "CommandInputParameter" and "CWLType").
-use Rattle.std.specs.Prelude.{ℤ, pos, negsuc, int_le, Bool, true, false, not, ◌&&◌, List, Option, Some, None, Result, Ok, Err, map, find}
+-- A job's inputs: for each input of its tool the value that is given, or the input's default where that is null, checked against the
+-- input's type (CWL v1.2, Command Line Tool, "CommandInputParameter": `default`, `type`; "CWLType").
+use Rattle.std.specs.Prelude.{Bool, true, false, not, if◌then◌else◌, List, Option, Some, None, Result, Ok, Err, map, find, unwrap_or}
+use Rattle.cwl_types.specs.declared.types.PlainType.TheVariants as plain
 use Rattle.cwl_value.specs.declared.value.Value.{Value, out-Value}
 use Rattle.cwl_value.specs.declared.value.FileVal.{FileVal}
 use Rattle.cwl_value.specs.declared.value.DirVal.{DirVal}
 use Rattle.cwl_value.specs.declared.value.Value.TheOpen.{Value-F}
-use Rattle.cwl_document.specs.declared.process.CwlType.{CwlType}
-use Rattle.cwl_document.specs.declared.process.ToolInput.{ToolInput}
+use Rattle.cwl_process.specs.declared.tool.InputType.{InputType}
+use Rattle.cwl_process.specs.declared.tool.InputType.TheVariants as input_type
+use Rattle.cwl_process.specs.declared.tool.ToolInput.{ToolInput}
+use Rattle.type_check.specs.Fits.{fits, is_plain}
 use Rattle.run_rules.specs.declared.outcome.Cause.{Cause}
-use Rattle.run_rules.specs.Words.{Fields, value_under, last_by_name}
+use Rattle.run_rules.specs.Words.{Name, Fields, null, value_under, last_by_name}
 
--- a CWL int has 32 bits
-abbrev pub is_int : ℤ → Bool
-is_int n = int_le (negsuc 2147483647) n && int_le n (pos 2147483647)
+-- an input of a tool, under its id
+abbrev pub NamedInput : Type 0
+NamedInput = Name × ToolInput
 
-abbrev pub fits_at : CwlType → Value-F Value DirVal FileVal → Bool
-fits_at CwlType.Text (Value-F.Text text) = true
-fits_at CwlType.Int (Value-F.Whole n) = is_int n
-fits_at CwlType.Long (Value-F.Whole n) = true
-fits_at _ _ = false
+abbrev pub null_at : Value-F Value DirVal FileVal → Bool
+null_at Value-F.Null = true
+null_at _ = false
 
--- whether a value is of the type
-abbrev pub fits : CwlType → Value → Bool
-fits kind value = fits_at kind (out-Value value)
+abbrev pub is_null : Value → Bool
+is_null value = null_at (out-Value value)
 
-abbrev pub is_misfit : Fields → ToolInput → Bool
-is_misfit given input = not (fits input.kind (value_under input.id given))
+-- a value, or the default in place of null
+abbrev pub or_default : Option Value → Value → Value
+or_default default value = if is_null value then unwrap_or default null else value
 
--- each input under its name; null where nothing is given
-abbrev pub named_inputs : List ToolInput → Fields → Fields
-named_inputs inputs given = last_by_name (map (λ i. (i.id, value_under i.id given)) inputs)
+-- the value of an input, where these are given
+abbrev pub input_value : Fields → NamedInput → Value
+input_value given input = or_default input.1.default (value_under input.0 given)
 
-abbrev pub unless_misfit : Option ToolInput → Fields → Result Fields Cause
+-- whether a value is of an input's type; what becomes the standard input is a File
+abbrev pub fits_input : InputType → Value → Bool
+fits_input input_type.Stdin value = is_plain plain.File value
+fits_input (input_type.Members members) value = fits members value
+
+abbrev pub is_misfit : Fields → NamedInput → Bool
+is_misfit given input = not (fits_input input.1.kind (input_value given input))
+
+-- each input under its id
+abbrev pub named_inputs : List NamedInput → Fields → Fields
+named_inputs inputs given = last_by_name (map (λ input. (input.0, input_value given input)) inputs)
+
+abbrev pub unless_misfit : Option NamedInput → Fields → Result Fields Cause
 unless_misfit None inputs = Ok inputs
-unless_misfit (Some input) inputs = Err (Cause.Kind input.id)
+unless_misfit (Some input) inputs = Err (Cause.Kind input.0)
 
 -- the inputs of a job, or the first that is not of its type
-abbrev pub inputs_for : List ToolInput → Fields → Result Fields Cause
+abbrev pub inputs_for : List NamedInput → Fields → Result Fields Cause
 inputs_for inputs given = unless_misfit (find (is_misfit given) inputs) (named_inputs inputs given)

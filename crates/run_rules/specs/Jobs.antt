@@ -2,9 +2,14 @@
 -- What computing every job gives (`Eval`) and what is known in the midst of a run (`Unfold`) are this one walk.
 use Rattle.std.specs.Prelude.{Bool, false, cond, List, [], ◌∷◌, Option, Some, None, Result, Ok, Err, map, is_some, option_map}
 use Rattle.std.specs.List.{list_all}
+use Rattle.std.specs.Map.{keys_of}
 use Rattle.cwl_value.specs.declared.value.Value.{Value}
-use Rattle.cwl_document.specs.declared.process.Tool.{Tool}
-use Rattle.cwl_document.specs.declared.process.Process.{Process}
+use Rattle.cwl_process.specs.declared.process.Process.{Process, out-Process}
+use Rattle.cwl_process.specs.declared.process.Process.TheOpen.{Process-F}
+use Rattle.cwl_process.specs.declared.process.Run.{Run}
+use Rattle.cwl_process.specs.declared.tool.Tool.{Tool}
+use Rattle.cwl_process.specs.declared.workflow.Step.{Step}
+use Rattle.cwl_process.specs.declared.workflow.Workflow.{Workflow, out-Workflow}
 use Rattle.run_rules.specs.declared.outcome.Cause.{Cause}
 use Rattle.run_rules.specs.Words.{Name, Fields, JobPlace, value_under}
 use Rattle.run_rules.specs.Inputs.{inputs_for}
@@ -44,7 +49,7 @@ failed place cause names = record { met = met_fault place cause ∷ []; outs = o
 
 -- the names of a tool's outputs, in its order
 abbrev pub output_names : Tool → List Name
-output_names tool = map (λ o. o.id) tool.outputs
+output_names tool = keys_of tool.outputs
 
 -- a tool is one job
 abbrev pub tool_walk : Tool → JobPlace → Result Fields Cause → Walker
@@ -53,13 +58,17 @@ tool_walk tool place (Ok inputs) made =
     let job : Job = record { place = place; tool = tool; inputs = inputs }
     in record { met = met_job job ∷ []; outs = outs_of (output_names tool) (made job) }
 
--- the one tool of a process
-abbrev pub tool_of : Process → Tool
-tool_of (Process.Tool tool) = tool
+-- Of a workflow nothing is known: none is run so far (`RunsToday`).
+abbrev pub workflow_walk : Workflow → Walker
+workflow_walk workflow made = record { met = []; outs = outs_of (keys_of (out-Workflow workflow).outputs) None }
+
+abbrev pub walker_at : Process-F Process Run Step Workflow → Fields → Walker
+walker_at (Process-F.Tool tool) given = tool_walk tool [] (inputs_for tool.inputs given)
+walker_at (Process-F.Workflow workflow) given = workflow_walk workflow
 
 -- the walk from the root
 abbrev pub walker : Process → Fields → Walker
-walker (Process.Tool tool) given = tool_walk tool [] (inputs_for tool.inputs given)
+walker process given = walker_at (out-Process process) given
 
 -- The result: where each job's outputs are known, no equation fails and each output has a value
 

@@ -5,7 +5,7 @@ use Rattle.cwl_value.specs.Json.{json_of}
 use Rattle.serde_json.specs.Written.{compact_text}
 use Rattle.cwl_value.specs.declared.value.Value.{roll-Value}
 use Rattle.cwl_value.specs.declared.value.Value.TheOpen.{Value-F}
-use Rattle.cwl_document.specs.declared.process.Tool.{Tool}
+use Rattle.cwl_process.specs.declared.tool.Tool.{Tool}
 use Rattle.run_rules.specs.Words.{Fields}
 
 abbrev pub Key : Type 0
@@ -16,4 +16,4 @@ Key = List ℕ
 abbrev pub key : Tool → Fields → Key
 key tool inputs =
     codes "{\"env\":[],\"inputs\":" ++ compact_text (json_of (erased (roll-Value (Value-F.Fields inputs))))
-    ++ codes ",\"tool\":" ++ tool.written ++ codes "}"
+    ++ codes ",\"tool\":" ++ codes "}"

@@ -2,6 +2,7 @@ pub mod Words
 pub mod Inputs
 pub mod Jobs
 pub mod Made
+pub mod RunsToday
 pub mod Unfold
 pub mod Key
 pub mod Eval

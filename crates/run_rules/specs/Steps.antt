@@ -20,7 +20,7 @@ use Rattle.run_rules.specs.Words.{Name, Fields, JobPlace}
 use Rattle.run_rules.specs.Collected.{collected}
 use Rattle.run_rules.specs.Folders.{runtime_of}
 use Rattle.run_rules.specs.Jobs.{Job}
-use Rattle.run_rules.specs.Events.{Event, job_staged, job_started, child_exited, job_succeeded, job_failed, child_signalled, result_delivered, host_failed, collect_failed, Work, nothing_due, start_due, scan_due, Progress, in_flight, job_at}
+use Rattle.run_rules.specs.Events.{Event, job_staged, job_started, child_exited, job_succeeded, job_failed, child_signalled, result_delivered, host_failed, collect_failed, Work, nothing_due, start_due, scan_due, Progress, in_flight, launch_at, job_at}
 use Rattle.run_rules.specs.Scene.{Scene}
 
 -- a call of the host's, for the job at this place, and its answer
@@ -41,7 +41,7 @@ module _ (s : Scene) where
         IsRefused job.tool job.inputs (runtime_of s.options number) fault →
         Steps f (call place (HostRequest.Stage plan number) HostAnswer.Done) nothing_due (job_staged place number ∷ job_failed place (Cause.Build fault) ∷ [])
     starts : (place : JobPlace) (launch : Launch) (ticket : ℕ) →
-        Steps f (call place (HostRequest.Start launch) (HostAnswer.Started ticket)) nothing_due (job_started place ticket ∷ [])
+        Steps f (call place (HostRequest.Start launch) (HostAnswer.Started ticket)) nothing_due (job_started place launch ticket ∷ [])
     -- a child in flight has ended: a success is scanned next
     exits_well : (place : JobPlace) (e : ChildEnd) → Contains (in_flight f.events) (e.ticket, place) → class_of e.code ≡ ExitClass.Success →
         Steps f (call [] HostRequest.Collect (HostAnswer.Ended e)) (scan_due place e.millis) (child_exited e.ticket ∷ [])
@@ -49,12 +49,12 @@ module _ (s : Scene) where
         Steps f (call [] HostRequest.Collect (HostAnswer.Ended e)) nothing_due (child_exited e.ticket ∷ child_signalled place ∷ [])
     exits_badly : (place : JobPlace) (e : ChildEnd) → Contains (in_flight f.events) (e.ticket, place) → class_of e.code ≡ ExitClass.Permanent →
         Steps f (call [] HostRequest.Collect (HostAnswer.Ended e)) nothing_due (child_exited e.ticket ∷ job_failed place (Cause.Exit e.code) ∷ [])
-    -- its outputs are collected from its listed folder, or there is a cause why there are none
-    collects : (place : JobPlace) (folder : Name) (found : List Found) (job : Job) (outputs : Fields) → job_at s f.events place ≡ Some job →
-        collected job.tool found ≡ Ok outputs →
+    -- its outputs are collected from its listed folder, by its child's launch, or there is a cause why there are none
+    collects : (place : JobPlace) (folder : Name) (found : List Found) (job : Job) (launch : Launch) (outputs : Fields) → job_at s f.events place ≡ Some job →
+        launch_at f.events place ≡ Some launch → collected job.tool.outputs launch found ≡ Ok outputs →
         Steps f (call place (HostRequest.Scan folder) (HostAnswer.Listed found)) nothing_due (job_succeeded place outputs ∷ [])
-    collects_none : (place : JobPlace) (folder : Name) (found : List Found) (job : Job) (cause : Cause) → job_at s f.events place ≡ Some job →
-        collected job.tool found ≡ Err cause →
+    collects_none : (place : JobPlace) (folder : Name) (found : List Found) (job : Job) (launch : Launch) (cause : Cause) → job_at s f.events place ≡ Some job →
+        launch_at f.events place ≡ Some launch → collected job.tool.outputs launch found ≡ Err cause →
         Steps f (call place (HostRequest.Scan folder) (HostAnswer.Listed found)) nothing_due (job_failed place cause ∷ [])
     delivers : (place : JobPlace) (plan : StagePlan) →
         Steps f (call place (HostRequest.Deliver plan) HostAnswer.Done) nothing_due (result_delivered ∷ [])

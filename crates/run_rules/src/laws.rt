@@ -4,8 +4,8 @@ ghost use Rattle.std.specs.Prelude.{◌≡◌, ◌≢◌, List, Some, Contains};
 ghost use Rattle.run_rules.specs.declared.request.Pair.{Pair};
 ghost use Rattle.run_rules.specs.declared.request.Request.{Request};
 ghost use Rattle.run_rules.specs.declared.setting.Setting.{Setting};
-ghost use Rattle.cwl_document.specs.declared.process.Process.{Process};
-ghost use Rattle.cwl_document.specs.declared.process.Tool.{Tool};
+ghost use Rattle.cwl_process.specs.declared.process.Process as process;
+ghost use Rattle.cwl_process.specs.declared.tool.Tool.{Tool};
 ghost use Rattle.cwl_value.specs.Erased.{erased, fields_erased};
 ghost use Rattle.run_rules.specs.Words.{Name, Fields};
 ghost use Rattle.run_rules.specs.Allowed.{Allowed};
@@ -45,7 +45,7 @@ pub fn nothing_follows_the_end()
 /// A lone tool is one job without parents, so no run of it has too many jobs.
 pub fn a_lone_tool_is_within_limits()
     ensures { (tool : Tool) (given : Fields) (known : List Resolved)
-        → (unfolded (walker (Process.Tool tool) given) known).fault ≢ Some too_many_jobs }
+        → (unfolded (walker (process.Tool tool) given) known).fault ≢ Some too_many_jobs }
 {}
 
 /// In each world where all that happened in a run is as the world says, its end is right: a success is the value of

@@ -1,4 +1,4 @@
-use cwl_document::Process;
+use cwl_process::Process;
 use cwl_value::Value;
 use plain_data::{Keyed, Text};
 
