@@ -11,16 +11,13 @@ use Rattle.cwl_value.specs.declared.value.Value.{Value, out-Value, roll-Value, f
 use Rattle.cwl_value.specs.declared.value.Value.TheOpen.{Value-F, FileVal-F}
 use Rattle.cwl_value.specs.declared.value.FileVal.{FileVal, roll-FileVal, fold-roll-FileVal, out-roll-FileVal}
 use Rattle.cwl_value.specs.declared.value.DirVal.{DirVal}
-use Rattle.cwl_process.specs.declared.tool.ToolOutput.{ToolOutput}
 use Rattle.proc_host.specs.declared.found.Found.{Found}
 use Rattle.proc_host.specs.declared.plan.Move.{Move}
-use Rattle.run_rules.specs.declared.outcome.Cause.{Cause}
-use Rattle.run_rules.specs.declared.outcome.CollectFault.{CollectFault}
 use Rattle.run_rules.specs.Words.{Name, Fields, JobPlace, value_under, null}
 use Rattle.run_rules.specs.Jobs.{all_named, outs_of, with_first}
 use Rattle.run_rules.specs.Made.{value_moved, fields_moved, file_moved, dir_moved}
 use Rattle.run_rules.specs.Folders.{out_folder}
-use Rattle.run_rules.specs.Collected.{StreamFiles, file_at, file_for, one_file, with_output, outputs_from}
+use Rattle.run_rules.specs.Collected.{Files, NamedOutput, StreamFiles, file_at, file_of, files_at, is_no_file, lacks, picked}
 use Rattle.run_rules.specs.Delivered.{file_move, move_at, moves_of, shared, target_of}
 
 abbrev pub file_fields : Place → Found → FileVal-F Value DirVal FileVal
@@ -39,14 +36,6 @@ file_moves move place found =
     fold-roll-Value Value DirVal FileVal roll-Value (dir_moved move) (file_moved move) (Value-F.FileVal (roll-FileVal (file_fields place found)))
     ∙ ap (λ f. roll-Value (Value-F.FileVal f))
     (fold-roll-FileVal Value DirVal FileVal roll-Value (dir_moved move) (file_moved move) (file_fields place found))
-
--- files under names
-abbrev pub Files : Type 0
-Files = List (Name × Found)
-
--- each at its place
-abbrev pub files_at : (Found → Place) → Files → Fields
-files_at place files = map (λ f. (f.0, file_at (place f.1) f.1)) files
 
 pub files_move : (move : Place → Place) (place : Found → Place) (files : Files) →
     fields_moved move (files_at place files) ≡ files_at (λ f. move (place f)) files
@@ -75,84 +64,21 @@ all_are fields distinct = named_some fields fields (λ e there. lookup-from_Cont
 -- What is collected
 
 module _ (files : StreamFiles) where
-  abbrev pub file_of : Name × ToolOutput → Option Found
-  file_of o = file_for files o.1.kind
+  having : (file : Option Found) → is_no_file file ≡ false → (f : Found) × (file ≡ Some f)
+  having None is = absurd cc
+  having (Some file) is = (file, refl)
 
-  abbrev pub named_file : Name × ToolOutput → Option (Name × Found)
-  named_file o = option_map (λ (f : Found). (o.0, f)) (file_of o)
+  one_more_name : (x : NamedOutput) (outputs : List NamedOutput) (b : Bool) → lacks files x ≡ b → cond b (Some x) (find (lacks files) outputs) ≡ None →
+      (find (lacks files) outputs ≡ None → keys_of (picked files outputs) ≡ keys_of outputs) → keys_of (picked files (x ∷ outputs)) ≡ keys_of (x ∷ outputs)
+  one_more_name x outputs true is none later = absurd cc
+  one_more_name x outputs false is none later =
+      ap (λ (o : Option Found). keys_of (cons_option (option_map (λ (f : Found). (x.0, f)) o) (picked files outputs))) (having (file_of files x) is).1
+      ∙ ap (λ (names : List Name). x.0 ∷ names) (later none)
 
-  -- the file of each output that has one
-  abbrev pub picked : List (Name × ToolOutput) → Files
-  picked outputs = filter_map named_file outputs
-
-  abbrev pub is_no_file : Option Found → Bool
-  is_no_file None = true
-  is_no_file (Some file) = file.is_dir
-
-  abbrev pub lacks : Name × ToolOutput → Bool
-  lacks o = is_no_file (file_of o)
-
-  -- why there is no file
-  abbrev pub lack_of : Name → Option Found → CollectFault
-  lack_of id None = CollectFault.NoMatch id
-  lack_of id (Some file) = CollectFault.NotTyped id
-
-  abbrev pub lack : Name × ToolOutput → CollectFault
-  lack o = lack_of o.0 (file_of o)
-
-  lacking : (id : Name) (file : Option Found) → is_no_file file ≡ true → one_file id file ≡ Err (Cause.Collect (lack_of id file))
-  lacking id None is = refl
-  lacking id (Some file) is = ap (λ (b : Bool). cond b (Err (Cause.Collect (CollectFault.NotTyped id))) (Ok (file_at (Place.Url file.name) file))) is
-
-  having : (id : Name) (file : Option Found) → is_no_file file ≡ false → (f : Found) × (one_file id file ≡ Ok (file_at (Place.Url f.name) f)) × (file ≡ Some f)
-  having id None is = absurd cc
-  having id (Some file) is =
-      (file, ap (λ (b : Bool). cond b (Err (Cause.Collect (CollectFault.NotTyped id))) (Ok (file_at (Place.Url file.name) file))) is, refl)
-
-  abbrev pub as_url : Found → Place
-  as_url file = Place.Url file.name
-
-  abbrev entry : Name → Found → Files
-  entry id file = (id, file) ∷ []
-
-  by_first : (x : Name × ToolOutput) (outputs : List (Name × ToolOutput)) (o : Name × ToolOutput) (b : Bool) → lacks x ≡ b →
-      cond b (Some x) (find lacks outputs) ≡ Some o → (find lacks outputs ≡ Some o → outputs_from files outputs ≡ Err (Cause.Collect (lack o))) →
-      outputs_from files (x ∷ outputs) ≡ Err (Cause.Collect (lack o))
-  by_first x outputs o true is found later =
-      let same : x ≡ o = cc in
-      ap (λ (r : Result Value Cause). with_output x.0 r (outputs_from files outputs)) (lacking x.0 (file_of x) is) ∙ ap (λ (y : Name × ToolOutput). Err (Cause.Collect (lack y))) same
-  by_first x outputs o false is found later =
-      ap (λ (r : Result Value Cause). with_output x.0 r (outputs_from files outputs)) (having x.0 (file_of x) is).1
-      ∙ ap (λ (r : Result Fields Cause). with_output x.0 (Ok (file_at (as_url (having x.0 (file_of x) is).0) (having x.0 (file_of x) is).0)) r) (later found)
-
-  -- the first output without a file is the fault
-  pub none_collected : (outputs : List (Name × ToolOutput)) (o : Name × ToolOutput) → find lacks outputs ≡ Some o →
-      outputs_from files outputs ≡ Err (Cause.Collect (lack o))
-  none_collected [] o is = absurd cc
-  none_collected (x ∷ outputs) o is = by_first x outputs o (lacks x) refl is (none_collected outputs o)
-
-  -- where none lacks one, each output is its file
-  pub record AreFiles (outputs : List (Name × ToolOutput)) : Type 0 where
-    pub collected : outputs_from files outputs ≡ Ok (files_at as_url (picked outputs))
-    pub names : keys_of (picked outputs) ≡ keys_of outputs
-
-  one_more_file : (x : Name × ToolOutput) (outputs : List (Name × ToolOutput)) (b : Bool) → lacks x ≡ b →
-      cond b (Some x) (find lacks outputs) ≡ None → (find lacks outputs ≡ None → AreFiles outputs) → AreFiles (x ∷ outputs)
-  one_more_file x outputs true is found later = absurd cc
-  one_more_file x outputs false is found later =
-      let file : Found = (having x.0 (file_of x) is).0 in
-      let rest : AreFiles outputs = later found in
-      let pick : named_file x ≡ Some (x.0, file) = ap (λ (o : Option Found). option_map (λ (f : Found). (x.0, f)) o) (having x.0 (file_of x) is).2 in
-      record {
-        collected = ap (λ (r : Result Value Cause). with_output x.0 r (outputs_from files outputs)) (having x.0 (file_of x) is).1
-            ∙ ap (λ (r : Result Fields Cause). with_output x.0 (Ok (file_at (as_url file) file)) r) rest.collected
-            ∙ ap (λ (o : Option (Name × Found)). Ok (files_at as_url (cons_option o (picked outputs)))) (sym pick);
-        names = ap (λ (o : Option (Name × Found)). keys_of (cons_option o (picked outputs))) pick ∙ ap (λ (names : List Name). x.0 ∷ names) rest.names;
-      }
-
-  pub files_collected : (outputs : List (Name × ToolOutput)) → find lacks outputs ≡ None → AreFiles outputs
-  files_collected [] is = record { collected = refl; names = refl }
-  files_collected (x ∷ outputs) is = one_more_file x outputs (lacks x) refl is (files_collected outputs)
+  -- where none lacks one, the files are under the outputs' ids
+  pub names_of_files : (outputs : List NamedOutput) → find (lacks files) outputs ≡ None → keys_of (picked files outputs) ≡ keys_of outputs
+  names_of_files [] none = refl
+  names_of_files (x ∷ outputs) none = one_more_name x outputs (lacks files x) refl none (names_of_files outputs)
 
 -- What is delivered
 

@@ -1,6 +1,6 @@
 -- The outputs of a job, from what is in its output folder after its child has ended
 -- (CWL v1.2, Command Line Tool, "Output binding" and the output types `stdout` and `stderr`).
-use Rattle.std.specs.Prelude.{cond, List, [], ◌∷◌, ◌++◌, Option, Some, None, Result, Ok, Err, find, codes, bytes_eq}
+use Rattle.std.specs.Prelude.{Bool, true, List, [], ◌∷◌, ◌++◌, Option, Some, None, Result, Ok, Err, map, find, filter_map, option_map, codes, bytes_eq}
 use Rattle.cwl_value.specs.declared.value.Value.{Value, roll-Value}
 use Rattle.cwl_value.specs.declared.value.Value.TheOpen.{Value-F}
 use Rattle.cwl_value.specs.declared.value.FileVal.{roll-FileVal}
@@ -41,29 +41,61 @@ pub record StreamFiles : Type 0 where
 abbrev pub stream_files : Launch → List Found → StreamFiles
 stream_files launch found = record { stdout = stream_file launch.stdout found; stderr = stream_file launch.stderr found }
 
--- The file that an output of this type is. One of another type than the streams' collects none: no tool that has such an output is
--- run so far (`RunsToday`).
+-- The file that an output of this type is. One of another type than the streams' is none: no tool that has such an output is run so
+-- far (`RunsToday`).
 abbrev pub file_for : StreamFiles → OutputType → Option Found
 file_for files output_type.Stdout = files.stdout
 file_for files output_type.Stderr = files.stderr
 file_for files (output_type.Members members) = None
 
--- the file that an output collects, at its relative name
-abbrev pub one_file : Name → Option Found → Result Value Cause
-one_file id None = Err (Cause.Collect (CollectFault.NoMatch id))
-one_file id (Some found) =
-    cond found.is_dir (Err (Cause.Collect (CollectFault.NotTyped id))) (Ok (file_at (Place.Url found.name) found))
+-- no file: nothing was found, or a folder
+abbrev pub is_no_file : Option Found → Bool
+is_no_file None = true
+is_no_file (Some found) = found.is_dir
 
-abbrev pub with_output : Name → Result Value Cause → Result Fields Cause → Result Fields Cause
-with_output id (Err cause) rest = Err cause
-with_output id (Ok value) (Err cause) = Err cause
-with_output id (Ok value) (Ok rest) = Ok ((id, value) ∷ rest)
+abbrev pub lack_of : Name → Option Found → CollectFault
+lack_of id None = CollectFault.NoMatch id
+lack_of id (Some found) = CollectFault.NotTyped id
 
-abbrev pub outputs_from : StreamFiles → List (Name × ToolOutput) → Result Fields Cause
-outputs_from files [] = Ok []
-outputs_from files (o ∷ outputs) = with_output o.0 (one_file o.0 (file_for files o.1.kind)) (outputs_from files outputs)
+-- an output of a tool, under its id
+abbrev pub NamedOutput : Type 0
+NamedOutput = Name × ToolOutput
 
--- the named outputs of a tool, in its order, or the fault of the first that has none: after a child that was started by this launch,
+-- files under names
+abbrev pub Files : Type 0
+Files = List (Name × Found)
+
+-- each as a File at its place
+abbrev pub files_at : (Found → Place) → Files → Fields
+files_at place files = map (λ f. (f.0, file_at (place f.1) f.1)) files
+
+module _ (files : StreamFiles) where
+  abbrev pub file_of : NamedOutput → Option Found
+  file_of o = file_for files o.1.kind
+
+  -- whether an output has no file, and why
+  abbrev pub lacks : NamedOutput → Bool
+  lacks o = is_no_file (file_of o)
+
+  abbrev pub lack : NamedOutput → CollectFault
+  lack o = lack_of o.0 (file_of o)
+
+  abbrev pub named_file : NamedOutput → Option (Name × Found)
+  named_file o = option_map (λ found. (o.0, found)) (file_of o)
+
+  -- the files of the outputs, under their ids
+  abbrev pub picked : List NamedOutput → Files
+  picked outputs = filter_map named_file outputs
+
+  -- each output is its file, at its relative name
+  abbrev pub unless_lacking : Option NamedOutput → List NamedOutput → Result Fields Cause
+  unless_lacking None outputs = Ok (files_at (λ found. Place.Url found.name) (picked outputs))
+  unless_lacking (Some o) outputs = Err (Cause.Collect (lack o))
+
+  abbrev pub outputs_from : List NamedOutput → Result Fields Cause
+  outputs_from outputs = unless_lacking (find lacks outputs) outputs
+
+-- the named outputs of a tool, in its order, or the fault of the first that has no file: after a child that was started by this launch,
 -- where this was found in its output folder
-abbrev pub collected : List (Name × ToolOutput) → Launch → List Found → Result Fields Cause
+abbrev pub collected : List NamedOutput → Launch → List Found → Result Fields Cause
 collected outputs launch found = outputs_from (stream_files launch found) outputs
