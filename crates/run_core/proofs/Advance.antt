@@ -1,7 +1,6 @@
 -- A machine that stands in a run and follows an answer stands in the longer run.
 use Rattle.std.proofs.Common.{◌≡◌, List, [], ◌∷◌, ◌++◌, sym, subst}
 use Rattle.run_rules.specs.declared.request.Pair.{Pair}
-use Rattle.run_rules.specs.declared.setting.Setting.{Setting}
 use Rattle.run_core.specs.declared.state.State.{State}
 use Rattle.run_rules.specs.Words.{Fields}
 use Rattle.run_rules.specs.Scene.{Scene, scene_of}
@@ -15,28 +14,29 @@ use Rattle.run_rules.specs.Allowed.{Allowed}
 use Rattle.run_rules.specs.Run.{IsRunSoFar, Replans, asks}
 use Rattle.run_rules.specs.Reports.{report_of}
 use Rattle.run_core.specs.inner.Machine.{ends}
-use Rattle.run_rules.specs.Jobs.{tool_of}
+use Rattle.run_core.specs.declared.state.Lone.{Lone}
+use Rattle.run_core.specs.inner.Lone.{setting_in}
 use Rattle.run_core.specs.inner.Standing.{IsLone, IsAt, ended}
 use Rattle.run_rules.proofs.Lone.{lone, scene_lone}
 
-pub record Advances (setting : Setting) (t : List Pair) (next : State) : Type 0 where
+pub record Advances (run : Lone) (t : List Pair) (next : State) : Type 0 where
   pub happened : Progress
   pub marks : List Mark
-  pub goes : IsRunSoFar setting t happened marks
-  pub at : IsAt setting happened marks next
+  pub goes : IsRunSoFar (setting_in run) t happened marks
+  pub at : IsAt run happened marks next
 
-abbrev pub its_scene : (setting : Setting) → Fields → Scene
-its_scene setting inputs = lone (tool_of setting.process) inputs setting.options
+abbrev pub its_scene : Lone → Fields → Scene
+its_scene run inputs = lone run.tool inputs run.options
 
-module _ (setting : Setting) (inputs : Fields) (l : IsLone setting inputs) where
-  abbrev pub same : scene_of setting ≡ its_scene setting inputs
-  same = scene_lone setting inputs l.fit
+module _ (run : Lone) (inputs : Fields) (l : IsLone run inputs) where
+  abbrev pub same : scene_of (setting_in run) ≡ its_scene run inputs
+  same = scene_lone run.tool run.inputs inputs run.options l.fit
 
   -- one pair more
   pub step_at : (t : List Pair) (f : Progress) (marks : List Mark) (p : Pair) (work : Work) (new : List Event) (later : List Mark) →
-      IsRunSoFar setting t f marks → Allowed (its_scene setting inputs) f marks p.request → Steps (its_scene setting inputs) f p work new →
-      Replans (its_scene setting inputs) (LoadsHeld (its_scene setting inputs)) (progress_with f work new) marks later →
-      IsRunSoFar setting (t ++ p ∷ []) (progress_with f work new) later
+      IsRunSoFar (setting_in run) t f marks → Allowed (its_scene run inputs) f marks p.request → Steps (its_scene run inputs) f p work new →
+      Replans (its_scene run inputs) (LoadsHeld (its_scene run inputs)) (progress_with f work new) marks later →
+      IsRunSoFar (setting_in run) (t ++ p ∷ []) (progress_with f work new) later
   step_at t f marks p work new later goes allowed steps replans =
       asks t f marks p work new later goes
       (subst (λ (x : Scene). Allowed x f marks p.request) (sym same) allowed)
@@ -44,7 +44,7 @@ module _ (setting : Setting) (inputs : Fields) (l : IsLone setting inputs) where
       (subst (λ (x : Scene). Replans x (LoadsHeld x) (progress_with f work new) marks later) (sym same) replans)
 
   -- an end
-  pub end_at : (t : List Pair) (f : Progress) (marks : List Mark) (end : End) → IsRunSoFar setting t f marks →
-      EndsSo (its_scene setting inputs) f marks end → Advances setting t (ends (report_of setting.options end))
+  pub end_at : (t : List Pair) (f : Progress) (marks : List Mark) (end : End) → IsRunSoFar (setting_in run) t f marks →
+      EndsSo (its_scene run inputs) f marks end → Advances run t (ends (report_of run.options end))
   end_at t f marks end goes ends_so =
       record { happened = f; marks = marks; goes = goes; at = ended f marks end (subst (λ (x : Scene). EndsSo x f marks end) (sym same) ends_so) }

@@ -7,6 +7,10 @@ pub mod Next
 pub mod Outcomes
 pub mod Blamed
 pub mod TakeSteps
+pub mod RunTools
+pub mod Beginning
 pub mod Files
+pub mod Picks
+pub mod Holding
 pub mod Asking
 pub mod Seats

@@ -7,7 +7,8 @@ use Rattle.proc_host.specs.declared.call.HostFault.{HostFault}
 use Rattle.run_rules.specs.declared.request.Answer.{Answer}
 use Rattle.run_rules.specs.declared.request.Request.{Request}
 use Rattle.run_rules.specs.declared.request.Pair.{Pair}
-use Rattle.run_rules.specs.declared.setting.Setting.{Setting}
+use Rattle.run_core.specs.declared.state.Lone.{Lone}
+use Rattle.run_core.specs.inner.Lone.{setting_in}
 use Rattle.run_core.specs.declared.state.State.{State}
 use Rattle.run_rules.specs.Words.{Fields}
 use Rattle.run_rules.specs.Answers.{MayAnswer, by_host}
@@ -23,40 +24,40 @@ use Rattle.run_core.proofs.Advance.{Advances, same}
 use Rattle.run_core.proofs.Answered.{launches, stage_fails, began, start_fails, collect_fails, collected_one, scan_fails, delivers_well, deliver_fails}
 use Rattle.run_core.proofs.Listed.{listed}
 
-module _ (setting : Setting) (t : List Pair) where
+module _ (run : Lone) (t : List Pair) where
   abbrev with_pair : Request → Answer → List Pair
   with_pair asks answer = t ++ record { request = asks; answer = answer } ∷ []
 
   -- at a known next state
   abbrev at_next : (asks : Request) (answer : Answer) (next known : State) → next ≡ known →
-      Advances setting (with_pair asks answer) known → Advances setting (with_pair asks answer) next
-  at_next asks answer next known is a = subst (λ (n : State). Advances setting (with_pair asks answer) n) (sym is) a
+      Advances run (with_pair asks answer) known → Advances run (with_pair asks answer) next
+  at_next asks answer next known is a = subst (λ (n : State). Advances run (with_pair asks answer) n) (sym is) a
 
-  pub advance : {f : Progress} {marks : List Mark} {state : State} {answer : Answer} (next : State) → IsAt setting f marks state →
-      IsRunSoFar setting t f marks → MayAnswer state.flying state.asks answer →
-      FollowsFrom setting state.asks state.flying state.phase answer next → Advances setting (with_pair state.asks answer) next
-  advance next (staging inputs l) goes (by_host place request answer (is_staged plan number)) follows = launches setting inputs l t next goes follows
+  pub advance : {f : Progress} {marks : List Mark} {state : State} {answer : Answer} (next : State) → IsAt run f marks state →
+      IsRunSoFar (setting_in run) t f marks → MayAnswer state.flying state.asks answer →
+      FollowsFrom run state.asks state.flying state.phase answer next → Advances run (with_pair state.asks answer) next
+  advance next (staging inputs l) goes (by_host place request answer (is_staged plan number)) follows = launches run inputs l t next goes follows
   advance next (staging inputs l) goes (by_host place request answer (has_failed call)) follows =
-      at_next _ _ next _ follows (stage_fails setting inputs l t goes)
+      at_next _ _ next _ follows (stage_fails run inputs l t goes)
   advance next (starting inputs launch l is) goes (by_host place request answer (is_started its_launch ticket fresh)) follows =
-      at_next _ _ next _ follows (began setting inputs l t launch goes ticket)
+      at_next _ _ next _ follows (began run inputs l t launch goes ticket)
   advance next (starting inputs launch l is) goes (by_host place request answer (has_failed call)) follows =
-      at_next _ _ next _ follows (start_fails setting inputs l t launch goes)
-  advance next (running inputs ticket l) goes (by_host place request answer (has_ended e runs)) follows =
-      at_next _ _ next _ follows (collected_one setting inputs l t ticket e runs goes)
-  advance next (running inputs ticket l) goes (by_host place request answer (has_failed call)) follows =
-      at_next _ _ next _ follows (collect_fails setting inputs l t ticket goes)
-  advance next (scanning inputs ticket millis l) goes (by_host place request answer (is_listed folder found)) follows =
-      at_next _ _ next _ follows (listed setting inputs l t ticket millis goes found)
-  advance next (scanning inputs ticket millis l) goes (by_host place request answer (has_failed call)) follows =
-      at_next _ _ next _ follows (scan_fails setting inputs l t ticket millis goes)
-  advance next (delivering inputs ticket named outputs plan l result delivery) goes (by_host place request answer (is_delivered its_plan)) follows =
-      at_next _ _ next _ follows (delivers_well setting inputs l t ticket named outputs plan goes
-      (subst (λ (s : Scene). (unfolding_at s (when_gathered ticket named).events).result ≡ Some outputs) (same setting inputs l) result)
-      (subst (λ (s : Scene). delivery_at s (when_gathered ticket named).events outputs ≡ Some plan) (same setting inputs l) delivery))
-  advance next (delivering inputs ticket named outputs plan l result delivery) goes (by_host place request answer (has_failed call)) follows =
-      at_next _ _ next _ follows (deliver_fails setting inputs l t ticket named outputs plan goes
-      (subst (λ (s : Scene). (unfolding_at s (when_gathered ticket named).events).result ≡ Some outputs) (same setting inputs l) result)
-      (subst (λ (s : Scene). delivery_at s (when_gathered ticket named).events outputs ≡ Some plan) (same setting inputs l) delivery))
+      at_next _ _ next _ follows (start_fails run inputs l t launch goes)
+  advance next (running inputs launch ticket l) goes (by_host place request answer (has_ended e runs)) follows =
+      at_next _ _ next _ follows (collected_one run inputs l t launch ticket e runs goes)
+  advance next (running inputs launch ticket l) goes (by_host place request answer (has_failed call)) follows =
+      at_next _ _ next _ follows (collect_fails run inputs l t launch ticket goes)
+  advance next (scanning inputs launch ticket millis l) goes (by_host place request answer (is_listed folder found)) follows =
+      at_next _ _ next _ follows (listed run inputs l t launch ticket millis goes found)
+  advance next (scanning inputs launch ticket millis l) goes (by_host place request answer (has_failed call)) follows =
+      at_next _ _ next _ follows (scan_fails run inputs l t launch ticket millis goes)
+  advance next (delivering inputs launch ticket named outputs plan l result delivery) goes (by_host place request answer (is_delivered its_plan)) follows =
+      at_next _ _ next _ follows (delivers_well run inputs l t launch ticket named outputs plan goes
+      (subst (λ (s : Scene). (unfolding_at s (when_gathered launch ticket named).events).result ≡ Some outputs) (same run inputs l) result)
+      (subst (λ (s : Scene). delivery_at s (when_gathered launch ticket named).events outputs ≡ Some plan) (same run inputs l) delivery))
+  advance next (delivering inputs launch ticket named outputs plan l result delivery) goes (by_host place request answer (has_failed call)) follows =
+      at_next _ _ next _ follows (deliver_fails run inputs l t launch ticket named outputs plan goes
+      (subst (λ (s : Scene). (unfolding_at s (when_gathered launch ticket named).events).result ≡ Some outputs) (same run inputs l) result)
+      (subst (λ (s : Scene). delivery_at s (when_gathered launch ticket named).events outputs ≡ Some plan) (same run inputs l) delivery))
   advance next (ended f marks end has) goes may follows = elim may [ ]
   advance next (lost f marks) goes may follows = elim may [ ]

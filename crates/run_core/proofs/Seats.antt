@@ -20,9 +20,9 @@ on_err (Err error) holds = holds
 
 pub has_seat : {flying : List ℕ} {asks : Request} {ticket : ℕ} (phase : Phase) → MayAnswer flying asks (Answer.Host (HostAnswer.Started ticket)) →
     AsksIn asks phase → HasSeat phase
-has_seat (Phase.Starting seat) (by_host place request answer (is_started launch ticket fresh)) asks = asks
+has_seat (Phase.Starting seat names) (by_host place request answer (is_started launch ticket fresh)) asks = asks
 has_seat Phase.Staging (by_host place request answer (is_started launch ticket fresh)) asks = absurd asks
-has_seat Phase.Running (by_host place request answer (is_started launch ticket fresh)) asks = absurd asks
-has_seat Phase.Scanning (by_host place request answer (is_started launch ticket fresh)) asks = absurd asks
+has_seat (Phase.Running names) (by_host place request answer (is_started launch ticket fresh)) asks = absurd asks
+has_seat (Phase.Scanning names) (by_host place request answer (is_started launch ticket fresh)) asks = absurd asks
 has_seat (Phase.Delivering value) (by_host place request answer (is_started launch ticket fresh)) asks = absurd asks
 has_seat (Phase.Ended result) (by_host place request answer (is_started launch ticket fresh)) asks = absurd asks

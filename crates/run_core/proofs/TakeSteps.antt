@@ -1,19 +1,20 @@
 -- What the machine's callers learn of its steps and of its end.
-use Rattle.std.proofs.Common.{◌≡◌, ◌≢◌, ◌∙◌, ℕ, ℤ, ◌+◌, ◌<◌, ◌≤◌, Bool, true, false, cond, List, [], ◌∷◌, ◌++◌, find, Vec, Global, vec_len, vec_capacity, Option, Some, None, Result, Ok, Err, refl, sym, ap, subst, arith, eq-eqb, lit<}
+use Rattle.std.proofs.Common.{◌≡◌, ◌≢◌, ◌∙◌, ◌==◌, ℕ, ℤ, ◌+◌, ◌<◌, ◌≤◌, Bool, true, false, cond, List, [], ◌∷◌, ◌++◌, find, Vec, Global, vec_len, vec_capacity, length, Option, Some, None, Result, Ok, Err, refl, sym, ap, subst, arith, eq-eqb, lit<}
 use Rattle.std.proofs.lemmas.List.Elements.{filter_map-append}
-use Rattle.cwl_document.specs.declared.process.Tool.{Tool}
-use Rattle.cwl_document.specs.declared.process.ToolOutput.{ToolOutput}
-use Rattle.command_line.specs.Launch.{stream_name}
+use Rattle.std.specs.List.{IsDistinct}
+use Rattle.std.specs.Map.{keys_of}
+use Rattle.command_line.specs.Plain.{IsPlainTool}
+use Rattle.cwl_process.specs.declared.process.Process.{Process}
+use Rattle.cwl_value.specs.declared.value.Value.{Value}
+use Rattle.proc_host.specs.declared.plan.StagePlan.{StagePlan}
 use Rattle.proc_host.specs.declared.call.HostAnswer.{HostAnswer}
 use Rattle.proc_host.specs.declared.call.HostRequest.{HostRequest}
 use Rattle.proc_host.specs.Answers.{is_staged, is_started, has_ended, is_listed, is_delivered, has_failed}
 use Rattle.proc_host.specs.declared.call.HostFault.{HostFault}
 use Rattle.proc_host.specs.declared.child.ExitClass.{ExitClass}
-use Rattle.proc_host.specs.declared.found.Found.{Found}
 use Rattle.proc_host.specs.ExitClass.{class_of}
 use Rattle.proc_host.specs.Tickets.{without}
 use Rattle.run_rules.specs.declared.outcome.Cause.{Cause}
-use Rattle.run_rules.specs.declared.outcome.CollectFault.{CollectFault}
 use Rattle.run_rules.specs.declared.outcome.Outcome.{Outcome}
 use Rattle.run_rules.specs.declared.outcome.Report.{Report}
 use Rattle.run_rules.specs.declared.outcome.RunFault.{RunFault}
@@ -21,24 +22,25 @@ use Rattle.run_rules.specs.declared.request.Answer.{Answer}
 use Rattle.run_rules.specs.declared.request.Request.{Request}
 use Rattle.run_rules.specs.declared.request.Pair.{Pair}
 use Rattle.run_rules.specs.declared.setting.Options.{Options}
-use Rattle.run_rules.specs.declared.setting.Setting.{Setting}
+use Rattle.run_core.specs.declared.state.Lone.{Lone}
+use Rattle.run_core.specs.declared.state.StreamNames.{StreamNames}
+use Rattle.run_core.specs.inner.Lone.{setting_in}
 use Rattle.run_core.specs.declared.state.Phase.{Phase}
 use Rattle.run_core.specs.declared.state.State.{State}
-use Rattle.run_rules.specs.Words.{Name, Fields, JobPlace}
+use Rattle.run_rules.specs.Words.{Fields, JobPlace}
 use Rattle.run_rules.specs.Answers.{MayAnswer, by_host, flying_after}
-use Rattle.run_rules.specs.Collected.{found_under}
+use Rattle.run_rules.specs.Collected.{NamedOutput, StreamFiles, lacks, picked}
 use Rattle.run_rules.specs.Events.{Progress}
 use Rattle.plan_checker.specs.declared.plan.Mark.{Mark}
 use Rattle.run_rules.specs.Run.{IsRunSoFar, IsRun}
 use Rattle.run_rules.specs.Reports.{Concludes, whole, lost as memory_lost, reported, report_of, entry_of, entries_of}
-use Rattle.run_core.specs.inner.Machine.{Launches, ends, fails_for_good, start_with, at_start, stages, has_launch, has_none, after_class, after_file, after_listing, delivers, told_of, AsksIn, FollowsFrom, HasRoom, NeedsMemory, pairs_ahead, pairs_wanted, Moves, moves, gives_up, MakesRoom, has_room, wants_none, no_room}
-use Rattle.run_rules.specs.Jobs.{tool_of, walker, tool_walk}
+use Rattle.run_core.specs.inner.Machine.{Launches, ends, fails_for_good, start_with, at_start, stages, has_launch, has_none, after_class, after_lack, delivers_plan, files_by, located_in, names_in, names_of, plan_to, told_of, AsksIn, FollowsFrom, HasRoom, NeedsMemory, pairs_ahead, pairs_wanted, Moves, moves, gives_up, MakesRoom, has_room, wants_none, no_room}
+use Rattle.run_rules.specs.Jobs.{Walker, walker, tool_walk}
 use Rattle.run_core.specs.inner.Standing.{IsAt, Blames, staging, starting, running, scanning, delivering, ended, lost}
 use Rattle.run_core.specs.Core.{steps_in, Stands, Begins, Took}
 use Rattle.run_core.specs.declared.runner.RunCore.{RunCore}
 use Rattle.run_core.specs.Limits.{IsWithinLimits}
-use Rattle.cwl_document.specs.declared.process.ToolInput.{ToolInput}
-use Rattle.run_rules.specs.Inputs.{is_misfit, named_inputs, inputs_for, unless_misfit}
+use Rattle.run_rules.specs.Inputs.{NamedInput, is_misfit, named_inputs, inputs_for, unless_misfit}
 use Rattle.run_rules.specs.Scene.{Scene, scene_of}
 use Rattle.run_rules.specs.Events.{at_first}
 use Rattle.run_rules.specs.End.{fails_permanently}
@@ -54,63 +56,63 @@ use Rattle.run_core.proofs.Blamed.{blames_after, none_started}
 use Rattle.run_core.specs.inner.Standing.{IsLone}
 use Rattle.run_core.proofs.Answered.{only_ticket}
 
-module _ (setting : Setting) where
-  pub asks_in : {f : Progress} {marks : List Mark} {state : State} → IsAt setting f marks state → AsksIn state.asks state.phase
+module _ (run : Lone) where
+  pub asks_in : {f : Progress} {marks : List Mark} {state : State} → IsAt run f marks state → AsksIn state.asks state.phase
   asks_in (staging inputs l) = tt
   asks_in (starting inputs launch l is) = refl
-  asks_in (running inputs ticket l) = tt
-  asks_in (scanning inputs ticket millis l) = tt
-  asks_in (delivering inputs ticket named outputs plan l result delivery) = tt
+  asks_in (running inputs launch ticket l) = tt
+  asks_in (scanning inputs launch ticket millis l) = tt
+  asks_in (delivering inputs launch ticket named outputs plan l result delivery) = tt
   asks_in (ended f marks end has) = tt
   asks_in (lost f marks) = tt
 
   -- while it asks, a child is in flight where it waits for one
-  pub waits_for_one : {f : Progress} {marks : List Mark} {state : State} → IsAt setting f marks state → (place : JobPlace) →
+  pub waits_for_one : {f : Progress} {marks : List Mark} {state : State} → IsAt run f marks state → (place : JobPlace) →
       state.asks ≡ Request.Host place HostRequest.Collect → state.flying ≢ []
   waits_for_one (staging inputs l) place asks = λ none. cc
   waits_for_one (starting inputs launch l is) place asks = λ none. cc
-  waits_for_one (running inputs ticket l) place asks = λ none. cc
-  waits_for_one (scanning inputs ticket millis l) place asks = λ none. cc
-  waits_for_one (delivering inputs ticket named outputs plan l result delivery) place asks = λ none. cc
+  waits_for_one (running inputs launch ticket l) place asks = λ none. cc
+  waits_for_one (scanning inputs launch ticket millis l) place asks = λ none. cc
+  waits_for_one (delivering inputs launch ticket named outputs plan l result delivery) place asks = λ none. cc
   waits_for_one (ended f marks end has) place asks = λ none. cc
   waits_for_one (lost f marks) place asks = λ none. cc
 
   -- where it asks nothing more it has ended
-  pub at_its_end : {f : Progress} {marks : List Mark} {state : State} → IsAt setting f marks state → state.asks ≡ Request.Finished →
+  pub at_its_end : {f : Progress} {marks : List Mark} {state : State} → IsAt run f marks state → state.asks ≡ Request.Finished →
       (result : Result Report RunFault) × (state.phase ≡ Phase.Ended result)
   at_its_end (staging inputs l) asks = absurd cc
   at_its_end (starting inputs launch l is) asks = absurd cc
-  at_its_end (running inputs ticket l) asks = absurd cc
-  at_its_end (scanning inputs ticket millis l) asks = absurd cc
-  at_its_end (delivering inputs ticket named outputs plan l result delivery) asks = absurd cc
-  at_its_end (ended f marks end has) asks = (report_of setting.options end, refl)
+  at_its_end (running inputs launch ticket l) asks = absurd cc
+  at_its_end (scanning inputs launch ticket millis l) asks = absurd cc
+  at_its_end (delivering inputs launch ticket named outputs plan l result delivery) asks = absurd cc
+  at_its_end (ended f marks end has) asks = (report_of run.options end, refl)
   at_its_end (lost f marks) asks = (Err RunFault.OutOfMemory, refl)
 
   -- what it reports is what its run is
-  pub concludes : (t : List Pair) {f : Progress} {marks : List Mark} {state : State} (result : Result Report RunFault) → IsAt setting f marks state →
-      IsRunSoFar setting t f marks → state.phase ≡ Phase.Ended result → Concludes setting t result
+  pub concludes : (t : List Pair) {f : Progress} {marks : List Mark} {state : State} (result : Result Report RunFault) → IsAt run f marks state →
+      IsRunSoFar (setting_in run) t f marks → state.phase ≡ Phase.Ended result → Concludes (setting_in run) t result
   concludes t result (staging inputs l) goes is = absurd cc
   concludes t result (starting inputs launch l is_launch) goes is = absurd cc
-  concludes t result (running inputs ticket l) goes is = absurd cc
-  concludes t result (scanning inputs ticket millis l) goes is = absurd cc
-  concludes t result (delivering inputs ticket named outputs plan l its_result delivery) goes is = absurd cc
+  concludes t result (running inputs launch ticket l) goes is = absurd cc
+  concludes t result (scanning inputs launch ticket millis l) goes is = absurd cc
+  concludes t result (delivering inputs launch ticket named outputs plan l its_result delivery) goes is = absurd cc
   concludes t result (ended f marks end has) goes is =
-      let same : report_of setting.options end ≡ result = cc in
-      let run : IsRun setting t end = record { happened = f; marks = marks; goes = goes; ended = has } in
-      subst (λ (r : Result Report RunFault). Concludes setting t r) same
-      (whole end run (reports_rightly setting t end run))
+      let same : report_of run.options end ≡ result = cc in
+      let its_run : IsRun (setting_in run) t end = record { happened = f; marks = marks; goes = goes; ended = has } in
+      subst (λ (r : Result Report RunFault). Concludes (setting_in run) t r) same
+      (whole end its_run (reports_rightly (setting_in run) t end its_run))
   concludes t result (lost f marks) goes is =
       let same : Err RunFault.OutOfMemory ≡ result = cc in
-      subst (λ (r : Result Report RunFault). Concludes setting t r) same (memory_lost f marks goes)
+      subst (λ (r : Result Report RunFault). Concludes (setting_in run) t r) same (memory_lost f marks goes)
 
   -- an answer that may come finds the machine asking
-  pub still_asks : {f : Progress} {marks : List Mark} {state : State} {answer : Answer} → IsAt setting f marks state →
+  pub still_asks : {f : Progress} {marks : List Mark} {state : State} {answer : Answer} → IsAt run f marks state →
       MayAnswer state.flying state.asks answer → 0 < steps_in state.phase
   still_asks (staging inputs l) may = lit< tt
   still_asks (starting inputs launch l is) may = lit< tt
-  still_asks (running inputs ticket l) may = lit< tt
-  still_asks (scanning inputs ticket millis l) may = lit< tt
-  still_asks (delivering inputs ticket named outputs plan l result delivery) may = lit< tt
+  still_asks (running inputs launch ticket l) may = lit< tt
+  still_asks (scanning inputs launch ticket millis l) may = lit< tt
+  still_asks (delivering inputs launch ticket named outputs plan l result delivery) may = lit< tt
   still_asks (ended f marks end has) may = elim may [ ]
   still_asks (lost f marks) may = elim may [ ]
 
@@ -120,83 +122,78 @@ pub record Leaves (steps : ℕ) (flying : List ℕ) (next : State) : Type 0 wher
   pub falls : steps_in next.phase < steps
   pub not_lost : next.phase ≡ Phase.Ended (Err RunFault.OutOfMemory) → ⊥
   pub flies : next.asks ≢ Request.Finished → next.flying ≡ flying
-  pub runs : next.phase ≡ Phase.Running → steps ≡ 4
+  pub runs : (names : StreamNames) → next.phase ≡ Phase.Running names → steps ≡ 4
   pub landed : 0 < pairs_wanted next.phase → flying ≡ []
 
 none_less : 0 < 0 → ⊥
 none_less never = omega arith
 
 leaves_outcome : (steps : ℕ) (flying : List ℕ) (outcome : Outcome) → 0 < steps → Leaves steps flying (ends (reported outcome))
-leaves_outcome steps flying outcome some = record { falls = some; not_lost = λ is. cc; flies = λ asks. absurd (asks refl); runs = λ is. cc; landed = λ needs. absurd (none_less needs) }
+leaves_outcome steps flying outcome some = record { falls = some; not_lost = λ is. cc; flies = λ asks. absurd (asks refl); runs = λ names is. cc; landed = λ needs. absurd (none_less needs) }
 
 leaves_fault : (steps : ℕ) (flying : List ℕ) (fault : HostFault) (left : List ℕ) → 0 < steps →
     Leaves steps flying (ends (Err (RunFault.Host fault left)))
-leaves_fault steps flying fault left some = record { falls = some; not_lost = λ is. cc; flies = λ asks. absurd (asks refl); runs = λ is. cc; landed = λ needs. absurd (none_less needs) }
+leaves_fault steps flying fault left some = record { falls = some; not_lost = λ is. cc; flies = λ asks. absurd (asks refl); runs = λ names is. cc; landed = λ needs. absurd (none_less needs) }
 
-leaves_class : (options : Options) (code : Option ℤ) (class : ExitClass) (flying : List ℕ) → flying ≡ [] → Leaves 3 flying (after_class options code class)
-leaves_class options code ExitClass.Success flying none = record { falls = lit< tt; not_lost = λ is. cc; flies = λ asks. sym none; runs = λ is. cc; landed = λ needs. none }
-leaves_class options code ExitClass.Temporary flying none = leaves_outcome 3 flying (Outcome.TemporaryFail []) (lit< tt)
-leaves_class options code ExitClass.Permanent flying none = leaves_outcome 3 flying (Outcome.PermanentFail [] (Cause.Exit code)) (lit< tt)
+leaves_class : (options : Options) (names : StreamNames) (code : Option ℤ) (class : ExitClass) (flying : List ℕ) → flying ≡ [] → Leaves 3 flying (after_class options names code class)
+leaves_class options names code ExitClass.Success flying none = record { falls = lit< tt; not_lost = λ is. cc; flies = λ asks. sym none; runs = λ names is. cc; landed = λ needs. none }
+leaves_class options names code ExitClass.Temporary flying none = leaves_outcome 3 flying (Outcome.TemporaryFail []) (lit< tt)
+leaves_class options names code ExitClass.Permanent flying none = leaves_outcome 3 flying (Outcome.PermanentFail [] (Cause.Exit code)) (lit< tt)
 
-leaves_kind : (options : Options) (tool : Tool) (id : Name) (file : Found) (b : Bool) →
-    Leaves 2 [] (cond b (fails_for_good (Cause.Collect (CollectFault.NotTyped id))) (delivers options tool.outputs file))
-leaves_kind options tool id file true = leaves_outcome 2 [] (Outcome.PermanentFail [] (Cause.Collect (CollectFault.NotTyped id))) (lit< tt)
-leaves_kind options tool id file false = record { falls = lit< tt; not_lost = λ is. cc; flies = λ asks. refl; runs = λ is. cc; landed = λ needs. refl }
+leaves_moves : (plan : StagePlan) (located : Value) (none : Bool) → (length plan.moves == 0) ≡ none → Leaves 2 [] (delivers_plan plan located)
+leaves_moves plan located true is = rw is (leaves_outcome 2 [] (Outcome.Success located) (lit< tt))
+leaves_moves plan located false is = rw is (record { falls = lit< tt; not_lost = λ is_lost. cc; flies = λ asks. refl; runs = λ names is_running. cc; landed = λ needs. refl })
 
-leaves_file : (options : Options) (tool : Tool) (id : Name) (file : Option Found) → Leaves 2 [] (after_file options tool id file)
-leaves_file options tool id None = leaves_outcome 2 [] (Outcome.PermanentFail [] (Cause.Collect (CollectFault.NoMatch id))) (lit< tt)
-leaves_file options tool id (Some file) = leaves_kind options tool id file file.is_dir
-
-leaves_listing : (options : Options) (tool : Tool) (found : List Found) (outputs : List ToolOutput) → Leaves 2 [] (after_listing options tool found outputs)
-leaves_listing options tool found [] = record { falls = lit< tt; not_lost = λ is. cc; flies = λ asks. absurd (asks refl); runs = λ is. cc; landed = λ needs. absurd (none_less needs) }
-leaves_listing options tool found (o ∷ outputs) = leaves_file options tool o.id (found_under (stream_name tool) found)
+leaves_lack : (options : Options) (files : StreamFiles) (outputs : List NamedOutput) (o : Option NamedOutput) → Leaves 2 [] (after_lack options files outputs o)
+leaves_lack options files outputs None = leaves_moves (plan_to options (picked files outputs)) (located_in options (picked files outputs)) _ refl
+leaves_lack options files outputs (Some o) = leaves_outcome 2 [] (Outcome.PermanentFail [] _) (lit< tt)
 
 none_left : (ticket n : ℕ) → ticket ≡ n → without n (ticket ∷ []) ≡ []
 none_left ticket n is = subst (λ (m : ℕ). without m (ticket ∷ []) ≡ []) is (rw (eq-eqb ticket ticket refl) refl)
 
-module _ (setting : Setting) where
+module _ (run : Lone) where
   abbrev at_known : (steps : ℕ) (flying : List ℕ) (next known : State) → next ≡ known → Leaves steps flying known → Leaves steps flying next
   at_known steps flying next known is leaves = subst (λ (n : State). Leaves steps flying n) (sym is) leaves
 
-  leaves_launch : (inputs : Fields) (next : State) → Launches setting inputs next → Leaves 5 [] next
-  leaves_launch inputs next (has_launch launch is) = record { falls = lit< tt; not_lost = λ is_lost. cc; flies = λ asks. refl; runs = λ is. cc; landed = λ needs. refl }
+  leaves_launch : (inputs : Fields) (next : State) → Launches run inputs next → Leaves 5 [] next
+  leaves_launch inputs next (has_launch launch is) = record { falls = lit< tt; not_lost = λ is_lost. cc; flies = λ asks. refl; runs = λ names is. cc; landed = λ needs. refl }
   leaves_launch inputs next (has_none fault is) = leaves_outcome 5 [] (Outcome.PermanentFail [] (Cause.Build fault)) (lit< tt)
 
-  pub step_leaves : {f : Progress} {marks : List Mark} {state : State} {answer : Answer} (next : State) → IsAt setting f marks state →
-      MayAnswer state.flying state.asks answer → FollowsFrom setting state.asks state.flying state.phase answer next →
+  pub step_leaves : {f : Progress} {marks : List Mark} {state : State} {answer : Answer} (next : State) → IsAt run f marks state →
+      MayAnswer state.flying state.asks answer → FollowsFrom run state.asks state.flying state.phase answer next →
       Leaves (steps_in state.phase) (flying_after state.flying answer) next
   step_leaves next (staging inputs l) (by_host place request answer (is_staged plan number)) follows = leaves_launch inputs next follows
   step_leaves next (staging inputs l) (by_host place request answer (has_failed call)) follows = at_known _ _ next _ follows (leaves_fault 5 [] _ [] (lit< tt))
   step_leaves next (starting inputs launch l is) (by_host place request answer (is_started its_launch ticket fresh)) follows =
-      at_known _ _ next _ follows (record { falls = lit< tt; not_lost = λ is_lost. cc; flies = λ asks. refl; runs = λ is_running. refl; landed = λ needs. absurd (none_less needs) })
+      at_known _ _ next _ follows (record { falls = lit< tt; not_lost = λ is_lost. cc; flies = λ asks. refl; runs = λ names is_running. refl; landed = λ needs. absurd (none_less needs) })
   step_leaves next (starting inputs launch l is) (by_host place request answer (has_failed call)) follows = at_known _ _ next _ follows (leaves_fault 4 [] _ [] (lit< tt))
-  step_leaves next (running inputs ticket l) (by_host place request answer (has_ended e runs)) follows =
-      at_known _ _ next _ follows (leaves_class setting.options e.code (class_of e.code) (without e.ticket (ticket ∷ []))
+  step_leaves next (running inputs launch ticket l) (by_host place request answer (has_ended e runs)) follows =
+      at_known _ _ next _ follows (leaves_class run.options (names_of launch) e.code (class_of e.code) (without e.ticket (ticket ∷ []))
       (none_left ticket e.ticket (only_ticket ticket e.ticket runs)))
-  step_leaves next (running inputs ticket l) (by_host place request answer (has_failed call)) follows = at_known _ _ next _ follows (leaves_fault 3 (ticket ∷ []) _ (ticket ∷ []) (lit< tt))
-  step_leaves next (scanning inputs ticket millis l) (by_host place request answer (is_listed folder found)) follows =
-      at_known _ _ next _ follows (leaves_listing setting.options (tool_of setting.process) found (tool_of setting.process).outputs)
-  step_leaves next (scanning inputs ticket millis l) (by_host place request answer (has_failed call)) follows = at_known _ _ next _ follows (leaves_fault 2 [] _ [] (lit< tt))
-  step_leaves next (delivering inputs ticket named outputs plan l result delivery) (by_host place request answer (is_delivered its_plan)) follows =
+  step_leaves next (running inputs launch ticket l) (by_host place request answer (has_failed call)) follows = at_known _ _ next _ follows (leaves_fault 3 (ticket ∷ []) _ (ticket ∷ []) (lit< tt))
+  step_leaves next (scanning inputs launch ticket millis l) (by_host place request answer (is_listed folder found)) follows =
+      at_known _ _ next _ follows (leaves_lack run.options (files_by (names_of launch) found) run.tool.outputs (find (lacks (files_by (names_of launch) found)) run.tool.outputs))
+  step_leaves next (scanning inputs launch ticket millis l) (by_host place request answer (has_failed call)) follows = at_known _ _ next _ follows (leaves_fault 2 [] _ [] (lit< tt))
+  step_leaves next (delivering inputs launch ticket named outputs plan l result delivery) (by_host place request answer (is_delivered its_plan)) follows =
       at_known _ _ next _ follows (leaves_outcome 1 [] _ (lit< tt))
-  step_leaves next (delivering inputs ticket named outputs plan l result delivery) (by_host place request answer (has_failed call)) follows =
+  step_leaves next (delivering inputs launch ticket named outputs plan l result delivery) (by_host place request answer (has_failed call)) follows =
       at_known _ _ next _ follows (leaves_fault 1 [] _ [] (lit< tt))
   step_leaves next (ended f marks end has) may follows = elim may [ ]
   step_leaves next (lost f marks) may follows = elim may [ ]
 
   -- where memory is needed, no child is in flight
-  none_in_flight : {f : Progress} {marks : List Mark} {state : State} {answer : Answer} → IsAt setting f marks state →
+  none_in_flight : {f : Progress} {marks : List Mark} {state : State} {answer : Answer} → IsAt run f marks state →
       MayAnswer state.flying state.asks answer → NeedsMemory answer → flying_after state.flying answer ≡ []
   none_in_flight (staging inputs l) (by_host place request answer (is_staged plan number)) needs = refl
   none_in_flight (staging inputs l) (by_host place request answer (has_failed call)) needs = absurd needs
   none_in_flight (starting inputs launch l is) (by_host place request answer (is_started its_launch ticket fresh)) needs = absurd needs
   none_in_flight (starting inputs launch l is) (by_host place request answer (has_failed call)) needs = absurd needs
-  none_in_flight (running inputs ticket l) (by_host place request answer (has_ended e runs)) needs = none_left ticket e.ticket (only_ticket ticket e.ticket runs)
-  none_in_flight (running inputs ticket l) (by_host place request answer (has_failed call)) needs = absurd needs
-  none_in_flight (scanning inputs ticket millis l) (by_host place request answer (is_listed folder found)) needs = refl
-  none_in_flight (scanning inputs ticket millis l) (by_host place request answer (has_failed call)) needs = absurd needs
-  none_in_flight (delivering inputs ticket named outputs plan l result delivery) (by_host place request answer (is_delivered its_plan)) needs = refl
-  none_in_flight (delivering inputs ticket named outputs plan l result delivery) (by_host place request answer (has_failed call)) needs = absurd needs
+  none_in_flight (running inputs launch ticket l) (by_host place request answer (has_ended e runs)) needs = none_left ticket e.ticket (only_ticket ticket e.ticket runs)
+  none_in_flight (running inputs launch ticket l) (by_host place request answer (has_failed call)) needs = absurd needs
+  none_in_flight (scanning inputs launch ticket millis l) (by_host place request answer (is_listed folder found)) needs = refl
+  none_in_flight (scanning inputs launch ticket millis l) (by_host place request answer (has_failed call)) needs = absurd needs
+  none_in_flight (delivering inputs launch ticket named outputs plan l result delivery) (by_host place request answer (is_delivered its_plan)) needs = refl
+  none_in_flight (delivering inputs launch ticket named outputs plan l result delivery) (by_host place request answer (has_failed call)) needs = absurd needs
   none_in_flight (ended f marks end has) may needs = elim may [ ]
   none_in_flight (lost f marks) may needs = elim may [ ]
 
@@ -204,26 +201,26 @@ module _ (setting : Setting) where
 
 pub one_fits : (pairs room : ℕ) (phase : Phase) → 0 < steps_in phase → pairs + pairs_ahead phase ≤ room → pairs < room
 one_fits pairs room Phase.Staging some fits = omega arith
-one_fits pairs room (Phase.Starting seat) some fits = omega arith
-one_fits pairs room Phase.Running some fits = omega arith
-one_fits pairs room Phase.Scanning some fits = omega arith
+one_fits pairs room (Phase.Starting seat names) some fits = omega arith
+one_fits pairs room (Phase.Running names) some fits = omega arith
+one_fits pairs room (Phase.Scanning names) some fits = omega arith
 one_fits pairs room (Phase.Delivering value) some fits = omega arith
 one_fits pairs room (Phase.Ended result) some fits = absurd (omega arith)
 
 two_fit : (pairs room : ℕ) (phase : Phase) → steps_in phase ≡ 4 → pairs + pairs_ahead phase ≤ room → pairs + 2 ≤ room
 two_fit pairs room Phase.Staging four fits = absurd (omega arith)
-two_fit pairs room (Phase.Starting seat) four fits = fits
-two_fit pairs room Phase.Running four fits = absurd (omega arith)
-two_fit pairs room Phase.Scanning four fits = absurd (omega arith)
+two_fit pairs room (Phase.Starting seat names) four fits = fits
+two_fit pairs room (Phase.Running names) four fits = absurd (omega arith)
+two_fit pairs room (Phase.Scanning names) four fits = absurd (omega arith)
 two_fit pairs room (Phase.Delivering value) four fits = absurd (omega arith)
 two_fit pairs room (Phase.Ended result) four fits = absurd (omega arith)
 
 -- a child's end still fits once its start is noted
-by_phase : (pairs room : ℕ) (phase : Phase) → (phase ≡ Phase.Running → pairs + 1 ≤ room) → HasRoom pairs room phase
+by_phase : (pairs room : ℕ) (phase : Phase) → ((names : StreamNames) → phase ≡ Phase.Running names → pairs + 1 ≤ room) → HasRoom pairs room phase
 by_phase pairs room Phase.Staging fits = tt
-by_phase pairs room (Phase.Starting seat) fits = tt
-by_phase pairs room Phase.Running fits = fits refl
-by_phase pairs room Phase.Scanning fits = tt
+by_phase pairs room (Phase.Starting seat names) fits = tt
+by_phase pairs room (Phase.Running names) fits = fits names refl
+by_phase pairs room (Phase.Scanning names) fits = tt
 by_phase pairs room (Phase.Delivering value) fits = tt
 by_phase pairs room (Phase.Ended result) fits = tt
 
@@ -232,21 +229,21 @@ Room pairs room state = 0 < steps_in state.phase → pairs + pairs_ahead state.p
 
 room_left : (pairs room : ℕ) (phase : Phase) → pairs_wanted phase ≡ 0 → HasRoom pairs room phase → 0 < steps_in phase → pairs + pairs_ahead phase ≤ room
 room_left pairs room Phase.Staging none has some = absurd (omega arith)
-room_left pairs room (Phase.Starting seat) none has some = absurd (omega arith)
-room_left pairs room Phase.Running none has some = has
-room_left pairs room Phase.Scanning none has some = absurd (omega arith)
+room_left pairs room (Phase.Starting seat names) none has some = absurd (omega arith)
+room_left pairs room (Phase.Running names) none has some = has
+room_left pairs room (Phase.Scanning names) none has some = absurd (omega arith)
 room_left pairs room (Phase.Delivering value) none has some = absurd (omega arith)
 room_left pairs room (Phase.Ended result) none has some = absurd (omega arith)
 
 room_made : (pairs room : ℕ) (phase : Phase) → 0 < pairs_wanted phase → pairs + pairs_wanted phase ≤ room → pairs + pairs_ahead phase ≤ room
 room_made pairs room Phase.Staging wants has = has
-room_made pairs room (Phase.Starting seat) wants has = has
-room_made pairs room Phase.Running wants has = absurd (omega arith)
-room_made pairs room Phase.Scanning wants has = has
+room_made pairs room (Phase.Starting seat names) wants has = has
+room_made pairs room (Phase.Running names) wants has = absurd (omega arith)
+room_made pairs room (Phase.Scanning names) wants has = has
 room_made pairs room (Phase.Delivering value) wants has = has
 room_made pairs room (Phase.Ended result) wants has = absurd (omega arith)
 
-room_ended : (pairs room : ℕ) (state : State) (result : Result Report RunFault) → state.phase ≡ Phase.Ended result → Room pairs room state
+pub room_ended : (pairs room : ℕ) (state : State) (result : Result Report RunFault) → state.phase ≡ Phase.Ended result → Room pairs room state
 room_ended pairs room state result is some =
     let never : 0 < 0 = subst (λ (p : Phase). 0 < steps_in p) is some in absurd (omega arith)
 
@@ -256,38 +253,40 @@ abbrev pub noted : Request → Answer → Pair
 noted request answer = record { request = request; answer = answer }
 
 abbrev pub core_with : RunCore → Vec Pair Global → State → RunCore
-core_with core pairs state = record { alloc = core.alloc; setting = core.setting; pairs = pairs; state = state }
+core_with core pairs state = record { alloc = core.alloc; lone = core.lone; pairs = pairs; state = state }
 
 module _ (core : RunCore) (answer : Answer) (pairs : Vec Pair Global) (state : State) (stands : Stands core)
     (may : MayAnswer core.state.flying core.state.asks answer) (longer : pairs.items ≡ core.pairs.items ++ noted core.state.asks answer ∷ []) where
-  pub stands_next : FollowsFrom core.setting core.state.asks core.state.flying core.state.phase answer state → Room (vec_len pairs) (vec_capacity pairs) state →
+  pub stands_next : FollowsFrom core.lone core.state.asks core.state.flying core.state.phase answer state → Room (vec_len pairs) (vec_capacity pairs) state →
       Stands (core_with core pairs state)
   stands_next follows room =
-      let a : Advances core.setting (core.pairs.items ++ noted core.state.asks answer ∷ []) state =
-      advance core.setting core.pairs.items state stands.at stands.goes may follows in
+      let a : Advances core.lone (core.pairs.items ++ noted core.state.asks answer ∷ []) state =
+      advance core.lone core.pairs.items state stands.at stands.goes may follows in
       record {
         happened = a.happened;
         marks = a.marks;
-        goes = subst (λ (t : List Pair). IsRunSoFar core.setting t a.happened a.marks) (sym longer) a.goes;
+        goes = subst (λ (t : List Pair). IsRunSoFar (setting_in core.lone) t a.happened a.marks) (sym longer) a.goes;
+        plain = stands.plain;
         at = a.at;
         blames = subst (λ (t : List Pair). Blames (entries_of t) state) (sym longer)
-            (blames_after core.setting core.pairs.items core.state.asks core.state.flying core.state.phase answer state may stands.blames.flying follows);
+            (blames_after core.lone core.pairs.items core.state.asks core.state.flying core.state.phase answer state may stands.blames.flying follows);
         room = room;
       }
 
   -- where memory ran out, what would have followed shows that the answer is one of a run
-  pub stands_lost : (next : State) → FollowsFrom core.setting core.state.asks core.state.flying core.state.phase answer next →
+  pub stands_lost : (next : State) → FollowsFrom core.lone core.state.asks core.state.flying core.state.phase answer next →
       state ≡ ends (Err RunFault.OutOfMemory) → Stands (core_with core pairs state)
   stands_lost next follows is =
-      let a : Advances core.setting (core.pairs.items ++ noted core.state.asks answer ∷ []) next =
-      advance core.setting core.pairs.items next stands.at stands.goes may follows in
+      let a : Advances core.lone (core.pairs.items ++ noted core.state.asks answer ∷ []) next =
+      advance core.lone core.pairs.items next stands.at stands.goes may follows in
       let none : Room (vec_len pairs) (vec_capacity pairs) state =
       room_ended (vec_len pairs) (vec_capacity pairs) state (Err RunFault.OutOfMemory) (ap (λ (st : State). st.phase) is) in
       record {
         happened = a.happened;
         marks = a.marks;
-        goes = subst (λ (t : List Pair). IsRunSoFar core.setting t a.happened a.marks) (sym longer) a.goes;
-        at = subst (λ (st : State). IsAt core.setting a.happened a.marks st) (sym is) (lost a.happened a.marks);
+        goes = subst (λ (t : List Pair). IsRunSoFar (setting_in core.lone) t a.happened a.marks) (sym longer) a.goes;
+        plain = stands.plain;
+        at = subst (λ (st : State). IsAt core.lone a.happened a.marks st) (sym is) (lost a.happened a.marks);
         blames = subst (λ (st : State). Blames (entries_of pairs.items) st) (sym is) (record { flying = none_started (entries_of pairs.items); rightly = tt });
         room = none;
       }
@@ -296,9 +295,9 @@ module _ (core : RunCore) (answer : Answer) (pairs : Vec Pair Global) (state : S
 
 not_lost_is_ok : (phase : Phase) → (phase ≡ Phase.Ended (Err RunFault.OutOfMemory) → ⊥) → told_of phase ≡ Ok tt
 not_lost_is_ok Phase.Staging not_lost = refl
-not_lost_is_ok (Phase.Starting seat) not_lost = refl
-not_lost_is_ok Phase.Running not_lost = refl
-not_lost_is_ok Phase.Scanning not_lost = refl
+not_lost_is_ok (Phase.Starting seat names) not_lost = refl
+not_lost_is_ok (Phase.Running names) not_lost = refl
+not_lost_is_ok (Phase.Scanning names) not_lost = refl
 not_lost_is_ok (Phase.Delivering value) not_lost = refl
 not_lost_is_ok (Phase.Ended (Ok report)) not_lost = refl
 not_lost_is_ok (Phase.Ended (Err (RunFault.Host fault left))) not_lost = refl
@@ -310,7 +309,7 @@ module _ (core : RunCore) (answer : Answer) (pairs : Vec Pair Global) (stands : 
   more_entries : entries_of pairs.items ≡ entries_of core.pairs.items ++ entries_of (noted core.state.asks answer ∷ [])
   more_entries = ap entries_of longer ∙ filter_map-append entry_of core.pairs.items (noted core.state.asks answer ∷ [])
 
-  took_lost : (next : State) → FollowsFrom core.setting core.state.asks core.state.flying core.state.phase answer next →
+  took_lost : (next : State) → FollowsFrom core.lone core.state.asks core.state.flying core.state.phase answer next →
       flying_after core.state.flying answer ≡ [] → Took core answer (Err RunFault.OutOfMemory) (core_with core pairs (ends (Err RunFault.OutOfMemory)))
   took_lost next follows none = record {
     stands = stands_lost core answer pairs (ends (Err RunFault.OutOfMemory)) stands may longer next follows refl;
@@ -318,7 +317,7 @@ module _ (core : RunCore) (answer : Answer) (pairs : Vec Pair Global) (stands : 
     pair = longer;
     entries = more_entries;
     flying = tt;
-    steps = still_asks core.setting stands.at may;
+    steps = still_asks core.lone stands.at may;
     ok = tt;
     err = refl;
     lost = refl;
@@ -326,11 +325,11 @@ module _ (core : RunCore) (answer : Answer) (pairs : Vec Pair Global) (stands : 
     landed = none;
   }
 
-  took_next : (next : State) → FollowsFrom core.setting core.state.asks core.state.flying core.state.phase answer next →
+  took_next : (next : State) → FollowsFrom core.lone core.state.asks core.state.flying core.state.phase answer next →
       Room (vec_len pairs) (vec_capacity pairs) next → Took core answer (Ok tt) (core_with core pairs next)
   took_next next follows room =
       let leaves : Leaves (steps_in core.state.phase) (flying_after core.state.flying answer) next =
-      step_leaves core.setting next stands.at may follows in
+      step_leaves core.lone next stands.at may follows in
       record {
         stands = stands_next core answer pairs next stands may longer follows room;
         setting = refl;
@@ -345,118 +344,43 @@ module _ (core : RunCore) (answer : Answer) (pairs : Vec Pair Global) (stands : 
         landed = tt;
       }
 
-  took_on : (next : State) → FollowsFrom core.setting core.state.asks core.state.flying core.state.phase answer next →
+  took_on : (next : State) → FollowsFrom core.lone core.state.asks core.state.flying core.state.phase answer next →
       Room (vec_len pairs) (vec_capacity pairs) next → Took core answer (told_of next.phase) (core_with core pairs next)
   took_on next follows room =
       let leaves : Leaves (steps_in core.state.phase) (flying_after core.state.flying answer) next =
-      step_leaves core.setting next stands.at may follows in
+      step_leaves core.lone next stands.at may follows in
       subst (λ (r : Result (Unit {0}) RunFault). Took core answer r (core_with core pairs next)) (sym (not_lost_is_ok next.phase leaves.not_lost))
       (took_next next follows room)
 
-  took_with_room : (next state : State) → FollowsFrom core.setting core.state.asks core.state.flying core.state.phase answer next →
+  took_with_room : (next state : State) → FollowsFrom core.lone core.state.asks core.state.flying core.state.phase answer next →
       MakesRoom (vec_len pairs) (vec_capacity pairs) next state → Took core answer (told_of state.phase) (core_with core pairs state)
   took_with_room next state follows (has_room wants room) = took_on next follows (λ some. room_made _ _ next.phase wants room)
   took_with_room next state follows (wants_none none room) = took_on next follows (room_left _ _ next.phase none room)
   took_with_room next state follows (no_room needs) =
       let leaves : Leaves (steps_in core.state.phase) (flying_after core.state.flying answer) next =
-      step_leaves core.setting next stands.at may follows in
+      step_leaves core.lone next stands.at may follows in
       took_lost next follows (leaves.landed needs)
 
-  took_by : (next state : State) → Moves core.setting core.state answer next → MakesRoom (vec_len pairs) (vec_capacity pairs) next state →
+  took_by : (next state : State) → Moves core.lone core.state answer next → MakesRoom (vec_len pairs) (vec_capacity pairs) next state →
       Took core answer (told_of state.phase) (core_with core pairs state)
   took_by next state (moves other follows) made = took_with_room next state follows made
-  took_by next state (gives_up other follows needs) (has_room wants room) = took_lost other follows (none_in_flight core.setting stands.at may needs)
-  took_by next state (gives_up other follows needs) (wants_none none room) = took_lost other follows (none_in_flight core.setting stands.at may needs)
-  took_by next state (gives_up other follows needs) (no_room wants) = took_lost other follows (none_in_flight core.setting stands.at may needs)
+  took_by next state (gives_up other follows needs) (has_room wants room) = took_lost other follows (none_in_flight core.lone stands.at may needs)
+  took_by next state (gives_up other follows needs) (wants_none none room) = took_lost other follows (none_in_flight core.lone stands.at may needs)
+  took_by next state (gives_up other follows needs) (no_room wants) = took_lost other follows (none_in_flight core.lone stands.at may needs)
 
-  pub took : (next state : State) (result : Result (Unit {0}) RunFault) → Moves core.setting core.state answer next → MakesRoom (vec_len pairs) (vec_capacity pairs) next state →
+  pub took : (next state : State) (result : Result (Unit {0}) RunFault) → Moves core.lone core.state answer next → MakesRoom (vec_len pairs) (vec_capacity pairs) next state →
       result ≡ told_of state.phase → Took core answer result (core_with core pairs state)
   took next state result moved made is =
       subst (λ (r : Result (Unit {0}) RunFault). Took core answer r (core_with core pairs state)) (sym is) (took_by next state moved made)
 
 -- once the pair is noted, a child that was started has room for its end
 pub keeps_room : (core : RunCore) (answer : Answer) (next : State) (pairs room : ℕ) → Stands core → MayAnswer core.state.flying core.state.asks answer →
-    Moves core.setting core.state answer next → pairs ≡ vec_len core.pairs + 1 → vec_capacity core.pairs ≤ room → HasRoom pairs room next.phase
+    Moves core.lone core.state answer next → pairs ≡ vec_len core.pairs + 1 → vec_capacity core.pairs ≤ room → HasRoom pairs room next.phase
 keeps_room core answer next pairs room stands may (moves other follows) longer wider =
     let leaves : Leaves (steps_in core.state.phase) (flying_after core.state.flying answer) next =
-    step_leaves core.setting next stands.at may follows in
-    by_phase pairs room next.phase (λ is.
+    step_leaves core.lone next stands.at may follows in
+    by_phase pairs room next.phase (λ names is.
     let fits : vec_len core.pairs + 2 ≤ vec_capacity core.pairs =
-    two_fit (vec_len core.pairs) (vec_capacity core.pairs) core.state.phase (leaves.runs is)
-    (stands.room (still_asks core.setting stands.at may)) in omega arith)
+    two_fit (vec_len core.pairs) (vec_capacity core.pairs) core.state.phase (leaves.runs names is)
+    (stands.room (still_asks core.lone stands.at may)) in omega arith)
 keeps_room core answer next pairs room stands may (gives_up other follows needs) longer wider = tt
-
--- Before any answer
-
-abbrev refused_scene : Setting → ToolInput → Scene
-refused_scene setting input = record { walker = tool_walk (tool_of setting.process) [] (Err (Cause.Kind input.id)); options = setting.options }
-
-module _ (core : RunCore) (limits : IsWithinLimits core.setting.options) (empty : core.pairs.items ≡ [])
-    (room : vec_len core.pairs < vec_capacity core.pairs) where
-  abbrev misfit : Option ToolInput
-  misfit = find (is_misfit core.setting.inputs) (tool_of core.setting.process).inputs
-
-  abbrev its_inputs : Fields
-  its_inputs = named_inputs (tool_of core.setting.process).inputs core.setting.inputs
-
-  scene_is : (r : Result Fields Cause) → inputs_for (tool_of core.setting.process).inputs core.setting.inputs ≡ r →
-      walker core.setting.process core.setting.inputs ≡ tool_walk (tool_of core.setting.process) [] r
-  scene_is r is = walker_tool core.setting.process core.setting.inputs ∙ ap (λ (x : Result Fields Cause). tool_walk (tool_of core.setting.process) [] x) is
-
-  first_fits : core.state.phase ≡ Phase.Staging → vec_len core.pairs + pairs_ahead core.state.phase ≤ vec_capacity core.pairs
-  first_fits is = subst (λ (p : Phase). vec_len core.pairs + pairs_ahead p ≤ vec_capacity core.pairs) (sym is) (omega arith)
-
-  begins_well : misfit ≡ None → core.state ≡ stages its_inputs → Begins core.setting.process core.setting.inputs core.setting.options core
-  begins_well fits is =
-      let l : IsLone core.setting its_inputs = record { fit = ap (λ (r : Option ToolInput). unless_misfit r its_inputs) fits; limits = limits } in
-      let plans : Replans (scene_of core.setting) (LoadsHeld (scene_of core.setting)) at_first [] (Compute ∷ []) =
-      subst (λ (x : Scene). Replans x (LoadsHeld x) at_first [] (Compute ∷ [])) (sym (same core.setting its_inputs l)) refl in
-      record {
-        stands = record {
-          happened = at_first;
-          marks = Compute ∷ [];
-          goes = subst (λ (t : List Pair). IsRunSoFar core.setting t at_first (Compute ∷ [])) (sym empty) (begins (Compute ∷ []) plans);
-          at = subst (λ (st : State). IsAt core.setting at_first (Compute ∷ []) st) (sym is) (staging its_inputs l);
-          blames = subst (λ (st : State). Blames (entries_of core.pairs.items) st) (sym is) (record { flying = none_started (entries_of core.pairs.items); rightly = tt });
-          room = λ some. first_fits (ap (λ (st : State). st.phase) is);
-        };
-        setting = refl;
-        nothing_asked = empty;
-        none_in_flight = ap (λ (st : State). st.flying) is;
-        not_lost = λ gone. let phase : core.state.phase ≡ Phase.Staging = ap (λ (st : State). st.phase) is in cc;
-      }
-
-  begins_badly : (input : ToolInput) → misfit ≡ Some input → core.state ≡ fails_for_good (Cause.Kind input.id) →
-      Begins core.setting.process core.setting.inputs core.setting.options core
-  begins_badly input bad is =
-      let walks : walker core.setting.process core.setting.inputs ≡ tool_walk (tool_of core.setting.process) [] (Err (Cause.Kind input.id)) =
-      scene_is (Err (Cause.Kind input.id)) (ap (λ (r : Option ToolInput). unless_misfit r its_inputs) bad) in
-      let scene : scene_of core.setting ≡ refused_scene core.setting input =
-      ap (λ w. let s : Scene = record { walker = w; options = core.setting.options } in s) walks in
-      let plans : Replans (scene_of core.setting) (LoadsHeld (scene_of core.setting)) at_first [] [] =
-      subst (λ (x : Scene). Replans x (LoadsHeld x) at_first [] []) (sym scene) refl in
-      let ended_so : EndsSo (scene_of core.setting) at_first [] (fails_permanently [] (Cause.Kind input.id)) =
-      subst (λ (x : Scene). EndsSo x at_first [] (fails_permanently [] (Cause.Kind input.id))) (sym scene) (fails _ refl refl refl refl) in
-      record {
-        stands = record {
-          happened = at_first;
-          marks = [];
-          goes = subst (λ (t : List Pair). IsRunSoFar core.setting t at_first []) (sym empty) (begins [] plans);
-          at = subst (λ (st : State). IsAt core.setting at_first [] st) (sym is)
-              (ended at_first [] (fails_permanently [] (Cause.Kind input.id)) ended_so);
-          blames = subst (λ (st : State). Blames (entries_of core.pairs.items) st) (sym is) (record { flying = none_started (entries_of core.pairs.items); rightly = tt });
-          room = room_ended (vec_len core.pairs) (vec_capacity core.pairs) core.state _ (ap (λ (st : State). st.phase) is);
-        };
-        setting = refl;
-        nothing_asked = empty;
-        none_in_flight = ap (λ (st : State). st.flying) is;
-        not_lost = λ gone. let phase : core.state.phase ≡ Phase.Ended (reported (Outcome.PermanentFail [] (Cause.Kind input.id))) = ap (λ (st : State). st.phase) is in cc;
-      }
-
-  begins_by : (r : Option ToolInput) → misfit ≡ r → core.state ≡ start_with its_inputs r →
-      Begins core.setting.process core.setting.inputs core.setting.options core
-  begins_by None found is = begins_well found is
-  begins_by (Some input) found is = begins_badly input found is
-
-  pub begins_at : core.state ≡ at_start core.setting → Begins core.setting.process core.setting.inputs core.setting.options core
-  begins_at is = begins_by misfit refl is

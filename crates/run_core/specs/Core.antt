@@ -1,6 +1,7 @@
 -- What callers see of the machine.
 use Rattle.std.specs.Prelude.{◌≡◌, ◌≢◌, ℕ, ◌+◌, ◌<◌, ◌≤◌, List, [], ◌∷◌, ◌++◌, Result, Err, IfErr, OnOk, OnErr, vec_len, vec_capacity}
-use Rattle.cwl_document.specs.declared.process.Process.{Process}
+use Rattle.command_line.specs.Plain.{IsPlainTool}
+use Rattle.cwl_process.specs.declared.process.Process.{Process}
 use Rattle.run_rules.specs.declared.outcome.RunFault.{RunFault}
 use Rattle.run_rules.specs.declared.request.Answer.{Answer}
 use Rattle.run_rules.specs.declared.request.Request.{Request}
@@ -17,11 +18,12 @@ use Rattle.run_rules.specs.Scene.{scene_of}
 use Rattle.run_rules.specs.Allowed.{Allowed}
 use Rattle.run_rules.specs.Run.{IsRunSoFar}
 use Rattle.run_rules.specs.Reports.{entries_of}
+use Rattle.run_core.specs.inner.Lone.{setting_in}
 use Rattle.run_core.specs.inner.Machine.{pairs_ahead}
 use Rattle.run_core.specs.inner.Standing.{IsAt, Blames}
 
 abbrev pub setting_of : RunCore → Setting
-setting_of core = core.setting
+setting_of core = setting_in core.lone
 
 -- what it asked and was answered
 abbrev pub transcript : RunCore → List Pair
@@ -37,9 +39,9 @@ flying core = core.state.flying
 
 abbrev pub steps_in : Phase → ℕ
 steps_in Phase.Staging = 5
-steps_in (Phase.Starting seat) = 4
-steps_in Phase.Running = 3
-steps_in Phase.Scanning = 2
+steps_in (Phase.Starting seat names) = 4
+steps_in (Phase.Running names) = 3
+steps_in (Phase.Scanning names) = 2
 steps_in (Phase.Delivering value) = 1
 steps_in (Phase.Ended result) = 0
 
@@ -60,8 +62,9 @@ IsLost core = core.state.phase ≡ Phase.Ended (Err RunFault.OutOfMemory)
 pub record Stands (core : RunCore) : Type 0 where
   pub happened : Progress
   pub marks : List Mark
-  pub goes : IsRunSoFar core.setting core.pairs.items happened marks
-  pub at : IsAt core.setting happened marks core.state
+  pub goes : IsRunSoFar (setting_of core) core.pairs.items happened marks
+  pub plain : IsPlainTool core.lone.tool
+  pub at : IsAt core.lone happened marks core.state
   pub blames : Blames (entries_of core.pairs.items) core.state
   pub room : 0 < steps_in core.state.phase → vec_len core.pairs + pairs_ahead core.state.phase ≤ vec_capacity core.pairs
 
@@ -69,13 +72,13 @@ pub record Stands (core : RunCore) : Type 0 where
 pub record MayAsk (core : RunCore) : Type 0 where
   pub happened : Progress
   pub marks : List Mark
-  pub goes : IsRunSoFar core.setting core.pairs.items happened marks
-  pub allowed : Allowed (scene_of core.setting) happened marks core.state.asks
+  pub goes : IsRunSoFar (setting_of core) core.pairs.items happened marks
+  pub allowed : Allowed (scene_of (setting_of core)) happened marks core.state.asks
 
 -- a machine for this process, before any answer
 pub record Begins (process : Process) (inputs : Fields) (options : Options) (core : RunCore) : Type 0 where
   pub stands : Stands core
-  pub setting : core.setting ≡ record { process = process; inputs = inputs; options = options }
+  pub setting : setting_of core ≡ record { process = process; inputs = inputs; options = options }
   pub nothing_asked : core.pairs.items ≡ []
   pub none_in_flight : core.state.flying ≡ []
   pub not_lost : IsLost core → ⊥

@@ -1,2 +1,4 @@
+pub mod Given
+pub mod Lone
 pub mod Machine
 pub mod Standing

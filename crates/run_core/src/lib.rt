@@ -12,14 +12,17 @@ mod fields;
 mod folders;
 mod inputs;
 mod location;
+mod moves;
 mod outputs;
 mod runner;
 mod state;
 mod steps;
 mod targets;
+mod today;
 
 pub use run_rules::{
     Answer, Cause, CollectFault, Note, Options, Outcome, Pair, PlanNote, Report, Request, RunFault,
     Setting,
 };
 pub use runner::RunCore;
+pub use today::{is_run_tool, runs_today};

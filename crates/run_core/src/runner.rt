@@ -1,20 +1,25 @@
-ghost use Rattle.std.specs.Prelude.{◌≡◌, ◌≢◌, ◌↔◌, ◌+◌, ◌<◌, ◌≤◌, ◌∷◌, ◌++◌, [], Err, IfOk, IfErr, OnOk, vec_len, vec_capacity};
+ghost use Rattle.std.specs.Prelude.{◌≡◌, ◌≢◌, ◌↔◌, ◌+◌, ◌<◌, ◌≤◌, ◌∷◌, ◌++◌, [], Err, IfOk, IfErr, OnOk, vec_len, vec_capacity, bytes_eq};
+ghost use Rattle.std.specs.List.{IsDistinct};
+ghost use Rattle.std.specs.Map.{keys_of};
 ghost use Rattle.run_rules.specs.declared.outcome.RunFault.{RunFault};
 ghost use Rattle.proc_host.specs.declared.call.HostRequest.{HostRequest};
 ghost use Rattle.run_rules.specs.declared.request.Request.{Request};
 ghost use Rattle.run_core.specs.declared.state.Phase.{Phase};
 ghost use Rattle.run_core.specs.Core.{setting_of, transcript, asked, flying, IsLost, IsEnded, Stands, MayAsk, Begins, Took};
+ghost use Rattle.run_core.specs.inner.Lone.{IsTool};
 ghost use Rattle.run_core.specs.inner.Machine.{AsksIn, HasRoom, MakesRoom, Moves, at_start, pairs_wanted, told_of};
 ghost use Rattle.run_rules.specs.Answers.{MayAnswer};
 ghost use Rattle.run_rules.specs.Blame.{BlamesRightly};
+ghost use Rattle.command_line.specs.Plain.{IsPlainTool};
+ghost use Rattle.run_rules.specs.RunsToday.{RunsToday};
 ghost use Rattle.run_core.specs.Limits.{IsWithinLimits};
 ghost use Rattle.run_rules.specs.Words.{JobPlace};
 ghost use Rattle.run_rules.specs.Reports.{entries_of, Concludes};
 
-use crate::state::{Phase, State, ended};
+use crate::state::{Lone, Phase, State, ended};
 use crate::steps::{begun, follows};
-use crate::{Answer, Options, Pair, Report, Request, RunFault, Setting};
-use cwl_document::Process;
+use crate::{Answer, Options, Pair, Report, Request, RunFault};
+use cwl_process::{Process, Tool};
 use cwl_value::Value;
 use plain_data::Keyed;
 use std::alloc::{AllocError, Global};
@@ -26,34 +31,35 @@ use std::mem;
 #[derive(Drop)]
 pub struct RunCore {
     alloc: Global,
-    setting: Setting,
+    lone: Lone,
     pairs: Vec<Pair>,
     state: State,
 }
 
 impl RunCore {
-    /// A run of a process on an input object.
+    /// A run of a process on an input object, where it is one that is run so far (`runs_today`).
     pub fn new(
         alloc: Global,
         process: Process,
         inputs: Keyed<Value>,
         options: Options,
     ) -> Result<RunCore, RunFault>
-        requires { IsWithinLimits options }
+        requires runs { RunsToday process inputs }
+        requires limits { IsWithinLimits options }
         ensures ok { IfOk result (λ core. Begins process inputs options core) }
         ensures err { IfErr result (λ fault. fault ≡ RunFault.OutOfMemory) }
     {
         let mut core = RunCore {
             alloc,
-            setting: Setting {
-                process,
+            lone: Lone {
+                tool: tool_in(process),
                 inputs,
                 options,
             },
             pairs: Vec::new(alloc),
             state: ended(alloc, Err(RunFault::OutOfMemory)),
         };
-        match start(alloc, &core.setting, &mut core.pairs, &mut core.state) {
+        match start(alloc, &core.lone, &mut core.pairs, &mut core.state) {
             Ok(()) => Ok(core),
             Err(AllocError) => {
                 mem::drop(core);
@@ -86,7 +92,7 @@ impl RunCore {
         requires answers { MayAnswer (flying self.old) (asked self.old) answer }
         ensures { Took self.old answer result self.new }
     {
-        let request = step(self.alloc, &self.setting, &mut self.state, &answer);
+        let request = step(self.alloc, &self.lone, &mut self.state, &answer);
         note(&mut self.pairs, request, answer);
         make_room(self.alloc, &mut self.pairs, &mut self.state);
         told_of(&self.state.phase)
@@ -102,7 +108,7 @@ impl RunCore {
     {
         let RunCore {
             alloc: _,
-            setting: _,
+            lone: _,
             pairs: _,
             state,
         } = self;
@@ -125,45 +131,61 @@ impl RunCore {
     }
 }
 
+/// The tool that is run.
+fn tool_in(process: Process) -> Tool
+    requires { IsTool process }
+    ensures { process ≡ Process.Tool result }
+{
+    match process {
+        Process::Tool(tool) => tool,
+        Process::Workflow(_) => unreachable!(),
+    }
+}
+
 /// Comes to the first state, with room for one pair.
 fn start(
     alloc: Global,
-    setting: &Setting,
+    lone: &Lone,
     pairs: &mut Vec<Pair>,
     state: &mut State,
 ) -> Result<(), AllocError>
     ensures items { pairs.new.items ≡ pairs.old.items }
+    ensures ids { IsDistinct bytes_eq (keys_of lone.now.tool.outputs) }
     ensures room { OnOk result (vec_len pairs.new < vec_capacity pairs.new) }
-    ensures state { OnOk result (state.new ≡ at_start setting.now) }
+    ensures state { OnOk result (state.new ≡ at_start lone.now) }
 {
+    // That no two outputs have one id is a fact of their type.
+    let _outputs = lone.tool.outputs.as_slice();
     pairs.reserve(1)?;
-    mem::drop(mem::replace(state, begun(alloc, setting)?));
+    mem::drop(mem::replace(state, begun(alloc, lone)?));
     Ok(())
 }
 
 /// Moves to the state that follows from the answer, and gives back what was asked.
-fn step(alloc: Global, setting: &Setting, state: &mut State, answer: &Answer) -> Request
+fn step(alloc: Global, lone: &Lone, state: &mut State, answer: &Answer) -> Request
+    requires plain { IsPlainTool lone.now.tool }
     requires answers { MayAnswer state.old.flying state.old.asks answer.now }
     requires asks { AsksIn state.old.asks state.old.phase }
     ensures asked { result ≡ state.old.asks }
-    ensures moved { Moves setting.now state.old answer.now state.new }
+    ensures moved { Moves lone.now state.old answer.now state.new }
 {
-    let next = next_state(alloc, setting, state, answer);
+    let next = next_state(alloc, lone, state, answer);
     let asked = mem::replace(&mut state.asks, Request::Finished);
     mem::drop(mem::replace(state, next));
     asked
 }
 
 /// The state that follows from the answer, or the one that asks nothing more where memory runs out.
-fn next_state(alloc: Global, setting: &Setting, state: &mut State, answer: &Answer) -> State
+fn next_state(alloc: Global, lone: &Lone, state: &mut State, answer: &Answer) -> State
+    requires plain { IsPlainTool lone.now.tool }
     requires answers { MayAnswer state.old.flying state.old.asks answer.now }
     requires asks { AsksIn state.old.asks state.old.phase }
     ensures asked { state.new.asks ≡ state.old.asks }
-    ensures moved { Moves setting.now state.old answer.now result }
+    ensures moved { Moves lone.now state.old answer.now result }
 {
     match follows(
         alloc,
-        setting,
+        lone,
         &state.asks,
         &mut state.phase,
         &mut state.flying,
@@ -210,8 +232,8 @@ fn pairs_wanted(phase: &Phase) -> usize
     ensures { result ≡ pairs_wanted phase.now }
 {
     match phase {
-        Phase::Starting(_) => 2,
-        Phase::Running | Phase::Ended(_) => 0,
+        Phase::Starting(_, _) => 2,
+        Phase::Running(_) | Phase::Ended(_) => 0,
         _ => 1,
     }
 }

@@ -5,4 +5,4 @@ pub returns-in-Ended-clause-err : goal.returns-in-Ended-clause-err
 returns-in-Ended-clause-err c = on_err c.judged.result c.can_follow.ensures
 
 pub returns-in-Listed-clause-err : goal.returns-in-Listed-clause-err
-returns-in-Listed-clause-err c = on_err c.gathered.result c.can_follow.ensures
+returns-in-Listed-clause-err c = on_err c.listed.result c.can_follow.ensures

@@ -8,11 +8,11 @@ use Rattle.run_core.proofs.runner.RunCore.finish.Goals as goal
 
 pub outcome_of-requires : goal.outcome_of-requires
 outcome_of-requires c =
-    subst (λ (p : Phase). IsEnded p) (sym (at_its_end c.args.self.setting c.requires.stands.at c.requires.finished).1) tt
+    subst (λ (p : Phase). IsEnded p) (sym (at_its_end c.args.self.lone c.requires.stands.at c.requires.finished).1) tt
 
 pub returns-clause-concluded : goal.returns-clause-concluded
 returns-clause-concluded c =
-    concludes c.args.self.setting c.args.self.pairs.items c.outcome_of.result c.requires.stands.at c.requires.stands.goes c.outcome_of.ensures
+    concludes c.args.self.lone c.args.self.pairs.items c.outcome_of.result c.requires.stands.at c.requires.stands.goes c.outcome_of.ensures
 
 pub returns-clause-faults : goal.returns-clause-faults
 returns-clause-faults c =

@@ -5,11 +5,11 @@ use Rattle.run_core.proofs.TakeSteps.{asks_in, keeps_room, noted, one_fits, stil
 use Rattle.run_core.proofs.runner.RunCore.take.Goals as goal
 
 pub step-request-requires-clause-asks : goal.step-request-requires-clause-asks
-step-request-requires-clause-asks c = asks_in c.args.self.now.setting c.requires.stands.at
+step-request-requires-clause-asks c = asks_in c.args.self.now.lone c.requires.stands.at
 
 pub note-requires : goal.note-requires
 note-requires c =
-    let asks : 0 < steps_in c.args.self.now.state.phase = still_asks c.args.self.now.setting c.requires.stands.at c.requires.answers in
+    let asks : 0 < steps_in c.args.self.now.state.phase = still_asks c.args.self.now.lone c.requires.stands.at c.requires.answers in
     one_fits _ _ c.args.self.now.state.phase asks (c.requires.stands.room asks)
 
 pub make_room-requires : goal.make_room-requires
