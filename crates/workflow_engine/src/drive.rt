@@ -3,20 +3,21 @@ ghost use Rattle.std.specs.Prelude.{◌≡◌, ◌≢◌, ◌++◌, [], OnOk, If
 ghost use Rattle.run_core.specs.Core.{setting_of, transcript, asked, flying, Stands};
 ghost use Rattle.run_core.specs.Limits.{IsWithinLimits};
 ghost use Rattle.run_rules.specs.Reports.{entries_of};
+ghost use Rattle.run_rules.specs.RunsToday.{RunsToday};
 ghost use Rattle.workflow_engine.specs.Blame.{IsHostsFault};
 ghost use Rattle.workflow_engine.specs.inner.Held.{Covers};
 ghost use Rattle.workflow_engine.specs.Gains.{RunsOn};
 
 use crate::ask::ask;
 use crate::tickets::close_all;
-use cwl_document::Process;
+use cwl_process::Process;
 use cwl_value::Value;
 use plain_data::Keyed;
 use proc_host::{Host, Ticket};
 use run_core::{Answer, Options, Report, Request, RunCore, RunFault};
 use std::alloc::Global;
 
-/// Runs a process on an input object.
+/// Runs a process on an input object, where it is one that is run so far (`run_core::runs_today`).
 ///
 /// What the host's log gains is a run of the process, and the report is what that run comes to: the delivered output
 /// object, a permanent failure with its place and cause, a temporary failure, or the host's fault with the tickets that
@@ -30,6 +31,7 @@ pub fn run<H: Host>(
     options: Options,
 ) -> Result<Report, RunFault>
     requires idle { H.running host.old ≡ [] }
+    requires runs { RunsToday process inputs }
     requires limits { IsWithinLimits options }
     ensures run { RunsOn (H.log host.old) (H.log host.new) process inputs options result }
     // A fault is the host's only where its failures rose, by this very fault.
