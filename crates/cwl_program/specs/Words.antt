@@ -1,6 +1,7 @@
 -- The words by which the program names what went wrong: rules of certificates, refusals and faults.
 use Rattle.std.specs.Prelude.{ℕ, List, codes}
-use Rattle.cwl_document.specs.Codes.{code_of as document_code}
+use Rattle.document_table.specs.Codes.{code_of as document_code}
+use Rattle.document_table.specs.declared.fault.Cause.TheVariants.{WrongClass, UnknownField}
 use Rattle.cwl_value.specs.Codes.{code_of as value_code}
 use Rattle.plan_checker.specs.declared.broken.Broken.{Broken}
 use Rattle.plan_checker.specs.declared.broken.Broken.TheVariants as rules
@@ -24,7 +25,9 @@ name_of (rules.ThroughNotOut i) = codes "ThroughNotOut"
 name_of (rules.Sum total worth) = codes "Sum"
 
 abbrev pub refusal_code : Refusal → List ℕ
-refusal_code (refusals.Document refusal) = document_code refusal
+refusal_code (refusals.Document cause) = document_code cause
+refusal_code refusals.Workflow = document_code WrongClass
+refusal_code refusals.Tool = document_code UnknownField
 refusal_code (refusals.Inputs refusal) = value_code refusal
 refusal_code refusals.Certificate = codes "X1"
 

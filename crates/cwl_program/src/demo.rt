@@ -1,14 +1,16 @@
 ghost use Rattle.std.specs.Prelude.{IfOk};
 ghost use Rattle.run_core.specs.Limits.{IsWithinLimits};
+ghost use Rattle.run_rules.specs.RunsToday.{RunsToday};
 ghost use Rattle.cwl_program.specs.Runs.{IsRunExit};
 
 use crate::exit::{Exit, Fault, Refusal};
+use crate::refused::{refused_document, refused_inputs};
 use crate::report::exit_of_run;
-use cwl_document::{DocumentRefusal, Process, read_process};
-use cwl_value::{Value, ValueRefusal, read_value};
+use cwl_process::{Process, read_unlinked};
+use cwl_value::{Value, read_value};
 use plain_data::{Items, Keyed, Text};
 use proc_host::{Found, Reply, Scripted};
-use run_core::Options;
+use run_core::{Options, runs_today};
 use std::alloc::{AllocError, Global};
 use std::mem;
 use workflow_engine::run;
@@ -23,14 +25,12 @@ const INPUTS: &str = "{\"t\":\"abc\"}";
 const SUM: &str = "a9993e364706816aba3e25717850c26c9cd0d89d";
 
 /// Runs the worked example over a host that answers from a script.
-#[tactic(auto, using(crate::specs::Runs::refused))]
 pub fn exit_of_demo(alloc: Global, path: &str) -> Result<Exit, AllocError>
     ensures { IfOk result IsRunExit }
 {
-    match read_process(alloc, DOCUMENT.as_bytes()) {
+    match read_unlinked(alloc, DOCUMENT.as_bytes()) {
         Ok(process) => on_inputs(alloc, process, path),
-        Err(DocumentRefusal::OutOfMemory) => Err(AllocError),
-        Err(refusal) => Ok(Exit::Refused(Refusal::Document(refusal))),
+        Err(error) => refused_document(error),
     }
 }
 
@@ -51,7 +51,7 @@ fn on_value(alloc: Global, process: Process, value: Value, path: &str) -> Result
     ensures { IfOk result IsRunExit }
 {
     match value {
-        Value::Fields(inputs) => in_world(alloc, process, inputs, path),
+        Value::Fields(inputs) => on_object(alloc, process, inputs, path),
         other => {
             mem::drop(other);
             mem::drop(process);
@@ -61,13 +61,20 @@ fn on_value(alloc: Global, process: Process, value: Value, path: &str) -> Result
 }
 
 #[tactic(auto, using(crate::specs::Runs::refused))]
-fn refused_inputs(refusal: ValueRefusal) -> Result<Exit, AllocError>
+fn on_object(
+    alloc: Global,
+    process: Process,
+    inputs: Keyed<Value>,
+    path: &str,
+) -> Result<Exit, AllocError>
     ensures { IfOk result IsRunExit }
 {
-    match refusal {
-        ValueRefusal::OutOfMemory => Err(AllocError),
-        refusal => Ok(Exit::Refused(Refusal::Inputs(refusal))),
+    if runs_today(&process, &inputs) {
+        return in_world(alloc, process, inputs, path);
     }
+    mem::drop(process);
+    mem::drop(inputs);
+    Ok(Exit::Refused(Refusal::Tool))
 }
 
 fn in_world(
@@ -76,6 +83,7 @@ fn in_world(
     inputs: Keyed<Value>,
     path: &str,
 ) -> Result<Exit, AllocError>
+    requires { RunsToday process inputs }
     ensures { IfOk result IsRunExit }
 {
     let world = world_of(alloc, path)?;
@@ -88,7 +96,8 @@ fn ended(
     inputs: Keyed<Value>,
     world: World,
 ) -> Result<Exit, AllocError>
-    requires { IsWithinLimits world.options }
+    requires runs { RunsToday process inputs }
+    requires limits { IsWithinLimits world.options }
     ensures { IfOk result IsRunExit }
 {
     let World { options, script } = world;

@@ -3,8 +3,8 @@ ghost use Rattle.cwl_program.specs.Status.{status_of};
 ghost use Rattle.cwl_program.specs.Tells.{Prints};
 ghost use Rattle.cwl_program.specs.Words.{name_of, word_of, refusal_code};
 
-use cwl_document::DocumentRefusal;
 use cwl_value::ValueRefusal;
+use document_table::Cause;
 use plain_data::Text;
 use plan_checker::Broken;
 use proc_host::HostFault;
@@ -28,10 +28,14 @@ pub enum Exit {
     Fault(Fault),
 }
 
-/// Why what the program was given is no document, input object or certificate.
+/// Why what the program was given is no document, input object or certificate, or none that is run so far.
 #[derive(Drop)]
 pub enum Refusal {
-    Document(DocumentRefusal),
+    Document(Cause),
+    /// The document is a workflow.
+    Workflow,
+    /// The document is a tool that is not run so far, or not on such inputs.
+    Tool,
     Inputs(ValueRefusal),
     Certificate,
 }
@@ -55,7 +59,9 @@ impl Refusal {
         ensures { result.now ≡ refusal_code self.now }
     {
         match self {
-            Refusal::Document(refusal) => refusal.code(),
+            Refusal::Document(cause) => cause.code(),
+            Refusal::Workflow => Cause::WrongClass.code(),
+            Refusal::Tool => Cause::UnknownField.code(),
             Refusal::Inputs(refusal) => refusal.code(),
             Refusal::Certificate => "X1",
         }

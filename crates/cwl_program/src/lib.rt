@@ -12,6 +12,7 @@ mod demo;
 mod entry;
 mod exit;
 mod paths;
+mod refused;
 mod report;
 mod run;
 mod run_words;

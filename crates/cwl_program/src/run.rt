@@ -1,17 +1,19 @@
 //! A run of the user's own tool, over real processes and files.
 ghost use Rattle.std.specs.Prelude.{IfOk};
 ghost use Rattle.run_core.specs.Limits.{IsWithinLimits};
+ghost use Rattle.run_rules.specs.RunsToday.{RunsToday};
 ghost use Rattle.cwl_program.specs.Runs.{IsRunExit};
 
 use crate::exit::{Exit, Fault, Refusal};
 use crate::paths::from_root;
+use crate::refused::{not_run, refused_document, refused_inputs};
 use crate::report::exit_of_run;
 use crate::run_words::RunWords;
-use cwl_document::{DocumentRefusal, Process, read_process};
-use cwl_value::{Value, ValueRefusal, read_value};
+use cwl_process::{Process, read_unlinked};
+use cwl_value::{Value, read_value};
 use plain_data::{Keyed, Text};
 use process_machine::{Machine, World};
-use run_core::Options;
+use run_core::{Options, runs_today};
 use std::alloc::{AllocError, Global};
 use std::process::Stdio;
 use std::rt::Env;
@@ -55,7 +57,6 @@ fn unread(error: &io::Error) -> Result<Exit, AllocError>
     }
 }
 
-#[tactic(auto, using(crate::specs::Runs::refused))]
 fn on_document<R: World + Env>(
     rt: &R,
     document: &[u8],
@@ -66,13 +67,13 @@ where
     R::File: Into<Stdio>,
     ensures { IfOk result IsRunExit }
 {
-    match read_process(rt.alloc(), document) {
+    match read_unlinked(rt.alloc(), document) {
         Ok(process) => on_process(rt, process, words, path),
-        Err(DocumentRefusal::OutOfMemory) => Err(AllocError),
-        Err(refusal) => Ok(Exit::Refused(Refusal::Document(refusal))),
+        Err(error) => refused_document(error),
     }
 }
 
+#[tactic(auto, using(crate::specs::Runs::refused))]
 fn on_process<R: World + Env>(
     rt: &R,
     process: Process,
@@ -83,6 +84,10 @@ where
     R::File: Into<Stdio>,
     ensures { IfOk result IsRunExit }
 {
+    if let Some(refusal) = not_run(&process) {
+        mem::drop(process);
+        return Ok(Exit::Refused(refusal));
+    }
     match inputs_of(rt, words) {
         Ok(bytes) => on_inputs(rt, process, bytes.as_slice(), words, path),
         Err(error) => {
@@ -119,16 +124,6 @@ where
     }
 }
 
-#[tactic(auto, using(crate::specs::Runs::refused))]
-fn refused_inputs(refusal: ValueRefusal) -> Result<Exit, AllocError>
-    ensures { IfOk result IsRunExit }
-{
-    match refusal {
-        ValueRefusal::OutOfMemory => Err(AllocError),
-        refusal => Ok(Exit::Refused(Refusal::Inputs(refusal))),
-    }
-}
-
 #[tactic(auto, using(crate::specs::Runs::no_object))]
 fn on_value<R: World + Env>(
     rt: &R,
@@ -142,13 +137,33 @@ where
     ensures { IfOk result IsRunExit }
 {
     match value {
-        Value::Fields(inputs) => in_places(rt, process, inputs, words, path),
+        Value::Fields(inputs) => on_object(rt, process, inputs, words, path),
         other => {
             mem::drop(other);
             mem::drop(process);
             Ok(Exit::Fault(Fault::Input))
         }
     }
+}
+
+#[tactic(auto, using(crate::specs::Runs::refused))]
+fn on_object<R: World + Env>(
+    rt: &R,
+    process: Process,
+    inputs: Keyed<Value>,
+    words: &RunWords,
+    path: &str,
+) -> Result<Exit, AllocError>
+where
+    R::File: Into<Stdio>,
+    ensures { IfOk result IsRunExit }
+{
+    if runs_today(&process, &inputs) {
+        return in_places(rt, process, inputs, words, path);
+    }
+    mem::drop(process);
+    mem::drop(inputs);
+    Ok(Exit::Refused(Refusal::Tool))
 }
 
 /// Makes the work folder, runs, and removes the folder where that is possible.
@@ -162,6 +177,7 @@ fn in_places<R: World + Env>(
 ) -> Result<Exit, AllocError>
 where
     R::File: Into<Stdio>,
+    requires { RunsToday process inputs }
     ensures { IfOk result IsRunExit }
 {
     let Ok(places) = places_of(rt, words) else {
@@ -210,7 +226,8 @@ fn ended<R: World>(
 ) -> Result<Exit, AllocError>
 where
     R::File: Into<Stdio>,
-    requires { IsWithinLimits options }
+    requires runs { RunsToday process inputs }
+    requires limits { IsWithinLimits options }
     ensures { IfOk result IsRunExit }
 {
     let Places { work, outdir } = places;
