@@ -1,16 +1,17 @@
 ghost use Rattle.std.specs.Prelude.{◌≡◌, [], IfOk};
 ghost use Rattle.run_core.specs.Limits.{IsWithinLimits};
+ghost use Rattle.run_rules.specs.RunsToday.{RunsToday};
 
 use crate::end::end_json;
 use crate::list::numbers;
 use crate::requests::requests;
 use crate::script::script_of;
-use cwl_document::{Process, read_process};
+use cwl_process::{Process, read_unlinked};
 use cwl_value::{Value, from_json};
 use plain_data::{Keyed, Text};
 use proc_host::Scripted;
 use row_io::{Row, RowFault, json_text};
-use run_core::Options;
+use run_core::{Options, runs_today};
 use std::alloc::{AllocError, Global};
 use std::mem;
 use workflow_engine::run;
@@ -38,7 +39,13 @@ fn end_on(alloc: Global, row: &Row, host: &mut Scripted) -> Result<String, RowFa
     let options = options(alloc)?;
     let inputs = inputs_of(alloc, row)?;
     let process = process_of(alloc, row)?;
-    end_of(alloc, host, process, inputs, options)
+    if runs_today(&process, &inputs) {
+        return end_of(alloc, host, process, inputs, options);
+    }
+    mem::drop(process);
+    mem::drop(inputs);
+    mem::drop(options);
+    Err(RowFault::BadArgument)
 }
 
 fn end_of(
@@ -49,6 +56,7 @@ fn end_of(
     options: Options,
 ) -> Result<String, RowFault>
     requires idle { host.old.running ≡ [] }
+    requires runs { RunsToday process inputs }
     requires limits { IsWithinLimits options }
 {
     let end = run(alloc, host, process, inputs, options);
@@ -65,7 +73,7 @@ fn host_of(alloc: Global, row: &Row) -> Result<Scripted, RowFault>
 
 fn process_of(alloc: Global, row: &Row) -> Result<Process, RowFault> {
     let document = json_text(alloc, row.json("document")?)?;
-    match read_process(alloc, document.as_bytes()) {
+    match read_unlinked(alloc, document.as_bytes()) {
         Ok(process) => Ok(process),
         Err(_) => Err(RowFault::BadArgument),
     }
