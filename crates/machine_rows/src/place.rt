@@ -1,4 +1,6 @@
-use plain_data::Text;
+use plain_data::{Items, Keyed, Text};
+use proc_host::StagePlan;
+use process_machine::Machine;
 use row_io::{Row, RowFault};
 use std::alloc::{AllocError, Global};
 use std::process::{Command, Stdio};
@@ -45,5 +47,22 @@ pub fn done<T>(outcome: io::Result<T>) -> Result<T, RowFault> {
     match outcome {
         Ok(value) => Ok(value),
         Err(_) => Err(RowFault::BadArgument),
+    }
+}
+
+/// A host whose jobs' folders are right in the row's folder, and which delivers to `results` there.
+pub fn machine<'a>(
+    rt: &'a HostRuntime,
+    place: &str,
+) -> Result<Machine<&'a HostRuntime>, AllocError> {
+    let work = Text::from_text(rt.alloc(), place)?;
+    Ok(Machine::new(rt, work, below(rt.alloc(), place, "results")?))
+}
+
+/// A plan that copies nothing.
+pub fn empty_plan(alloc: Global) -> StagePlan {
+    StagePlan {
+        moves: Items::new(alloc),
+        value: Keyed::new(alloc),
     }
 }
