@@ -1,5 +1,5 @@
 use crate::listing::{put_code, put_fault, put_listing};
-use crate::place::{below, empty_plan, machine, made, prepared, removed};
+use crate::place::{below, empty_plan, machine, prepared};
 use command_line::{Launch, Variable};
 use plain_data::{Items, Text};
 use proc_host::{ChildEnd, Host};
@@ -8,14 +8,7 @@ use serde_json::Value as Json;
 use std::alloc::Global;
 
 /// How a child of these words ended, and what is in its output folder then.
-pub fn answer(rt: &HostRuntime, row: &Row) -> Result<String, RowFault> {
-    let place = made(rt)?;
-    let told = told_of(rt, row, place.as_str());
-    removed(rt, place.as_str())?;
-    told
-}
-
-fn told_of(rt: &HostRuntime, row: &Row, place: &str) -> Result<String, RowFault> {
+pub fn told_of(rt: &HostRuntime, row: &Row, place: &str) -> Result<String, RowFault> {
     prepared(rt, row, place)?;
     let launch = launch_of(rt.alloc(), row, place)?;
     let mut host = machine(rt, place)?;

@@ -1,6 +1,6 @@
 use crate::child::{launch_with, words_in};
 use crate::listing::{put_code, put_fault};
-use crate::place::{empty_plan, machine, made, removed};
+use crate::place::{empty_plan, machine};
 use proc_host::{ChildEnd, Host, Ticket};
 use process_machine::{Machine, World};
 use row_io::{AnswerText, Row, RowFault};
@@ -12,14 +12,7 @@ use std::time::Duration;
 
 /// The tickets and exit codes of several children at once, in the order in which they are collected. The first is
 /// collected a little after the last was started.
-pub fn answer(rt: &HostRuntime, row: &Row) -> Result<String, RowFault> {
-    let place = made(rt)?;
-    let told = told_of(rt, row, place.as_str());
-    removed(rt, place.as_str())?;
-    told
-}
-
-fn told_of(rt: &HostRuntime, row: &Row, place: &str) -> Result<String, RowFault> {
+pub fn told_of(rt: &HostRuntime, row: &Row, place: &str) -> Result<String, RowFault> {
     let mut host = machine(rt, place)?;
     let mut out = AnswerText::new(rt.alloc());
     let plan = empty_plan(rt.alloc());

@@ -1,20 +1,14 @@
 use crate::child::put_folder;
 use crate::listing::put_fault;
-use crate::place::{below, machine, made, prepared, removed};
+use crate::place::{below, machine, prepared};
 use plain_data::{Items, Keyed, Text};
 use proc_host::{Host, HostError, Move, StagePlan};
 use row_io::{AnswerText, Row, RowFault};
+use serde_json::Value as Json;
 use std::alloc::Global;
 
 /// What a stage or a delivery of these moves answers, and what the row's folder holds then.
-pub fn answer(rt: &HostRuntime, row: &Row) -> Result<String, RowFault> {
-    let place = made(rt)?;
-    let told = told_of(rt, row, place.as_str());
-    removed(rt, place.as_str())?;
-    told
-}
-
-fn told_of(rt: &HostRuntime, row: &Row, place: &str) -> Result<String, RowFault> {
+pub fn told_of(rt: &HostRuntime, row: &Row, place: &str) -> Result<String, RowFault> {
     prepared(rt, row, place)?;
     let plan = plan_of(rt.alloc(), row, place)?;
     let folder = Text::from_text(rt.alloc(), place)?;
@@ -45,15 +39,24 @@ fn copied<H: Host>(host: &mut H, row: &Row, plan: &StagePlan) -> Result<(), Host
 fn plan_of(alloc: Global, row: &Row, place: &str) -> Result<StagePlan, RowFault> {
     let mut moves = Items::new(alloc);
     for pair in row.list("moves")? {
-        let source = pair.get(0).and_then(|name| name.as_str());
-        let target = pair.get(1).and_then(|name| name.as_str());
-        moves.push(Move {
-            source: below(alloc, place, source.ok_or(RowFault::BadArgument)?)?,
-            target: below(alloc, place, target.ok_or(RowFault::BadArgument)?)?,
-        })?;
+        moves.push(move_of(alloc, pair, place)?)?;
     }
     Ok(StagePlan {
         moves,
         value: Keyed::new(alloc),
     })
+}
+
+fn move_of(alloc: Global, pair: &Json, place: &str) -> Result<Move, RowFault> {
+    let source = name_at(pair, 0)?;
+    let target = name_at(pair, 1)?;
+    Ok(Move {
+        source: below(alloc, place, source)?,
+        target: below(alloc, place, target)?,
+    })
+}
+
+fn name_at(pair: &Json, index: usize) -> Result<&str, RowFault> {
+    let name = pair.get(index).and_then(|name| name.as_str());
+    name.ok_or(RowFault::BadArgument)
 }

@@ -1,5 +1,5 @@
 use crate::child::put_folder;
-use crate::place::{below, done, machine, made, prepared, removed};
+use crate::place::{below, done, machine, prepared};
 use cwl_program::main_run;
 use plain_data::Text;
 use row_io::{AnswerText, Row, RowFault, json_text};
@@ -7,14 +7,7 @@ use std::alloc::{AllocError, Global};
 use std::{fs, str};
 
 /// What the program answers and writes for a document and its inputs, and what the row's folder holds then beside them.
-pub fn answer(rt: &HostRuntime, row: &Row) -> Result<String, RowFault> {
-    let place = made(rt)?;
-    let told = told_of(rt, row, place.as_str());
-    removed(rt, place.as_str())?;
-    told
-}
-
-fn told_of(rt: &HostRuntime, row: &Row, place: &str) -> Result<String, RowFault> {
+pub fn told_of(rt: &HostRuntime, row: &Row, place: &str) -> Result<String, RowFault> {
     prepared(rt, row, place)?;
     written(rt, row, "document", place)?;
     written(rt, row, "inputs", place)?;
