@@ -113,16 +113,3 @@ starts graph charges search good fair fresh =
       fair = fair;
       searching = subst R (sym fresh.reached) (subst Q (sym fresh.computed) (subst P (sym fresh.kept) (searching_none graph charges)));
     }
-
--- fair charges, of which nothing is missing
-pub but_nothing : (graph : List Vertex) (charges : Charges) → AreFair graph charges → AreFairBut graph charges nothing nothing
-but_nothing graph charges all = record {
-  counted = all.counted;
-  fair = λ i h. let f = all.fair i h in record {
-    entering = f.entering;
-    loading = f.loading;
-    paying = f.paying;
-    coming_in = (let e = f.coming_in in omega arith);
-    going_out = (let e = f.going_out in omega arith);
-  };
-}

@@ -189,14 +189,6 @@ fill_through_back graph charges search v amount ts misses is set_is =
       earlier = before;
     })
 
--- more enters
-pub fill_enter : (graph : List Vertex) (charges : Charges) (search : Search) (v amount : ℕ) (es : List ℕ) → MissesIn graph charges search v amount → (kept_at search.kept.items v).by ≡ Enter → es ≡ set charges.enter v (get_or charges.enter v 0 + amount) → AreFairBut graph (record charges { enter = es }) nothing nothing
-fill_enter graph charges search v amount es misses is set_is =
-    let way = way_in graph charges search v amount misses Enter is in
-    let h = in_within graph charges search v amount misses in
-    let P : List ℕ → Type 0 = λ list. AreFairBut graph (record charges { enter = list }) nothing nothing in
-    subst P (sym set_is) (enter_set graph charges v amount (get_or charges.enter v 0 + amount) misses.fair h way refl)
-
 -- less is passed
 pub fill_pass_back : (graph : List Vertex) (charges : Charges) (search : Search) (v amount slot : ℕ) → MissesOut graph charges search v amount → (computed_at search.computed.items v).by ≡ PassBack slot → GoesMissingIn graph (with_pass charges v slot (passed charges v slot - amount)) search v amount (parent_of graph v slot)
 fill_pass_back graph charges search v amount slot misses is =

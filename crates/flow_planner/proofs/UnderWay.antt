@@ -51,10 +51,6 @@ computes_on graph charges before after v node on h none rank some can computed k
       searching = subst R (sym reached) (subst Q (sym (ap (λ k. k.items) kept)) (subst P (sym computed) made));
     }
 
--- the vertex that indexing gave
-pub vertex_read : (graph : List Vertex) (i : ℕ) (job : Vertex) → i < length graph → job ≡ get_or graph i job → vertex graph i ≡ job
-vertex_read graph i job h read = sym (get_or_read graph i job h read no_vertex)
-
 -- what room there is beside what goes through
 pub load_room : (load : Option ℕ) (through room amount : ℕ) → MatchOption load (0 < room) (λ most. through + room ≡ most) → amount ≤ room → ForSome load (λ most. through + amount ≤ most)
 load_room None through room amount h le most e = cc
