@@ -7,7 +7,7 @@ use Rattle.std.proofs.lemmas.List.Folds.{sum_by-replicate}
 use Rattle.plan_checker.specs.declared.vertex.Vertex.{Vertex}
 use Rattle.plan_checker.specs.declared.charges.Charges.{Charges}
 use Rattle.plan_checker.specs.Graph.{vertex, IsGraph}
-use Rattle.plan_checker.specs.Charges.{passes, passed_to, received, AreFair}
+use Rattle.plan_checker.specs.Charges.{passes, passed_to, received}
 use Rattle.plan_checker.proofs.SumsBelow.{sum_below_same, sum_below-zero}
 use Rattle.flow_planner.specs.declared.search.Search.{Search}
 use Rattle.flow_planner.specs.declared.search.Kept.{Kept}

@@ -18,7 +18,7 @@ use Rattle.flow_planner.specs.inner.Flow.{parent_of, passed, nothing, only_at, A
 use Rattle.flow_planner.specs.inner.Search.{kept_at, computed_at, CanKeep, CanCompute, IsTraced, IsUnderWay, IsPathEnd}
 use Rattle.flow_planner.specs.inner.Path.{MissesIn, MissesOut, GoesMissingIn, GoesMissingOut}
 use Rattle.flow_planner.proofs.Certify.{kept_within, computed_within}
-use Rattle.flow_planner.proofs.StaysFair.{only-here, only-other, through_set, enter_set, pay_set, with_pass, passes_here, passes_other, pass_set}
+use Rattle.flow_planner.proofs.StaysFair.{only-here, only-other, through_set, pay_set, with_pass, passes_here, passes_other, pass_set}
 use Rattle.flow_planner.proofs.Bounds.{out_small, passed-le}
 
 -- the ways to the nodes up to a lower rank stay open, where each of them does

@@ -7,7 +7,7 @@ use Rattle.std.proofs.lemmas.Bool.{cases_eq, true≢false}
 use Rattle.plan_checker.specs.declared.vertex.Vertex.{Vertex}
 use Rattle.plan_checker.specs.declared.charges.Charges.{Charges}
 use Rattle.plan_checker.specs.Graph.{vertex, no_vertex, IsGraph}
-use Rattle.std.proofs.lemmas.List.{get_or_read, get_or_default}
+use Rattle.std.proofs.lemmas.List.{get_or_default}
 use Rattle.flow_planner.specs.declared.search.Search.{Search}
 use Rattle.flow_planner.specs.declared.search.Kept.{Kept}
 use Rattle.flow_planner.specs.declared.search.Computed.{Computed}

@@ -9,7 +9,7 @@ use Rattle.plan_checker.specs.Sums.{sum_below}
 use Rattle.plan_checker.specs.Graph.{vertex, IsGraph}
 use Rattle.plan_checker.specs.Plan.{mark, cost_of, cost, IsAllowed, IsValid}
 use Rattle.plan_checker.specs.Charges.{passes, received, value, IsCounted, IsFair, AreFair}
-use Rattle.plan_checker.proofs.SumsBelow.{sum_below_same, sum_below_le, sum_below-add, sum_below-scale, sum_below-swap, sum_below_only, sum_is_below}
+use Rattle.plan_checker.proofs.SumsBelow.{sum_below_same, sum_below_le, sum_below_tight, sum_below-add, sum_below-scale, sum_below-swap, sum_below_only, sum_is_below, term-le-sum_below}
 use Rattle.plan_checker.specs.Certificate.{IsCertificate}
 use Rattle.plan_checker.specs.Least.{IsCheapest}
 
@@ -105,6 +105,28 @@ pub income-le-outlay : (graph : List Vertex) (marks : List Mark) (charges : Char
 income-le-outlay graph marks charges fair valid i h =
     income_within (mark marks i) graph marks charges i (fair.counted.each_pass i h) (fair.fair i h) (valid.allowed i h)
 
+-- what it means for a vertex under a mark that what comes in is all that goes out
+abbrev pub IsTight : Mark → List Vertex → List Mark → Charges → ℕ → Type 0
+IsTight Load graph marks charges i =
+    (get_or charges.through i 0 ≡ unwrap_or (vertex graph i).load 0) × (passed_by_weight (is_kept marks) graph charges i ≡ 0)
+IsTight Compute graph marks charges i = get_or charges.pay i 0 ≡ (vertex graph i).compute
+IsTight Prune graph marks charges i = passed_by_weight (is_kept marks) graph charges i ≡ 0
+
+tight_from : (m : Mark) (graph : List Vertex) (marks : List Mark) (charges : Charges) (i : ℕ) → length (passes charges i) ≡ length (vertex graph i).parents → IsFair graph charges i → IsAllowed marks (vertex graph i) m → get_or charges.enter i 0 + kept m * received graph charges i ≡ cost_of (vertex graph i) m + passed_by_weight (is_kept marks) graph charges i → IsTight m graph marks charges i
+tight_from Load graph marks charges i counted fair allowed equal =
+    let le = fair.loading (unwrap_or (vertex graph i).load 0) (some_is (vertex graph i).load allowed) in
+    let come = fair.coming_in in
+    (omega arith, omega arith)
+tight_from Compute graph marks charges i counted fair allowed equal =
+    let all = passed_to_kept graph marks charges i counted allowed in
+    let come = fair.coming_in in
+    let go = fair.going_out in
+    let pay = fair.paying in
+    omega arith
+tight_from Prune graph marks charges i counted fair allowed equal =
+    let none = fair.entering allowed in
+    omega arith
+
 value_by_place : (graph : List Vertex) (charges : Charges) → IsCounted graph charges → value charges ≡ sum_below (length graph) (λ i. get_or charges.enter i 0)
 value_by_place graph charges counted =
     sum_is_below charges.enter ∙ ap (λ n. sum_below n (λ i. get_or charges.enter i 0)) counted.enters
@@ -128,6 +150,22 @@ value-le-cost graph charges marks good fair valid =
     let le = sum_below_le (length graph) (income graph marks charges) (outlay graph marks charges) (income-le-outlay graph marks charges fair valid) in
     let left = income_sum graph marks charges fair.counted in
     let right = outlay_sum graph marks charges good in
+    omega arith
+
+-- a valid plan that costs no more than fair charges are worth is tight at each vertex
+pub tight_everywhere : (graph : List Vertex) (charges : Charges) (marks : List Mark) → IsGraph graph → AreFair graph charges → IsValid graph marks → cost graph marks ≤ value charges → (i : ℕ) → i < length graph → IsTight (mark marks i) graph marks charges i
+tight_everywhere graph charges marks good fair valid most i h =
+    let left = income_sum graph marks charges fair.counted in
+    let right = outlay_sum graph marks charges good in
+    let equal = sum_below_tight (length graph) (income graph marks charges) (outlay graph marks charges) (income-le-outlay graph marks charges fair valid) (omega arith) i h in
+    tight_from (mark marks i) graph marks charges i (fair.counted.each_pass i h) (fair.fair i h) (valid.allowed i h) equal
+
+-- what is passed to a kept parent, by a vertex that passes nothing to kept parents
+pub none_to_kept : (graph : List Vertex) (marks : List Mark) (charges : Charges) (i k : ℕ) → passed_by_weight (is_kept marks) graph charges i ≡ 0 → k < length (vertex graph i).parents → mark marks (parent_at graph i k) ≢ Prune → amount_at charges i k ≡ 0
+none_to_kept graph marks charges i k none h there =
+    let one = kept_is_one (mark marks (parent_at graph i k)) there in
+    let part = term-le-sum_below (length (vertex graph i).parents) (λ k. is_kept marks (parent_at graph i k) * amount_at charges i k) k h in
+    let here : is_kept marks (parent_at graph i k) * amount_at charges i k ≡ amount_at charges i k = rw one (omega arith) in
     omega arith
 
 pub certificate_is_cheapest : (graph : List Vertex) (marks : List Mark) (charges : Charges) → IsGraph graph → IsCertificate graph marks charges → IsCheapest graph marks
