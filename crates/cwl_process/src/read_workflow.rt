@@ -33,7 +33,7 @@ use std::mem;
 /// The process that JSON represents, inside of what is asked around it. So many workflows at most are
 /// inside one another.
 #[cycle(process)]
-#[tactic(auto, using(crate::proofs::Forms::tool_inputs, crate::proofs::Forms::tool_outputs, crate::proofs::Forms::tool_requirements, crate::proofs::Forms::tool_hints, crate::proofs::Forms::is_a_workflow, crate::proofs::Forms::is_a_tool, crate::proofs::Levels::at_nothing))]
+#[tactic(auto, using(crate::proofs::Forms::tool_inputs, crate::proofs::Forms::tool_outputs, crate::proofs::Forms::tool_requirements, crate::proofs::Forms::tool_hints, crate::proofs::Forms::tool_is_whole, crate::proofs::Forms::is_a_workflow, crate::proofs::Forms::is_a_tool, crate::proofs::Levels::at_nothing))]
 pub(crate) fn read_process(
     alloc: Global,
     levels: usize,
