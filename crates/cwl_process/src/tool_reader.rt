@@ -21,7 +21,7 @@ use serde_json::Value;
 use std::alloc::{AllocError, Global};
 
 /// The tool that an object represents, inside of what is asked around it.
-pub(crate) fn read_tool(alloc: Global, around: &Asked, value: &Value) -> Result<Tool, AllocError>
+pub fn read_tool(alloc: Global, around: &Asked, value: &Value) -> Result<Tool, AllocError>
     requires inputs { MayHaveForm (form.Objects kind.ToolInput) (get (codes "inputs") (view value.now)) }
     requires outputs { MayHaveForm (form.Objects kind.ToolOutput) (get (codes "outputs") (view value.now)) }
     requires requirements { MayHaveForm form.Requirements (get (codes "requirements") (view value.now)) }
