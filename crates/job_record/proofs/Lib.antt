@@ -3,8 +3,10 @@ mod Edits
 mod Files
 mod KeyTest
 mod KeyedRows
+mod Made
 mod MapSteps
 mod OneKey
+mod OpenedMap
 mod Opens
 mod Putting
 mod Reading
@@ -13,4 +15,5 @@ mod RowMap
 mod RowsRead
 mod Shapes
 mod Shown
+mod Unmade
 mod Writing
