@@ -1,6 +1,7 @@
 mod Compiled
 mod Edits
 mod Files
+mod KeyOrder
 mod KeyTest
 mod KeyedRows
 mod Made

@@ -89,7 +89,11 @@ module _ {S : Type 0} (g : Ghosts S) where
 
     rows_stand : (f : RecordFault) (rows : Result (List Row) RecordFault) → Lists g old new rows → Err f ≡ outcome rows → Stands (state g old) (state g new)
     rows_stand f (Ok rows) h is = absurd (let e : Err f ≡ Ok tt = is in cc)
-    rows_stand f (Err other) h is = list_is_map g old new (Err other) h it
+    rows_stand f (Err NotARecord) h is = let m = list_is_map g old new (Err NotARecord) h it in undone_stands (state g old) (state g new) it (inl m.4)
+    rows_stand f (Err WrongVersion) h is = absurd h
+    rows_stand f (Err NoRow) h is = absurd h
+    rows_stand f (Err (Store e)) h is = list_is_map g old new (Err (Store e)) h it
+    rows_stand f (Err OutOfMemory) h is = list_is_map g old new (Err OutOfMemory) h it
 
   module _ (old new : Held S) (it : IsRecord (state g old)) where
     reads_same : ReadsRecord g old new (Ok tt) → IsUnchanged (state g old) (state g new)
