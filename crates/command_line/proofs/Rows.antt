@@ -1,5 +1,5 @@
 -- The definitions, computed on the worked rows.
-use Rattle.std.proofs.Common.{◌≡◌, ℕ, ℤ, pos, negsuc, Bool, true, false, List, [], ◌∷◌, Option, Some, None, refl, codes}
+use Rattle.std.proofs.Common.{option_map, ◌≡◌, ℕ, ℤ, pos, negsuc, Bool, true, false, List, [], ◌∷◌, Option, Some, None, refl, codes}
 use Rattle.std.specs.Fmt.{digits}
 use Rattle.std.proofs.lemmas.List.Elements.{All-cons, All-nil}
 use Rattle.std.proofs.lemmas.List.Sums.{AllPass-from_list_all}
@@ -9,6 +9,7 @@ use Rattle.cwl_value.specs.declared.value.Value.{Value, roll-Value, out-roll-Val
 use Rattle.cwl_value.specs.declared.value.Value.TheOpen.{Value-F}
 use Rattle.cwl_types.specs.declared.types.MemberType as member
 use Rattle.cwl_types.specs.declared.types.PlainType.{PlainType}
+use Rattle.param_refs.specs.declared.template.Part.TheVariants as part
 use Rattle.cwl_process.specs.Acting.{nothing_asked}
 use Rattle.cwl_process.specs.declared.tool.InputType.{InputType}
 use Rattle.cwl_process.specs.declared.tool.OutputType.{OutputType}
@@ -41,9 +42,10 @@ a_tool words inputs outputs stdout = record {
   arguments = [];
   inputs = inputs;
   outputs = outputs;
-  streams = record { stdin = None; stdout = stdout; stderr = None };
+  streams = record { stdin = None; stdout = option_map (λ (name : List ℕ). part.Plain name ∷ []) stdout; stderr = None };
   exit_codes = record { success = []; temporary = []; permanent = [] };
   asked = nothing_asked;
+  written = [];
 }
 
 -- an input of a type by its name, with a binding

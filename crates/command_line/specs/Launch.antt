@@ -1,8 +1,10 @@
 -- What is started for a tool, its inputs and what it runs in, and why nothing is
 -- (CWL v1.2, Command Line Tool, "Runtime environment" and "Input binding").
-use Rattle.std.specs.Prelude.{◌≡◌, ◌≢◌, ℕ, Bool, true, false, not, ◌==◌, ◌&&◌, List, [], ◌∷◌, Option, Some, None, IfSome, Contains, codes, unwrap_or, length}
+use Rattle.std.specs.Prelude.{◌≡◌, ◌≢◌, ℕ, Bool, true, false, not, ◌==◌, ◌&&◌, List, [], ◌∷◌, Option, Some, None, IfSome, Contains, codes, unwrap_or, option_map, length}
 use Rattle.std.specs.List.{AllPass, list_any, list_all}
 use Rattle.cwl_value.specs.declared.value.Value.{Value}
+use Rattle.param_refs.specs.declared.template.Part.{Part}
+use Rattle.param_refs.specs.declared.template.Part.TheVariants as part
 use Rattle.cwl_process.specs.declared.tool.Tool.{Tool}
 use Rattle.cwl_process.specs.declared.tool.OutputType.{OutputType}
 use Rattle.cwl_process.specs.declared.tool.OutputType.TheVariants as output_type
@@ -17,9 +19,14 @@ use Rattle.command_line.specs.declared.runtime.Runtime.{Runtime}
 use Rattle.command_line.specs.Order.{Bound, bindings_of}
 use Rattle.command_line.specs.Words.{words_of, AreWords, is_plain}
 
+-- a name that is written out; of one with references this says nothing
+abbrev pub written_name : List Part → List ℕ
+written_name (part.Plain text ∷ []) = text
+written_name _ = []
+
 -- The file that an output of type `stdout` collects. The standard leaves the name open where the tool gives none.
 abbrev pub stream_name : Tool → List ℕ
-stream_name tool = unwrap_or tool.streams.stdout (codes "cwl.stdout")
+stream_name tool = unwrap_or (option_map written_name tool.streams.stdout) (codes "cwl.stdout")
 
 abbrev pub is_stdout : OutputType → Bool
 is_stdout output_type.Stdout = true
@@ -36,7 +43,7 @@ stream_of None true = Some (codes "cwl.stdout")
 stream_of None false = None
 
 abbrev pub stdout_of : Tool → Option (List ℕ)
-stdout_of tool = stream_of tool.streams.stdout (collects_stdout tool)
+stdout_of tool = stream_of (option_map written_name tool.streams.stdout) (collects_stdout tool)
 
 -- the name of a file right in the output folder: not empty, without `/`
 abbrev pub is_file_name : List ℕ → Bool

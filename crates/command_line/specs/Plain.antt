@@ -1,13 +1,15 @@
 -- Which tools have a command so far: those that ask for no more than their base command, inputs of plain types, and a file of
 -- standard output whose name is written out.
-use Rattle.std.specs.Prelude.{ℕ, Bool, true, false, IsTrue, not, ◌==◌, ◌&&◌, List, [], ◌∷◌, Option, is_none}
-use Rattle.std.specs.List.{list_all, list_any}
+use Rattle.std.specs.Prelude.{Bool, true, false, IsTrue, ◌&&◌, List, [], ◌∷◌, Option, is_none}
+use Rattle.std.specs.List.{list_all}
 use Rattle.std.specs.Option.{option_map_or}
 use Rattle.cwl_types.specs.declared.types.ArrayType.{ArrayType}
 use Rattle.cwl_types.specs.declared.types.MemberType.{MemberType, out-MemberType}
 use Rattle.cwl_types.specs.declared.types.MemberType.TheOpen.{MemberType-F}
 use Rattle.cwl_types.specs.declared.types.PlainType.{PlainType}
 use Rattle.cwl_types.specs.declared.types.PlainType.TheVariants as plain
+use Rattle.param_refs.specs.declared.template.Part.{Part}
+use Rattle.param_refs.specs.declared.template.Part.TheVariants as part
 use Rattle.cwl_process.specs.Acting.{environment_of}
 use Rattle.cwl_process.specs.declared.tool.Binding.{Binding}
 use Rattle.cwl_process.specs.declared.tool.InputType.{InputType}
@@ -51,9 +53,11 @@ is_plain_output output_type.Stdout = true
 is_plain_output output_type.Stderr = false
 is_plain_output (output_type.Members members) = true
 
--- a name without `$` has no reference
-abbrev pub is_written_out : List ℕ → Bool
-is_written_out name = not (list_any (λ byte. byte == 36) name)
+-- a name without references
+abbrev pub is_written_out : List Part → Bool
+is_written_out [] = true
+is_written_out (part.Plain text ∷ []) = true
+is_written_out _ = false
 
 abbrev pub are_plain_streams : Streams → Bool
 are_plain_streams streams = is_none streams.stdin && is_none streams.stderr && option_map_or is_written_out streams.stdout true

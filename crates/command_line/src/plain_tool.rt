@@ -5,6 +5,7 @@ ghost use Rattle.command_line.specs.Plain.{IsPlainTool, are_plain_streams, is_pl
 
 use cwl_process::{Binding, InputType, OutputType, Streams, Tool, ToolInput, ToolOutput};
 use cwl_types::{MemberType, PlainType};
+use param_refs::Part;
 use plain_data::Text;
 
 /// Checks that `build` makes commands of such a tool.
@@ -50,14 +51,14 @@ fn are_plain_streams(streams: &Streams) -> bool
     }
     match &streams.stdout {
         None => true,
-        Some(name) => is_written_out(name.as_str()),
+        Some(name) => is_written_out(name.parts()),
     }
 }
 
-fn is_written_out(name: &str) -> bool
+fn is_written_out(name: &[Part]) -> bool
     ensures { result ≡ is_written_out name.now }
 {
-    !name.as_bytes().contains(&b'$')
+    matches!(name, [] | [Part::Plain(_)])
 }
 
 fn is_plain_output(kind: &OutputType) -> bool

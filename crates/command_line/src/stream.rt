@@ -1,12 +1,23 @@
 ghost use Rattle.std.specs.Prelude.{◌≡◌, false, true, IfOk, IfErr, IfSome};
-ghost use Rattle.command_line.specs.Launch.{collects_stdout, is_file_name, stdout_of, stream_name};
+ghost use Rattle.command_line.specs.Launch.{collects_stdout, is_file_name, stdout_of, stream_name, written_name};
 ghost use Rattle.command_line.specs.inner.Steps.{StreamError};
 
 use crate::plain::is_plain;
 use crate::{BuildError, BuildFault, LaunchText};
 use cwl_process::{OutputType, Tool};
+use param_refs::Part;
 use plain_data::Text;
 use std::alloc::Global;
+
+/// A name that is written out.
+fn written_name(name: &[Part]) -> &str
+    ensures { result.now ≡ written_name name.now }
+{
+    match name {
+        [Part::Plain(text)] => text.as_str(),
+        _ => "",
+    }
+}
 
 /// The name of the file that an output of type `stdout` collects, in the output folder: what the tool's `stdout` says,
 /// and `cwl.stdout` where it says nothing (CWL v1.2, Command Line Tool, "stdout", leaves that name open).
@@ -14,7 +25,7 @@ pub fn stdout_name(tool: &Tool) -> &str
     ensures { result.now ≡ stream_name tool.now }
 {
     match &tool.streams.stdout {
-        Some(name) => name.as_str(),
+        Some(name) => written_name(name.parts()),
         None => "cwl.stdout",
     }
 }

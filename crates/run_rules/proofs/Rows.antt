@@ -10,6 +10,7 @@ use Rattle.cwl_value.specs.declared.value.Value.{Value, roll-Value, out-roll-Val
 use Rattle.cwl_value.specs.declared.value.Value.TheOpen.{Value-F}
 use Rattle.cwl_process.specs.declared.process.Process as process
 use Rattle.cwl_process.specs.declared.tool.Tool.{Tool}
+use Rattle.param_refs.specs.declared.template.Part.TheVariants as part
 use Rattle.cwl_process.specs.Acting.{nothing_asked}
 use Rattle.cwl_process.specs.declared.tool.Binding.{Binding}
 use Rattle.cwl_process.specs.declared.tool.InputType.{InputType}
@@ -68,9 +69,10 @@ hello = record {
   arguments = [];
   inputs = (codes "t", record { kind = of_text; default = None; binding = Some at_one; load_contents = false; secondary_files = [] }) ∷ [];
   outputs = (codes "out", record { kind = OutputType.Stdout; binding = None; secondary_files = [] }) ∷ [];
-  streams = record { stdin = None; stdout = Some (codes "out.txt"); stderr = None };
+  streams = record { stdin = None; stdout = Some (part.Plain (codes "out.txt") ∷ []); stderr = None };
   exit_codes = record { success = []; temporary = []; permanent = [] };
   asked = nothing_asked;
+  written = codes "{}";
 }
 
 abbrev options : Options

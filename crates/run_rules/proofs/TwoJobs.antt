@@ -39,6 +39,7 @@ tool = record {
   streams = record { stdin = None; stdout = None; stderr = None };
   exit_codes = record { success = []; temporary = []; permanent = [] };
   asked = nothing_asked;
+  written = codes "{}";
 }
 
 abbrev options : Options
