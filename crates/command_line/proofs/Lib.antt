@@ -1,3 +1,4 @@
+pub mod AddedLevels
 pub mod Answered
 pub mod Bindings
 pub mod Decided

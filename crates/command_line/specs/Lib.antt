@@ -1,3 +1,4 @@
+pub mod Added
 pub mod Fault
 pub mod Launch
 pub mod Laws

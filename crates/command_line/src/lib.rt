@@ -7,6 +7,7 @@
 //! is no launch (`laws.rt`). Being out of memory is the one exception.
 #![tactic(auto)]
 
+mod added;
 mod builder;
 mod environment;
 mod fault;
