@@ -11,7 +11,7 @@ use Rattle.cwl_value.specs.declared.value.Value.{Value, out-Value}
 use Rattle.cwl_value.specs.declared.value.Value as value
 use Rattle.cwl_value.specs.declared.value.Value.TheFolds.{para-Value}
 use Rattle.cwl_value.specs.declared.value.Value.TheOpen.{Value-F, FileVal-F, DirVal-F}
-use Rattle.cwl_types.specs.declared.types.ArrayType.{ArrayType, out-ArrayType}
+use Rattle.cwl_types.specs.declared.types.ArrayType.{ArrayType, fold-ArrayType, out-ArrayType}
 use Rattle.cwl_types.specs.declared.types.ItemBinding.{ItemBinding}
 use Rattle.cwl_types.specs.declared.types.MemberType.{MemberType, out-MemberType, fold-MemberType}
 use Rattle.cwl_types.specs.declared.types.MemberType.TheOpen.{MemberType-F, ArrayType-F}
@@ -143,3 +143,6 @@ member_binds (MemberType-F.Enum symbols) = false
 -- whether a member has, at any depth, an array type with a binding of its own
 abbrev pub binds_items : MemberType → Bool
 binds_items = fold-MemberType Bool Bool member_binds array_binds
+
+abbrev pub array_binds_items : ArrayType → Bool
+array_binds_items = fold-ArrayType Bool Bool member_binds array_binds

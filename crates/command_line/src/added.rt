@@ -132,7 +132,7 @@ fn item_style<'t>(array: Option<&'t ArrayType>) -> StyleRef<'t>
     }
 }
 
-fn bare<'s>() -> StyleRef<'s>
+pub(crate) fn bare<'s>() -> StyleRef<'s>
     ensures { style_of result ≡ bare }
 {
     StyleRef {
@@ -202,7 +202,7 @@ fn text_of(alloc: Global, value: &Value) -> Result<Option<Text>, AllocError>
     }
 }
 
-fn path_in(alloc: Global, place: &Place) -> Result<Option<Text>, AllocError>
+pub(crate) fn path_in(alloc: Global, place: &Place) -> Result<Option<Text>, AllocError>
     ensures { IfOk result (λ path. path ≡ path_in place.now) }
 {
     match place {
