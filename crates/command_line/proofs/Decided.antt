@@ -1,29 +1,30 @@
 -- Each tool has a launch, or a cause of refusal holds.
-use Rattle.std.proofs.Common.{◌≡◌, ◌≢◌, ℕ, ◌&&◌, Bool, true, false, List, [], ◌∷◌, ◌++◌, Option, Some, None, IsSome, IfSome, Contains, unwrap_or, refl, sym, ap, subst, ◌∙◌, ◌⊎◌, inl, inr, bytes_eq, Ordering, Less, Equal, Greater, arith}
+use Rattle.std.proofs.Common.{◌≡◌, ◌≢◌, ℕ, Bool, true, false, List, [], ◌∷◌, ◌++◌, Option, Result, Ok, Err, Contains, refl, sym, ap, subst, ◌∙◌, ◌⊎◌, inl, inr, bytes_eq, Ordering, Less, Equal, Greater, arith}
 use Rattle.std.specs.Prelude.{◌↔◌, All}
 use Rattle.std.specs.Cmp.{IsTotalOrder}
-use Rattle.std.specs.List.{AllByRecursion, AllPass, IsDistinct, cons_option, filter_map, flat_map, list_all}
+use Rattle.std.specs.List.{AllByRecursion, AllPass, IsDistinct, flat_map, list_all}
 use Rattle.std.specs.List.Sorted.{IsStrictlySortedBy}
 use Rattle.std.specs.Map.{keys_of}
-use Rattle.std.specs.Option.{option_map}
 use Rattle.std.specs.Ordering.{eq_by_cmp, is_eq, ordering_reverse}
+use Rattle.std.specs.Result.{IsOk}
 use Rattle.std.proofs.lemmas.List.Elements.{All-from_recursion, All-contains}
-use Rattle.std.proofs.lemmas.List.Folds.{list_all-append}
 use Rattle.std.proofs.lemmas.List.Sums.{AllPass-from_list_all}
 use Rattle.std.proofs.lemmas.Map.Keys.{IsDistinct-head, IsDistinct-tail, sorted_head, sorted_tail}
 use Rattle.cwl_value.specs.declared.value.Value.{Value}
 use Rattle.cwl_process.specs.declared.tool.Tool.{Tool}
-use Rattle.cwl_process.specs.declared.tool.ToolInput.{ToolInput}
 use Rattle.command_line.specs.declared.fault.BuildFault.{BuildFault}
 use Rattle.command_line.specs.declared.fault.LaunchText.{LaunchText}
 use Rattle.command_line.specs.declared.launch.Launch.{Launch}
 use Rattle.command_line.specs.declared.launch.Variable.{Variable}
 use Rattle.command_line.specs.declared.runtime.Runtime.{Runtime}
-use Rattle.command_line.specs.Launch.{IsLaunch, IsRefused, are_plain_words, environment_of, is_file_name, stdout_of}
-use Rattle.command_line.specs.Order.{AreInOrder, Bound, bound_by, bound_in, bindings_of, key_cmp}
-use Rattle.command_line.specs.Words.{AreWords, is_plain, words_at, words_of}
+use Rattle.command_line.specs.Environment.{environment_of}
+use Rattle.command_line.specs.Launch.{IsLaunch, IsRefused}
+use Rattle.command_line.specs.Order.{AreInOrder, Bound, bindings_of, key_cmp}
+use Rattle.command_line.specs.Streams.{stderr_of, stdin_of, stdout_of}
+use Rattle.command_line.specs.Texts.{is_plain, runtime_value}
+use Rattle.command_line.specs.Words.{AreWords, words_at, words_of}
 use Rattle.command_line.proofs.Answered.{failing_element}
-use Rattle.command_line.proofs.Bindings.{apart_from, key_total}
+use Rattle.command_line.proofs.Bindings.{bindings_distinct, key_total}
 use Rattle.command_line.proofs.Rising.{contains_cases, contains_first, contains_later}
 
 -- Rising keys, one put in its place after the other
@@ -131,127 +132,105 @@ one_more b bindings apart others =
       );
     }
 
-ordered : (inputs : List (List ℕ × ToolInput)) → IsDistinct bytes_eq (keys_of inputs) → Ordered (filter_map bound_in inputs)
+ordered : (bindings : List Bound) → IsDistinct (eq_by_cmp key_cmp) bindings → Ordered bindings
 ordered [] distinct = no_bindings
-ordered (input ∷ rest) distinct =
-    let ids = keys_of rest in
-    let others : Ordered (filter_map bound_in rest) = ordered rest (IsDistinct-tail bytes_eq input.0 ids distinct) in
-    elim input.1.binding as (λ o. Ordered (cons_option (option_map (bound_by input.0) o) (filter_map bound_in rest))) [
-      | None ↦ others
-      | Some binding ↦ one_more (bound_by input.0 binding) (filter_map bound_in rest) (apart_from (bound_by input.0 binding) rest (IsDistinct-head bytes_eq input.0 ids distinct)) others
-    ]
+ordered (b ∷ bs) distinct =
+    one_more b bs (IsDistinct-head (eq_by_cmp key_cmp) b bs distinct) (ordered bs (IsDistinct-tail (eq_by_cmp key_cmp) b bs distinct))
 
--- A launch, where all its texts are plain, and else the cause
+-- A launch, where each part of it is there, and else the cause
 
 decided : (b : Bool) → (b ≡ true) ⊎ (b ≡ false)
 decided true = inl refl
 decided false = inr refl
 
-both_true : (a b : Bool) → a ≡ true → b ≡ true → (a && b) ≡ true
-both_true true b one other = other
-both_true false b one other = one
+-- a value, or a cause
+pub data Answer {T : Type 0} (r : Result T BuildFault) : Type 0 where
+  given : (x : T) → r ≡ Ok x → Answer r
+  refused : (fault : BuildFault) → r ≡ Err fault → Answer r
 
-left_true : (a b : Bool) → (a && b) ≡ true → a ≡ true
-left_true true b both = refl
-left_true false b both = both
+answer : {T : Type 0} (r : Result T BuildFault) → Answer r
+answer (Ok x) = given x refl
+answer (Err fault) = refused fault refl
 
-right_true : (a b : Bool) → (a && b) ≡ true → b ≡ true
-right_true true b both = both
-right_true false b both = let never : false ≡ true = both in absurd cc
+is_ok_of : {T : Type 0} (r : Result T BuildFault) (x : T) → r ≡ Ok x → IsOk r
+is_ok_of {T} r x is = subst (λ (s : Result T BuildFault). IsOk s) (sym is) refl
 
-plain_some : (words : Option (List (List ℕ))) → are_plain_words words ≡ true → IsSome words × (list_all is_plain (unwrap_or words []) ≡ true)
-plain_some None plain = let never : false ≡ true = plain in absurd cc
-plain_some (Some words) plain = (refl, plain)
+-- each of the bindings has words, or one of them has none
+pub data EachHas (f : Bound → Result (List (List ℕ)) BuildFault) (bound : List Bound) : Type 0 where
+  all_have : AllByRecursion (λ b. IsOk (f b)) bound → EachHas f bound
+  one_lacks : (b : Bound) (fault : BuildFault) → Contains bound b → f b ≡ Err fault → EachHas f bound
+
+module _ (f : Bound → Result (List (List ℕ)) BuildFault) where
+  more : (b : Bound) (bs : List Bound) → Answer (f b) → EachHas f bs → EachHas f (b ∷ bs)
+  more b bs (given words is) (all_have rest) = all_have (is_ok_of (f b) words is, rest)
+  more b bs (given words is) (one_lacks c fault there bad) = one_lacks c fault (contains_later b c bs there) bad
+  more b bs (refused fault is) rest = one_lacks b fault (contains_first b bs) is
+
+  each_has : (bound : List Bound) → EachHas f bound
+  each_has [] = all_have tt
+  each_has (b ∷ bs) = more b bs (answer (f b)) (each_has bs)
 
 module _ (tool : Tool) (inputs : List (List ℕ × Value)) (runtime : Runtime) where
   abbrev pub LaunchOrRefusal : Type 0
   LaunchOrRefusal = ((launch : Launch) × IsLaunch tool inputs runtime launch) ⊎ ((fault : BuildFault) × IsRefused tool inputs runtime fault)
 
-  abbrev has_text : Bound → Bool
-  has_text b = are_plain_words (words_of inputs b)
+  abbrev around : Value
+  around = runtime_value runtime
 
-  texts : (bound : List Bound) → list_all has_text bound ≡ true → AllByRecursion (λ b. IsSome (words_of inputs b)) bound
-  texts [] plain = tt
-  texts (b ∷ bound) plain = (
-    (plain_some (words_of inputs b) (left_true (has_text b) (list_all has_text bound) plain)).0,
-    texts bound (right_true (has_text b) (list_all has_text bound) plain),
-  )
-
-  flat_plain : (bound : List Bound) → list_all has_text bound ≡ true → list_all is_plain (flat_map (words_at inputs) bound) ≡ true
-  flat_plain [] plain = refl
-  flat_plain (b ∷ bound) plain =
-      list_all-append is_plain (words_at inputs b) (flat_map (words_at inputs) bound)
-      ∙ both_true (list_all is_plain (words_at inputs b)) (list_all is_plain (flat_map (words_at inputs) bound))
-      (plain_some (words_of inputs b) (left_true (has_text b) (list_all has_text bound) plain)).1
-      (flat_plain bound (right_true (has_text b) (list_all has_text bound) plain))
-
-  module _ (order : Ordered (bindings_of tool)) where
+  module _ (order : Ordered (bindings_of tool inputs)) where
     abbrev words : List (List ℕ)
-    words = tool.base_command ++ flat_map (words_at inputs) order.bound
+    words = tool.base_command ++ flat_map (words_at inputs around) order.bound
 
-    module _ (base : list_all is_plain tool.base_command ≡ true) (bound : list_all has_text order.bound ≡ true)
-        (env : list_all (λ (v : Variable). is_plain v.text) (environment_of runtime) ≡ true)
-        (stdout : IfSome (stdout_of tool) (λ name. is_file_name name ≡ true)) where
-      are_words : (ws : List (List ℕ)) → words ≡ ws → AreWords tool inputs ws
+    module _ (base : list_all is_plain tool.base_command ≡ true) (bound : AllByRecursion (λ b. IsOk (words_of inputs around b)) order.bound) (folder : is_plain runtime.outdir ≡ true) where
+      are_words : (ws : List (List ℕ)) → words ≡ ws → AreWords tool inputs around ws
       are_words ws is = record {
         bound = order.bound;
         in_order = record { rising = order.rising; members = order.members };
-        all_text = All-from_recursion (λ b. IsSome (words_of inputs b)) order.bound (texts order.bound bound);
+        all_there = All-from_recursion (λ b. IsOk (words_of inputs around b)) order.bound bound;
         are = sym is;
       }
 
-      all_plain : list_all is_plain words ≡ true
-      all_plain =
-          list_all-append is_plain tool.base_command (flat_map (words_at inputs) order.bound)
-          ∙ both_true (list_all is_plain tool.base_command) (list_all is_plain (flat_map (words_at inputs) order.bound)) base (flat_plain order.bound bound)
-
-      by_words : (ws : List (List ℕ)) → words ≡ ws → LaunchOrRefusal
-      by_words [] none = inr (BuildFault.EmptyCommand, IsRefused.no_word (are_words [] none))
-      by_words (w ∷ ws) some = inl (
-        record { words = w ∷ ws; env = environment_of runtime; stdin = None; stdout = stdout_of tool; stderr = None; dir = runtime.outdir },
+      by_words : (env : List Variable) (stdin stdout stderr : Option (List ℕ)) → environment_of inputs around runtime tool ≡ Ok env → stdin_of inputs around tool ≡ Ok stdin
+          → stdout_of inputs around tool ≡ Ok stdout → stderr_of inputs around tool ≡ Ok stderr → (ws : List (List ℕ)) → words ≡ ws → LaunchOrRefusal
+      by_words env stdin stdout stderr is_env is_stdin is_stdout is_stderr [] none = inr (BuildFault.EmptyCommand, IsRefused.no_word (are_words [] none))
+      by_words env stdin stdout stderr is_env is_stdin is_stdout is_stderr (w ∷ ws) some = inl (
+        record { words = w ∷ ws; env = env; stdin = stdin; stdout = stdout; stderr = stderr; dir = runtime.outdir },
         record {
           words = are_words (w ∷ ws) some;
           some_word = λ none. cc;
-          plain_words = AllPass-from_list_all is_plain (w ∷ ws) (subst (λ (xs : List (List ℕ)). list_all is_plain xs ≡ true) some all_plain);
-          env = refl;
-          plain_env = AllPass-from_list_all (λ (v : Variable). is_plain v.text) (environment_of runtime) env;
-          stdin = refl;
-          stdout = refl;
-          file_name = stdout;
-          stderr = refl;
+          plain_base = AllPass-from_list_all is_plain tool.base_command base;
+          env = is_env;
+          stdin = is_stdin;
+          stdout = is_stdout;
+          stderr = is_stderr;
           dir = refl;
+          plain_dir = folder;
         },
       )
 
-    by_stdout : list_all is_plain tool.base_command ≡ true → list_all has_text order.bound ≡ true →
-        list_all (λ (v : Variable). is_plain v.text) (environment_of runtime) ≡ true → (name : Option (List ℕ)) → stdout_of tool ≡ name → LaunchOrRefusal
-    by_stdout base bound env None is =
-        by_words base bound env (subst (λ (o : Option (List ℕ)). IfSome o (λ name. is_file_name name ≡ true)) (sym is) tt) words refl
-    by_stdout base bound env (Some name) is = elim (decided (is_file_name name)) [
-      | inl good ↦ by_words base bound env (subst (λ (o : Option (List ℕ)). IfSome o (λ n. is_file_name n ≡ true)) (sym is) good) words refl
-      | inr bad ↦ inr (BuildFault.NotText LaunchText.Stdout, IsRefused.in_stdout name is bad)
+      by_answers : Answer (environment_of inputs around runtime tool) → Answer (stdin_of inputs around tool) → Answer (stdout_of inputs around tool) → Answer (stderr_of inputs around tool) → LaunchOrRefusal
+      by_answers (refused fault is) stdin stdout stderr = inr (fault, IsRefused.in_env fault is)
+      by_answers (given env p) (refused fault is) stdout stderr = inr (fault, IsRefused.in_stdin fault is)
+      by_answers (given env p) (given stdin q) (refused fault is) stderr = inr (fault, IsRefused.in_stdout fault is)
+      by_answers (given env p) (given stdin q) (given stdout r) (refused fault is) = inr (fault, IsRefused.in_stderr fault is)
+      by_answers (given env p) (given stdin q) (given stdout r) (given stderr s) = by_words env stdin stdout stderr p q r s words refl
+
+    by_folder : list_all is_plain tool.base_command ≡ true → AllByRecursion (λ b. IsOk (words_of inputs around b)) order.bound → LaunchOrRefusal
+    by_folder base bound = elim (decided (is_plain runtime.outdir)) [
+      | inl good ↦ by_answers base bound good (answer (environment_of inputs around runtime tool)) (answer (stdin_of inputs around tool)) (answer (stdout_of inputs around tool)) (answer (stderr_of inputs around tool))
+      | inr bad ↦ inr (BuildFault.NotText LaunchText.Folder, IsRefused.in_folder bad)
     ]
 
-    by_env : list_all is_plain tool.base_command ≡ true → list_all has_text order.bound ≡ true → LaunchOrRefusal
-    by_env base bound = elim (decided (list_all (λ (v : Variable). is_plain v.text) (environment_of runtime))) [
-      | inl good ↦ by_stdout base bound good (stdout_of tool) refl
-      | inr bad ↦ let found = failing_element (λ (v : Variable). is_plain v.text) (environment_of runtime) bad in
-          inr (BuildFault.NotText (LaunchText.EnvVariable found.0.name), IsRefused.in_env found.0 found.1 found.2)
-    ]
-
-    by_inputs : list_all is_plain tool.base_command ≡ true → LaunchOrRefusal
-    by_inputs base = elim (decided (list_all has_text order.bound)) [
-      | inl good ↦ by_env base good
-      | inr bad ↦ let found = failing_element has_text order.bound bad in
-          inr (BuildFault.NotText (LaunchText.Input found.0.id), IsRefused.in_input found.0 ((order.members found.0).0 found.1) found.2)
-    ]
+    by_bindings : list_all is_plain tool.base_command ≡ true → EachHas (words_of inputs around) order.bound → LaunchOrRefusal
+    by_bindings base (all_have bound) = by_folder base bound
+    by_bindings base (one_lacks b fault there bad) = inr (fault, IsRefused.in_binding b fault ((order.members b).0 there) bad)
 
     by_base : LaunchOrRefusal
     by_base = elim (decided (list_all is_plain tool.base_command)) [
-      | inl good ↦ by_inputs good
+      | inl good ↦ by_bindings good (each_has (words_of inputs around) order.bound)
       | inr bad ↦ let found = failing_element is_plain tool.base_command bad in
           inr (BuildFault.NotText LaunchText.BaseCommand, IsRefused.in_base_command found.0 found.1 found.2)
     ]
 
   pub launch_or_refusal : IsDistinct bytes_eq (keys_of tool.inputs) → LaunchOrRefusal
-  launch_or_refusal distinct = by_base (ordered tool.inputs distinct)
+  launch_or_refusal distinct = by_base (ordered (bindings_of tool inputs) (bindings_distinct inputs tool distinct))

@@ -1,7 +1,11 @@
+pub mod AddedLevels
 pub mod Answered
 pub mod Bindings
 pub mod Decided
+pub mod ItemBindings
 pub mod Joined
+pub mod Origins
 pub mod Rising
-pub mod Rows
+pub mod RuntimeValue
 pub mod Settled
+pub mod Variables

@@ -12,7 +12,7 @@ use Rattle.command_line.specs.Words.{AreWords}
 
 -- a tool and its inputs have one command at most
 abbrev pub WordsAreSettled : Type 0
-WordsAreSettled = (tool : Tool) (inputs : List (List ℕ × Value)) (one other : List (List ℕ)) → AreWords tool inputs one → AreWords tool inputs other → one ≡ other
+WordsAreSettled = (tool : Tool) (inputs : List (List ℕ × Value)) (around : Value) (one other : List (List ℕ)) → AreWords tool inputs around one → AreWords tool inputs around other → one ≡ other
 
 -- they have one launch at most
 abbrev pub LaunchIsSettled : Type 0

@@ -1,7 +1,11 @@
+pub mod Added
+pub mod Environment
 pub mod Fault
 pub mod Launch
 pub mod Laws
 pub mod Order
-pub mod Plain
+pub mod Results
+pub mod Streams
+pub mod Texts
 pub mod Words
 pub mod inner

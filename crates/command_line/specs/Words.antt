@@ -1,56 +1,69 @@
--- The words of a command (CWL v1.2, Command Line Tool, "Input binding").
-use Rattle.std.specs.Prelude.{◌≡◌, ℕ, Bool, true, false, not, ◌==◌, List, [], ◌∷◌, ◌++◌, Option, Some, None, IsSome, unwrap_or, All}
-use Rattle.std.specs.Option.{option_to_list}
-use Rattle.std.specs.List.{flat_map, list_any}
-use Rattle.std.specs.Fmt.{signed_decimal}
-use Rattle.plain_data.specs.ByName.{value_at}
+-- The words of a command (CWL v1.2, Command Line Tool Description, "Input binding", "CommandLineBinding").
+use Rattle.std.specs.Prelude.{◌≡◌, ℕ, Bool, true, false, if◌then◌else◌, List, [], ◌++◌, Option, Some, None, is_some, Result, Ok, Err, IsOk, All}
+use Rattle.std.specs.Result.{result_unwrap_or}
+use Rattle.std.specs.List.{flat_map, list_all}
+use Rattle.cwl_types.specs.declared.types.MemberType.{MemberType}
 use Rattle.cwl_value.specs.declared.value.DirVal.{DirVal}
 use Rattle.cwl_value.specs.declared.value.FileVal.{FileVal}
 use Rattle.cwl_value.specs.declared.value.Value.{Value, out-Value}
+use Rattle.cwl_value.specs.declared.value.Value as value
 use Rattle.cwl_value.specs.declared.value.Value.TheOpen.{Value-F}
+use Rattle.param_refs.specs.declared.template.Part.{Part}
 use Rattle.cwl_process.specs.declared.tool.Tool.{Tool}
-use Rattle.command_line.specs.Order.{Bound, AreInOrder}
+use Rattle.command_line.specs.Added.{adds}
+use Rattle.command_line.specs.Order.{AreInOrder, Bound, Origin, Argument, Input}
+use Rattle.command_line.specs.Results.{and_then}
+use Rattle.command_line.specs.Texts.{is_plain, value_in}
+use Rattle.command_line.specs.declared.fault.BuildFault.{BuildFault}
+use Rattle.command_line.specs.declared.fault.BuildFault.TheVariants.{NotText, NoValueFrom}
+use Rattle.command_line.specs.declared.fault.LaunchText.{LaunchText}
+use Rattle.command_line.specs.declared.fault.LaunchText.TheVariants as launch_text
 
--- a text after its prefix: two words where they are separate, and else one
-abbrev pub prefixed : Option (List ℕ) → Bool → List ℕ → List (List ℕ)
-prefixed None separate text = text ∷ []
-prefixed (Some prefix) true text = prefix ∷ text ∷ []
-prefixed (Some prefix) false text = (prefix ++ text) ∷ []
+abbrev pub place_of : Origin → LaunchText
+place_of (Argument index) = launch_text.Argument index
+place_of (Input id) = launch_text.Input id
 
--- What a value adds, by its form. A File, a Directory or a list with items is no text yet: no input of the types that
--- a tool has so far takes one.
-abbrev pub form_words : Option (List ℕ) → Bool → Value-F Value DirVal FileVal → Option (List (List ℕ))
-form_words prefix separate Value-F.Null = Some []
-form_words prefix separate (Value-F.Bool true) = Some (option_to_list prefix)
-form_words prefix separate (Value-F.Bool false) = Some []
-form_words prefix separate (Value-F.Whole number) = Some (prefixed prefix separate (signed_decimal number))
-form_words prefix separate (Value-F.Text text) = Some (prefixed prefix separate text)
-form_words prefix separate (Value-F.Fields fields) = Some (option_to_list prefix)
-form_words prefix separate (Value-F.List []) = Some []
-form_words prefix separate (Value-F.List (item ∷ items)) = None
-form_words prefix separate (Value-F.FileVal file) = None
-form_words prefix separate (Value-F.DirVal directory) = None
+abbrev pub is_null_at : Value-F Value DirVal FileVal → Bool
+is_null_at Value-F.Null = true
+is_null_at (Value-F.Bool flag) = false
+is_null_at (Value-F.Whole number) = false
+is_null_at (Value-F.Text text) = false
+is_null_at (Value-F.FileVal file) = false
+is_null_at (Value-F.DirVal dir) = false
+is_null_at (Value-F.List items) = false
+is_null_at (Value-F.Fields fields) = false
 
--- an input that isn't there is null
-abbrev pub input_words : Bound → Option Value → Option (List (List ℕ))
-input_words b None = Some []
-input_words b (Some value) = form_words b.prefix b.separate (out-Value value)
+abbrev pub is_null : Value → Bool
+is_null v = is_null_at (out-Value v)
 
-module _ (inputs : List (List ℕ × Value)) where
-  -- the words of one binding, or none where its value is no text
-  abbrev pub words_of : Bound → Option (List (List ℕ))
-  words_of b = input_words b (value_at b.id inputs)
+-- the words, where an operating system takes each of them
+abbrev pub plain_words : LaunchText → Option (List (List ℕ)) → Result (List (List ℕ)) BuildFault
+plain_words place None = Err (NotText place)
+plain_words place (Some words) = if list_all is_plain words then Ok words else Err (NotText place)
+
+module _ (inputs : List (List ℕ × Value)) (around : Value) where
+  -- The value whose words count. An argument needs a valueFrom, and that of an input counts where its value isn't null.
+  abbrev pub value_for : Origin → Option (List Part) → Value → Result Value BuildFault
+  value_for (Argument index) None v = Err NoValueFrom
+  value_for (Argument index) (Some template) v = value_in inputs around v template
+  value_for (Input id) None v = Ok v
+  value_for (Input id) (Some template) v = if is_null v then Ok v else value_in inputs around v template
+
+  -- the type of that value: a valueFrom gives a value of no type
+  abbrev pub types_for : Option (List Part) → List MemberType → List MemberType
+  types_for None types = types
+  types_for (Some template) types = []
+
+  -- the words of a binding, or why it has none
+  abbrev pub words_of : Bound → Result (List (List ℕ)) BuildFault
+  words_of b = and_then (value_for b.origin b.value_from b.value) (λ v. plain_words (place_of b.origin) (adds v (types_for b.value_from b.types) b.style))
 
   abbrev pub words_at : Bound → List (List ℕ)
-  words_at b = unwrap_or (words_of b) []
+  words_at b = result_unwrap_or (words_of b) []
 
 -- the base command, and then the words of the tool's bindings in the order of their keys
-pub record AreWords (tool : Tool) (inputs : List (List ℕ × Value)) (words : List (List ℕ)) : Type 0 where
+pub record AreWords (tool : Tool) (inputs : List (List ℕ × Value)) (around : Value) (words : List (List ℕ)) : Type 0 where
   pub bound : List Bound
-  pub in_order : AreInOrder tool bound
-  pub all_text : All (λ b. IsSome (words_of inputs b)) bound
-  pub are : words ≡ tool.base_command ++ flat_map (words_at inputs) bound
-
--- An operating system takes texts without the zero character.
-abbrev pub is_plain : List ℕ → Bool
-is_plain text = not (list_any (λ byte. byte == 0) text)
+  pub in_order : AreInOrder tool inputs bound
+  pub all_there : All (λ b. IsOk (words_of inputs around b)) bound
+  pub are : words ≡ tool.base_command ++ flat_map (words_at inputs around) bound

@@ -7,16 +7,16 @@
 //! is no launch (`laws.rt`). Being out of memory is the one exception.
 #![tactic(auto)]
 
+mod added;
 mod builder;
 mod environment;
 mod fault;
 mod launch;
 mod laws;
 mod order;
-mod plain;
-mod plain_tool;
 mod runtime;
-mod stream;
+mod streams;
+mod texts;
 mod words;
 
 pub use builder::build;
@@ -26,6 +26,4 @@ pub use laws::{
     every_tool_has_a_launch_or_is_refused, launch_excludes_refusal, launch_is_settled,
     words_are_settled,
 };
-pub use plain_tool::is_plain_tool;
 pub use runtime::Runtime;
-pub use stream::stdout_name;

@@ -1,41 +1,48 @@
-ghost use Rattle.std.specs.Prelude.{◌≡◌, ℕ, false, List, [], ◌∷◌, ◌++◌, Option, Some, IsSome, IfOk, IfErr, OnOk, All, map};
-ghost use Rattle.std.specs.Option.{option_copied, option_map, option_to_list};
-ghost use Rattle.std.specs.List.{AllPass, flat_map, list_all};
-ghost use Rattle.command_line.specs.Launch.{IsError, are_plain_words};
-ghost use Rattle.command_line.specs.inner.Steps.{NotTextOf, InputError};
-ghost use Rattle.command_line.specs.inner.View.{bound_of};
-ghost use Rattle.command_line.specs.Words.{AreWords, input_words, is_plain, prefixed, words_at, words_of};
-ghost use Rattle.command_line.specs.declared.fault.LaunchText.TheVariants.{BaseCommand, Input};
+//! The words of a command (CWL v1.2, Command Line Tool, "Input binding").
+ghost use Rattle.std.specs.Prelude.{◌≡◌, ◌++◌, Some, None, Ok, IsOk, unwrap_or, IfOk, IfErr, OnOk, All, map};
+ghost use Rattle.std.specs.Option.{option_copied};
+ghost use Rattle.std.specs.List.{AllPass, flat_map};
+ghost use Rattle.command_line.specs.Added.{adds};
+ghost use Rattle.command_line.specs.Launch.{IsError};
+ghost use Rattle.command_line.specs.Texts.{is_plain, runtime_value};
+ghost use Rattle.command_line.specs.Words.{AreWords, place_of, plain_words, words_at, words_of};
+ghost use Rattle.command_line.specs.inner.Steps.{BaseError, BindingError, FaultOf, is_input, own_words_of, referred_words_of};
+ghost use Rattle.command_line.specs.inner.View.{bound_of, origin_of, style_of};
+ghost use Rattle.command_line.specs.Order.{empty_binding, style_in};
 ghost use Rattle.command_line.specs.declared.runtime.Runtime.{Runtime};
 
-use crate::order::{BoundInput, in_order};
-use crate::plain::{all_plain, not_text_in_input};
+use crate::added::{StyleRef, added, bare};
+use crate::order::{BoundRow, Origin, in_order};
+use crate::texts::{Scope, all_plain, value_in};
 use crate::{BuildError, BuildFault, LaunchText};
-use cwl_process::Tool;
+use cwl_process::{Binding, Tool};
+use cwl_types::MemberType;
 use cwl_value::Value;
-use plain_data::{Items, Keyed, Text};
+use param_refs::Template;
+use plain_data::{Items, Text};
 use std::alloc::{AllocError, Global};
 
 /// The words of the command: those of the tool, and then those of its bindings in the order of their keys.
 pub(crate) fn words(
     alloc: Global,
     tool: &Tool,
-    inputs: &Keyed<Value>,
+    scope: Scope<'_>,
 ) -> Result<Items<Text>, BuildError>
-    ensures words { IfOk result (AreWords tool.now inputs.now) }
-    ensures plain { IfOk result (AllPass is_plain) }
-    ensures refused { IfErr result (λ e. (runtime : Runtime) → IsError tool.now inputs.now runtime e) }
+    ensures words { IfOk result (AreWords tool.now scope.entry.inputs.now scope.entry.runtime.now) }
+    ensures base { OnOk result (AllPass is_plain tool.now.base_command) }
+    ensures refused { IfErr result (λ e. (runtime : Runtime) → scope.entry.runtime.now ≡ runtime_value runtime
+        → IsError tool.now scope.entry.inputs.now runtime e) }
 {
-    let rows = in_order(alloc, tool)?;
+    let rows = in_order(alloc, tool, scope.inputs)?;
     let base = base_words(alloc, tool.base_command.as_slice())?;
-    let words = append_all(alloc, base, rows.as_slice(), inputs)?;
+    let words = append_all(alloc, base, rows.as_slice(), scope)?;
     Ok(Items::from_vec(words))
 }
 
 fn base_words(alloc: Global, base: &[Text]) -> Result<Vec<Text>, BuildError>
     ensures words { IfOk result (λ words. words.items ≡ base.now) }
     ensures plain { OnOk result (AllPass is_plain base.now) }
-    ensures refused { IfErr result (NotTextOf BaseCommand (list_all is_plain base.now ≡ false)) }
+    ensures refused { IfErr result (BaseError base.now) }
 {
     if !all_plain(base) {
         return Err(BuildError::Refused(BuildFault::NotText(LaunchText::BaseCommand)));
@@ -51,92 +58,132 @@ fn base_words(alloc: Global, base: &[Text]) -> Result<Vec<Text>, BuildError>
 fn append_all(
     alloc: Global,
     mut words: Vec<Text>,
-    rows: &[BoundInput<'_>],
-    inputs: &Keyed<Value>,
+    rows: &[BoundRow<'_>],
+    scope: Scope<'_>,
 ) -> Result<Vec<Text>, BuildError>
-    ensures words { IfOk result (λ all. all.items ≡ words.items ++ flat_map (λ row. words_at inputs.now (bound_of row)) rows.now) }
-    ensures all_text { OnOk result (All (λ row. IsSome (words_of inputs.now (bound_of row))) rows.now) }
-    ensures plain { IfOk result (λ all. AllPass is_plain words.items → AllPass is_plain all.items) }
-    ensures refused { IfErr result (InputError inputs.now (map bound_of rows.now)) }
+    ensures words { IfOk result (λ all. all.items ≡ words.items ++ flat_map (λ row. words_at scope.entry.inputs.now scope.entry.runtime.now (bound_of row)) rows.now) }
+    ensures all_there { OnOk result (All (λ row. IsOk (words_of scope.entry.inputs.now scope.entry.runtime.now (bound_of row))) rows.now) }
+    ensures refused { IfErr result (BindingError scope.entry.inputs.now scope.entry.runtime.now (map bound_of rows.now)) }
 {
     for row in rows {
-        let mut added = plain_words_of(alloc, row, inputs)?;
+        let mut added = words_of_row(alloc, row, scope)?;
         words.append(&mut added)?;
     }
     Ok(words)
 }
 
-/// The words that an input adds, if an operating system takes them all.
-fn plain_words_of(
+/// The words that a binding adds, if an operating system takes them all.
+fn words_of_row(
     alloc: Global,
-    row: &BoundInput<'_>,
-    inputs: &Keyed<Value>,
+    row: &BoundRow<'_>,
+    scope: Scope<'_>,
 ) -> Result<Vec<Text>, BuildError>
-    ensures words { IfOk result (λ words. words_of inputs.now (bound_of row.now) ≡ Some words.items) }
-    ensures plain { IfOk result (λ words. AllPass is_plain words.items) }
-    ensures refused { IfErr result (NotTextOf (Input row.now.key.name.now) (are_plain_words (words_of inputs.now (bound_of row.now)) ≡ false)) }
+    ensures ok { IfOk result (λ words. words_of scope.entry.inputs.now scope.entry.runtime.now (bound_of row.now) ≡ Ok words.items) }
+    ensures err { IfErr result (FaultOf (words_of scope.entry.inputs.now scope.entry.runtime.now (bound_of row.now))) }
 {
-    let value = inputs.get(row.key.name);
-    let Some(words) = written(alloc, row, value)? else {
-        return Err(not_text_in_input(alloc, row.key.name));
-    };
-    if !all_plain(words.as_slice()) {
-        return Err(not_text_in_input(alloc, row.key.name));
+    match row.value {
+        Some(value) => words_for(alloc, row, value, scope),
+        None => words_for(alloc, row, &Value::Null, scope),
     }
-    Ok(words)
 }
 
-/// The words that a value adds, or none where it is no text (CWL v1.2, Command Line Tool, "Input binding").
-fn written(
+fn words_for(
     alloc: Global,
-    row: &BoundInput<'_>,
-    value: Option<&Value>,
-) -> Result<Option<Vec<Text>>, AllocError>
-    ensures { IfOk result (λ words. option_map (λ v. v.items) words ≡ input_words (bound_of row.now) (option_copied value.entry)) }
+    row: &BoundRow<'_>,
+    own: &Value,
+    scope: Scope<'_>,
+) -> Result<Vec<Text>, BuildError>
+    requires { own.now ≡ (bound_of row.now).value }
+    ensures ok { IfOk result (λ words. words_of scope.entry.inputs.now scope.entry.runtime.now (bound_of row.now) ≡ Ok words.items) }
+    ensures err { IfErr result (FaultOf (words_of scope.entry.inputs.now scope.entry.runtime.now (bound_of row.now))) }
 {
-    let Some(value) = value else {
-        return Ok(Some(Vec::new(alloc)));
-    };
-    match value {
-        Value::Null | Value::Bool(false) => Ok(Some(Vec::new(alloc))),
-        Value::Bool(true) | Value::Fields(_) => Ok(Some(flag_words(alloc, row)?)),
-        Value::Whole(number) => {
-            let digits = number.to_string(alloc)?;
-            Ok(Some(text_words(alloc, row, digits.as_str())?))
-        }
-        Value::Text(text) => Ok(Some(text_words(alloc, row, text.as_str())?)),
-        Value::List(items) if items.is_empty() => Ok(Some(Vec::new(alloc))),
-        Value::List(_) | Value::FileVal(_) | Value::DirVal(_) => Ok(None),
+    match value_from(row) {
+        None => own_words(alloc, row, own),
+        Some(template) => referred_words(alloc, row, own, scope, template),
     }
 }
 
-/// The prefix alone, where there is one.
-fn flag_words(alloc: Global, row: &BoundInput<'_>) -> Result<Vec<Text>, AllocError>
-    ensures { IfOk result (λ words. words.items ≡ option_to_list (bound_of row.now).prefix) }
+fn value_from<'t>(row: &BoundRow<'t>) -> Option<&'t Template>
+    ensures { option_copied result ≡ (bound_of row.now).value_from }
 {
-    let mut words = Vec::new(alloc);
-    if let Some(prefix) = row.prefix {
-        words.push(prefix.copied(alloc)?)?;
+    match row.binding {
+        None => None,
+        Some(binding) => binding.value_from.as_ref(),
     }
-    Ok(words)
 }
 
-/// A text with its prefix: two words where they are separate, and else one.
-fn text_words(alloc: Global, row: &BoundInput<'_>, text: &str) -> Result<Vec<Text>, AllocError>
-    ensures { IfOk result (λ words. words.items ≡ prefixed (bound_of row.now).prefix row.now.separate text.now) }
+/// The words of an input's own value.
+fn own_words(alloc: Global, row: &BoundRow<'_>, own: &Value) -> Result<Vec<Text>, BuildError>
+    ensures ok { IfOk result (λ words. own_words_of (bound_of row.now) own.now ≡ Ok words.items) }
+    ensures err { IfErr result (FaultOf (own_words_of (bound_of row.now) own.now)) }
 {
-    let mut words = Vec::new(alloc);
-    match row.prefix {
-        None => words.push(Text::from_text(alloc, text)?)?,
-        Some(prefix) if row.separate => {
-            words.push(prefix.copied(alloc)?)?;
-            words.push(Text::from_text(alloc, text)?)?;
-        }
-        Some(prefix) => {
-            let mut joined = String::from_str(alloc, prefix.as_str())?;
-            joined.push_str(text)?;
-            words.push(Text::from_string(joined))?;
-        }
+    match row.key.origin {
+        Origin::Argument(_) => Err(BuildError::Refused(BuildFault::NoValueFrom)),
+        Origin::Input(_) => plain_words(alloc, row, own, row.types),
     }
-    Ok(words)
+}
+
+/// The words of the value that a template gives, where the input's own isn't null.
+fn referred_words(
+    alloc: Global,
+    row: &BoundRow<'_>,
+    own: &Value,
+    scope: Scope<'_>,
+    template: &Template,
+) -> Result<Vec<Text>, BuildError>
+    ensures ok { IfOk result (λ words. referred_words_of scope.entry.inputs.now scope.entry.runtime.now (bound_of row.now) own.now template.now ≡ Ok words.items) }
+    ensures err { IfErr result (FaultOf (referred_words_of scope.entry.inputs.now scope.entry.runtime.now (bound_of row.now) own.now template.now)) }
+{
+    if is_input(row.key.origin) && matches!(own, Value::Null) {
+        return plain_words(alloc, row, own, &[]);
+    }
+    let value = value_in(scope, own, template)?;
+    let words = plain_words(alloc, row, &value, &[]);
+    drop(value);
+    words
+}
+
+fn is_input(origin: Origin<'_>) -> bool
+    ensures { result ≡ is_input (origin_of origin.entry) }
+{
+    matches!(origin, Origin::Input(_))
+}
+
+/// The words of a value in the row's style, if an operating system takes them all.
+fn plain_words(
+    alloc: Global,
+    row: &BoundRow<'_>,
+    value: &Value,
+    types: &[MemberType],
+) -> Result<Vec<Text>, BuildError>
+    ensures ok { IfOk result (λ words. plain_words (place_of (bound_of row.now).origin) (adds value.now types.now (bound_of row.now).style) ≡ Ok words.items) }
+    ensures err { IfErr result (FaultOf (plain_words (place_of (bound_of row.now).origin) (adds value.now types.now (bound_of row.now).style))) }
+{
+    let place = place_of(alloc, row.key.origin)?;
+    match added(alloc, value, types, style_of(row.binding))? {
+        Some(words) if all_plain(words.as_slice()) => Ok(words),
+        _ => Err(BuildError::Refused(BuildFault::NotText(place))),
+    }
+}
+
+fn style_of<'t>(binding: Option<&'t Binding>) -> StyleRef<'t>
+    ensures { style_of result ≡ style_in (unwrap_or (option_copied binding.entry) empty_binding) }
+{
+    match binding {
+        None => bare(),
+        Some(binding) => StyleRef {
+            prefix: binding.prefix.as_ref(),
+            separate: binding.separate,
+            separator: binding.item_separator.as_ref(),
+        },
+    }
+}
+
+fn place_of(alloc: Global, origin: Origin<'_>) -> Result<LaunchText, AllocError>
+    ensures { IfOk result (λ place. place ≡ place_of (origin_of origin.entry)) }
+{
+    match origin {
+        Origin::Argument(index) => Ok(LaunchText::Argument(index)),
+        Origin::Input(id) => Ok(LaunchText::Input(Text::from_text(alloc, id)?)),
+    }
 }

@@ -1,7 +1,7 @@
 //! Builds the commands of rows.
 use crate::writing::{close_list, code, coded, put_text_or_null, put_texts};
 use command_line::{BuildError, BuildFault, Launch, Runtime, Variable, build};
-use cwl_document::Tool;
+use cwl_process::Tool;
 use cwl_value::{Value, read_value};
 use plain_data::{Keyed, Text};
 use row_io::{AnswerText, Row, RowFault, json_text};
@@ -70,6 +70,8 @@ fn not_built(alloc: Global, error: &BuildError) -> Result<String, RowFault> {
     match error {
         BuildError::OutOfMemory => Err(RowFault::OutOfMemory),
         BuildError::Refused(fault) => match fault {
+            BuildFault::Reference(reference) => coded(alloc, fault.code(), reference.code()),
+            BuildFault::NoValueFrom => code(alloc, fault.code()),
             BuildFault::NotText(place) => coded(
                 alloc,
                 fault.code(),

@@ -1,10 +1,10 @@
-//! Rows of documents and of commands: each line of `stdin` is a call, and `stdout` has its answer.
+//! Rows of commands: each line of `stdin` is a call, and `stdout` has its answer.
 //!
-//! A document is given as JSON, under `document`, or as a text of any bytes, under `text`. A refusal is answered by its
-//! code, with what it names in brackets.
+//! A tool is given as its document, under `document`, and its inputs as JSON, where a File or Directory with a `path` stands at it.
+//! A refusal is answered by its code, with what it names in brackets.
 #![tactic(auto)]
 
-use documents::{Asked, of_document, of_nested_list};
+use documents::of_document;
 use row_io::{Answers, Row, RowFault, answer_rows};
 use std::alloc::Global;
 use std::io;
@@ -19,12 +19,8 @@ struct Calls;
 impl Answers for Calls {
     fn answer(&self, alloc: Global, row: &Row) -> Result<String, RowFault> {
         match row.call() {
-            "read_process" => of_document(alloc, row, Asked::Tool),
-            "read_nested_list" => of_nested_list(alloc, row),
-            "written" => of_document(alloc, row, Asked::Written),
-            "build" => of_document(alloc, row, Asked::Launch),
-            "copied_launch" => of_document(alloc, row, Asked::Copy),
-            "stdout_name" => of_document(alloc, row, Asked::Stream),
+            "build" => of_document(alloc, row, false),
+            "copied_launch" => of_document(alloc, row, true),
             _ => Err(RowFault::UnknownCall),
         }
     }

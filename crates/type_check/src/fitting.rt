@@ -24,8 +24,9 @@ pub fn fits(value: &Value, members: &Items<MemberType>) -> bool
     false
 }
 
+/// Says whether a value is one of a single member's. Takes no memory.
 #[cycle(fitting)]
-fn fits_member(value: &Value, member: &MemberType) -> bool
+pub fn fits_member(value: &Value, member: &MemberType) -> bool
     ensures { result ≡ fits_member member.now value.now }
 {
     match member {

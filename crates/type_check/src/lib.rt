@@ -1,6 +1,6 @@
 //! Which values fit a type of CWL v1.2, and which types overlap, so that a link between them can carry a value.
 //!
-//! - `fits` says exactly whether a value is one of a type's (`specs/Fits.antt`).
+//! - `fits` says exactly whether a value is one of a type's, `fits_member` of one of its members (`specs/Fits.antt`).
 //! - `overlaps` says exactly whether two types may have a value in common (`specs/Overlaps.antt`).
 //!
 //! Neither takes memory. What a type is, `cwl_types` says: a list of members, of which a value has to fit one.
@@ -9,5 +9,5 @@
 mod fitting;
 mod overlapping;
 
-pub use fitting::fits;
+pub use fitting::{fits, fits_member};
 pub use overlapping::overlaps;

@@ -1,35 +1,48 @@
 -- What the steps of `build` answer in place of a part of the launch.
-use Rattle.std.specs.Prelude.{◌≡◌, ℕ, false, List, Some, Contains}
+use Rattle.std.specs.Prelude.{◌≡◌, ℕ, Bool, true, false, ◌&&◌, if◌then◌else◌, [], List, Option, Result, Ok, Err, Contains}
+use Rattle.std.specs.List.{list_all}
 use Rattle.cwl_value.specs.declared.value.Value.{Value}
-use Rattle.command_line.specs.declared.fault.BuildFault.TheVariants.{NotText, EmptyCommand}
-use Rattle.command_line.specs.declared.fault.LaunchText.{LaunchText}
-use Rattle.command_line.specs.declared.fault.LaunchText.TheVariants.{Input, Stdout, EnvVariable}
+use Rattle.cwl_value.specs.declared.value.Value as value
+use Rattle.command_line.specs.Added.{adds}
+use Rattle.command_line.specs.Order.{Bound, Origin, Argument, Input}
+use Rattle.command_line.specs.Words.{is_null, place_of, plain_words, words_of}
+use Rattle.command_line.specs.Texts.{is_plain, name_of, value_in}
+use Rattle.command_line.specs.Results.{and_then}
+use Rattle.param_refs.specs.declared.template.Part.{Part}
+use Rattle.command_line.specs.declared.fault.BuildFault.{BuildFault}
+use Rattle.command_line.specs.declared.fault.BuildFault.TheVariants.{NotText, NoValueFrom}
+use Rattle.command_line.specs.declared.fault.LaunchText.TheVariants.{BaseCommand}
 use Rattle.command_line.specs.declared.fault.BuildError.{BuildError}
 use Rattle.command_line.specs.declared.fault.BuildError.TheVariants.{Refused, OutOfMemory}
-use Rattle.command_line.specs.declared.launch.Variable.{Variable}
-use Rattle.cwl_process.specs.declared.tool.Tool.{Tool}
-use Rattle.command_line.specs.Launch.{are_plain_words, is_file_name, stdout_of}
-use Rattle.command_line.specs.Order.{Bound}
-use Rattle.command_line.specs.Words.{is_plain, words_of}
 
--- out of memory, or no text at this place, for which P has to hold
-abbrev pub NotTextOf : LaunchText → Type 0 → BuildError → Type 0
-NotTextOf place P OutOfMemory = Unit {0}
-NotTextOf place P (Refused (NotText at)) = (at ≡ place) × P
-NotTextOf place P (Refused EmptyCommand) = ⊥
+-- out of memory, or the cause that was found in place of a value
+abbrev pub FaultOf : {T : Type 0} → Result T BuildFault → BuildError → Type 0
+FaultOf found (Refused fault) = found ≡ Err fault
+FaultOf found OutOfMemory = Unit {0}
 
--- out of memory, or a binding whose words are no text
-abbrev pub InputError : List (List ℕ × Value) → List Bound → BuildError → Type 0
-InputError inputs bound OutOfMemory = Unit {0}
-InputError inputs bound (Refused (NotText at)) = (b : Bound) × Contains bound b × (at ≡ Input b.id) × (are_plain_words (words_of inputs b) ≡ false)
-InputError inputs bound (Refused EmptyCommand) = ⊥
+-- out of memory, or that a word of the base command is none that an operating system takes
+abbrev pub BaseError : List (List ℕ) → BuildError → Type 0
+BaseError base (Refused fault) = (fault ≡ NotText BaseCommand) × (list_all is_plain base ≡ false)
+BaseError base OutOfMemory = Unit {0}
 
--- out of memory, or a name of a stream that is none of a file
-abbrev pub StreamError : Tool → BuildError → Type 0
-StreamError tool = NotTextOf Stdout ((name : List ℕ) × (stdout_of tool ≡ Some name) × (is_file_name name ≡ false))
+-- out of memory, or the cause that one of the bindings has no words
+abbrev pub BindingError : List (List ℕ × Value) → Value → List Bound → BuildError → Type 0
+BindingError inputs around bound (Refused fault) = (b : Bound) × Contains bound b × (words_of inputs around b ≡ Err fault)
+BindingError inputs around bound OutOfMemory = Unit {0}
 
--- out of memory, or a variable whose text is none
-abbrev pub EnvError : List Variable → BuildError → Type 0
-EnvError env OutOfMemory = Unit {0}
-EnvError env (Refused (NotText at)) = (v : Variable) × Contains env v × (at ≡ EnvVariable v.name) × (is_plain v.text ≡ false)
-EnvError env (Refused EmptyCommand) = ⊥
+-- what the text of a template is, where it is one
+abbrev pub text_or_none : List (List ℕ × Value) → Value → List Part → Result (Option (List ℕ)) BuildFault
+text_or_none inputs around template = and_then (value_in inputs around value.Null template) (λ v. Ok (name_of v))
+
+abbrev pub is_input : Origin → Bool
+is_input (Argument index) = false
+is_input (Input id) = true
+
+-- the words of a binding without valueFrom, whose value is v
+abbrev pub own_words_of : Bound → Value → Result (List (List ℕ)) BuildFault
+own_words_of b v = if is_input b.origin then plain_words (place_of b.origin) (adds v b.types b.style) else Err NoValueFrom
+
+-- the words of a binding with valueFrom, whose value is v
+abbrev pub referred_words_of : List (List ℕ × Value) → Value → Bound → Value → List Part → Result (List (List ℕ)) BuildFault
+referred_words_of inputs around b v template =
+    and_then (if is_input b.origin && is_null v then Ok v else value_in inputs around v template) (λ w. plain_words (place_of b.origin) (adds w [] b.style))
