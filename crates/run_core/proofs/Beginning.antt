@@ -2,7 +2,6 @@
 use Rattle.std.proofs.Common.{◌≡◌, ◌∙◌, ℕ, ◌+◌, ◌<◌, ◌≤◌, List, [], ◌∷◌, find, vec_len, vec_capacity, bytes_eq, Option, Some, None, Result, Ok, Err, refl, sym, ap, subst, arith}
 use Rattle.std.specs.List.{IsDistinct}
 use Rattle.std.specs.Map.{keys_of}
-use Rattle.command_line.specs.Plain.{IsPlainTool}
 use Rattle.cwl_process.specs.declared.process.Process.{Process}
 use Rattle.cwl_process.specs.declared.process.Process as process
 use Rattle.plan_checker.specs.declared.plan.Mark.TheVariants.{Compute}
@@ -34,7 +33,7 @@ use Rattle.run_core.proofs.Advance.{same}
 use Rattle.run_core.proofs.Blamed.{none_started}
 use Rattle.run_core.proofs.TakeSteps.{room_ended}
 
-module _ (core : RunCore) (limits : IsWithinLimits core.lone.options) (plain : IsPlainTool core.lone.tool)
+module _ (core : RunCore) (limits : IsWithinLimits core.lone.options)
     (ids : IsDistinct bytes_eq (keys_of core.lone.tool.outputs)) (empty : core.pairs.items ≡ [])
     (room : vec_len core.pairs < vec_capacity core.pairs) where
   abbrev run : Lone
@@ -64,7 +63,6 @@ module _ (core : RunCore) (limits : IsWithinLimits core.lone.options) (plain : I
           happened = at_first;
           marks = Compute ∷ [];
           goes = subst (λ (t : List Pair). IsRunSoFar (setting_in run) t at_first (Compute ∷ [])) (sym empty) (begins (Compute ∷ []) plans);
-          plain = plain;
           at = subst (λ (st : State). IsAt run at_first (Compute ∷ []) st) (sym is) (staging its_inputs l);
           blames = subst (λ (st : State). Blames (entries_of core.pairs.items) st) (sym is) (record { flying = none_started (entries_of core.pairs.items); rightly = tt });
           room = λ some. first_fits (ap (λ (st : State). st.phase) is);
@@ -89,7 +87,6 @@ module _ (core : RunCore) (limits : IsWithinLimits core.lone.options) (plain : I
           happened = at_first;
           marks = [];
           goes = subst (λ (t : List Pair). IsRunSoFar (setting_in run) t at_first []) (sym empty) (begins [] plans);
-          plain = plain;
           at = subst (λ (st : State). IsAt run at_first [] st) (sym is)
               (ended at_first [] (fails_permanently [] (Cause.Kind input.0)) ended_so);
           blames = subst (λ (st : State). Blames (entries_of core.pairs.items) st) (sym is) (record { flying = none_started (entries_of core.pairs.items); rightly = tt });

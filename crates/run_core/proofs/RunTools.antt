@@ -1,6 +1,5 @@
--- What is run so far is a tool, and a plain one.
+-- What is run so far is a tool.
 use Rattle.std.proofs.Common.{◌≡◌, ◌∙◌, ◌↔◌, Bool, true, IsTrue, sym, ap, subst}
-use Rattle.command_line.specs.Plain.{IsPlainTool}
 use Rattle.cwl_process.specs.declared.process.Process.{Process, out-Process, out-roll-Process}
 use Rattle.cwl_process.specs.declared.process.Process as process
 use Rattle.cwl_process.specs.declared.process.Process.TheOpen.{Process-F}
@@ -30,9 +29,6 @@ tool_of one other same = let tops : at_tool one ≡ at_tool other = sym (out_too
 
 pub is_tool : {its : Process} {given : Fields} → RunsToday its given → IsTool its
 is_tool (runs_tool tool given runs takes) = tool_is_tool tool
-
-pub is_plain : {its : Process} {given : Fields} (tool : Tool) → RunsToday its given → its ≡ process.Tool tool → IsPlainTool tool
-is_plain tool (runs_tool own given runs takes) is = subst IsPlainTool (tool_of own tool is) runs.plain
 
 -- ---- and the test says so
 

@@ -3,7 +3,6 @@ use Rattle.std.proofs.Common.{◌≡◌, ◌≢◌, ◌∙◌, ◌==◌, ℕ, �
 use Rattle.std.proofs.lemmas.List.Elements.{filter_map-append}
 use Rattle.std.specs.List.{IsDistinct}
 use Rattle.std.specs.Map.{keys_of}
-use Rattle.command_line.specs.Plain.{IsPlainTool}
 use Rattle.cwl_process.specs.declared.process.Process.{Process}
 use Rattle.cwl_value.specs.declared.value.Value.{Value}
 use Rattle.proc_host.specs.declared.plan.StagePlan.{StagePlan}
@@ -266,7 +265,6 @@ module _ (core : RunCore) (answer : Answer) (pairs : Vec Pair Global) (state : S
         happened = a.happened;
         marks = a.marks;
         goes = subst (λ (t : List Pair). IsRunSoFar (setting_in core.lone) t a.happened a.marks) (sym longer) a.goes;
-        plain = stands.plain;
         at = a.at;
         blames = subst (λ (t : List Pair). Blames (entries_of t) state) (sym longer)
             (blames_after core.lone core.pairs.items core.state.asks core.state.flying core.state.phase answer state may stands.blames.flying follows);
@@ -285,7 +283,6 @@ module _ (core : RunCore) (answer : Answer) (pairs : Vec Pair Global) (state : S
         happened = a.happened;
         marks = a.marks;
         goes = subst (λ (t : List Pair). IsRunSoFar (setting_in core.lone) t a.happened a.marks) (sym longer) a.goes;
-        plain = stands.plain;
         at = subst (λ (st : State). IsAt core.lone a.happened a.marks st) (sym is) (lost a.happened a.marks);
         blames = subst (λ (st : State). Blames (entries_of pairs.items) st) (sym is) (record { flying = none_started (entries_of pairs.items); rightly = tt });
         room = none;

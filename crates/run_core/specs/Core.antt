@@ -1,6 +1,5 @@
 -- What callers see of the machine.
 use Rattle.std.specs.Prelude.{◌≡◌, ◌≢◌, ℕ, ◌+◌, ◌<◌, ◌≤◌, List, [], ◌∷◌, ◌++◌, Result, Err, IfErr, OnOk, OnErr, vec_len, vec_capacity}
-use Rattle.command_line.specs.Plain.{IsPlainTool}
 use Rattle.cwl_process.specs.declared.process.Process.{Process}
 use Rattle.run_rules.specs.declared.outcome.RunFault.{RunFault}
 use Rattle.run_rules.specs.declared.request.Answer.{Answer}
@@ -63,7 +62,6 @@ pub record Stands (core : RunCore) : Type 0 where
   pub happened : Progress
   pub marks : List Mark
   pub goes : IsRunSoFar (setting_of core) core.pairs.items happened marks
-  pub plain : IsPlainTool core.lone.tool
   pub at : IsAt core.lone happened marks core.state
   pub blames : Blames (entries_of core.pairs.items) core.state
   pub room : 0 < steps_in core.state.phase → vec_len core.pairs + pairs_ahead core.state.phase ≤ vec_capacity core.pairs

@@ -10,7 +10,6 @@ ghost use Rattle.run_core.specs.inner.Lone.{IsTool};
 ghost use Rattle.run_core.specs.inner.Machine.{AsksIn, HasRoom, MakesRoom, Moves, at_start, pairs_wanted, told_of};
 ghost use Rattle.run_rules.specs.Answers.{MayAnswer};
 ghost use Rattle.run_rules.specs.Blame.{BlamesRightly};
-ghost use Rattle.command_line.specs.Plain.{IsPlainTool};
 ghost use Rattle.run_rules.specs.RunsToday.{RunsToday};
 ghost use Rattle.run_core.specs.Limits.{IsWithinLimits};
 ghost use Rattle.run_rules.specs.Words.{JobPlace};
@@ -163,7 +162,6 @@ fn start(
 
 /// Moves to the state that follows from the answer, and gives back what was asked.
 fn step(alloc: Global, lone: &Lone, state: &mut State, answer: &Answer) -> Request
-    requires plain { IsPlainTool lone.now.tool }
     requires answers { MayAnswer state.old.flying state.old.asks answer.now }
     requires asks { AsksIn state.old.asks state.old.phase }
     ensures asked { result ≡ state.old.asks }
@@ -177,7 +175,6 @@ fn step(alloc: Global, lone: &Lone, state: &mut State, answer: &Answer) -> Reque
 
 /// The state that follows from the answer, or the one that asks nothing more where memory runs out.
 fn next_state(alloc: Global, lone: &Lone, state: &mut State, answer: &Answer) -> State
-    requires plain { IsPlainTool lone.now.tool }
     requires answers { MayAnswer state.old.flying state.old.asks answer.now }
     requires asks { AsksIn state.old.asks state.old.phase }
     ensures asked { state.new.asks ≡ state.old.asks }

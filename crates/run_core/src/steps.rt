@@ -1,6 +1,5 @@
 //! What the machine waits for after each answer, for a lone tool.
 ghost use Rattle.std.specs.Prelude.{◌≡◌, ◌∷◌, [], IfOk, OnErr};
-ghost use Rattle.command_line.specs.Plain.{IsPlainTool};
 ghost use Rattle.run_rules.specs.Collected.{picked};
 ghost use Rattle.run_core.specs.inner.Machine.{CanFollow, HasOutcome, Launches, FollowsFrom, AsksIn, HasSeat, NeedsMemory, after_exit, after_files, after_scan, after_ticket, at_start, delivered_in, delivers, delivers_plan, ends, files_seen, host_fails, left_by, located_in, names_in, names_of, plan_to, starts};
 ghost use Rattle.run_rules.specs.Answers.{MayAnswer};
@@ -47,7 +46,6 @@ pub(crate) fn begun(alloc: Global, lone: &Lone) -> Result<State, AllocError>
 
 /// The job's folders are made: it is started, unless it has no launch.
 fn launched(alloc: Global, lone: &Lone, inputs: &Keyed<Value>) -> Result<State, AllocError>
-    requires { IsPlainTool lone.now.tool }
     ensures ok { IfOk result (λ state. Launches lone.now inputs.now state) }
     ensures err { OnErr result (HasOutcome lone.now inputs.now) }
 {
@@ -277,7 +275,6 @@ pub(crate) fn follows(
     flying: &mut Items<u64>,
     answer: &Answer,
 ) -> Result<State, AllocError>
-    requires plain { IsPlainTool lone.now.tool }
     requires answers { MayAnswer flying.old asks.now answer.now }
     requires asks { AsksIn asks.now phase.old }
     ensures next { IfOk result (λ next. FollowsFrom lone.now asks.now flying.old phase.old answer.now next) }

@@ -6,7 +6,6 @@ ghost use Rattle.run_rules.specs.Made.{some_true};
 ghost use Rattle.run_rules.specs.RunsToday.{IsRunTool, RunsToday, are_run_inputs, has_file, is_stream, no_codes};
 
 use crate::inputs::{first_misfit, input_value};
-use command_line::is_plain_tool;
 use cwl_process::{ExitCodes, OutputType, Process, Tool, ToolInput, ToolOutput};
 use cwl_value::Value;
 use plain_data::{Items, Keyed, Text};
@@ -24,12 +23,12 @@ pub fn runs_today(process: &Process, inputs: &Keyed<Value>) -> bool
     }
 }
 
-/// Checks that a tool is one that is run so far: a plain one for `command_line`, whose outputs are files of its streams, and which
-/// gives no exit code a meaning of its own. Takes no memory.
+/// Checks that a tool is one that is run so far: its outputs are files of its streams, and it gives no exit code a meaning of its
+/// own. Takes no memory.
 pub fn is_run_tool(tool: &Tool) -> bool
     ensures { IsTrue result ↔ IsRunTool tool.now }
 {
-    is_plain_tool(tool) && are_streams(tool.outputs.as_slice()) && has_no_codes(&tool.exit_codes)
+    are_streams(tool.outputs.as_slice()) && has_no_codes(&tool.exit_codes)
 }
 
 fn are_streams(outputs: &[(Text, ToolOutput)]) -> bool

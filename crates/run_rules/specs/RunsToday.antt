@@ -2,7 +2,6 @@
 -- its own, on values without Files and Directories.
 use Rattle.std.specs.Prelude.{◌≡◌, ℤ, Bool, true, false, ◌&&◌, ◌||◌, not, is_some, List, [], ◌∷◌, map, find}
 use Rattle.std.specs.List.{list_all, list_any}
-use Rattle.command_line.specs.Plain.{IsPlainTool}
 use Rattle.cwl_process.specs.declared.process.Process.{Process}
 use Rattle.cwl_process.specs.declared.process.Process as process
 use Rattle.cwl_process.specs.declared.tool.ExitCodes.{ExitCodes}
@@ -29,7 +28,6 @@ no_codes codes = no_code codes.success && no_code codes.temporary && no_code cod
 
 -- a tool that is run so far
 pub record IsRunTool (tool : Tool) : Type 0 where
-  pub plain : IsPlainTool tool
   pub streams : list_all (λ output. is_stream output.1.kind) tool.outputs ≡ true
   pub codes : no_codes tool.exit_codes ≡ true
 
