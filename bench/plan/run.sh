@@ -8,7 +8,7 @@
 # them stand all plans of such runs of a scatter, and the memory that a line of 20 MB takes.
 #
 # The programs read the same graph in the same run; where their costs differ, it stops with status 1. Times are
-# milliseconds without reading, the least of five runs; memory is the peak of a whole process in MiB, with reading. `again` plans
+# milliseconds without reading, the least of fifteen runs; memory is the peak of a whole process in MiB, with reading. `again` plans
 # where nothing has changed, `changed` from the charges of the planning point before. The ratio is that of `plan` and the careful
 # flow, both with the building of their networks. It needs rt, g++, python3 and GNU time.
 set -euo pipefail
@@ -31,10 +31,10 @@ measure() {
     cat "$work/$name.peak" >> "$work/$name.said"
 }
 
-# least NAME COMMAND..: the same five times; the least number behind each word is kept
+# least NAME COMMAND..: the same fifteen times; the least number behind each word is kept
 least() {
     local name=$1
-    for _ in 1 2 3 4 5; do
+    for _ in $(seq 15); do
         measure "$@"
         cat "$work/$name.said"
     done | awk '!($1 in low) || $2 < low[$1] { low[$1] = $2 } END { for (word in low) print word, low[word] }' > "$work/$name.least"
