@@ -1,17 +1,15 @@
 -- The words of a value, level by level.
-use Rattle.std.proofs.Common.{◌≡◌, ℕ, ℤ, Bool, true, false, List, [], ◌∷◌, Option, Some, None, map, option_map, refl, sym, ap, ◌∙◌, ◌++◌, if◌then◌else◌}
+use Rattle.std.proofs.Common.{◌≡◌, ℕ, ℤ, Bool, true, false, List, [], ◌∷◌, Some, None, map, option_map, refl, sym, ap, ◌∙◌, ◌++◌, if◌then◌else◌}
 use Rattle.std.specs.Option.{option_to_list}
-use Rattle.std.specs.Fmt.{signed_decimal}
 use Rattle.cwl_value.specs.declared.value.Value.{Value, roll-Value, out-roll-Value}
 use Rattle.cwl_value.specs.declared.value.Value as value
 use Rattle.cwl_value.specs.declared.value.Value.TheFolds.{map-Value, para-roll-Value}
 use Rattle.cwl_value.specs.declared.value.Value.TheOpen.{Value-F}
 use Rattle.cwl_value.specs.declared.value.Value.TheVariants.{rolls-Null, rolls-Bool, rolls-Whole, rolls-Text, rolls-FileVal, rolls-DirVal, rolls-List, rolls-Fields}
-use Rattle.cwl_value.specs.declared.value.FileVal.{FileVal, out-FileVal}
-use Rattle.cwl_value.specs.declared.value.DirVal.{DirVal, out-DirVal}
-use Rattle.cwl_types.specs.declared.types.ArrayType.{ArrayType}
+use Rattle.cwl_value.specs.declared.value.FileVal.{FileVal}
+use Rattle.cwl_value.specs.declared.value.DirVal.{DirVal}
 use Rattle.cwl_types.specs.declared.types.MemberType.{MemberType}
-use Rattle.command_line.specs.Added.{Adds, Style, adds, appended, array_of, gathered, item_style, item_types, list_adds, path_in, prefixed, separated, text_at, text_of, value_adds, words_of_items}
+use Rattle.command_line.specs.Added.{Adds, Style, adds, appended, array_of, gathered, item_style, item_types, list_adds, prefixed, separated, text_at, text_of, value_adds, words_of_items}
 use Rattle.command_line.specs.inner.Lists.{each_words, joined_words}
 
 abbrev with_adds : Value-F Value DirVal FileVal → Value-F (Value × Adds) (DirVal × Unit {0}) (FileVal × Unit {0})

@@ -1,13 +1,11 @@
 -- Answers in place of a launch, from one step to the next.
-use Rattle.std.proofs.Common.{◌≡◌, ℕ, ◌<◌, Bool, true, false, List, [], ◌∷◌, map, length, get_or, subst, sym, ap, ◌∙◌, refl, Contains, suc, ◌&&◌, arith, Result, Err}
+use Rattle.std.proofs.Common.{◌≡◌, ℕ, ◌<◌, Bool, true, false, List, [], ◌∷◌, map, length, get_or, subst, sym, ap, ◌∙◌, refl, Contains, suc, ◌&&◌, arith}
 use Rattle.std.specs.List.{list_all}
 use Rattle.std.proofs.lemmas.List.{get_or-map, length-map}
 use Rattle.std.proofs.lemmas.List.Elements.{Contains-get_or}
 use Rattle.cwl_value.specs.declared.value.Value.{Value}
 use Rattle.cwl_process.specs.declared.tool.Tool.{Tool}
 use Rattle.command_line.specs.declared.fault.BuildFault.{BuildFault}
-use Rattle.command_line.specs.declared.fault.BuildFault.TheVariants.{NotText}
-use Rattle.command_line.specs.declared.fault.LaunchText.TheVariants.{BaseCommand}
 use Rattle.command_line.specs.declared.fault.BuildError.{BuildError}
 use Rattle.command_line.specs.declared.fault.BuildError.TheVariants.{Refused, OutOfMemory}
 use Rattle.command_line.specs.declared.runtime.Runtime.{Runtime}

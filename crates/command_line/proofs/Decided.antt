@@ -1,8 +1,8 @@
 -- Each tool has a launch, or a cause of refusal holds.
-use Rattle.std.proofs.Common.{◌≡◌, ◌≢◌, ℕ, Bool, true, false, List, [], ◌∷◌, ◌++◌, Option, Result, Ok, Err, Contains, refl, sym, ap, subst, ◌∙◌, ◌⊎◌, inl, inr, bytes_eq, Ordering, Less, Equal, Greater, arith}
-use Rattle.std.specs.Prelude.{◌↔◌, All}
+use Rattle.std.proofs.Common.{◌≡◌, ℕ, Bool, true, false, List, [], ◌∷◌, ◌++◌, Option, Result, Ok, Err, Contains, refl, sym, ap, subst, ◌∙◌, ◌⊎◌, inl, inr, bytes_eq, Ordering, Less, Equal, Greater, arith}
+use Rattle.std.specs.Prelude.{◌↔◌}
 use Rattle.std.specs.Cmp.{IsTotalOrder}
-use Rattle.std.specs.List.{AllByRecursion, AllPass, IsDistinct, flat_map, list_all}
+use Rattle.std.specs.List.{AllByRecursion, IsDistinct, flat_map, list_all}
 use Rattle.std.specs.List.Sorted.{IsStrictlySortedBy}
 use Rattle.std.specs.Map.{keys_of}
 use Rattle.std.specs.Ordering.{eq_by_cmp, is_eq, ordering_reverse}
@@ -19,7 +19,7 @@ use Rattle.command_line.specs.declared.launch.Variable.{Variable}
 use Rattle.command_line.specs.declared.runtime.Runtime.{Runtime}
 use Rattle.command_line.specs.Environment.{environment_of}
 use Rattle.command_line.specs.Launch.{IsLaunch, IsRefused}
-use Rattle.command_line.specs.Order.{AreInOrder, Bound, bindings_of, key_cmp}
+use Rattle.command_line.specs.Order.{Bound, bindings_of, key_cmp}
 use Rattle.command_line.specs.Streams.{stderr_of, stdin_of, stdout_of}
 use Rattle.command_line.specs.Texts.{is_plain, runtime_value}
 use Rattle.command_line.specs.Words.{AreWords, words_at, words_of}

@@ -1,9 +1,8 @@
 -- Item bindings of an array type, level by level.
-use Rattle.std.proofs.Common.{◌≡◌, Bool, false, ◌||◌, List, [], ◌∷◌, map, refl, sym, ap, ◌∙◌}
+use Rattle.std.proofs.Common.{◌≡◌, Bool, false, ◌||◌, List, [], ◌∷◌, map, refl, ap, ◌∙◌}
 use Rattle.std.specs.Option.{is_some}
 use Rattle.std.specs.List.{list_any}
 use Rattle.cwl_types.specs.declared.types.ArrayType.{ArrayType, out-ArrayType}
-use Rattle.cwl_types.specs.declared.types.MemberType.{MemberType}
 use Rattle.cwl_types.specs.declared.types.MemberType.TheFolds.{fold_out-ArrayType}
 use Rattle.command_line.specs.Added.{array_binds, array_binds_items, binds_items, member_binds}
 

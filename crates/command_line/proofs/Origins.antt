@@ -1,5 +1,5 @@
 -- The code's order of origins is that of what they stand for.
-use Rattle.std.proofs.Common.{◌≡◌, refl, Ordering}
+use Rattle.std.proofs.Common.{◌≡◌, refl}
 use Rattle.command_line.specs.Order.{origin_cmp}
 use Rattle.command_line.specs.inner.View.{origin_of}
 use Rattle.command_line.specs.declared.order.Origin.{Origin}

@@ -1,5 +1,5 @@
 -- A tool, its inputs and what it runs in have one launch at most, and none where they are refused.
-use Rattle.std.proofs.Common.{◌≡◌, ℕ, Bool, true, false, List, [], ◌∷◌, ◌++◌, Option, Some, None, Result, Ok, Err, Contains, sym, ap, subst, ◌∙◌}
+use Rattle.std.proofs.Common.{◌≡◌, ℕ, Bool, true, false, List, [], ◌++◌, Result, Ok, Err, sym, ap, subst, ◌∙◌}
 use Rattle.std.specs.List.{flat_map}
 use Rattle.std.specs.Result.{IsOk, result_unwrap_or}
 use Rattle.std.proofs.lemmas.List.Elements.{All-contains}
@@ -7,10 +7,9 @@ use Rattle.cwl_value.specs.declared.value.Value.{Value}
 use Rattle.cwl_process.specs.declared.tool.Tool.{Tool}
 use Rattle.command_line.specs.declared.fault.BuildFault.{BuildFault}
 use Rattle.command_line.specs.declared.launch.Launch.{Launch}
-use Rattle.command_line.specs.declared.launch.Variable.{Variable}
 use Rattle.command_line.specs.declared.runtime.Runtime.{Runtime}
 use Rattle.command_line.specs.Launch.{IsLaunch, IsRefused}
-use Rattle.command_line.specs.Order.{AreInOrder, Bound, bindings_of}
+use Rattle.command_line.specs.Order.{AreInOrder, Bound}
 use Rattle.command_line.specs.Texts.{is_plain, runtime_value}
 use Rattle.command_line.specs.Words.{AreWords, words_at, words_of}
 use Rattle.command_line.proofs.Bindings.{key_total}

@@ -10,7 +10,7 @@ use Rattle.cwl_value.specs.declared.value.FileVal.{FileVal, out-FileVal}
 use Rattle.cwl_value.specs.declared.value.Value.{Value, out-Value}
 use Rattle.cwl_value.specs.declared.value.Value as value
 use Rattle.cwl_value.specs.declared.value.Value.TheFolds.{para-Value}
-use Rattle.cwl_value.specs.declared.value.Value.TheOpen.{Value-F, FileVal-F, DirVal-F}
+use Rattle.cwl_value.specs.declared.value.Value.TheOpen.{Value-F}
 use Rattle.cwl_types.specs.declared.types.ArrayType.{ArrayType, fold-ArrayType, out-ArrayType}
 use Rattle.cwl_types.specs.declared.types.ItemBinding.{ItemBinding}
 use Rattle.cwl_types.specs.declared.types.MemberType.{MemberType, out-MemberType, fold-MemberType}

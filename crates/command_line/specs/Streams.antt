@@ -1,5 +1,5 @@
 -- The files of a command's streams (CWL v1.2, Command Line Tool Description, "CommandLineTool": stdin, stdout, stderr).
-use Rattle.std.specs.Prelude.{◌≡◌, ℕ, Bool, true, false, not, ◌==◌, ◌&&◌, if◌then◌else◌, List, [], ◌∷◌, Option, Some, None, Result, Ok, Err, codes, length}
+use Rattle.std.specs.Prelude.{ℕ, Bool, true, false, not, ◌==◌, ◌&&◌, if◌then◌else◌, List, Option, Some, None, Result, Ok, Err, codes, length}
 use Rattle.std.specs.List.{find, list_any}
 use Rattle.cwl_value.specs.declared.value.DirVal.{DirVal}
 use Rattle.cwl_value.specs.declared.value.FileVal.{FileVal, out-FileVal}
@@ -15,7 +15,7 @@ use Rattle.cwl_process.specs.declared.tool.ToolInput.{ToolInput}
 use Rattle.command_line.specs.Added.{path_in}
 use Rattle.command_line.specs.Order.{input_value}
 use Rattle.command_line.specs.Results.{and_then}
-use Rattle.command_line.specs.Texts.{if_plain, is_plain, text_in}
+use Rattle.command_line.specs.Texts.{is_plain, text_in}
 use Rattle.command_line.specs.declared.fault.BuildFault.{BuildFault}
 use Rattle.command_line.specs.declared.fault.BuildFault.TheVariants.{NotText}
 use Rattle.command_line.specs.declared.fault.LaunchText.{LaunchText}

@@ -1,10 +1,10 @@
 //! From a tool and its inputs to what has to be started (CWL v1.2, Command Line Tool).
 //!
-//! `build` gives the launch of a tool: the words of its base command and then those of its bindings, whose keys
-//! strictly rise, the whole environment, the file of standard output and the folder to run in. What these are is said
-//! in `specs/Order.antt`, `specs/Words.antt` and `specs/Launch.antt`, without the sort that the code does. An `Ok` is
-//! the launch that they say, and a tool has one at most; a refusal comes only where its cause holds, and then there
-//! is no launch (`laws.rt`). Being out of memory is the one exception.
+//! `build` gives the launch of a tool: the words of its base command and then those of its bindings, of arguments and
+//! inputs, whose keys strictly rise; the whole environment; the files of the three streams; the folder to run in. What these
+//! are is said in `specs/`, from `Added.antt` to `Launch.antt`, without the sort that the code does. An `Ok` is the launch
+//! that they say, and a tool has one at most; a refusal comes only where its cause holds, and then there is no launch
+//! (`laws.rt`). Being out of memory is the one exception.
 #![tactic(auto)]
 
 mod added;

@@ -29,7 +29,11 @@ pub(crate) fn stdout_file(
 {
     match &tool.streams.stdout {
         Some(name) => file_named(alloc, scope, name, LaunchText::Stdout),
-        None => Ok(unnamed(alloc, collects_stdout(tool.outputs.as_slice()), "cwl.stdout")?),
+        None => Ok(unnamed(
+            alloc,
+            collects_stdout(tool.outputs.as_slice()),
+            "cwl.stdout",
+        )?),
     }
 }
 
@@ -44,7 +48,11 @@ pub(crate) fn stderr_file(
 {
     match &tool.streams.stderr {
         Some(name) => file_named(alloc, scope, name, LaunchText::Stderr),
-        None => Ok(unnamed(alloc, collects_stderr(tool.outputs.as_slice()), "cwl.stderr")?),
+        None => Ok(unnamed(
+            alloc,
+            collects_stderr(tool.outputs.as_slice()),
+            "cwl.stderr",
+        )?),
     }
 }
 

@@ -87,10 +87,7 @@ fn name_of(alloc: Global, value: &Value) -> Result<Option<Text>, AllocError>
         Value::Whole(number) => Ok(Some(Text::from_string(number.to_string(alloc)?))),
         Value::Bool(true) => Ok(Some(Text::from_text(alloc, "true")?)),
         Value::Bool(false) => Ok(Some(Text::from_text(alloc, "false")?)),
-        Value::Null
-        | Value::FileVal(_)
-        | Value::DirVal(_)
-        | Value::List(_)
-        | Value::Fields(_) => Ok(None),
+        Value::Null | Value::FileVal(_) | Value::DirVal(_) | Value::List(_) | Value::Fields(_) =>
+            Ok(None),
     }
 }

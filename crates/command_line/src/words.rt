@@ -23,11 +23,7 @@ use plain_data::{Items, Text};
 use std::alloc::{AllocError, Global};
 
 /// The words of the command: those of the tool, and then those of its bindings in the order of their keys.
-pub(crate) fn words(
-    alloc: Global,
-    tool: &Tool,
-    scope: Scope<'_>,
-) -> Result<Items<Text>, BuildError>
+pub(crate) fn words(alloc: Global, tool: &Tool, scope: Scope<'_>) -> Result<Items<Text>, BuildError>
     ensures words { IfOk result (AreWords tool.now scope.entry.inputs.now scope.entry.runtime.now) }
     ensures base { OnOk result (AllPass is_plain tool.now.base_command) }
     ensures refused { IfErr result (λ e. (runtime : Runtime) → scope.entry.runtime.now ≡ runtime_value runtime

@@ -1,5 +1,5 @@
 -- What the code's rows stand for.
-use Rattle.std.specs.Prelude.{Option, Some, None, option_map, unwrap_or}
+use Rattle.std.specs.Prelude.{Option, option_map, unwrap_or}
 use Rattle.std.specs.Option.{option_copied}
 use Rattle.cwl_value.specs.declared.value.Value.{Value}
 use Rattle.cwl_value.specs.declared.value.Value as value

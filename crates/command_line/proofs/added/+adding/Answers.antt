@@ -1,6 +1,5 @@
-use Rattle.std.proofs.Common.{◌≡◌, Result, Option, Some, List, ℕ, Vec, ap, sym, subst, ◌∙◌}
-use Rattle.std.specs.Result.{IfOk}
-use Rattle.std.specs.Option.{option_map, option_copied}
+use Rattle.std.proofs.Common.{Some, ap, sym, ◌∙◌}
+use Rattle.std.specs.Option.{option_copied}
 use Rattle.command_line.specs.Added.{adds}
 use Rattle.command_line.specs.inner.View.{style_of}
 use Rattle.command_line.proofs.AddedLevels.{adds-Null, adds-Bool, adds-Fields, adds-Whole, adds-Text, adds-FileVal, adds-DirVal, adds-List-joined, adds-List-each}

@@ -1,4 +1,4 @@
-use Rattle.std.proofs.Common.{◌≡◌, ◌++◌, Ok, ap, ◌∙◌, codes, sym}
+use Rattle.std.proofs.Common.{◌++◌, Ok, ap, ◌∙◌, codes, sym}
 use Rattle.std.proofs.lemmas.Result.{err_from_is_err_and}
 use Rattle.command_line.specs.Environment.{given_variable}
 use Rattle.command_line.proofs.Variables.{second_fault, third_fault, three_ok}

@@ -1,4 +1,4 @@
-use Rattle.std.proofs.Common.{◌≡◌, ap, sym, ◌∙◌}
+use Rattle.std.proofs.Common.{ap, sym, ◌∙◌}
 use Rattle.std.specs.List.{list_any}
 use Rattle.command_line.specs.Added.{binds_items}
 use Rattle.command_line.proofs.ItemBindings.{none_of_its_own}

@@ -17,12 +17,12 @@ pub returns : goal.returns
 returns c =
     let inputs = c.args.inputs.now in
     let listed : map bound_of c.push_inputs.new.rows.items ≡ bindings_of c.args.tool.now inputs =
-        c.in_ok-push_inputs.ensures
-        ∙ ap (λ bs. bs ++ filter_map (bound_input inputs) c.as_slice-2.result.now)
-        (c.in_ok-push_arguments.ensures
-        ∙ ap (λ rows. map bound_of rows ++ map bound_argument (enumerate_from 0 c.as_slice.result.now)) c.new-rows.ensures.items
-        ∙ ap (λ arguments. map bound_argument (enumerate_from 0 arguments)) c.as_slice.ensures)
-        ∙ ap (λ entries. map bound_argument (enumerate_from 0 c.args.tool.now.arguments) ++ filter_map (bound_input inputs) entries) c.as_slice-2.ensures.entries in
+    c.in_ok-push_inputs.ensures
+    ∙ ap (λ bs. bs ++ filter_map (bound_input inputs) c.as_slice-2.result.now)
+    (c.in_ok-push_arguments.ensures
+    ∙ ap (λ rows. map bound_of rows ++ map bound_argument (enumerate_from 0 c.as_slice.result.now)) c.new-rows.ensures.items
+    ∙ ap (λ arguments. map bound_argument (enumerate_from 0 arguments)) c.as_slice.ensures)
+    ∙ ap (λ entries. map bound_argument (enumerate_from 0 c.args.tool.now.arguments) ++ filter_map (bound_input inputs) entries) c.as_slice-2.ensures.entries in
     in_order_from_sort inputs c.args.tool.now
     (subst (λ (entries : List (List ℕ × ToolInput)). IsDistinct bytes_eq (keys_of entries)) c.as_slice-2.ensures.entries c.as_slice-2.ensures.ids)
     (map bound_of c.sort_by_key.new.self.items)
