@@ -16,7 +16,12 @@ fn main(rt: HostRuntime) -> Result<()> {
     let _program = words.next();
     match (words.next(), words.next(), words.next()) {
         (Some(file), Some(rows), Some(times)) => {
-            measured(&rt, file.as_str(), rows.parse::<u64>()?, times.parse::<u64>()?)
+            measured(
+                &rt,
+                file.as_str(),
+                rows.parse::<u64>()?,
+                times.parse::<u64>()?,
+            )
         }
         _ => bail!("FILE ROWS TIMES"),
     }
