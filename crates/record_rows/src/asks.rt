@@ -48,11 +48,7 @@ pub(crate) fn put_fault(out: &mut AnswerText, fault: RecordFault) {
     out.put_quoted(fault.code());
 }
 
-fn put_found(
-    alloc: Global,
-    out: &mut AnswerText,
-    found: Result<Option<RecordRow>, RecordFault>,
-) {
+fn put_found(alloc: Global, out: &mut AnswerText, found: Result<Option<RecordRow>, RecordFault>) {
     match &found {
         Ok(Some(row)) => put_row(alloc, out, row),
         Ok(None) => out.put("null"),
@@ -61,11 +57,7 @@ fn put_found(
     mem::drop(found);
 }
 
-fn put_listed(
-    alloc: Global,
-    out: &mut AnswerText,
-    listed: Result<Items<RecordRow>, RecordFault>,
-) {
+fn put_listed(alloc: Global, out: &mut AnswerText, listed: Result<Items<RecordRow>, RecordFault>) {
     match &listed {
         Ok(rows) => put_rows(alloc, out, rows.as_slice()),
         Err(fault) => put_fault(out, *fault),
