@@ -123,8 +123,7 @@ module _ {S : Type 0} (g : Ghosts S) where
   makes_empty : (old new : Held S) → (state g old).now.schema ≡ no_schema → Makes g old new → IsEmptyRecord (state g new)
   makes_empty old new blank (last, m, shown) =
       let t = tables_made g old last blank m in
-      let jobs : (state g new).now.trees 2 ≡ [] = ap (λ (d : Database). d.trees 2) shown.now_is ∙ t.jobs in
-      (
+      let jobs : (state g new).now.trees 2 ≡ [] = ap (λ (d : Database). d.trees 2) shown.now_is ∙ t.jobs in (
         record {
           schema = ap (λ (d : Database). d.schema) shown.now_is ∙ t.schema_is;
           sound = subst IsDatabase (sym shown.now_is) t.sound;

@@ -61,11 +61,7 @@ fn in_file(rt: &HostRuntime, file: &str, forget: Option<&str>) -> Ending {
     }
 }
 
-fn in_database(
-    alloc: Global,
-    conn: Connection<FileStore<File>>,
-    forget: Option<&str>,
-) -> Ending
+fn in_database(alloc: Global, conn: Connection<FileStore<File>>, forget: Option<&str>) -> Ending
     requires { conn.in_transaction ≡ false }
 {
     let (ending, conn) = in_store(alloc, conn, forget);

@@ -1,6 +1,8 @@
 //! What is shown of a record, over any store.
-ghost use Rattle.std.specs.Prelude.{◌≡◌, false, IfOk, IfErr};
+ghost use Rattle.std.specs.Prelude.{◌≡◌, IfOk, IfErr, flat_map};
+ghost use Rattle.job_record.specs.declared.fault.RecordFault.TheVariants.{OutOfMemory};
 ghost use Rattle.record_program.specs.Endings.{Ends};
+ghost use Rattle.record_program.specs.Lines.{line_of};
 
 use crate::ending::Ending;
 use crate::keys::keys_with;
@@ -32,12 +34,17 @@ pub fn ended(alloc: Global, rows: Result<Items<Row>, RecordFault>) -> Ending
 fn rows_ended(alloc: Global, rows: Items<Row>) -> Ending
     ensures { Ends (Ok rows) result }
 {
-    let text = rows_text(alloc, rows.as_slice());
-    drop(rows);
-    match text {
+    match text_of(alloc, rows) {
         Ok(text) => Ending::Rows(text),
-        Err(_) => Ending::Record(RecordFault::OutOfMemory),
+        Err(fault) => Ending::Record(fault),
     }
+}
+
+fn text_of(alloc: Global, rows: Items<Row>) -> Result<Text, RecordFault>
+    ensures ok { IfOk result (λ text. text ≡ flat_map line_of rows) }
+    ensures err { IfErr result (λ fault. fault ≡ OutOfMemory) }
+{
+    Ok(rows_text(alloc, rows.as_slice())?)
 }
 
 fn forgotten<S: Alter>(

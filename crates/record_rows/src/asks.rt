@@ -1,11 +1,12 @@
-//! Commands over any store.
+//! Commands over any store, and what they are answered.
 
-use crate::commands::log_text;
-use job_record::{JobRecord, RecordFault, Row as RecordRow};
+use crate::rows::{put_comma, put_row, put_rows};
+use job_record::{Command, Entry, JobRecord, RecordFault, Row as RecordRow};
 use plain_data::Items;
-use row_io::RowFault;
-use sqlite::{Alter, Connection, Row as Columns};
+use row_io::AnswerText;
+use sqlite::{Alter, Connection, Error, Row as Columns};
 use std::alloc::Global;
+use std::mem;
 
 /// A command on a record, or the question for all its rows or for its log.
 #[derive(Clone, Copy)]
@@ -18,24 +19,77 @@ pub(crate) enum Ask<'a> {
     Log,
 }
 
-/// What a command was answered.
-#[derive(Drop)]
-pub(crate) enum Told {
-    Done(Result<(), RecordFault>),
-    Found(Result<Option<RecordRow>, RecordFault>),
-    Listed(Result<Items<RecordRow>, RecordFault>),
-    Logged(Result<String, RowFault>),
+/// Writes what a command is answered.
+pub(crate) fn asked<S: Alter>(
+    alloc: Global,
+    record: &mut JobRecord<S>,
+    ask: Ask<'_>,
+    out: &mut AnswerText,
+) {
+    match ask {
+        Ask::Put(row) => put_outcome(out, record.put(row)),
+        Ask::Find(key) => put_found(alloc, out, record.find(key)),
+        Ask::DropArchive(key) => put_outcome(out, record.drop_archive(key)),
+        Ask::Forget(key) => put_outcome(out, record.forget(key)),
+        Ask::List => put_listed(alloc, out, record.list()),
+        Ask::Log => put_log(out, record.log()),
+    }
 }
 
-/// What a command is answered.
-pub(crate) fn asked<S: Alter>(alloc: Global, record: &mut JobRecord<S>, ask: Ask<'_>) -> Told {
-    match ask {
-        Ask::Put(row) => Told::Done(record.put(row)),
-        Ask::Find(key) => Told::Found(record.find(key)),
-        Ask::DropArchive(key) => Told::Done(record.drop_archive(key)),
-        Ask::Forget(key) => Told::Done(record.forget(key)),
-        Ask::List => Told::Listed(record.list()),
-        Ask::Log => Told::Logged(log_text(alloc, record.log())),
+fn put_outcome(out: &mut AnswerText, done: Result<(), RecordFault>) {
+    match done {
+        Ok(()) => out.put("\"done\""),
+        Err(fault) => put_fault(out, fault),
+    }
+}
+
+/// Writes the code of a refusal.
+pub(crate) fn put_fault(out: &mut AnswerText, fault: RecordFault) {
+    out.put_quoted(fault.code());
+}
+
+fn put_found(alloc: Global, out: &mut AnswerText, found: Result<Option<RecordRow>, RecordFault>) {
+    match &found {
+        Ok(Some(row)) => put_row(alloc, out, row),
+        Ok(None) => out.put("null"),
+        Err(fault) => put_fault(out, *fault),
+    }
+    mem::drop(found);
+}
+
+fn put_listed(alloc: Global, out: &mut AnswerText, listed: Result<Items<RecordRow>, RecordFault>) {
+    match &listed {
+        Ok(rows) => put_rows(alloc, out, rows.as_slice()),
+        Err(fault) => put_fault(out, *fault),
+    }
+    mem::drop(listed);
+}
+
+fn put_log(out: &mut AnswerText, entries: &[Entry]) {
+    out.put("[");
+    for (at, entry) in entries.iter().enumerate() {
+        put_comma(out, at);
+        put_entry(out, entry);
+    }
+    out.put("]");
+}
+
+fn put_entry(out: &mut AnswerText, entry: &Entry) {
+    out.put("[");
+    out.put_quoted(command_name(entry.command));
+    out.put(",");
+    out.put_quoted(entry.key.as_str());
+    out.put(",");
+    put_outcome(out, entry.answer);
+    out.put("]");
+}
+
+fn command_name(command: Command) -> &'static str {
+    match command {
+        Command::Find => "find",
+        Command::Put => "put",
+        Command::DropArchive => "drop_archive",
+        Command::Forget => "forget",
     }
 }
 
@@ -51,18 +105,41 @@ pub(crate) fn opened<S: Alter + Drop>(
     }
 }
 
-/// Runs statements, or shows the rows of a query; none where that is refused.
-pub(crate) fn ran<S: Alter>(
-    alloc: Global,
-    conn: &mut Connection<S>,
-    sql: &str,
-    shows: bool,
-) -> Option<Vec<Columns>> {
-    if shows {
-        return conn.query_all(sql, &[]).ok();
+/// Runs statements, or writes the first column of each row that a query shows.
+pub(crate) fn ran<S: Alter>(conn: &mut Connection<S>, sql: &str, out: &mut AnswerText) {
+    if !sql.starts_with("SELECT") {
+        return put_done(out, conn.execute_batch(sql));
     }
-    match conn.execute_batch(sql) {
-        Ok(()) => Some(Vec::new(alloc)),
-        Err(_) => None,
+    put_shown(out, conn.query_all(sql, &[]));
+}
+
+fn put_done(out: &mut AnswerText, done: Result<(), Error>) {
+    if done.is_err() {
+        out.put("?");
+    }
+}
+
+fn put_shown(out: &mut AnswerText, shown: Result<Vec<Columns>, Error>) {
+    match &shown {
+        Ok(rows) => put_texts(out, rows.as_slice()),
+        Err(_) => out.put("?"),
+    }
+    mem::drop(shown);
+}
+
+fn put_texts(out: &mut AnswerText, rows: &[Columns]) {
+    out.put("[");
+    for (at, row) in rows.iter().enumerate() {
+        put_comma(out, at);
+        put_first(out, row);
+    }
+    out.put("]");
+}
+
+fn put_first(out: &mut AnswerText, row: &Columns) {
+    let text: Result<String, Error> = row.get(0);
+    match text {
+        Ok(text) => out.put_quoted(text.as_str()),
+        Err(_) => out.put("?"),
     }
 }

@@ -1,146 +1,108 @@
 //! A record with many rows.
 
-use crate::asks::{Ask, Told};
-use crate::disks::{fresh, open_disks, reopened};
-use crate::records::row_text;
-use crate::store::Store;
-use cwl_value::Value;
-use job_record::{Found, Row as RecordRow};
-use plain_data::{Items, Text};
-use row_io::{Row, RowFault};
+use crate::asks::Ask;
+use crate::commands::{put, run};
+use crate::rows::put_comma;
+use crate::store::{Disks, Store};
+use row_io::{AnswerText, Row, RowFault};
+use serde_json::Value as Json;
 use std::alloc::Global;
-use std::mem;
 
 // Rows are put in the order of multiples of this number, which no count below has as a factor.
 const STRIDE: u64 = 7_919;
 
-/// Puts so many rows, forgets each third, opens the record again, and says how many rows it then holds and whether they
-/// are the others.
+/// Puts so many rows, forgets each third, opens the record again, and says how many rows it then should hold and whether
+/// it lists just these.
 pub(crate) fn filled(alloc: Global, row: &Row) -> Result<String, RowFault> {
     let count = row.natural("rows")?;
-    let mut record = open_disks(alloc, fresh(alloc))?;
-    put_all(alloc, &mut record, count)?;
-    forget_thirds(alloc, &mut record, count)?;
-    let mut again = reopened(alloc, record)?;
-    held_text(alloc, &mut again, count)
+    let mut answers = AnswerText::new(alloc);
+    let found = listed(alloc, count, &mut answers)?;
+    let wanted = others_text(alloc, count)?;
+    let left = count - count.div_ceil(3);
+    let same = found.as_str() == wanted.as_str();
+    Ok(format!(in alloc; "[{left},{same}]")?)
 }
 
-fn held_text(alloc: Global, record: &mut Store, count: u64) -> Result<String, RowFault> {
-    let told = record.ask(alloc, Ask::List);
-    let text = listed_text(alloc, &told, count);
-    mem::drop(told);
-    text
+// What the record lists after all that.
+fn listed(alloc: Global, count: u64, answers: &mut AnswerText) -> Result<String, RowFault> {
+    let mut found = AnswerText::new(alloc);
+    match Disks::fresh(alloc).open(alloc) {
+        Ok(store) => put_listed(alloc, changed(alloc, store, count, answers), &mut found),
+        Err((_fault, _disks)) => found.put("?"),
+    }
+    found.finish()
 }
 
-fn listed_text(alloc: Global, told: &Told, count: u64) -> Result<String, RowFault> {
-    match told {
-        Told::Listed(Ok(rows)) => {
-            let held = rows.len();
-            let same = are_others(alloc, rows.as_slice(), count)?;
-            Ok(format!(in alloc; "[{held},{same}]")?)
-        }
-        _ => Err(RowFault::BadArgument),
+fn put_listed(alloc: Global, disks: Disks, found: &mut AnswerText) {
+    match disks.open(alloc) {
+        Ok(mut store) => store.ask(alloc, Ask::List, found),
+        Err((_fault, _disks)) => found.put("?"),
     }
 }
 
-fn put_all(alloc: Global, record: &mut Store, count: u64) -> Result<(), RowFault> {
+fn changed(alloc: Global, store: Store, count: u64, answers: &mut AnswerText) -> Disks {
+    let mut store = store;
     for at in 0..count {
-        put_at(alloc, record, at.wrapping_mul(STRIDE) % count)?;
+        put_at(alloc, &mut store, at.wrapping_mul(STRIDE) % count, answers);
     }
-    Ok(())
-}
-
-fn put_at(alloc: Global, record: &mut Store, at: u64) -> Result<(), RowFault> {
-    let row = row_at(alloc, at)?;
-    let done = is_done(alloc, record, Ask::Put(&row));
-    mem::drop(row);
-    done
-}
-
-fn forget_thirds(alloc: Global, record: &mut Store, count: u64) -> Result<(), RowFault> {
     for at in 0..count {
         if at % 3 == 0 {
-            forget_at(alloc, record, at)?;
+            forget_at(alloc, &mut store, at, answers);
         }
     }
-    Ok(())
+    store.close()
 }
 
-fn forget_at(alloc: Global, record: &mut Store, at: u64) -> Result<(), RowFault> {
-    let key = key_at(alloc, at)?;
-    is_done(alloc, record, Ask::Forget(key.as_str()))
-}
-
-fn is_done(alloc: Global, record: &mut Store, ask: Ask<'_>) -> Result<(), RowFault> {
-    let told = record.ask(alloc, ask);
-    let done = matches!(&told, Told::Done(Ok(())));
-    mem::drop(told);
-    if done {
-        Ok(())
-    } else {
-        Err(RowFault::BadArgument)
+fn put_at(alloc: Global, store: &mut Store, at: u64, answers: &mut AnswerText) {
+    if let Some(json) = json_of(alloc, row_text(alloc, at)) {
+        put(alloc, store, &json, answers);
     }
 }
 
-// Numbers with as many digits stand in the order of their texts.
-fn key_at(alloc: Global, at: u64) -> Result<String, RowFault> {
-    Ok(format!(in alloc; "{at:08}")?)
+fn forget_at(alloc: Global, store: &mut Store, at: u64, answers: &mut AnswerText) {
+    if let Some(json) = json_of(alloc, forget_text(alloc, at)) {
+        run(alloc, store, &json, answers);
+    }
 }
 
-fn row_at(alloc: Global, at: u64) -> Result<RecordRow, RowFault> {
-    let key = key_at(alloc, at)?;
-    let files = files_at(alloc, at)?;
-    Ok(RecordRow {
-        key: Text::from_string(key),
-        outputs: Value::Bool(at % 2 == 0),
-        files,
-        cost: at.saturating_add(1),
-        archived: at % 5 == 0,
-    })
+fn json_of(alloc: Global, text: Result<String, RowFault>) -> Option<Json> {
+    match text {
+        Ok(text) => Json::from_str(alloc, text.as_str()).ok(),
+        Err(_) => None,
+    }
 }
 
-fn files_at(alloc: Global, at: u64) -> Result<Items<Found>, RowFault> {
-    let mut files = Items::new(alloc);
-    files.push(found_at(alloc, at)?)?;
-    Ok(files)
+fn forget_text(alloc: Global, at: u64) -> Result<String, RowFault> {
+    Ok(format!(in alloc; "{{\"forget\":\"{at:08}\"}}")?)
 }
 
-fn found_at(alloc: Global, at: u64) -> Result<Found, RowFault> {
-    let name = Text::from_text(alloc, "out.txt")?;
-    Ok(Found {
-        sum: Text::from_text(alloc, "a9993e364706816aba3e25717850c26c9cd0d89d")?,
-        name,
-        is_dir: false,
-        size: at,
-    })
+// A row of its own for each number, as it is listed. Numbers with as many digits stand in the order of their texts.
+fn row_text(alloc: Global, at: u64) -> Result<String, RowFault> {
+    let archived = at % 5 == 0;
+    let cost = at.saturating_add(1);
+    let even = at % 2 == 0;
+    Ok(format!(in alloc;
+        "{{\"archived\":{archived},\"cost\":{cost},\"files\":[{{\"is_dir\":false,\"name\":\"out.txt\",\"size\":{at},\"sum\":\"a9993e364706816aba3e25717850c26c9cd0d89d\"}}],\"key\":\"{at:08}\",\"outputs\":{even}}}"
+    )?)
 }
 
-// Whether the rows are those of the numbers below the count that three does not divide, in their order.
-fn are_others(alloc: Global, rows: &[RecordRow], count: u64) -> Result<bool, RowFault> {
-    let mut rest = rows;
+// The rows of the numbers below the count that three does not divide, in their order.
+fn others_text(alloc: Global, count: u64) -> Result<String, RowFault> {
+    let mut text = AnswerText::new(alloc);
+    text.put("[");
     for at in 0..count {
         if at % 3 != 0 {
-            let Some((first, others)) = rest.split_first() else {
-                return Ok(false);
-            };
-            if !is_row_at(alloc, first, at)? {
-                return Ok(false);
-            }
-            rest = others;
+            put_comma(&mut text, usize::from(at > 1));
+            put_text(&mut text, row_text(alloc, at));
         }
     }
-    Ok(rest.is_empty())
+    text.put("]");
+    text.finish()
 }
 
-fn is_row_at(alloc: Global, row: &RecordRow, at: u64) -> Result<bool, RowFault> {
-    let wanted = text_at(alloc, at)?;
-    let found = row_text(alloc, row)?;
-    Ok(found.as_str() == wanted.as_str())
-}
-
-fn text_at(alloc: Global, at: u64) -> Result<String, RowFault> {
-    let row = row_at(alloc, at)?;
-    let text = row_text(alloc, &row);
-    mem::drop(row);
-    text
+fn put_text(out: &mut AnswerText, text: Result<String, RowFault>) {
+    match text {
+        Ok(text) => out.put(text.as_str()),
+        Err(_) => out.put("?"),
+    }
 }

@@ -1,18 +1,15 @@
-//! Rows of keys and of the record: each line of `stdin` is a call, and the same line of `stdout` has its answer.
-//!
-//! A row of the record is an object with `key`, `outputs`, `files`, `cost` and `archived`. A command is an object with
-//! one member: `{"put":ROW}`, `{"find":KEY}`, `{"drop_archive":KEY}`, `{"forget":KEY}`, or `{"list":null}`,
-//! `{"log":null}`. A refusal is answered by its code.
+//! Rows of the record: each line of `stdin` is a call, and `stdout` has its answer. A command is an object with
+//! one member: `{"put":ROW}`, `{"find":KEY}`, `{"drop_archive":KEY}`, `{"forget":KEY}`, or `"list"`, `"log"`, `"reopen"`.
+//! A refusal is answered by its code. What an answer lacks stands in it as `?`.
 #![tactic(auto)]
 
 mod asks;
 mod commands;
-mod damage;
-mod disks;
+mod file;
 mod fill;
 mod keys;
-mod open;
-mod records;
+mod opening;
+mod rows;
 mod stops;
 mod store;
 
@@ -21,22 +18,24 @@ use std::alloc::Global;
 use std::io;
 use std::process::ExitCode;
 
-struct Calls;
+#[derive(Drop)]
+struct Calls<'a>(&'a HostRuntime);
 
-impl Answers for Calls {
+impl Answers for Calls<'_> {
     fn answer(&self, alloc: Global, row: &Row) -> Result<String, RowFault> {
         match row.call() {
             "key_text" => keys::key(alloc, row),
             "commands" => commands::answers(alloc, row),
-            "open" => open::opened(alloc, row),
-            "open_bytes" => damage::opened(alloc, row),
+            "open" => opening::opened(alloc, row),
+            "open_bytes" => opening::opened_bytes(alloc, row),
             "stops" => stops::stops(alloc, row),
             "fill" => fill::filled(alloc, row),
+            "record" => file::shown(self.0, row),
             _ => Err(RowFault::UnknownCall),
         }
     }
 }
 
 fn main(rt: HostRuntime) -> io::Result<ExitCode> {
-    answer_rows(&rt, &Calls)
+    answer_rows(&rt, &Calls(&rt))
 }

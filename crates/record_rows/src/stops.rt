@@ -1,14 +1,12 @@
 //! A stop at each call of a file, while a command runs.
 
-use crate::commands::{answer, list};
-use crate::disks::{
-    File, Unopened, closed, copied, fresh, is_blown, open_disks, restart, try_open,
-};
-use crate::store::Store;
-use row_io::{Row, RowFault};
+use crate::asks::Ask;
+use crate::commands::{run, run_all};
+use crate::store::{Disks, NEVER, Stop, Store};
+use row_io::{AnswerText, Row, RowFault};
 use serde_json::Value as Json;
-use sqlite::Files;
 use std::alloc::Global;
+use std::mem;
 
 // No command here calls a file so often.
 const MOST_CALLS: u64 = 10_000;
@@ -16,136 +14,179 @@ const MOST_CALLS: u64 = 10_000;
 /// What the records hold that were stopped at each call of one of their files.
 #[derive(Clone, Copy)]
 struct Seen {
-    before: u64,
-    after: u64,
+    before: bool,
+    after: bool,
     other: u64,
 }
 
-// Which file stops, and after how many calls.
-#[derive(Clone, Copy)]
-struct Stop {
-    log: u64,
-    db: u64,
+// What is tried: a command, if there is one, on files that hold something before and after.
+struct Trial<'a> {
+    alloc: Global,
+    command: Option<&'a Json>,
+    power_cut: bool,
+    start: Disks,
+    before: String,
+    after: String,
+}
+
+impl Drop for Trial<'_> {
+    fn drop(self) {
+        let Trial {
+            alloc: _,
+            command: _,
+            power_cut: _,
+            start: _,
+            before: _,
+            after: _,
+        } = self;
+    }
 }
 
 /// What a record holds after a command was stopped at each call of its files: what it held before, or what it holds
 /// after. Without a command the record is only opened, from no file on.
 pub(crate) fn stops(alloc: Global, row: &Row) -> Result<String, RowFault> {
-    let start = before(alloc, row)?;
-    let cut = row.flag("power_cut")?;
-    let held = held_by(alloc, row, &start)?;
-    let log = stopped(alloc, row, &start, cut, true, &held)?;
-    let db = stopped(alloc, row, &start, cut, false, &held)?;
-    seen_text(alloc, &log, &db)
+    let power_cut = row.flag("power_cut")?;
+    let command = row.find("command");
+    let start = start_of(alloc, row);
+    let trial = trial_of(alloc, command, power_cut, start)?;
+    let seen = seen_by(&trial);
+    mem::drop(trial);
+    seen_text(alloc, seen)
 }
 
-// What the record holds before the command and after it.
-#[derive(Drop)]
-struct Held {
-    before: String,
-    after: String,
-}
-
-fn seen_text(alloc: Global, log: &Seen, db: &Seen) -> Result<String, RowFault> {
-    let before = log.before > 0 || db.before > 0;
-    let after = log.after > 0 || db.after > 0;
-    let other = log.other.saturating_add(db.other);
+fn seen_text(alloc: Global, seen: Seen) -> Result<String, RowFault> {
+    let Seen {
+        before,
+        after,
+        other,
+    } = seen;
     Ok(format!(in alloc; "{{\"before\":{before},\"after\":{after},\"other\":{other}}}")?)
 }
 
 // The files on which the command starts.
-fn before(alloc: Global, row: &Row) -> Result<Files<File>, RowFault> {
-    match row.find("before") {
-        Some(Json::Array(commands)) => made(alloc, commands.as_slice()),
-        _ => Ok(fresh(alloc)),
+fn start_of(alloc: Global, row: &Row) -> Disks {
+    match row.list("before") {
+        Ok(commands) => made(alloc, commands),
+        Err(_) => Disks::fresh(alloc),
     }
 }
 
-fn made(alloc: Global, commands: &[Json]) -> Result<Files<File>, RowFault> {
-    let mut record = open_disks(alloc, fresh(alloc))?;
-    for command in commands {
-        drop(answer(alloc, &mut record, command)?);
-    }
-    closed(record)
+fn made(alloc: Global, commands: &[Json]) -> Disks {
+    let mut answers = AnswerText::new(alloc);
+    let disks = run_all(alloc, commands, &mut answers);
+    mem::drop(answers);
+    disks
 }
 
-fn held_by(alloc: Global, row: &Row, start: &Files<File>) -> Result<Held, RowFault> {
-    let mut record = open_disks(alloc, copied(alloc, start, u64::MAX, u64::MAX)?)?;
-    let before = list(alloc, &mut record)?;
-    run(alloc, row, &mut record)?;
-    let after = list(alloc, &mut record)?;
-    Ok(Held { before, after })
-}
-
-fn run(alloc: Global, row: &Row, record: &mut Store) -> Result<(), RowFault> {
-    if let Some(command) = row.find("command") {
-        drop(answer(alloc, record, command)?);
-    }
-    Ok(())
-}
-
-fn stopped(
+fn trial_of<'a>(
     alloc: Global,
-    row: &Row,
-    start: &Files<File>,
-    cut: bool,
-    log_stops: bool,
-    held: &Held,
-) -> Result<Seen, RowFault> {
-    let mut seen = Seen {
-        before: 0,
-        after: 0,
+    command: Option<&'a Json>,
+    power_cut: bool,
+    start: Disks,
+) -> Result<Trial<'a>, RowFault> {
+    let before = held_after(alloc, &start, None)?;
+    let after = held_after(alloc, &start, command)?;
+    Ok(Trial {
+        alloc,
+        command,
+        power_cut,
+        start,
+        before,
+        after,
+    })
+}
+
+// What a record on a copy of the files holds after a command.
+fn held_after(alloc: Global, start: &Disks, command: Option<&Json>) -> Result<String, RowFault> {
+    let mut held = AnswerText::new(alloc);
+    match left(alloc, start, NEVER, command) {
+        Some(disks) => put_held(alloc, disks, &mut held),
+        None => held.put("?"),
+    }
+    held.finish()
+}
+
+// The files after the command has been run on a copy of them, as far as it came.
+fn left(alloc: Global, start: &Disks, stop: Stop, command: Option<&Json>) -> Option<Disks> {
+    match start.copied(alloc, stop)?.open(alloc) {
+        Ok(store) => Some(run_once(alloc, store, command)),
+        Err((_fault, disks)) => Some(disks),
+    }
+}
+
+fn run_once(alloc: Global, store: Store, command: Option<&Json>) -> Disks {
+    let mut store = store;
+    if let Some(command) = command {
+        let mut answer = AnswerText::new(alloc);
+        run(alloc, &mut store, command, &mut answer);
+        mem::drop(answer);
+    }
+    store.stop()
+}
+
+// Writes the rows of the record in the files.
+fn put_held(alloc: Global, disks: Disks, held: &mut AnswerText) {
+    match disks.open(alloc) {
+        Ok(mut store) => store.ask(alloc, Ask::List, held),
+        Err((_fault, _disks)) => held.put("?"),
+    }
+}
+
+fn seen_by(trial: &Trial<'_>) -> Seen {
+    let nothing = Seen {
+        before: false,
+        after: false,
         other: 0,
     };
-    for calls in 0..MOST_CALLS {
-        let stop = if log_stops {
-            Stop {
-                log: calls,
-                db: u64::MAX,
-            }
-        } else {
-            Stop {
-                log: u64::MAX,
-                db: calls,
-            }
-        };
-        let mut files = left(alloc, row, copied(alloc, start, stop.log, stop.db)?)?;
-        if !is_blown(&mut files.log) && !is_blown(&mut files.db) {
-            return Ok(seen);
-        }
-        let text = found(alloc, files, cut)?;
-        count(&mut seen, text.as_str(), held);
-    }
-    Err(RowFault::BadArgument)
+    let seen = seen_on(trial, nothing, true);
+    seen_on(trial, seen, false)
 }
 
-fn count(seen: &mut Seen, text: &str, held: &Held) {
-    if text == held.before.as_str() {
-        seen.before = seen.before.saturating_add(1);
-    } else if text == held.after.as_str() {
-        seen.after = seen.after.saturating_add(1);
+// Stops the log, or the database, after each number of calls, up to the first that is not met.
+fn seen_on(trial: &Trial<'_>, seen: Seen, stops_log: bool) -> Seen {
+    let mut seen = seen;
+    for calls in 0..MOST_CALLS {
+        match held_then(trial, stop_at(stops_log, calls)) {
+            Some(text) => count(&mut seen, text.as_str(), trial),
+            None => return seen,
+        }
+    }
+    seen.other = seen.other.saturating_add(MOST_CALLS);
+    seen
+}
+
+fn stop_at(stops_log: bool, calls: u64) -> Stop {
+    if stops_log {
+        Stop {
+            log: calls,
+            db: NEVER.db,
+        }
+    } else {
+        Stop {
+            log: NEVER.log,
+            db: calls,
+        }
+    }
+}
+
+// What the record holds once it is opened again after a stop; none where the command did not meet it.
+fn held_then(trial: &Trial<'_>, stop: Stop) -> Option<String> {
+    let mut disks = left(trial.alloc, &trial.start, stop, trial.command)?;
+    if !disks.is_blown() {
+        return None;
+    }
+    if trial.power_cut {
+        disks.restart();
+    }
+    held_after(trial.alloc, &disks, None).ok()
+}
+
+fn count(seen: &mut Seen, text: &str, trial: &Trial<'_>) {
+    if text == trial.before.as_str() {
+        seen.before = true;
+    } else if text == trial.after.as_str() {
+        seen.after = true;
     } else {
         seen.other = seen.other.saturating_add(1);
     }
-}
-
-// The files after the command has been run on them, as far as it came.
-fn left(alloc: Global, row: &Row, files: Files<File>) -> Result<Files<File>, RowFault> {
-    match try_open(alloc, files) {
-        Ok(mut record) => {
-            run(alloc, row, &mut record)?;
-            Ok(record.into_base().stop())
-        }
-        Err(Unopened::Store(_, files)) => Ok(files),
-        Err(Unopened::Record(_, base)) => Ok(base.stop()),
-    }
-}
-
-// What the record holds once it is opened again, after the program has ended or the machine has gone down.
-fn found(alloc: Global, mut files: Files<File>, cut: bool) -> Result<String, RowFault> {
-    if cut {
-        restart(&mut files);
-    }
-    let mut record = open_disks(alloc, copied(alloc, &files, u64::MAX, u64::MAX)?)?;
-    list(alloc, &mut record)
 }

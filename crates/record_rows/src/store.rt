@@ -1,29 +1,32 @@
-//! Databases and records over two files in memory. Only here are `sqlite` and `job_record` called. A call at a concrete
-//! store takes the check half a minute, so `asks` has them over any store, and each is called here once.
+//! Records over two files in memory, each behind a fuse that stops it at a call. Only here are `sqlite` and `job_record`
+//! called at a store that is named, since each such call takes the check long.
 
-use crate::asks::{Ask, Told, asked, opened, ran};
-use crate::disks::File;
+use crate::asks::{Ask, asked, opened, ran};
 use job_record::{JobRecord, RecordFault};
-use sqlite::{Connection, Error, ErrorCode, FileStore, Files, Options, Row as Columns};
+use row_io::AnswerText;
+use sqlite::{Connection, Error, ErrorCode, FileStore, Files, Options};
+use sqlite_disk::{Crash, Disk, Fuse, Memory};
 use std::alloc::Global;
 
-type Disks = FileStore<File>;
+type File = Fuse<Memory>;
 
-/// A database.
-pub(crate) struct Base {
-    conn: Connection<Disks>,
-}
+type Conn = Connection<FileStore<File>>;
 
-// It is written out, so that a caller does not prove again how each part is dropped.
-impl Drop for Base {
-    fn drop(self) {
-        let Base { conn: _ } = self;
-    }
+/// The two files.
+pub(crate) struct Disks {
+    files: Files<File>,
 }
 
 /// A record.
 pub(crate) struct Store {
-    record: JobRecord<Disks>,
+    record: JobRecord<FileStore<File>>,
+}
+
+// They are written out, so that a caller does not prove again how each part is dropped.
+impl Drop for Disks {
+    fn drop(self) {
+        let Disks { files: _ } = self;
+    }
 }
 
 impl Drop for Store {
@@ -32,61 +35,159 @@ impl Drop for Store {
     }
 }
 
-impl Base {
-    /// The database in two files, or the files again.
-    pub(crate) fn open(alloc: Global, files: Files<File>) -> Result<Base, (Error, Files<File>)> {
-        if !files.may_be_used() {
-            return Err((Error::SqliteFailure(ErrorCode::SystemIoFailure), files));
-        }
-        match Connection::open_files(alloc, files, options()) {
-            Ok(conn) => Ok(Base { conn }),
-            Err((error, left)) => Err((error, left.into_files())),
-        }
-    }
+/// How many calls each file still answers.
+#[derive(Clone, Copy)]
+pub(crate) struct Stop {
+    pub(crate) log: u64,
+    pub(crate) db: u64,
+}
 
-    /// Runs statements, or shows the rows of a query; none where that is refused.
-    pub(crate) fn ran(&mut self, alloc: Global, sql: &str, shows: bool) -> Option<Vec<Columns>> {
-        ran(alloc, &mut self.conn, sql, shows)
-    }
+/// Neither file stops.
+pub(crate) const NEVER: Stop = Stop {
+    log: u64::MAX,
+    db: u64::MAX,
+};
 
-    /// The record in the database, or the database again.
-    pub(crate) fn into_record(self, alloc: Global) -> Result<Store, (RecordFault, Base)> {
-        let Base { conn } = self;
-        match opened(alloc, conn) {
-            Ok(record) => Ok(Store { record }),
-            Err((fault, conn)) => Err((fault, Base { conn })),
+impl Disks {
+    /// Two empty files.
+    pub(crate) fn fresh(alloc: Global) -> Disks {
+        Disks {
+            files: Files {
+                log: Fuse::new(Memory::new(alloc), NEVER.log),
+                db: Fuse::new(Memory::new(alloc), NEVER.db),
+            },
         }
     }
 
-    /// The files of a database that was let go.
-    pub(crate) fn stop(self) -> Files<File> {
-        let Base { conn } = self;
-        conn.into_store().close()
+    /// An empty log, and a database file of these bytes.
+    pub(crate) fn of_bytes(alloc: Global, bytes: &[u8]) -> Option<Disks> {
+        let db = written(alloc, bytes)?;
+        Some(Disks {
+            files: Files {
+                log: Fuse::new(Memory::new(alloc), NEVER.log),
+                db: Fuse::new(db, NEVER.db),
+            },
+        })
     }
 
-    /// The files of a database that was closed in good order.
-    pub(crate) fn close(self) -> Option<Files<File>> {
-        let Base { conn } = self;
-        match conn.close_files() {
-            Ok(files) => Some(files),
-            Err(_left) => None,
+    /// A copy of both, all of it on the disk, which stops after so many calls.
+    pub(crate) fn copied(&self, alloc: Global, stop: Stop) -> Option<Disks> {
+        let log = written(alloc, self.files.log.inner().bytes())?;
+        let db = written(alloc, self.files.db.inner().bytes())?;
+        Some(Disks {
+            files: Files {
+                log: Fuse::new(log, stop.log),
+                db: Fuse::new(db, stop.db),
+            },
+        })
+    }
+
+    /// The bytes of the database file.
+    pub(crate) fn bytes(&self) -> &[u8] {
+        self.files.db.inner().bytes()
+    }
+
+    /// Whether a file has stopped, or is about to.
+    pub(crate) fn is_blown(&mut self) -> bool {
+        has_stopped(&mut self.files.log) || has_stopped(&mut self.files.db)
+    }
+
+    /// The machine goes down and comes back.
+    pub(crate) fn restart(&mut self) {
+        self.files.log.crash();
+        self.files.db.crash();
+    }
+
+    /// The record in the files, or the refusal with the files again.
+    pub(crate) fn open(self, alloc: Global) -> Result<Store, (RecordFault, Disks)> {
+        let Disks { files } = self;
+        match connected(alloc, files) {
+            Ok(conn) => recorded(alloc, conn),
+            Err(left) => Err(left),
+        }
+    }
+
+    /// Runs statements, or shows the first column of each row of a query.
+    pub(crate) fn run(self, alloc: Global, sql: &str, out: &mut AnswerText) -> Disks {
+        let Disks { files } = self;
+        match connected(alloc, files) {
+            Ok(mut conn) => {
+                ran(&mut conn, sql, out);
+                closed(conn)
+            }
+            Err((_fault, left)) => left,
         }
     }
 }
 
 impl Store {
-    /// What a command is answered.
-    pub(crate) fn ask(&mut self, alloc: Global, ask: Ask<'_>) -> Told {
-        asked(alloc, &mut self.record, ask)
+    /// Writes what a command is answered.
+    pub(crate) fn ask(&mut self, alloc: Global, ask: Ask<'_>, out: &mut AnswerText) {
+        asked(alloc, &mut self.record, ask, out)
     }
 
-    /// The record's database.
-    pub(crate) fn into_base(self) -> Base {
+    /// The files of a record that is closed in good order.
+    pub(crate) fn close(self) -> Disks {
         let Store { record } = self;
-        Base {
-            conn: record.into_connection(),
-        }
+        closed(record.into_connection())
     }
+
+    /// The files of a record that is let go.
+    pub(crate) fn stop(self) -> Disks {
+        let Store { record } = self;
+        stopped(record.into_connection())
+    }
+}
+
+fn connected(alloc: Global, files: Files<File>) -> Result<Conn, (RecordFault, Disks)> {
+    if !files.may_be_used() {
+        let fault = Error::SqliteFailure(ErrorCode::SystemIoFailure);
+        return Err((RecordFault::Store(fault), Disks { files }));
+    }
+    match Connection::open_files(alloc, files, options()) {
+        Ok(conn) => Ok(conn),
+        Err((error, left)) => Err((
+            RecordFault::Store(error),
+            Disks {
+                files: left.into_files(),
+            },
+        )),
+    }
+}
+
+fn recorded(alloc: Global, conn: Conn) -> Result<Store, (RecordFault, Disks)> {
+    match opened(alloc, conn) {
+        Ok(record) => Ok(Store { record }),
+        Err((fault, conn)) => Err((fault, stopped(conn))),
+    }
+}
+
+fn stopped(conn: Conn) -> Disks {
+    Disks {
+        files: conn.into_store().close(),
+    }
+}
+
+fn closed(conn: Conn) -> Disks {
+    match conn.close_files() {
+        Ok(files) => Disks { files },
+        Err((_error, store)) => Disks {
+            files: store.close(),
+        },
+    }
+}
+
+// A file with these bytes, all of them on the disk.
+fn written(alloc: Global, bytes: &[u8]) -> Option<Memory> {
+    let mut file = Memory::new(alloc);
+    if !bytes.is_empty() && (file.write_at(0, bytes).is_err() || file.sync().is_err()) {
+        return None;
+    }
+    Some(file)
+}
+
+fn has_stopped(file: &mut File) -> bool {
+    !file.may_be_used() || file.len().is_err()
 }
 
 // The log is copied into the database often, since each commit copies the whole of a file in memory.

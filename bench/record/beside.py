@@ -1,0 +1,88 @@
+"""The record's statements by Python's sqlite3, and the medians of what `run.sh` measures.
+
+usage: beside.py make FILE ROWS | run FILE ROWS TIMES | tell TIMES-FILE ROWS
+"""
+
+import sqlite3
+import statistics
+import sys
+import time
+
+STRIDE = 7_919
+META = "CREATE TABLE meta (name TEXT PRIMARY KEY, value INTEGER NOT NULL) STRICT"
+JOB = (
+    "CREATE TABLE job (key TEXT PRIMARY KEY, outputs TEXT NOT NULL, files TEXT NOT NULL,"
+    " cost INTEGER NOT NULL CHECK (cost BETWEEN 1 AND 1000000000000),"
+    " archived INTEGER NOT NULL CHECK (archived IN (0, 1))) STRICT"
+)
+COLUMNS = "key, outputs, files, cost, archived"
+FIND = f"SELECT {COLUMNS} FROM job WHERE key = ?1"
+LIST = f"SELECT {COLUMNS} FROM job ORDER BY key"
+VERSION = "SELECT value FROM meta WHERE name = 'version'"
+PUT = (
+    f"INSERT INTO job ({COLUMNS}) VALUES (?1, ?2, ?3, ?4, ?5) ON CONFLICT (key) DO UPDATE SET outputs = excluded.outputs,"
+    " files = excluded.files, cost = excluded.cost, archived = excluded.archived"
+)
+
+
+def key(at, end=""):
+    return (
+        '{"env":[],"inputs":{"n":%08d},"tool":{"baseCommand":"sort","class":"CommandLineTool","inputs":{"n":"int"},'
+        '"outputs":{"out":"stdout"},"stdout":"out.txt"}}' % at + end
+    )
+
+
+def make(file, rows):
+    conn = sqlite3.connect(file)
+    conn.execute(META)
+    conn.execute(JOB)
+    conn.execute("INSERT INTO meta (name, value) VALUES ('version', 1)")
+    conn.executemany(PUT, ((key(at), "7", "[]", at + 1, 0) for at in range(rows)))
+    conn.commit()
+    conn.close()
+
+
+def connect(file):
+    conn = sqlite3.connect(file, isolation_level=None)
+    conn.execute("PRAGMA journal_mode = WAL")
+    conn.execute("PRAGMA synchronous = FULL")
+    return conn
+
+
+def told(what, start):
+    print(what, int((time.perf_counter() - start) * 1_000_000))
+
+
+def run(file, rows, times):
+    start = time.perf_counter()
+    conn = connect(file)
+    assert conn.execute(VERSION).fetchone() == (1,)
+    conn.execute(LIST).fetchall()
+    told("open", start)
+    numbers = [at * STRIDE % rows for at in range(times)]
+    for what, end, found in (("find", "", times), ("absent", "x", 0)):
+        start = time.perf_counter()
+        there = sum(conn.execute(FIND, (key(at, end),)).fetchone() is not None for at in numbers)
+        told(what, start)
+        assert there == found
+    start = time.perf_counter()
+    for at in numbers:
+        conn.execute(PUT, (key(at), "7", "[]", at + 1, 0))
+    told("put", start)
+
+
+def tell(file, rows):
+    times = {}
+    for line in open(file):
+        who, what, micros = line.split()
+        times.setdefault((who, what), []).append(int(micros))
+    for what in ("open", "find", "absent", "put"):
+        ours = statistics.median(times["ours", what])
+        theirs = statistics.median(times["theirs", what])
+        print(f"{rows} rows: {what:6} {ours:9.0f} us, Python's {theirs:9.0f} us, {ours / theirs:.2f} of it")
+    print(f"{rows} rows: open takes {statistics.median(times['ours', 'open']) * 1000 / rows:.0f} us for each 1,000 rows")
+
+
+if __name__ == "__main__":
+    verb, *words = sys.argv[1:]
+    {"make": make, "run": run, "tell": tell}[verb](words[0], *map(int, words[1:]))

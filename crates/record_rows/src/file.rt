@@ -1,0 +1,86 @@
+//! What `record` says of a file.
+
+use crate::commands::run_all;
+use crate::opening::bytes_of;
+use crate::store::Disks;
+use record_program::main_run;
+use row_io::{AnswerText, Row, RowFault};
+use serde_json::Value as Json;
+use std::alloc::Global;
+use std::{fs, mem, str};
+
+// The file of a row, which is made for it and removed again.
+const FILE: &str = "row.db";
+
+const LOG: &str = "row.db-wal";
+
+/// What `record` answers and writes of a file: one of a record after commands, of a database that SQL made, of bytes, or
+/// the path `at`. And whether the file is as it was.
+pub(crate) fn shown(rt: &HostRuntime, row: &Row) -> Result<String, RowFault> {
+    let alloc = rt.alloc();
+    if let Ok(path) = row.text("at") {
+        return told(rt, row, path, &[]);
+    }
+    let bytes = made(alloc, row)?;
+    if fs::write(rt, FILE, bytes.as_slice()).is_err() {
+        return Err(RowFault::BadArgument);
+    }
+    let text = told(rt, row, FILE, bytes.as_slice());
+    let _removed = fs::remove_file(rt, FILE);
+    let _removed = fs::remove_file(rt, LOG);
+    text
+}
+
+// The bytes of the row's file.
+fn made(alloc: Global, row: &Row) -> Result<Vec<u8>, RowFault> {
+    match row.text("text") {
+        Ok(text) => bytes_of(alloc, text, row.natural("times")?),
+        Err(_) => held_by(alloc, disks_of(alloc, row)),
+    }
+}
+
+fn held_by(alloc: Global, disks: Disks) -> Result<Vec<u8>, RowFault> {
+    Ok(disks.bytes().to_vec(alloc)?)
+}
+
+// A record after commands, or a database that SQL made.
+fn disks_of(alloc: Global, row: &Row) -> Disks {
+    let mut answers = AnswerText::new(alloc);
+    let disks = match row.list("commands") {
+        Ok(commands) => run_all(alloc, commands, &mut answers),
+        Err(_) => Disks::fresh(alloc).run(alloc, row.text("sql").unwrap_or(""), &mut answers),
+    };
+    mem::drop(answers);
+    disks
+}
+
+fn told(rt: &HostRuntime, row: &Row, path: &str, bytes: &[u8]) -> Result<String, RowFault> {
+    let alloc = rt.alloc();
+    let mut out = Vec::new(alloc);
+    let mut err = Vec::new(alloc);
+    let forget = row.find("forget").and_then(Json::as_str);
+    let status = main_run(rt, path, forget, &mut out, &mut err);
+    let mut text = AnswerText::new(alloc);
+    text.put("{\"status\":");
+    text.put_whole(i64::from(status));
+    text.put(",\"out\":");
+    put_bytes(&mut text, out.as_slice());
+    text.put(",\"err\":");
+    put_bytes(&mut text, err.as_slice());
+    text.put(",\"same\":");
+    text.put_flag(is_same(rt, path, bytes));
+    text.put("}");
+    text.finish()
+}
+
+fn put_bytes(text: &mut AnswerText, bytes: &[u8]) {
+    text.put_quoted(str::from_utf8(bytes).unwrap_or("?"));
+}
+
+// Whether the file has these bytes; nothing, where it is not there.
+fn is_same(rt: &HostRuntime, path: &str, bytes: &[u8]) -> bool {
+    match fs::read(rt, path) {
+        Ok(found) => found.as_slice() == bytes,
+        Err(_) => bytes.is_empty(),
+    }
+}

@@ -1,0 +1,67 @@
+//! Records opened on stores that SQL has made, and on files of any bytes.
+
+use crate::asks::put_fault;
+use crate::store::Disks;
+use row_io::{AnswerText, Row, RowFault};
+use std::alloc::Global;
+use std::mem;
+
+/// How the store opens as a record that the row's SQL has made, and what the row's query then shows of it.
+pub(crate) fn opened(alloc: Global, row: &Row) -> Result<String, RowFault> {
+    let sql = row.text("sql")?;
+    let query = row.text("show")?;
+    let mut out = AnswerText::new(alloc);
+    out.put("[");
+    let disks = Disks::fresh(alloc).run(alloc, sql, &mut out);
+    let disks = told(alloc, disks, &mut out);
+    out.put(",");
+    mem::drop(disks.run(alloc, query, &mut out));
+    out.put("]");
+    out.finish()
+}
+
+// Writes how the files open, and gives them back.
+fn told(alloc: Global, disks: Disks, out: &mut AnswerText) -> Disks {
+    match disks.open(alloc) {
+        Ok(store) => {
+            out.put("\"opened\"");
+            store.close()
+        }
+        Err((fault, disks)) => {
+            put_fault(out, fault);
+            disks
+        }
+    }
+}
+
+/// How files open whose database has these bytes, and whether the bytes are as they were.
+pub(crate) fn opened_bytes(alloc: Global, row: &Row) -> Result<String, RowFault> {
+    let bytes = bytes_of(alloc, row.text("text")?, row.natural("times")?)?;
+    let mut out = AnswerText::new(alloc);
+    put_opened(alloc, bytes.as_slice(), &mut out);
+    out.finish()
+}
+
+fn put_opened(alloc: Global, bytes: &[u8], out: &mut AnswerText) {
+    match Disks::of_bytes(alloc, bytes) {
+        Some(disks) => put_told(alloc, disks, bytes, out),
+        None => out.put("?"),
+    }
+}
+
+fn put_told(alloc: Global, disks: Disks, bytes: &[u8], out: &mut AnswerText) {
+    out.put("[");
+    let disks = told(alloc, disks, out);
+    out.put(",");
+    out.put_flag(disks.bytes() == bytes);
+    out.put("]");
+}
+
+/// The text so many times over.
+pub(crate) fn bytes_of(alloc: Global, text: &str, times: u64) -> Result<Vec<u8>, RowFault> {
+    let mut bytes = Vec::new(alloc);
+    for _ in 0..times {
+        bytes.extend_from_slice(text.as_bytes())?;
+    }
+    Ok(bytes)
+}

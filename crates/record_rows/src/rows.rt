@@ -1,0 +1,145 @@
+//! Rows of the record, from JSON and back.
+
+use cwl_value::{Value, canonical_text, from_json};
+use job_record::{Found, Row};
+use plain_data::{Items, Text};
+use row_io::{AnswerText, RowFault};
+use serde_json::Value as Json;
+use std::alloc::Global;
+
+// The members of a row's object.
+#[derive(Clone, Copy)]
+struct Wanted<'a> {
+    key: &'a str,
+    outputs: &'a Json,
+    files: &'a [Json],
+    cost: u64,
+    archived: bool,
+}
+
+fn members_of(json: &Json) -> Option<Wanted<'_>> {
+    Some(Wanted {
+        key: json.get("key")?.as_str()?,
+        outputs: json.get("outputs")?,
+        files: json.get("files")?.as_array()?.as_slice(),
+        cost: json.get("cost")?.as_u64()?,
+        archived: json.get("archived")?.as_bool()?,
+    })
+}
+
+/// The row that an object tells of, if it tells of one.
+pub(crate) fn row_in(alloc: Global, json: &Json) -> Option<Row> {
+    made(alloc, &members_of(json)?).ok()
+}
+
+fn made(alloc: Global, wanted: &Wanted<'_>) -> Result<Row, RowFault> {
+    let key = Text::from_text(alloc, wanted.key)?;
+    let files = files_of(alloc, wanted.files)?;
+    Ok(Row {
+        outputs: value_of(alloc, wanted.outputs)?,
+        key,
+        files,
+        cost: wanted.cost,
+        archived: wanted.archived,
+    })
+}
+
+fn value_of(alloc: Global, json: &Json) -> Result<Value, RowFault> {
+    from_json(alloc, json).map_err(|_refusal| RowFault::BadArgument)
+}
+
+fn files_of(alloc: Global, list: &[Json]) -> Result<Items<Found>, RowFault> {
+    let mut files = Items::new(alloc);
+    for entry in list {
+        files.push(found_in(alloc, entry)?)?;
+    }
+    Ok(files)
+}
+
+fn found_in(alloc: Global, json: &Json) -> Result<Found, RowFault> {
+    let name = text_in(alloc, json, "name")?;
+    Ok(Found {
+        sum: text_in(alloc, json, "sum")?,
+        name,
+        is_dir: json.get("is_dir").and_then(|flag| flag.as_bool()) == Some(true),
+        size: size_in(json),
+    })
+}
+
+fn size_in(json: &Json) -> u64 {
+    match json.get("size") {
+        Some(size) => size.as_u64().unwrap_or(0),
+        None => 0,
+    }
+}
+
+fn text_in(alloc: Global, json: &Json, name: &str) -> Result<Text, RowFault> {
+    match json.get(name) {
+        Some(text) => Ok(Text::from_text(alloc, text.as_str().unwrap_or("?"))?),
+        None => Err(RowFault::BadArgument),
+    }
+}
+
+/// Writes the objects that tell of rows, as a list.
+pub(crate) fn put_rows(alloc: Global, out: &mut AnswerText, rows: &[Row]) {
+    out.put("[");
+    for (at, row) in rows.iter().enumerate() {
+        put_comma(out, at);
+        put_row(alloc, out, row);
+    }
+    out.put("]");
+}
+
+/// Writes the comma before an item, but before the first.
+pub(crate) fn put_comma(out: &mut AnswerText, at: usize) {
+    if at > 0 {
+        out.put(",");
+    }
+}
+
+/// Writes the object that tells of a row.
+pub(crate) fn put_row(alloc: Global, out: &mut AnswerText, row: &Row) {
+    out.put("{\"archived\":");
+    out.put_flag(row.archived);
+    out.put(",\"cost\":");
+    put_number(out, row.cost);
+    out.put(",\"files\":");
+    put_files(out, row.files.as_slice());
+    out.put(",\"key\":");
+    out.put_quoted(row.key.as_str());
+    out.put(",\"outputs\":");
+    put_outputs(alloc, out, &row.outputs);
+    out.put("}");
+}
+
+fn put_number(out: &mut AnswerText, number: u64) {
+    out.put_whole(i64::try_from(number).unwrap_or(i64::MAX));
+}
+
+fn put_outputs(alloc: Global, out: &mut AnswerText, outputs: &Value) {
+    match canonical_text(alloc, outputs) {
+        Ok(text) => out.put(text.as_str()),
+        Err(_) => out.put("?"),
+    }
+}
+
+fn put_files(out: &mut AnswerText, files: &[Found]) {
+    out.put("[");
+    for (at, found) in files.iter().enumerate() {
+        put_comma(out, at);
+        put_found(out, found);
+    }
+    out.put("]");
+}
+
+fn put_found(out: &mut AnswerText, found: &Found) {
+    out.put("{\"is_dir\":");
+    out.put_flag(found.is_dir);
+    out.put(",\"name\":");
+    out.put_quoted(found.name.as_str());
+    out.put(",\"size\":");
+    put_number(out, found.size);
+    out.put(",\"sum\":");
+    out.put_quoted(found.sum.as_str());
+    out.put("}");
+}
