@@ -2,7 +2,7 @@
 use Rattle.std.proofs.Common.{◌≡◌, ◌≢◌, ℕ, ◌+◌, ◌<◌, ◌^◌, Bool, true, false, true≢false, not, ◌==◌, ◌||◌, List, [], ◌∷◌, ◌++◌, map, length, length-append, append-nil, get_or, take, Option, Some, None, ◌⊎◌, inl, inr, refl, sym, ap, subst, ◌∙◌, arith, eqb-true}
 use Rattle.std.specs.Prelude.{Contains, decimal, MatchOption, is_some}
 use Rattle.std.specs.List.{list_any}
-use Rattle.std.proofs.lemmas.Bool.Decides.{ltb_tells}
+use Rattle.std.proofs.lemmas.Bool.Decides.{leb_tells}
 use Rattle.std.proofs.lemmas.Fmt.{decimal_injective}
 use Rattle.std.proofs.lemmas.List.{take_more}
 use Rattle.std.proofs.lemmas.List.Elements.{Contains-append_left, Contains-append_right, Contains-append_cases, Contains-push_cases, Contains-push}
@@ -126,9 +126,11 @@ folders_apart true dir k j p q is = by_test (k == 0) (j == 0) refl refl where
 near : (holds_others : Bool) (placed : List Placed) (group : List Member) (k : ℕ) → IsFolder holds_others placed group k → IsAbove placed (length placed + 1) → k < length placed + 2
 near holds_others placed group k (IsFolder.shared j there) above = let low : j < length placed + 1 = above (record { members = group; folder = j }) there in omega arith
 near holds_others placed group k (IsFolder.lowest j apart free below) above =
-    elim (ltb_tells j (length placed + 2)) [
-      | inl low ↦ low.1
-      | inr high ↦ absurd (true≢false (sym (below (length placed + 1) (omega arith)) ∙ free_above holds_others placed group (length placed + 1) above (omega arith)))
+    elim (leb_tells (length placed + 2) j) [
+      | inl high ↦
+          let less : length placed + 1 < j = omega (arith, high.1) in
+          absurd (true≢false (sym (below (length placed + 1) less) ∙ free_above holds_others placed group (length placed + 1) above (omega arith)))
+      | inr low ↦ low.1
     ]
 
 pub above_all : (holds_others : Bool) (groups : List (List Member)) (placed : List Placed) → ArePlaced holds_others groups placed → IsAbove placed (length placed + 1) × (length placed ≡ length groups)
