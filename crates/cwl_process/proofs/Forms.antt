@@ -1,19 +1,17 @@
 -- What the objects of a document have at their fields, where they keep to the table.
-use Rattle.std.proofs.Common.{◌≡◌, ℕ, List, [], ◌∷◌, ◌++◌, map, Bor, suc, zero, length, get_or, ◌<◌, arith, Bool, true, false, Option, Some, None, Ok, Err, refl, sym, ap, subst, ◌∙◌, ◌⊎◌, inl, inr, bytes_eq, codes, option_map}
-use Rattle.std.specs.Prelude.{option_and_then, if◌then◌else◌, nat_le}
+use Rattle.std.proofs.Common.{◌≡◌, ℕ, List, [], ◌∷◌, ◌++◌, map, Bor, suc, zero, length, get_or, ◌<◌, arith, Bool, true, false, Some, None, refl, sym, ap, subst, ◌∙◌, bytes_eq, codes}
+use Rattle.std.specs.Prelude.{if◌then◌else◌, nat_le}
 use Rattle.std.specs.List.{AllByRecursion, IsDistinct}
 use Rattle.std.specs.Map.{keys_of}
-use Rattle.std.specs.Option.{option_map_or}
 use Rattle.serde_json.specs.Data.{Data, null, boolean, number, string, array, object, depth}
 use Rattle.serde_json.specs.View.{view}
 use Rattle.serde_json.specs.declared.value.Value.{Value}
-use Rattle.serde_json.specs.Find.{as_object, as_str, get}
+use Rattle.serde_json.specs.Find.{as_str, get}
 use Rattle.document_table.specs.Documents.{IsDocument}
 use Rattle.document_table.specs.Walk.{fault_in}
 use Rattle.document_table.specs.declared.document.TheConstants.{MOST_NESTING}
-use Rattle.document_table.specs.Entries.{HasForm, IsOf, IsProcess, MayHaveForm, entries, entry_seen, kind_in}
+use Rattle.document_table.specs.Entries.{HasForm, IsOf, IsProcess, MayHaveForm, entries, entry_seen}
 use Rattle.document_table.specs.declared.fault.Cause.TheVariants as cause
-use Rattle.document_table.specs.declared.form.Form.{Form}
 use Rattle.document_table.specs.declared.form.Form.TheVariants as form
 use Rattle.document_table.specs.declared.form.Kind.{Kind}
 use Rattle.document_table.specs.declared.form.Kind.TheVariants as kind

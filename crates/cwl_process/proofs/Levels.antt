@@ -1,6 +1,6 @@
 -- The count of levels never decides: JSON that nests no deeper than it represents one process, whatever the count.
-use Rattle.std.proofs.Common.{◌≡◌, ℕ, zero, suc, ◌+◌, ◌<◌, ◌≤◌, List, [], ◌∷◌, map, Bool, true, false, Option, Some, None, Ok, Err, IfOk, ◌-◌, ◌≢◌, refl, sym, ap, ◌∙◌, codes, arith, max, min}
-use Rattle.std.specs.Prelude.{Result, option_and_then, unwrap_or, if◌then◌else◌}
+use Rattle.std.proofs.Common.{◌≡◌, ℕ, zero, suc, ◌<◌, ◌≤◌, List, [], ◌∷◌, map, true, false, Option, Some, None, Ok, Err, IfOk, ◌-◌, ◌≢◌, refl, sym, ap, ◌∙◌, codes, arith, max, min}
+use Rattle.std.specs.Prelude.{Result, if◌then◌else◌}
 use Rattle.std.specs.List.{AllByRecursion}
 use Rattle.std.specs.Option.{option_map_or}
 use Rattle.std.specs.Cmp.Lexicographic.{slice_cmp}
@@ -15,7 +15,7 @@ use Rattle.document_table.specs.Repeats.{name_in}
 use Rattle.document_table.specs.declared.form.Kind.{Kind}
 use Rattle.document_table.specs.declared.form.Kind.TheVariants as kind
 use Rattle.cwl_process.specs.Acting.{asked_in}
-use Rattle.cwl_process.specs.Processes.{is_workflow, process_in, run_at, step_in}
+use Rattle.cwl_process.specs.Processes.{is_workflow, process_in, step_in}
 use Rattle.cwl_process.specs.Together.{process_fault, tool_fault, workflow_fault}
 use Rattle.cwl_process.specs.Tools.{entries_at, tool_in}
 use Rattle.cwl_process.specs.Workflows.{run_in, step_of, workflow_of}

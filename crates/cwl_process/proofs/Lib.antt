@@ -2,3 +2,4 @@ pub mod Forms
 pub mod Levels
 pub mod Requirements
 pub mod Slashes
+pub mod EmptyText

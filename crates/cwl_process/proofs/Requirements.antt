@@ -1,10 +1,10 @@
 -- The requirement that sets the environment has its form, where requirements and hints have theirs.
-use Rattle.std.proofs.Common.{◌≡◌, ℕ, ◌+◌, List, [], ◌∷◌, Bool, true, false, Option, Some, None, Result, Ok, Err, refl, sym, ap, subst, ◌∙◌, ◌⊎◌, inl, inr, bytes_eq, codes}
+use Rattle.std.proofs.Common.{◌≡◌, ℕ, ◌+◌, List, [], ◌∷◌, Bool, true, false, Option, Some, None, Ok, refl, sym, ap, subst, ◌∙◌, ◌⊎◌, inl, inr, bytes_eq, codes}
 use Rattle.std.specs.Prelude.{option_and_then, option_map, if◌then◌else◌}
 use Rattle.std.specs.List.{AllByRecursion}
 use Rattle.std.specs.Option.{option_map_or}
 use Rattle.std.specs.Cmp.Lexicographic.{bytes_decides}
-use Rattle.std.proofs.lemmas.Option.{none-some, same_Some}
+use Rattle.std.proofs.lemmas.Option.{none-some}
 use Rattle.serde_json.specs.Data.{Data, null, boolean, number, string, array, object, Items, no_items, item, Members, no_members, member}
 use Rattle.serde_json.specs.Find.{as_str, get}
 use Rattle.document_table.specs.Entries.{HasForm, IsOf, MayHaveForm, entries, kind_of, listed_entries, mapped_entries}
@@ -12,7 +12,6 @@ use Rattle.document_table.specs.Faults.{at, here}
 use Rattle.document_table.specs.Layouts.{acting_requirement, by_class, known_requirement, layout_of, member_form}
 use Rattle.document_table.specs.Repeats.{name_in}
 use Rattle.document_table.specs.Walk.{fault_in, fault_in_items, fault_in_members, judged}
-use Rattle.document_table.specs.declared.fault.Cause.{Cause}
 use Rattle.document_table.specs.declared.fault.Cause.TheVariants as cause
 use Rattle.document_table.specs.declared.fault.DocumentFault.{DocumentFault}
 use Rattle.document_table.specs.declared.form.Form.{Form}

@@ -8,8 +8,10 @@ use Rattle.serde_json.specs.Find.{get}
 use Rattle.document_table.specs.Entries.{entries, main_field}
 use Rattle.document_table.specs.declared.form.Kind.TheVariants as kind
 use Rattle.cwl_process.specs.Simple.{flag_at, text_in}
+use Rattle.cwl_process.specs.Templates.{template_of}
 use Rattle.cwl_process.specs.declared.tool.Acting.{Acting}
 use Rattle.cwl_process.specs.declared.tool.Asked.{Asked}
+use Rattle.cwl_process.specs.declared.tool.Variable.{Variable}
 
 -- the first one that says something
 abbrev pub nearer : {A : Type 0} → Option A → Option A → Option A
@@ -25,11 +27,14 @@ last_of class last (e ∷ es) = last_of class (if bytes_eq e.0 class then Some e
 abbrev pub requirement_at : List ℕ → List ℕ → Data → Option Data
 requirement_at field class d = option_and_then (λ v. last_of class None (entries kind.PlainRequirement v)) (get field d)
 
--- a variable's value, which may stand in its place
-abbrev pub variable_in : Data → List ℕ
-variable_in d = option_map_or text_in (main_field (codes "envValue") d) []
+-- The text may stand in the variable's place.
+abbrev pub variable_text : Data → List ℕ
+variable_text d = option_map_or text_in (main_field (codes "envValue") d) []
 
-abbrev pub variables_in : Data → List (List ℕ × List ℕ)
+abbrev pub variable_in : Data → Variable
+variable_in d = record { written = variable_text d; value = template_of (variable_text d) }
+
+abbrev pub variables_in : Data → List (List ℕ × Variable)
 variables_in d = option_map_or (λ v. map (λ e. (e.0, variable_in e.1)) (entries kind.Variable v)) (get (codes "envDef") d) []
 
 abbrev pub acting_at : List ℕ → Data → Acting
@@ -57,7 +62,7 @@ nothing_asked = record { requirements = nothing; hints = nothing }
 
 -- ---- in force: any requirement comes before any hint
 
-abbrev pub environment_of : Asked → Option (List (List ℕ × List ℕ))
+abbrev pub environment_of : Asked → Option (List (List ℕ × Variable))
 environment_of asked = nearer asked.requirements.environment asked.hints.environment
 
 -- An earlier result may be used where nothing says otherwise.

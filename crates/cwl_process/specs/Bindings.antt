@@ -1,12 +1,13 @@
 -- How values become words, and which files come with a File (CWL v1.2, Command Line Tool Description, "CommandLineBinding",
 -- "SecondaryFileSchema").
-use Rattle.std.specs.Prelude.{ℕ, ◌&&◌, List, map, nat_eq, Bool, true, not, option_and_then, codes}
+use Rattle.std.specs.Prelude.{ℕ, ◌&&◌, List, map, nat_eq, Bool, true, not, option_and_then, option_map, codes}
 use Rattle.std.specs.List.{ends_with}
 use Rattle.std.specs.Option.{option_map_or}
 use Rattle.serde_json.specs.Data.{Data}
-use Rattle.serde_json.specs.Find.{as_str, get}
+use Rattle.serde_json.specs.Find.{as_str}
 use Rattle.document_table.specs.Entries.{main_field}
 use Rattle.cwl_process.specs.Simple.{flag_at, int_at, list_at, text_at, text_in}
+use Rattle.cwl_process.specs.Templates.{template_of}
 use Rattle.cwl_process.specs.declared.tool.Binding.{Binding}
 use Rattle.cwl_process.specs.declared.tool.SecondaryFile.{SecondaryFile}
 
@@ -17,7 +18,7 @@ binding_in d = record {
   prefix = text_at (codes "prefix") d;
   separate = flag_at (codes "separate") true d;
   item_separator = text_at (codes "itemSeparator") d;
-  value_from = option_and_then as_str (main_field (codes "valueFrom") d);
+  value_from = option_map template_of (option_and_then as_str (main_field (codes "valueFrom") d));
 }
 
 abbrev pub bindings_at : List ℕ → Data → List Binding

@@ -1,10 +1,13 @@
 pub mod Acting
 pub mod Bindings
 pub mod Documents
+pub mod FirstFaults
 pub mod Links
 pub mod Parameters
 pub mod Processes
 pub mod Simple
+pub mod TemplateFaults
+pub mod Templates
 pub mod Together
 pub mod Tools
 pub mod Workflows

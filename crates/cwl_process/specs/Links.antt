@@ -1,10 +1,9 @@
 -- Where the values of step inputs and workflow outputs come from (CWL v1.2, Workflow Description, "WorkflowStepInput",
 -- "LinkMergeMethod", "PickValueMethod").
 use Rattle.std.specs.Prelude.{ℕ, ◌==◌, List, map, Option, Some, None, option_map, option_and_then, if◌then◌else◌, codes}
-use Rattle.std.specs.List.{after_first, before_first, list_any}
+use Rattle.std.specs.List.{after_first, before_first}
 use Rattle.std.specs.Str.{bytes_eq}
 use Rattle.serde_json.specs.Data.{Data}
-use Rattle.serde_json.specs.Find.{get}
 use Rattle.document_table.specs.Texts.{has_byte}
 use Rattle.cwl_process.specs.Simple.{one_or_more, text_at, text_in}
 use Rattle.cwl_process.specs.declared.links.Links.{Links}

@@ -1,6 +1,6 @@
 -- What tools and workflows take and give (CWL v1.2, Command Line Tool Description, "CommandInputParameter",
 -- "CommandOutputParameter"; Workflow Description, "WorkflowInputParameter", "WorkflowOutputParameter").
-use Rattle.std.specs.Prelude.{ℕ, ◌||◌, List, [], map, Bool, true, false, Option, Some, None, Result, Ok, Err, option_map, option_and_then, if◌then◌else◌, codes}
+use Rattle.std.specs.Prelude.{ℕ, ◌||◌, List, [], Bool, true, false, Option, Some, None, Ok, Err, option_map, option_and_then, if◌then◌else◌, codes}
 use Rattle.std.specs.Option.{option_map_or}
 use Rattle.std.specs.Str.{bytes_eq}
 use Rattle.serde_json.specs.Data.{Data}
@@ -8,12 +8,12 @@ use Rattle.serde_json.specs.Find.{as_str, get}
 use Rattle.cwl_value.specs.Reading.{Reads, reading}
 use Rattle.cwl_value.specs.declared.value.Value.{Value}
 use Rattle.cwl_types.specs.Types.{type_in}
-use Rattle.document_table.specs.Entries.{entries, main_field}
-use Rattle.document_table.specs.declared.form.Kind.{Kind}
+use Rattle.document_table.specs.Entries.{main_field}
 use Rattle.cwl_types.specs.declared.types.MemberType.{MemberType}
 use Rattle.cwl_process.specs.Bindings.{binding_in, secondaries_at}
 use Rattle.cwl_process.specs.Links.{links_in}
-use Rattle.cwl_process.specs.Simple.{flag_at, list_at, text_at, texts_at}
+use Rattle.cwl_process.specs.Simple.{flag_at}
+use Rattle.cwl_process.specs.Templates.{template_at, templates_at}
 use Rattle.cwl_process.specs.declared.tool.InputType.{InputType}
 use Rattle.cwl_process.specs.declared.tool.InputType.TheVariants as input
 use Rattle.cwl_process.specs.declared.tool.OutputBinding.{OutputBinding}
@@ -67,9 +67,9 @@ tool_input_in d = record {
 
 abbrev pub output_binding_in : Data → OutputBinding
 output_binding_in d = record {
-  glob = option_map (λ _. texts_at (codes "glob") d) (get (codes "glob") d);
+  glob = option_map (λ _. templates_at (codes "glob") d) (get (codes "glob") d);
   load_contents = flag_at (codes "loadContents") false d;
-  output_eval = text_at (codes "outputEval") d;
+  output_eval = template_at (codes "outputEval") d;
 }
 
 abbrev pub tool_output_in : Data → ToolOutput

@@ -5,7 +5,7 @@ use Rattle.std.specs.Str.{bytes_eq}
 use Rattle.serde_json.specs.Data.{Data, null}
 use Rattle.serde_json.specs.Find.{get}
 use Rattle.document_table.specs.Entries.{class_in}
-use Rattle.cwl_process.specs.Acting.{asked_in, nothing_asked}
+use Rattle.cwl_process.specs.Acting.{asked_in}
 use Rattle.cwl_process.specs.Tools.{tool_in}
 use Rattle.cwl_process.specs.Workflows.{run_in, step_of, workflow_of}
 use Rattle.cwl_process.specs.declared.process.Process.{Process}

@@ -1,7 +1,8 @@
 -- What fields of a document say together, beside the table (CWL v1.2, Command Line Tool Description, "stdin", "stdout", "stderr"; Workflow
 -- Description, "WorkflowStep"): one input at most stands for the standard input, and an output that is a stream has no binding. A default
--- is a value without Files and Directories (own, until they are resolved).
-use Rattle.std.specs.Prelude.{ℕ, zero, suc, ◌&&◌, ◌||◌, List, [], ◌∷◌, Bool, true, false, Option, Some, None, is_some, option_map, if◌then◌else◌, codes}
+-- is a value without Files and Directories (own, until they are resolved). Texts with references come after these, and what a
+-- step says itself comes before the process that it runs.
+use Rattle.std.specs.Prelude.{ℕ, zero, suc, ◌&&◌, ◌||◌, List, [], ◌∷◌, Bool, false, Option, Some, None, is_some, if◌then◌else◌, codes}
 use Rattle.std.specs.Option.{option_map_or}
 use Rattle.std.specs.Str.{bytes_eq}
 use Rattle.serde_json.specs.Data.{Data, null, boolean, number, string, array, object, Items, no_items, item, Members, no_members, member}
@@ -11,22 +12,11 @@ use Rattle.document_table.specs.Faults.{here, under}
 use Rattle.document_table.specs.Walk.{or_else}
 use Rattle.document_table.specs.declared.fault.Cause.TheVariants.{WrongForm}
 use Rattle.document_table.specs.declared.fault.DocumentFault.{DocumentFault}
-use Rattle.document_table.specs.declared.form.Kind.{Kind}
 use Rattle.document_table.specs.declared.form.Kind.TheVariants as kind
+use Rattle.cwl_process.specs.FirstFaults.{at_field, first_at}
 use Rattle.cwl_process.specs.Parameters.{is_text}
 use Rattle.cwl_process.specs.Processes.{is_workflow}
-
--- what is wrong with a field, seen from its object
-abbrev pub at_field : List ℕ → Option DocumentFault → Option DocumentFault
-at_field name fault = option_map (under name) fault
-
--- the first that is wrong with what is in a list or a map of objects
-abbrev pub first_in : (Data → Option DocumentFault) → List (List ℕ × Data) → Option DocumentFault
-first_in fault_of [] = None
-first_in fault_of (e ∷ es) = or_else (at_field e.0 (fault_of e.1)) (first_in fault_of es)
-
-abbrev pub first_at : Kind → (Data → Option DocumentFault) → List ℕ → Data → Option DocumentFault
-first_at kind fault_of name d = option_map_or (λ v. at_field name (first_in fault_of (entries kind v))) (get name d) None
+use Rattle.cwl_process.specs.TemplateFaults.{asked_fault, step_text_fault, tool_text_fault}
 
 -- ---- streams
 
@@ -77,17 +67,25 @@ default_fault d = if option_map_or holds_file (get (codes "default") d) false th
 -- ---- processes
 
 abbrev pub tool_fault : Data → Option DocumentFault
-tool_fault d = or_else (inputs_fault d) (or_else (first_at kind.ToolInput default_fault (codes "inputs") d) (first_at kind.ToolOutput output_fault (codes "outputs") d))
+tool_fault d =
+    or_else (inputs_fault d)
+    (or_else (first_at kind.ToolInput default_fault (codes "inputs") d)
+    (or_else (first_at kind.ToolOutput output_fault (codes "outputs") d) (tool_text_fault d)))
+
+-- of a step, without the process that it runs
+abbrev pub own_step_fault : Data → Option DocumentFault
+own_step_fault d = or_else (first_at kind.StepInput default_fault (codes "in") d) (step_text_fault d)
 
 -- a text names a process of another document
 abbrev pub run_fault : (Data → Option DocumentFault) → Data → Option DocumentFault
 run_fault inner d = if is_some (as_str d) then None else inner d
 
 abbrev pub step_fault : (Data → Option DocumentFault) → Data → Option DocumentFault
-step_fault inner d = or_else (first_at kind.StepInput default_fault (codes "in") d) (at_field (codes "run") (option_map_or (run_fault inner) (get (codes "run") d) None))
+step_fault inner d = or_else (own_step_fault d) (at_field (codes "run") (option_map_or (run_fault inner) (get (codes "run") d) None))
 
 abbrev pub workflow_fault : (Data → Option DocumentFault) → Data → Option DocumentFault
-workflow_fault inner d = or_else (first_at kind.WorkflowInput default_fault (codes "inputs") d) (first_at kind.Step (step_fault inner) (codes "steps") d)
+workflow_fault inner d =
+    or_else (first_at kind.WorkflowInput default_fault (codes "inputs") d) (or_else (asked_fault d) (first_at kind.Step (step_fault inner) (codes "steps") d))
 
 -- what is wrong first with a process that keeps to the table, with so many workflows inside one another at most
 unfoldable pub process_fault : ℕ → Data → Option DocumentFault

@@ -9,7 +9,8 @@ use Rattle.document_table.specs.declared.form.Kind.TheVariants as kind
 use Rattle.cwl_process.specs.Acting.{asked_in}
 use Rattle.cwl_process.specs.Bindings.{bindings_at}
 use Rattle.cwl_process.specs.Parameters.{tool_input_in, tool_output_in}
-use Rattle.cwl_process.specs.Simple.{ints_at, text_at, texts_at}
+use Rattle.cwl_process.specs.Simple.{ints_at, texts_at}
+use Rattle.cwl_process.specs.Templates.{template_at}
 use Rattle.cwl_process.specs.declared.tool.Asked.{Asked}
 use Rattle.cwl_process.specs.declared.tool.ExitCodes.{ExitCodes}
 use Rattle.cwl_process.specs.declared.tool.Streams.{Streams}
@@ -20,7 +21,7 @@ abbrev pub entries_at : {T : Type 0} → Kind → (Data → T) → List ℕ → 
 entries_at kind f name d = option_map_or (λ v. map (λ e. (e.0, f e.1)) (entries kind v)) (get name d) []
 
 abbrev pub streams_in : Data → Streams
-streams_in d = record { stdin = text_at (codes "stdin") d; stdout = text_at (codes "stdout") d; stderr = text_at (codes "stderr") d }
+streams_in d = record { stdin = template_at (codes "stdin") d; stdout = template_at (codes "stdout") d; stderr = template_at (codes "stderr") d }
 
 abbrev pub exit_codes_in : Data → ExitCodes
 exit_codes_in d = record {

@@ -1,21 +1,20 @@
 -- The workflow that an object represents, with the processes inside it (CWL v1.2, Workflow Description, "Workflow",
 -- "WorkflowStep", "WorkflowStepInput").
-use Rattle.std.specs.Prelude.{ℕ, zero, suc, List, [], map, Option, Some, None, option_map, option_and_then, unwrap_or, if◌then◌else◌, codes}
+use Rattle.std.specs.Prelude.{ℕ, List, [], map, Option, Some, None, option_and_then, if◌then◌else◌, codes}
 use Rattle.std.specs.Option.{option_map_or}
 use Rattle.std.specs.Str.{bytes_eq}
-use Rattle.serde_json.specs.Data.{Data, null, boolean, number, string, array, object}
+use Rattle.serde_json.specs.Data.{Data}
 use Rattle.serde_json.specs.Find.{as_str}
-use Rattle.document_table.specs.Entries.{class_in, main_field}
+use Rattle.document_table.specs.Entries.{main_field}
 use Rattle.document_table.specs.declared.form.Kind.TheVariants as kind
 use Rattle.scatter_shape.specs.declared.shape.Method.{Method}
 use Rattle.scatter_shape.specs.declared.shape.Method.TheVariants as method
-use Rattle.cwl_process.specs.Acting.{asked_in}
 use Rattle.cwl_process.specs.Links.{links_in}
 use Rattle.cwl_process.specs.Parameters.{default_at, workflow_input_in, workflow_output_in}
 use Rattle.cwl_process.specs.Simple.{list_at, text_at, text_in, texts_at}
-use Rattle.cwl_process.specs.Tools.{entries_at, tool_in}
+use Rattle.cwl_process.specs.Templates.{template_at}
+use Rattle.cwl_process.specs.Tools.{entries_at}
 use Rattle.cwl_process.specs.declared.process.Process.{Process}
-use Rattle.cwl_process.specs.declared.process.Process as process
 use Rattle.cwl_process.specs.declared.process.Run.{Run}
 use Rattle.cwl_process.specs.declared.process.Run as run
 use Rattle.cwl_process.specs.declared.tool.Asked.{Asked}
@@ -34,7 +33,7 @@ abbrev pub step_input_in : Data → StepInput
 step_input_in d = record {
   links = links_in (main_field (codes "source") d) d;
   default = default_at d;
-  value_from = text_at (codes "valueFrom") d;
+  value_from = template_at (codes "valueFrom") d;
 }
 
 -- An output of a step is its id, or an object with it.
@@ -53,7 +52,7 @@ step_of run d = roll-Step (record {
   run = run;
   scatter = texts_at (codes "scatter") d;
   method = option_and_then method_named (text_at (codes "scatterMethod") d);
-  when = text_at (codes "when") d;
+  when = template_at (codes "when") d;
 })
 
 -- a workflow with such steps

@@ -5,13 +5,14 @@ ghost use Rattle.serde_json.specs.Find.{get};
 ghost use Rattle.serde_json.specs.View.{view};
 ghost use Rattle.document_table.specs.Entries.{MayHaveForm, entry_seen};
 ghost use Rattle.document_table.specs.declared.form.Form.TheVariants.{Hints, Requirements};
-ghost use Rattle.cwl_process.specs.Acting.{acting_at, asked_in, environment_of, inside, last_of, nearer, nothing_asked, requirement_at, reuse_of, variable_in, variables_in};
+ghost use Rattle.cwl_process.specs.Acting.{acting_at, asked_in, environment_of, inside, last_of, nearer, nothing_asked, requirement_at, reuse_of, variable_in, variable_text, variables_in};
 ghost use Rattle.cwl_process.specs.Simple.{value_seen};
 
 use crate::entries::Entries;
 use crate::from_entry::{FromEntry, entries_at};
 use crate::simple::{flag_at, read_any_text};
-use crate::tool::{Acting, Asked};
+use crate::templates::template_of;
+use crate::tool::{Acting, Asked, Variable};
 use document_table::{Kind, entries, main_field};
 use plain_data::Text;
 use serde_json::Value;
@@ -19,7 +20,7 @@ use std::alloc::{AllocError, Global};
 
 impl Asked {
     /// The variables of the environment that are in force.
-    pub fn environment(&self) -> Option<&Entries<Text>>
+    pub fn environment(&self) -> Option<&Entries<Variable>>
         ensures { option_copied result ≡ environment_of self.now }
     {
         match &self.requirements.environment {
@@ -93,8 +94,8 @@ fn read_acting(
 
 fn copied(
     alloc: Global,
-    environment: &Option<Entries<Text>>,
-) -> Result<Option<Entries<Text>>, AllocError>
+    environment: &Option<Entries<Variable>>,
+) -> Result<Option<Entries<Variable>>, AllocError>
     ensures { IfOk result (λ copy. copy ≡ environment.now) }
 {
     match environment {
@@ -108,7 +109,7 @@ fn read_environment(
     alloc: Global,
     field: &str,
     value: &Value,
-) -> Result<Option<Entries<Text>>, AllocError>
+) -> Result<Option<Entries<Variable>>, AllocError>
     requires { MayHaveForm Requirements (get field.now (view value.now))
         ⊎ MayHaveForm Hints (get field.now (view value.now)) }
     ensures { IfOk result (λ environment. environment ≡ option_map variables_in
@@ -120,19 +121,27 @@ fn read_environment(
     }
 }
 
-impl FromEntry for Text {
+impl FromEntry for Variable {
     ghost meaning = { variable_in };
 
-    fn from_entry(alloc: Global, value: &Value) -> Result<Text, AllocError> {
-        match main_field("envValue", value) {
-            None => Text::from_text(alloc, ""),
-            Some(found) => read_any_text(alloc, found),
-        }
+    fn from_entry(alloc: Global, value: &Value) -> Result<Variable, AllocError> {
+        let written = variable_text(alloc, value)?;
+        let value = template_of(alloc, written.as_str())?;
+        Ok(Variable { written, value })
+    }
+}
+
+fn variable_text(alloc: Global, value: &Value) -> Result<Text, AllocError>
+    ensures { IfOk result (λ text. text ≡ variable_text (view value.now)) }
+{
+    match main_field("envValue", value) {
+        None => Text::from_text(alloc, ""),
+        Some(found) => read_any_text(alloc, found),
     }
 }
 
 /// The requirement of that class, of those in the field.
-fn requirement_at<'v>(
+pub(crate) fn requirement_at<'v>(
     alloc: Global,
     field: &str,
     class: &str,

@@ -1,15 +1,18 @@
 //! Reads bindings and secondary files.
-ghost use Rattle.std.specs.Prelude.{◌≡◌, IfOk, map, option_and_then, codes};
+ghost use Rattle.std.specs.Prelude.{◌≡◌, IfOk, map, option_and_then, option_map, codes};
 ghost use Rattle.std.specs.Option.{option_map_or};
 ghost use Rattle.serde_json.specs.Find.{as_str};
 ghost use Rattle.serde_json.specs.View.{view};
 ghost use Rattle.document_table.specs.Entries.{main_field};
 ghost use Rattle.cwl_process.specs.Bindings.{binding_in, bindings_at, secondaries_at, secondary_in};
 ghost use Rattle.cwl_process.specs.Simple.{text_in, value_seen};
+ghost use Rattle.cwl_process.specs.Templates.{template_of};
 
-use crate::simple::{flag_at, int_at, list_at, read_any_text, read_text, text_at};
+use crate::simple::{flag_at, int_at, list_at, read_any_text, text_at};
+use crate::templates::template_of;
 use crate::tool::{Binding, SecondaryFile};
 use document_table::main_field;
+use param_refs::Template;
 use plain_data::{Items, Text};
 use serde_json::Value;
 use std::alloc::{AllocError, Global};
@@ -30,13 +33,16 @@ pub(crate) fn read_binding(alloc: Global, value: &Value) -> Result<Binding, Allo
     })
 }
 
-fn read_value_from(alloc: Global, value: &Value) -> Result<Option<Text>, AllocError>
-    ensures { IfOk result (λ text. text ≡ option_and_then as_str
-        (main_field (codes "valueFrom") (view value.now))) }
+fn read_value_from(alloc: Global, value: &Value) -> Result<Option<Template>, AllocError>
+    ensures { IfOk result (λ template. template ≡ option_map template_of (option_and_then as_str
+        (main_field (codes "valueFrom") (view value.now)))) }
 {
     match main_field("valueFrom", value) {
         None => Ok(None),
-        Some(found) => read_text(alloc, found),
+        Some(found) => match found.as_str() {
+            None => Ok(None),
+            Some(text) => Ok(Some(template_of(alloc, text)?)),
+        },
     }
 }
 

@@ -3,6 +3,7 @@ ghost use Rattle.std.specs.Prelude.{◌≡◌, [], length, ◌↔◌, IsTrue, If
 ghost use Rattle.std.specs.List.{IsDistinct};
 ghost use Rattle.std.specs.Map.{keys_of};
 
+use crate::tool::Variable;
 use plain_data::Text;
 use std::alloc::{AllocError, Global};
 use std::marker::Model;
@@ -57,16 +58,24 @@ impl<T> Entries<T> {
     }
 }
 
-impl Entries<Text> {
-    /// The same entries in memory of their own.
-    pub fn clone_in(&self, alloc: Global) -> Result<Entries<Text>, AllocError>
+impl Entries<Variable> {
+    /// The same variables in memory of their own.
+    pub fn clone_in(&self, alloc: Global) -> Result<Entries<Variable>, AllocError>
         ensures { IfOk result (λ copy. copy ≡ self.now) }
     {
         let mut copies = Vec::new(alloc);
         for entry in self.as_slice() {
             let id = entry.0.copied(alloc)?;
-            copies.push((id, entry.1.copied(alloc)?))?;
+            copies.push((id, copied_variable(alloc, &entry.1)?))?;
         }
         Ok(Entries::from_distinct(copies))
     }
+}
+
+fn copied_variable(alloc: Global, variable: &Variable) -> Result<Variable, AllocError>
+    ensures { IfOk result (λ copy. copy ≡ variable.now) }
+{
+    let written = variable.written.copied(alloc)?;
+    let value = variable.value.clone_in(alloc)?;
+    Ok(Variable { written, value })
 }

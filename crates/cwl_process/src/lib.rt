@@ -20,6 +20,8 @@ mod read_links;
 mod read_tool;
 mod read_workflow;
 mod simple;
+mod template_faults;
+mod templates;
 mod together;
 mod tool;
 mod workflow;
@@ -31,6 +33,6 @@ pub use links::{Links, Merge, Pick, Source};
 pub use process::{Process, Run, RunName};
 pub use tool::{
     Acting, Asked, Binding, ExitCodes, InputType, OutputBinding, OutputType, SecondaryFile,
-    Streams, Tool, ToolInput, ToolOutput,
+    Streams, Tool, ToolInput, ToolOutput, Variable,
 };
 pub use workflow::{Step, StepInput, Workflow, WorkflowInput, WorkflowOutput};

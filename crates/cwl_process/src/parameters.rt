@@ -7,20 +7,22 @@ ghost use Rattle.cwl_types.specs.Types.{type_in};
 ghost use Rattle.document_table.specs.Entries.{main_field};
 ghost use Rattle.cwl_process.specs.Bindings.{binding_in};
 ghost use Rattle.cwl_process.specs.Parameters.{default_at, input_type_in, is_text, loads, output_binding_in, output_type_in, tool_input_in, tool_output_in, type_at, workflow_input_in, workflow_output_in};
-ghost use Rattle.cwl_process.specs.Simple.{texts_at};
+ghost use Rattle.cwl_process.specs.Templates.{templates_at};
 ghost use Rattle.cwl_process.specs.declared.tool.InputType.TheVariants as input;
 ghost use Rattle.cwl_process.specs.declared.tool.OutputType.TheVariants as output;
 
 use crate::bindings::{read_binding, secondaries_at};
 use crate::from_entry::FromEntry;
 use crate::read_links::read_links;
-use crate::simple::{flag_at, text_at, texts_at};
+use crate::simple::flag_at;
+use crate::templates::{template_at, templates_at};
 use crate::tool::{Binding, InputType, OutputBinding, OutputType, ToolInput, ToolOutput};
 use crate::workflow::{WorkflowInput, WorkflowOutput};
 use cwl_types::{MemberType, read_type};
 use cwl_value::{Value as CwlValue, ValueRefusal, from_json};
 use document_table::main_field;
-use plain_data::{Items, Text};
+use param_refs::Template;
+use plain_data::Items;
 use serde_json::Value;
 use std::alloc::{AllocError, Global};
 
@@ -141,7 +143,7 @@ fn read_output_binding(alloc: Global, value: &Value) -> Result<OutputBinding, Al
     ensures { IfOk result (λ binding. binding ≡ output_binding_in (view value.now)) }
 {
     let glob = read_glob(alloc, value)?;
-    let output_eval = text_at(alloc, "outputEval", value)?;
+    let output_eval = template_at(alloc, "outputEval", value)?;
     Ok(OutputBinding {
         glob,
         load_contents: flag_at("loadContents", false, value),
@@ -149,13 +151,13 @@ fn read_output_binding(alloc: Global, value: &Value) -> Result<OutputBinding, Al
     })
 }
 
-fn read_glob(alloc: Global, value: &Value) -> Result<Option<Items<Text>>, AllocError>
-    ensures { IfOk result (λ glob. glob ≡ option_map (λ _. texts_at (codes "glob") (view value.now))
+fn read_glob(alloc: Global, value: &Value) -> Result<Option<Items<Template>>, AllocError>
+    ensures { IfOk result (λ glob. glob ≡ option_map (λ _. templates_at (codes "glob") (view value.now))
         (get (codes "glob") (view value.now))) }
 {
     match value.get("glob") {
         None => Ok(None),
-        Some(_) => Ok(Some(texts_at(alloc, "glob", value)?)),
+        Some(_) => Ok(Some(templates_at(alloc, "glob", value)?)),
     }
 }
 

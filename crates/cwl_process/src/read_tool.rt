@@ -10,7 +10,8 @@ ghost use Rattle.cwl_process.specs.Tools.{exit_codes_in, streams_in, tool_in};
 use crate::acting::read_asked;
 use crate::bindings::bindings_at;
 use crate::from_entry::entries_at;
-use crate::simple::{ints_at, text_at, texts_at};
+use crate::simple::{ints_at, texts_at};
+use crate::templates::template_at;
 use crate::tool::{Asked, ExitCodes, Streams, Tool};
 use document_table::Kind;
 use serde_json::Value;
@@ -54,9 +55,9 @@ fn read_streams_and_codes(alloc: Global, value: &Value) -> Result<(Streams, Exit
 fn read_streams(alloc: Global, value: &Value) -> Result<Streams, AllocError>
     ensures { IfOk result (λ streams. streams ≡ streams_in (view value.now)) }
 {
-    let stdin = text_at(alloc, "stdin", value)?;
-    let stdout = text_at(alloc, "stdout", value)?;
-    let stderr = text_at(alloc, "stderr", value)?;
+    let stdin = template_at(alloc, "stdin", value)?;
+    let stdout = template_at(alloc, "stdout", value)?;
+    let stderr = template_at(alloc, "stderr", value)?;
     Ok(Streams {
         stdin,
         stdout,

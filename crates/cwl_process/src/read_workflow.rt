@@ -19,7 +19,8 @@ use crate::parameters::default_at;
 use crate::process::{Process, Run, RunName};
 use crate::read_links::read_links;
 use crate::read_tool::read_tool;
-use crate::simple::{list_at, read_any_text, text_at, texts_at};
+use crate::simple::{list_at, read_any_text, texts_at};
+use crate::templates::template_at;
 use crate::tool::Asked;
 use crate::workflow::{Step, StepInput, Workflow};
 use document_table::{Kind, entries, main_field};
@@ -140,7 +141,7 @@ fn read_step(
     let outputs = step_outputs(alloc, value)?;
     let scatter = texts_at(alloc, "scatter", value)?;
     let inputs = entries_at(alloc, Kind::StepInput, "in", value)?;
-    let when = text_at(alloc, "when", value)?;
+    let when = template_at(alloc, "when", value)?;
     let run = run_at(alloc, levels, around, value)?;
     Ok(Step {
         inputs,
@@ -223,7 +224,7 @@ impl FromEntry for StepInput {
 
     fn from_entry(alloc: Global, value: &Value) -> Result<StepInput, AllocError> {
         let links = read_links(alloc, main_field("source", value), value)?;
-        let value_from = text_at(alloc, "valueFrom", value)?;
+        let value_from = template_at(alloc, "valueFrom", value)?;
         let default = default_at(alloc, value)?;
         Ok(StepInput {
             links,

@@ -5,9 +5,11 @@ ghost use Rattle.serde_json.specs.View.{view, items_view, members_view};
 ghost use Rattle.document_table.specs.Entries.{class_in, entry_seen};
 ghost use Rattle.document_table.specs.Faults.{under};
 ghost use Rattle.document_table.specs.declared.form.Kind.TheVariants as kind;
-ghost use Rattle.cwl_process.specs.Together.{at_field, default_fault, first_at, first_in, holds_file, inputs_fault, is_file_class, is_of_type, is_stream, items_hold_file, members_hold_file, output_fault, process_fault, run_fault, step_fault, stdin_fault, tool_fault, workflow_fault};
+ghost use Rattle.cwl_process.specs.FirstFaults.{first_at, first_in};
+ghost use Rattle.cwl_process.specs.Together.{default_fault, holds_file, inputs_fault, is_file_class, is_of_type, is_stream, items_hold_file, members_hold_file, output_fault, own_step_fault, process_fault, run_fault, step_fault, stdin_fault, tool_fault, workflow_fault};
 
 use crate::read_workflow::is_workflow;
+use crate::template_faults::{asked_fault, at_field, step_text_fault, tool_text_fault};
 use document_table::{Cause, DocumentFault, Kind, entries, here, main_field, under};
 use serde_json::{Map, Value};
 use std::alloc::{AllocError, Global};
@@ -40,7 +42,10 @@ fn workflow_fault(
 ) -> Result<Option<DocumentFault>, AllocError>
     ensures { IfOk result (λ fault. fault ≡ workflow_fault (process_fault levels) (view value.now)) }
 {
-    match defaults_fault(alloc, Kind::WorkflowInput, "inputs", value)? {
+    if let Some(fault) = defaults_fault(alloc, Kind::WorkflowInput, "inputs", value)? {
+        return Ok(Some(fault));
+    }
+    match asked_fault(alloc, value)? {
         Some(fault) => Ok(Some(fault)),
         None => steps_fault(alloc, levels, value),
     }
@@ -88,7 +93,7 @@ fn step_fault(
 ) -> Result<Option<DocumentFault>, AllocError>
     ensures { IfOk result (λ fault. fault ≡ step_fault (process_fault levels) (view value.now)) }
 {
-    if let Some(fault) = defaults_fault(alloc, Kind::StepInput, "in", value)? {
+    if let Some(fault) = own_step_fault(alloc, value)? {
         return Ok(Some(fault));
     }
     let Some(found) = value.get("run") else {
@@ -101,17 +106,13 @@ fn step_fault(
     at_field(alloc, "run", fault)
 }
 
-/// What is wrong with a field, seen from its object.
-fn at_field(
-    alloc: Global,
-    name: &str,
-    fault: Option<DocumentFault>,
-) -> Result<Option<DocumentFault>, AllocError>
-    ensures { IfOk result (λ outer. outer ≡ at_field name.now fault) }
+/// What is wrong first with a step, without the process that it runs.
+fn own_step_fault(alloc: Global, value: &Value) -> Result<Option<DocumentFault>, AllocError>
+    ensures { IfOk result (λ fault. fault ≡ own_step_fault (view value.now)) }
 {
-    match fault {
-        None => Ok(None),
-        Some(fault) => Ok(Some(under(alloc, name, fault)?)),
+    match defaults_fault(alloc, Kind::StepInput, "in", value)? {
+        Some(fault) => Ok(Some(fault)),
+        None => step_text_fault(alloc, value),
     }
 }
 
@@ -121,9 +122,12 @@ fn tool_fault(alloc: Global, value: &Value) -> Result<Option<DocumentFault>, All
     if let Some(fault) = inputs_fault(alloc, value)? {
         return Ok(Some(fault));
     }
-    match defaults_fault(alloc, Kind::ToolInput, "inputs", value)? {
+    if let Some(fault) = defaults_fault(alloc, Kind::ToolInput, "inputs", value)? {
+        return Ok(Some(fault));
+    }
+    match outputs_fault(alloc, value)? {
         Some(fault) => Ok(Some(fault)),
-        None => outputs_fault(alloc, value),
+        None => tool_text_fault(alloc, value),
     }
 }
 

@@ -2,10 +2,10 @@
 use crate::entries::Entries;
 use cwl_types::MemberType;
 use cwl_value::Value;
+use param_refs::Template;
 use plain_data::{Items, Text};
 
-/// A command and the values around it (CWL v1.2, `CommandLineTool`). Texts that may have references are kept as they are
-/// written.
+/// A command and the values around it (CWL v1.2, `CommandLineTool`).
 #[derive(Drop)]
 pub struct Tool {
     /// The words that every command line begins with.
@@ -23,9 +23,9 @@ pub struct Tool {
 #[derive(Drop)]
 pub struct Streams {
     /// The path of the file that is the standard input.
-    pub stdin: Option<Text>,
-    pub stdout: Option<Text>,
-    pub stderr: Option<Text>,
+    pub stdin: Option<Template>,
+    pub stdout: Option<Template>,
+    pub stderr: Option<Template>,
 }
 
 /// A value that a tool takes (CWL v1.2, `CommandInputParameter`).
@@ -62,7 +62,7 @@ pub struct Binding {
     /// Joins the items of a list to one word.
     pub item_separator: Option<Text>,
     /// The value in place of the input's.
-    pub value_from: Option<Text>,
+    pub value_from: Option<Template>,
 }
 
 /// A file that comes with another (CWL v1.2, `SecondaryFileSchema`).
@@ -97,11 +97,11 @@ pub enum OutputType {
 #[derive(Drop)]
 pub struct OutputBinding {
     /// The patterns of its files; none where the field is absent, which differs from an empty list.
-    pub glob: Option<Items<Text>>,
+    pub glob: Option<Items<Template>>,
     /// Whether the contents of the files are read.
     pub load_contents: bool,
     /// The value in place of the files.
-    pub output_eval: Option<Text>,
+    pub output_eval: Option<Template>,
 }
 
 /// The exit codes that a tool gives a meaning to. Other codes mean what they do everywhere.
@@ -124,7 +124,15 @@ pub struct Asked {
 #[derive(Drop)]
 pub struct Acting {
     /// Variables of the environment by their names (CWL v1.2, `EnvVarRequirement`).
-    pub environment: Option<Entries<Text>>,
+    pub environment: Option<Entries<Variable>>,
     /// Whether an earlier result may be used (CWL v1.2, `WorkReuse`).
     pub reuse: Option<bool>,
+}
+
+/// The value of a variable of the environment (CWL v1.2, `EnvironmentDef`).
+#[derive(Drop)]
+pub struct Variable {
+    /// As the document has it, before references have their values.
+    pub written: Text,
+    pub value: Template,
 }

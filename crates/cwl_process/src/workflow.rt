@@ -5,6 +5,7 @@ use crate::process::Run;
 use crate::tool::SecondaryFile;
 use cwl_types::MemberType;
 use cwl_value::Value;
+use param_refs::Template;
 use plain_data::{Items, Text};
 use scatter_shape::Method;
 
@@ -47,7 +48,7 @@ pub struct Step {
     pub scatter: Items<Text>,
     pub method: Option<Method>,
     /// The step is skipped where this is false.
-    pub when: Option<Text>,
+    pub when: Option<Template>,
 }
 
 /// A value that a step takes (CWL v1.2, `WorkflowStepInput`).
@@ -57,5 +58,5 @@ pub struct StepInput {
     /// Stands in for an absent value and for null.
     pub default: Option<Value>,
     /// The value in place of the links'.
-    pub value_from: Option<Text>,
+    pub value_from: Option<Template>,
 }

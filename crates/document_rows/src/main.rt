@@ -11,6 +11,7 @@ use std::io;
 use std::process::ExitCode;
 
 mod process;
+mod template;
 mod tool;
 mod types;
 

@@ -1,4 +1,5 @@
 //! Reads the processes of rows, and writes them as JSON: what is absent is left out.
+use crate::template::{put_parts, put_template};
 use crate::told;
 use crate::tool::{put_members, put_secondaries, put_tool};
 use cwl_process::{
@@ -97,7 +98,7 @@ fn put_step(alloc: Global, out: &mut String, step: &Step) -> Result<(), RowFault
     out.push_str("},\"out\":")?;
     put_texts(alloc, out, step.outputs.as_slice())?;
     put_scatter(alloc, out, step)?;
-    put_text(alloc, out, "when", &step.when)?;
+    put_template(alloc, out, "when", &step.when)?;
     out.push_str(",\"run\":")?;
     put_run(alloc, out, &step.run)?;
     Ok(out.push_str("}")?)
@@ -142,7 +143,7 @@ fn put_step_inputs(
         out.push_str("{\"step_input\":true")?;
         put_links(alloc, out, &entry.1.links)?;
         put_default(alloc, out, &entry.1.default)?;
-        put_text(alloc, out, "valueFrom", &entry.1.value_from)?;
+        put_template(alloc, out, "valueFrom", &entry.1.value_from)?;
         out.push_str("}")?;
         gap = ",";
     }
@@ -189,7 +190,11 @@ pub(crate) fn put_asked(alloc: Global, out: &mut String, asked: &Asked) -> Resul
         let mut gap = "";
         for entry in environment.as_slice() {
             put_key(alloc, out, gap, entry.0.as_str())?;
-            put_quoted(alloc, out, entry.1.as_str())?;
+            out.push_str("[")?;
+            put_quoted(alloc, out, entry.1.written.as_str())?;
+            out.push_str(",")?;
+            put_parts(alloc, out, &entry.1.value)?;
+            out.push_str("]")?;
             gap = ",";
         }
         out.push_str("}")?;

@@ -1,5 +1,6 @@
 //! Writes tools as JSON.
 use crate::process::{put_asked, put_default, put_key, put_quoted, put_text, put_texts};
+use crate::template::{put_template, put_templates};
 use crate::types;
 use cwl_process::{
     Binding, InputType, OutputBinding, OutputType, SecondaryFile, Tool, ToolInput, ToolOutput,
@@ -15,9 +16,9 @@ pub(crate) fn put_tool(alloc: Global, out: &mut String, tool: &Tool) -> Result<(
     put_arguments(alloc, out, tool.arguments.as_slice())?;
     put_inputs(alloc, out, tool.inputs.as_slice())?;
     put_outputs(alloc, out, tool.outputs.as_slice())?;
-    put_text(alloc, out, "stdin", &tool.streams.stdin)?;
-    put_text(alloc, out, "stdout", &tool.streams.stdout)?;
-    put_text(alloc, out, "stderr", &tool.streams.stderr)?;
+    put_template(alloc, out, "stdin", &tool.streams.stdin)?;
+    put_template(alloc, out, "stdout", &tool.streams.stdout)?;
+    put_template(alloc, out, "stderr", &tool.streams.stderr)?;
     put_codes(alloc, out, "success", tool.exit_codes.success.as_slice())?;
     put_codes(
         alloc,
@@ -68,7 +69,7 @@ fn put_binding(alloc: Global, out: &mut String, binding: &Binding) -> Result<(),
     drop(text);
     put_text(alloc, out, "prefix", &binding.prefix)?;
     put_text(alloc, out, "itemSeparator", &binding.item_separator)?;
-    put_text(alloc, out, "valueFrom", &binding.value_from)?;
+    put_template(alloc, out, "valueFrom", &binding.value_from)?;
     Ok(out.push_str("}")?)
 }
 
@@ -147,9 +148,9 @@ fn put_output_binding(
     })?;
     if let Some(glob) = &binding.glob {
         out.push_str(",\"glob\":")?;
-        put_texts(alloc, out, glob.as_slice())?;
+        put_templates(alloc, out, glob.as_slice())?;
     }
-    put_text(alloc, out, "outputEval", &binding.output_eval)?;
+    put_template(alloc, out, "outputEval", &binding.output_eval)?;
     Ok(out.push_str("}")?)
 }
 

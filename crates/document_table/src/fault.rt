@@ -152,7 +152,7 @@ pub fn under(alloc: Global, name: &str, fault: DocumentFault) -> Result<Document
 }
 
 /// The fault of an item, seen from its list.
-pub(crate) fn at(index: usize, fault: DocumentFault) -> Result<DocumentFault, AllocError>
+pub fn at(index: usize, fault: DocumentFault) -> Result<DocumentFault, AllocError>
     ensures { IfOk result (λ outer. outer ≡ at index fault) }
 {
     let DocumentFault { cause, mut outward } = fault;

@@ -21,7 +21,7 @@ mod walk;
 pub use depth::nests_within;
 pub use document::{MOST_NESTING, first_fault, read_document};
 pub use entry::{entries, main_field};
-pub use fault::{Cause, DocumentError, DocumentFault, Way, here, under};
+pub use fault::{Cause, DocumentError, DocumentFault, Way, at, here, under};
 pub use form::{Form, Kind};
 pub use laws::{
     entries_have_their_form, fields_have_their_forms, processes_are_tools_or_workflows,

@@ -11,6 +11,7 @@
 #![tactic(auto)]
 
 mod context;
+mod copying;
 mod descent;
 mod evaluation;
 mod fault;

@@ -1,3 +1,5 @@
+ghost use Rattle.std.specs.Prelude.{◌≡◌};
+
 use plain_data::{Items, Text};
 use std::alloc::Global;
 use std::marker::Model;
@@ -32,6 +34,15 @@ pub enum Part {
 pub struct Template {
     pub(crate) parts: Items<Part>,
     pub(crate) alloc: Global,
+}
+
+impl Template {
+    /// The parts, from left to right.
+    pub fn parts(&self) -> &[Part]
+        ensures { result.now ≡ self.now }
+    {
+        self.parts.as_slice()
+    }
 }
 
 impl Model for Template {

@@ -1,4 +1,4 @@
-use Rattle.std.proofs.Common.{◌≡◌, ℕ, ◌+◌, ◌*◌, ◌++◌, drop, map}
+use Rattle.std.proofs.Common.{◌≡◌, ◌+◌, ◌*◌, ◌++◌, drop, map}
 use Rattle.document_table.specs.Entries.{entry_seen}
 use Rattle.cwl_process.specs.Processes.{process_in, step_in}
 use Rattle.cwl_process.proofs.read_workflow.+process.Given as goal

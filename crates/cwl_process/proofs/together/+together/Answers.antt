@@ -1,6 +1,5 @@
 use Rattle.std.proofs.Common.{sym, ◌∙◌}
 use Rattle.serde_json.specs.View.{view}
-use Rattle.cwl_process.specs.Together.{process_fault, tool_fault, workflow_fault}
 use Rattle.cwl_process.proofs.Levels.{fault_at_tool, fault_at_workflow, ok_same}
 use Rattle.cwl_process.proofs.together.+together.Goals as goal
 

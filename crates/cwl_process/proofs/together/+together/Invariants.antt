@@ -1,6 +1,7 @@
-use Rattle.std.proofs.Common.{◌≡◌, ℕ, ◌+◌, ◌*◌, drop, map}
+use Rattle.std.proofs.Common.{◌≡◌, ◌+◌, ◌*◌, drop, map}
 use Rattle.document_table.specs.Entries.{entry_seen}
-use Rattle.cwl_process.specs.Together.{first_in, process_fault, step_fault}
+use Rattle.cwl_process.specs.FirstFaults.{first_in}
+use Rattle.cwl_process.specs.Together.{process_fault, step_fault}
 use Rattle.cwl_process.proofs.together.+together.Given as goal
 
 -- Each workflow inside another takes a level; on one level the functions call one another in this order.

@@ -1,6 +1,7 @@
 use Rattle.std.proofs.Common.{◌≡◌, drop, map}
 use Rattle.document_table.specs.Entries.{entry_seen}
-use Rattle.cwl_process.specs.Together.{first_in, output_fault}
+use Rattle.cwl_process.specs.FirstFaults.{first_in}
+use Rattle.cwl_process.specs.Together.{output_fault}
 use Rattle.cwl_process.proofs.together.first_output_fault.Given as goal
 
 abbrev pub invariant-loop-entry : goal.invariant-loop-entry
