@@ -10,6 +10,7 @@
 mod bracket;
 mod characters;
 mod fault;
+mod found;
 mod group;
 mod groups;
 mod item;
@@ -25,6 +26,7 @@ mod syntax;
 mod targets;
 
 pub use fault::{GlobError, GlobFault};
+pub use found::Found;
 pub use group::{Member, Placed};
 pub use item::{Bracket, CharRange, PatternItem};
 pub use laws::{
