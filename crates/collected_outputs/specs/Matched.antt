@@ -18,7 +18,7 @@ pub data AreThose (pattern : List PatternItem) : List Name → List Name → Typ
 -- what one pattern matches: `.` the output folder itself, and any other what was found, in the order of the names
 pub data AreOf (listing : Listing) (pattern : List PatternItem) : List Name → Type 0 where
   folder : is_folder pattern ≡ true → AreOf listing pattern (codes "." ∷ [])
-  below : (names : List Name) → is_folder pattern ≡ false → AreThose pattern (keys_of listing) names → AreOf listing pattern names
+  inside : (names : List Name) → is_folder pattern ≡ false → AreThose pattern (keys_of listing) names → AreOf listing pattern names
 
 -- what the patterns match, one after another
 pub data AreOfAll (listing : Listing) : List (List PatternItem) → List Name → Type 0 where

@@ -1,4 +1,9 @@
 //! The value that an output has by its type.
+ghost use Rattle.std.specs.Prelude.{◌≡◌, [], Ok, IfOk, IfErr};
+ghost use Rattle.std.specs.List.{list_any};
+ghost use Rattle.collected_outputs.specs.ByType as spec;
+ghost use Rattle.collected_outputs.specs.Gives.{Refuses};
+
 use crate::fault::{CollectFault, Stop};
 use cwl_types::MemberType;
 use cwl_value::Value;
@@ -9,10 +14,20 @@ use type_check::fits;
 pub(crate) fn value_by_type(
     members: &Items<MemberType>,
     values: Items<Value>,
-) -> Result<Value, Stop> {
+) -> Result<Value, Stop>
+    ensures ok { IfOk result (λ v. spec.value_by_type members.now values ≡ Ok v) }
+    ensures err { IfErr result (Refuses (spec.value_by_type members.now values)) }
+{
     if has_array(members.as_slice()) {
         return Ok(Value::List(values));
     }
+    sole_value(members, values)
+}
+
+fn sole_value(members: &Items<MemberType>, values: Items<Value>) -> Result<Value, Stop>
+    ensures ok { IfOk result (λ v. spec.sole_value members.now values ≡ Ok v) }
+    ensures err { IfErr result (Refuses (spec.sole_value members.now values)) }
+{
     let mut values = values;
     match values.pop() {
         None => null_or_none(members),
@@ -26,7 +41,10 @@ pub(crate) fn value_by_type(
     }
 }
 
-fn null_or_none(members: &Items<MemberType>) -> Result<Value, Stop> {
+fn null_or_none(members: &Items<MemberType>) -> Result<Value, Stop>
+    ensures ok { IfOk result (λ v. spec.sole_value members.now [] ≡ Ok v) }
+    ensures err { IfErr result (Refuses (spec.sole_value members.now [])) }
+{
     if fits(&Value::Null, members) {
         Ok(Value::Null)
     } else {
@@ -34,10 +52,14 @@ fn null_or_none(members: &Items<MemberType>) -> Result<Value, Stop> {
     }
 }
 
-fn has_array(members: &[MemberType]) -> bool {
+fn has_array(members: &[MemberType]) -> bool
+    ensures { result ≡ list_any spec.is_array members.now }
+{
     members.iter().any(|member| is_array(member))
 }
 
-fn is_array(member: &MemberType) -> bool {
+fn is_array(member: &MemberType) -> bool
+    ensures { result ≡ spec.is_array member.now }
+{
     matches!(member, MemberType::Array(_))
 }

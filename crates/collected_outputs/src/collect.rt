@@ -1,19 +1,31 @@
 //! The outputs of a job.
+ghost use Rattle.std.specs.Prelude.{◌≡◌, ◌∷◌, [], Ok, Some, IfOk, IfErr, OnOk};
+ghost use Rattle.cwl_types.specs.declared.types.MemberType as member;
+ghost use Rattle.cwl_types.specs.declared.types.PlainType.TheVariants as plain;
+ghost use Rattle.cwl_value.specs.declared.value.Value.{out-Value};
+ghost use Rattle.collected_outputs.specs.Checked.{is_file_level, is_typed};
+ghost use Rattle.collected_outputs.specs.Gives.{Refuses};
+ghost use Rattle.collected_outputs.specs.Outputs as spec;
+ghost use Rattle.collected_outputs.specs.Outputs.{AreNames, HasValue, globs_in};
+ghost use Rattle.collected_outputs.specs.inner.Steps.{left_of, texts_in, texts_by, HasNone, NoNames, NoOutputs, BindsOutput, BindsNone, error_at};
+
+use crate::bare::bare;
 use crate::by_type::value_by_type;
+use crate::classes::has_class;
 use crate::contents::load_all;
 use crate::evaluation::{Speaks, runtime_of, value_in};
 use crate::fault::{CollectError, CollectFault, OutputFault, Stop};
-use crate::forms::{has_class, without_contents};
 use crate::found::all_found;
 use crate::listing::{Entry, listing_of};
 use crate::matches::matched_names;
 use crate::object::{OUTPUT_OBJECT, object_of, placed};
-use crate::patterns::patterns_of;
+use crate::patterns::{read_patterns, texts_of};
 use crate::secondary::with_secondary;
 use crate::values::{push_value, values_of};
 use cwl_process::{OutputBinding, OutputType, Tool, ToolOutput};
 use cwl_types::{MemberType, PlainType};
 use cwl_value::{Value, ValueRefusal, from_json, to_json};
+use param_refs::Template;
 use plain_data::{Items, Keyed, Text};
 use staging::Found;
 use std::alloc::{AllocError, Global};
@@ -81,13 +93,47 @@ fn from_bindings(
     alloc: Global,
     tool: &Tool,
     folder: Folder<'_>,
-) -> Result<Keyed<Value>, CollectError> {
+) -> Result<Keyed<Value>, CollectError>
+    ensures ok { IfOk result (λ outputs. spec.AreOutputs (left_of folder.entry) tool.now.outputs (Ok outputs)) }
+    ensures err { IfErr result (NoOutputs (left_of folder.entry) tool.now.outputs) }
+{
     let mut outputs = Keyed::new(alloc);
     for output in tool.outputs.as_slice() {
-        let bound = bound_value(alloc, &output.1, folder);
-        add_output(alloc, &output.0, bound, &mut outputs)?;
+        bind_output(alloc, &output.0, &output.1, folder, &mut outputs)?;
     }
     Ok(outputs)
+}
+
+fn bind_output(
+    alloc: Global,
+    id: &Text,
+    output: &ToolOutput,
+    folder: Folder<'_>,
+    outputs: &mut Keyed<Value>,
+) -> Result<(), CollectError>
+    ensures ok { OnOk result (BindsOutput (left_of folder.entry) id.now output.now outputs.old outputs.new) }
+    ensures err { IfErr result (BindsNone (left_of folder.entry) id.now output.now) }
+{
+    match bound_value(alloc, output, folder) {
+        Ok(value) => {
+            drop(outputs.insert(id.copied(alloc)?, value)?);
+            Ok(())
+        }
+        Err(stop) => Err(at_output(alloc, id, stop)?),
+    }
+}
+
+// The fault, with the output that it is met at.
+fn at_output(alloc: Global, id: &Text, stop: Stop) -> Result<CollectError, AllocError>
+    ensures { IfOk result (λ e. e ≡ error_at id.now stop) }
+{
+    match stop {
+        Stop::Refused(fault) => Ok(CollectError::Refused(OutputFault {
+            output: Some(id.copied(alloc)?),
+            fault,
+        })),
+        Stop::OutOfMemory => Ok(CollectError::OutOfMemory),
+    }
 }
 
 fn from_object(
@@ -145,36 +191,102 @@ fn written_value(
         None => Value::Null,
         Some(written) => placed(alloc, folder.listing, written)?,
     };
-    checked(alloc, output, folder, value)
+    checked(alloc, folder.listing, &output.kind, value)
 }
 
 // The value of an output by its type and binding.
-fn bound_value(alloc: Global, output: &ToolOutput, folder: Folder<'_>) -> Result<Value, Stop> {
-    let value = unchecked_value(alloc, output, folder)?;
-    let declared = output.secondary_files.as_slice();
-    let value = with_secondary(alloc, folder.listing, declared, value)?;
-    checked(alloc, output, folder, value)
+fn bound_value(alloc: Global, output: &ToolOutput, folder: Folder<'_>) -> Result<Value, Stop>
+    ensures ok { IfOk result (λ v. HasValue (left_of folder.entry) output.now (Ok v)) }
+    ensures err { IfErr result (HasNone (left_of folder.entry) output.now) }
+{
+    let names = names_of(alloc, output, folder)?;
+    output_value(alloc, output, folder, names.as_slice())
 }
 
-fn unchecked_value(alloc: Global, output: &ToolOutput, folder: Folder<'_>) -> Result<Value, Stop> {
+fn output_value(
+    alloc: Global,
+    output: &ToolOutput,
+    folder: Folder<'_>,
+    names: &[Text],
+) -> Result<Value, Stop>
+    ensures ok { IfOk result (λ v. spec.output_value (left_of folder.entry) output.now names.now ≡ Ok v) }
+    ensures err { IfErr result (Refuses (spec.output_value (left_of folder.entry) output.now names.now)) }
+{
+    let value = unchecked_value(alloc, output, folder, names)?;
+    let declared = output.secondary_files.as_slice();
+    let value = with_secondary(alloc, folder.listing, declared, value)?;
+    checked(alloc, folder.listing, &output.kind, value)
+}
+
+// The names that the output's patterns match.
+fn names_of(alloc: Global, output: &ToolOutput, folder: Folder<'_>) -> Result<Items<Text>, Stop>
+    ensures ok { IfOk result (λ names. AreNames folder.entry.listing.now (texts_by folder.entry output.now) (Ok names)) }
+    ensures err { IfErr result (NoNames folder.entry.listing.now (texts_by folder.entry output.now)) }
+{
+    match &output.kind {
+        OutputType::Members(_) => match &output.binding {
+            None => Ok(Items::new(alloc)),
+            Some(binding) => names_of_binding(alloc, binding, folder),
+        },
+        _ => Ok(Items::new(alloc)),
+    }
+}
+
+fn names_of_binding(
+    alloc: Global,
+    binding: &OutputBinding,
+    folder: Folder<'_>,
+) -> Result<Items<Text>, Stop>
+    ensures ok { IfOk result (λ names. AreNames folder.entry.listing.now (texts_in folder.entry (globs_in (Some binding.now))) (Ok names)) }
+    ensures err { IfErr result (NoNames folder.entry.listing.now (texts_in folder.entry (globs_in (Some binding.now)))) }
+{
+    match &binding.glob {
+        None => Ok(Items::new(alloc)),
+        Some(templates) => names_by(alloc, templates.as_slice(), folder),
+    }
+}
+
+fn names_by(alloc: Global, templates: &[Template], folder: Folder<'_>) -> Result<Items<Text>, Stop>
+    ensures ok { IfOk result (λ names. AreNames folder.entry.listing.now (texts_in folder.entry templates.now) (Ok names)) }
+    ensures err { IfErr result (NoNames folder.entry.listing.now (texts_in folder.entry templates.now)) }
+{
+    let texts = texts_of(alloc, templates, folder.speaks)?;
+    let patterns = read_patterns(alloc, texts.as_slice())?;
+    Ok(matched_names(alloc, folder.listing, patterns.as_slice())?)
+}
+
+fn unchecked_value(
+    alloc: Global,
+    output: &ToolOutput,
+    folder: Folder<'_>,
+    names: &[Text],
+) -> Result<Value, Stop>
+    ensures ok { IfOk result (λ v. spec.unchecked (left_of folder.entry) output.now.kind output.now.binding names.now ≡ Ok v) }
+    ensures err { IfErr result (Refuses (spec.unchecked (left_of folder.entry) output.now.kind output.now.binding names.now)) }
+{
     match &output.kind {
         OutputType::Stdout => stream_value(alloc, folder, folder.streams.stdout),
         OutputType::Stderr => stream_value(alloc, folder, folder.streams.stderr),
         OutputType::Members(members) => match &output.binding {
             None => Ok(Value::Null),
-            Some(binding) => value_of_binding(alloc, members, binding, folder),
+            Some(binding) => value_of_binding(alloc, members, binding, folder, names),
         },
     }
 }
 
-fn stream_value(alloc: Global, folder: Folder<'_>, name: &str) -> Result<Value, Stop> {
+fn stream_value(alloc: Global, folder: Folder<'_>, name: &str) -> Result<Value, Stop>
+    ensures ok { IfOk result (λ v. spec.stream_value (left_of folder.entry) name.now ≡ Ok v) }
+    ensures err { IfErr result (Refuses (spec.stream_value (left_of folder.entry) name.now)) }
+{
     let mut found = Items::new(alloc);
     push_value(alloc, folder.listing, name, &mut found)?;
     let members = file_type(alloc)?;
     value_by_type(&members, found)
 }
 
-fn file_type(alloc: Global) -> Result<Items<MemberType>, AllocError> {
+fn file_type(alloc: Global) -> Result<Items<MemberType>, AllocError>
+    ensures { IfOk result (λ members. members ≡ member.Plain plain.File ∷ []) }
+{
     let mut members = Items::new(alloc);
     members.push(MemberType::Plain(PlainType::File))?;
     Ok(members)
@@ -185,12 +297,28 @@ fn value_of_binding(
     members: &Items<MemberType>,
     binding: &OutputBinding,
     folder: Folder<'_>,
-) -> Result<Value, Stop> {
+    names: &[Text],
+) -> Result<Value, Stop>
+    ensures ok { IfOk result (λ v. spec.value_of_binding (left_of folder.entry) members.now (Some binding.now) names.now ≡ Ok v) }
+    ensures err { IfErr result (Refuses (spec.value_of_binding (left_of folder.entry) members.now (Some binding.now) names.now)) }
+{
     if binding.glob.is_none() && binding.output_eval.is_none() {
         return Ok(Value::Null);
     }
-    let matched = matched_values(alloc, binding, folder)?;
-    match &binding.output_eval {
+    let matched = matched_values(alloc, binding.load_contents, folder, names)?;
+    evaluated(members, &binding.output_eval, folder, matched)
+}
+
+fn evaluated(
+    members: &Items<MemberType>,
+    output_eval: &Option<Template>,
+    folder: Folder<'_>,
+    matched: Items<Value>,
+) -> Result<Value, Stop>
+    ensures ok { IfOk result (λ v. spec.evaluated (left_of folder.entry) members.now output_eval.now matched ≡ Ok v) }
+    ensures err { IfErr result (Refuses (spec.evaluated (left_of folder.entry) members.now output_eval.now matched)) }
+{
+    match output_eval {
         None => value_by_type(members, matched),
         Some(template) => value_in(template, folder.speaks, &Value::List(matched)),
     }
@@ -198,16 +326,15 @@ fn value_of_binding(
 
 fn matched_values(
     alloc: Global,
-    binding: &OutputBinding,
+    load: bool,
     folder: Folder<'_>,
-) -> Result<Items<Value>, Stop> {
-    let Some(templates) = &binding.glob else {
-        return Ok(Items::new(alloc));
-    };
-    let patterns = patterns_of(alloc, templates.as_slice(), folder.speaks)?;
-    let names = matched_names(alloc, folder.listing, patterns.as_slice())?;
-    let values = values_of(alloc, folder.listing, names.as_slice())?;
-    if binding.load_contents {
+    names: &[Text],
+) -> Result<Items<Value>, Stop>
+    ensures ok { IfOk result (λ vs. spec.matched_values (left_of folder.entry) load names.now ≡ Ok vs) }
+    ensures err { IfErr result (Refuses (spec.matched_values (left_of folder.entry) load names.now)) }
+{
+    let values = values_of(alloc, folder.listing, names)?;
+    if load {
         load_all(alloc, folder.heads, values)
     } else {
         Ok(values)
@@ -217,24 +344,35 @@ fn matched_values(
 // The value without contents, where it fits the type and holds only what was found.
 fn checked(
     alloc: Global,
-    output: &ToolOutput,
-    folder: Folder<'_>,
+    listing: &Keyed<Entry>,
+    kind: &OutputType,
     value: Value,
-) -> Result<Value, Stop> {
-    if !is_typed(&value, &output.kind) || has_class(&value) {
+) -> Result<Value, Stop>
+    ensures ok { IfOk result (λ v. spec.checked listing.now kind.now value ≡ Ok v) }
+    ensures err { IfErr result (Refuses (spec.checked listing.now kind.now value)) }
+{
+    if !is_typed(&value, kind) || has_class(&value) {
         return Err(Stop::Refused(CollectFault::NotTyped));
     }
-    if !all_found(folder.listing, &value) {
+    if !all_found(listing, &value) {
         return Err(Stop::Refused(CollectFault::NameOutside));
     }
-    Ok(without_contents(alloc, &value)?)
+    Ok(bare(alloc, &value)?)
 }
 
-fn is_typed(value: &Value, kind: &OutputType) -> bool {
+fn is_typed(value: &Value, kind: &OutputType) -> bool
+    ensures { result ≡ is_typed kind.now value.now }
+{
     match kind {
         OutputType::Members(members) => fits(value, members),
-        _ => matches!(value, Value::FileVal(_)),
+        _ => is_file(value),
     }
+}
+
+fn is_file(value: &Value) -> bool
+    ensures { result ≡ is_file_level (out-Value value.now) }
+{
+    matches!(value, Value::FileVal(_))
 }
 
 // The outputs, where their JSON doesn't nest too deep for a reader of values.

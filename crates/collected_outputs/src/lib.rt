@@ -1,12 +1,13 @@
 //! The outputs of a job, from what its command left behind (CWL v1.2, CommandLineTool, "Output binding").
 #![tactic(auto)]
 
+mod bare;
 mod by_type;
+mod classes;
 mod collect;
 mod contents;
 mod evaluation;
 mod fault;
-mod forms;
 mod found;
 mod listing;
 mod matches;

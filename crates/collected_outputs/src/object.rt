@@ -33,11 +33,7 @@ pub(crate) fn object_of(
 
 /// A value of the object, with each File and Directory as it was found.
 #[cycle(object)]
-pub(crate) fn placed(
-    alloc: Global,
-    listing: &Keyed<Entry>,
-    value: &Value,
-) -> Result<Value, Stop> {
+pub(crate) fn placed(alloc: Global, listing: &Keyed<Entry>, value: &Value) -> Result<Value, Stop> {
     match value {
         Value::FileVal(file) => Ok(Value::FileVal(placed_file(alloc, listing, file)?)),
         Value::DirVal(dir) => Ok(Value::DirVal(placed_dir(alloc, listing, dir)?)),
@@ -77,11 +73,7 @@ fn placed_fields(
 }
 
 #[cycle(object)]
-fn placed_file(
-    alloc: Global,
-    listing: &Keyed<Entry>,
-    file: &FileVal,
-) -> Result<FileVal, Stop> {
+fn placed_file(alloc: Global, listing: &Keyed<Entry>, file: &FileVal) -> Result<FileVal, Stop> {
     let name = relative_name(&file.place)?;
     let secondary = placed_items(alloc, listing, &file.secondary)?;
     let basename = named(alloc, &file.basename, name)?;

@@ -1,0 +1,117 @@
+-- Which values are outputs, and what of them is kept.
+use Rattle.std.specs.Prelude.{ℕ, Bool, true, false, not, ◌||◌, ◌&&◌, if◌then◌else◌, List, [], ◌∷◌, map, codes, Option, Some, None, bytes_eq, Ok, Err}
+use Rattle.std.specs.Option.{option_map_or}
+use Rattle.std.specs.List.{list_any, list_all}
+use Rattle.plain_data.specs.ByName.{value_at, map_values}
+use Rattle.cwl_process.specs.declared.tool.OutputType.{OutputType}
+use Rattle.cwl_process.specs.declared.tool.OutputType.TheVariants.{Stdout, Stderr, Members}
+use Rattle.cwl_value.specs.declared.place.Place.{Place}
+use Rattle.cwl_value.specs.declared.place.Place.TheVariants.{Nowhere, Url, Path, Made}
+use Rattle.cwl_value.specs.declared.value.Value.{Value, out-Value, roll-Value, fold-Value}
+use Rattle.cwl_value.specs.declared.value.Value as value
+use Rattle.cwl_value.specs.declared.value.Value.TheOpen.{Value-F, FileVal-F, DirVal-F}
+use Rattle.cwl_value.specs.declared.value.FileVal.{FileVal, out-FileVal, roll-FileVal, fold-FileVal}
+use Rattle.cwl_value.specs.declared.value.DirVal.{DirVal, roll-DirVal, fold-DirVal}
+use Rattle.type_check.specs.Fits.{fits}
+use Rattle.collected_outputs.specs.declared.listing.Entry.{Entry}
+use Rattle.collected_outputs.specs.Gives.{Gives, and_then}
+use Rattle.collected_outputs.specs.Listing.{Listing}
+use Rattle.collected_outputs.specs.declared.fault.CollectFault.TheVariants.{NotTyped, NameOutside}
+
+-- Files and Directories that were found.
+
+abbrev pub is_named : Listing → List ℕ → Bool → Bool
+is_named listing name is_dir = (if bytes_eq name (codes ".") then is_dir else option_map_or (λ (e : Entry). if is_dir then e.is_dir else not e.is_dir) (value_at name listing) false)
+
+-- something of this kind stands under the name of the place
+abbrev pub is_found : Listing → Place → Bool → Bool
+is_found listing Nowhere is_dir = false
+is_found listing (Url name) is_dir = is_named listing name is_dir
+is_found listing (Path path) is_dir = false
+is_found listing (Made job name) is_dir = false
+
+abbrev pub every : List Bool → Bool
+every flags = list_all (λ flag. flag) flags
+
+abbrev pub found_file : Listing → FileVal-F Bool Bool Bool → Bool
+found_file listing f = is_found listing f.place false && every f.secondary
+
+abbrev pub found_dir : Listing → DirVal-F Bool Bool Bool → Bool
+found_dir listing d = is_found listing d.place true && option_map_or every d.listing true
+
+abbrev pub found_value : Value-F Bool Bool Bool → Bool
+found_value (Value-F.FileVal f) = f
+found_value (Value-F.DirVal d) = d
+found_value (Value-F.List flags) = every flags
+found_value (Value-F.Fields flags) = every (map (λ e. e.1) flags)
+found_value _ = true
+
+-- each File and Directory of the value is one of the output folder's
+abbrev pub all_found : Listing → Value → Bool
+all_found listing = fold-Value Bool Bool Bool found_value (found_dir listing) (found_file listing)
+
+abbrev pub file_found : Listing → FileVal → Bool
+file_found listing = fold-FileVal Bool Bool Bool found_value (found_dir listing) (found_file listing)
+
+abbrev pub dir_found : Listing → DirVal → Bool
+dir_found listing = fold-DirVal Bool Bool Bool found_value (found_dir listing) (found_file listing)
+
+-- Contents that are dropped.
+
+abbrev pub bare_file : FileVal-F Value DirVal FileVal → FileVal
+bare_file f = roll-FileVal (record f { contents = None })
+
+abbrev pub bare : Value → Value
+bare = fold-Value Value DirVal FileVal roll-Value roll-DirVal bare_file
+
+abbrev pub file_bare : FileVal → FileVal
+file_bare = fold-FileVal Value DirVal FileVal roll-Value roll-DirVal bare_file
+
+abbrev pub dir_bare : DirVal → DirVal
+dir_bare = fold-DirVal Value DirVal FileVal roll-Value roll-DirVal bare_file
+
+-- Types.
+
+abbrev pub is_file_level : Value-F Value DirVal FileVal → Bool
+is_file_level (Value-F.FileVal f) = true
+is_file_level _ = false
+
+-- `stdout` and `stderr` are Files
+abbrev pub is_typed : OutputType → Value → Bool
+is_typed Stdout v = is_file_level (out-Value v)
+is_typed Stderr v = is_file_level (out-Value v)
+is_typed (Members members) v = fits members v
+
+-- Fields that would be read back as a File or a Directory.
+
+-- a text, and whether there are such fields in a value
+pub record Classed : Type 0 where
+  pub text : Option (List ℕ)
+  pub classed : Bool
+
+abbrev pub is_class : List ℕ → Bool
+is_class text = bytes_eq text (codes "File") || bytes_eq text (codes "Directory")
+
+abbrev pub names_class : Option Classed → Bool
+names_class None = false
+names_class (Some c) = option_map_or is_class c.text false
+
+abbrev pub unclassed : Classed
+unclassed = record { text = None; classed = false }
+
+abbrev pub classed_value : Value-F Classed Classed Classed → Classed
+classed_value (Value-F.Text text) = record { text = Some text; classed = false }
+classed_value (Value-F.List cs) = record { text = None; classed = list_any (λ (c : Classed). c.classed) cs }
+classed_value (Value-F.Fields cs) = record { text = None; classed = names_class (value_at (codes "class") cs) || list_any (λ (e : List ℕ × Classed). e.1.classed) cs }
+classed_value _ = unclassed
+
+abbrev pub classes : Value → Classed
+classes = fold-Value Classed Classed Classed classed_value (λ _. unclassed) (λ _. unclassed)
+
+-- the fields themselves have such a class
+abbrev pub class_at : List (List ℕ × Value) → Bool
+class_at es = names_class (value_at (codes "class") (map_values classes es))
+
+-- fields somewhere in the value have the class of a File or Directory
+abbrev pub has_class : Value → Bool
+has_class v = (classes v).classed
