@@ -1,3 +1,4 @@
+pub mod Bound
 pub mod Every
 pub mod Giving
 pub mod Listings

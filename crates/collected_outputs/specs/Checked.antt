@@ -81,37 +81,3 @@ abbrev pub is_typed : OutputType → Value → Bool
 is_typed Stdout v = is_file_level (out-Value v)
 is_typed Stderr v = is_file_level (out-Value v)
 is_typed (Members members) v = fits members v
-
--- Fields that would be read back as a File or a Directory.
-
--- a text, and whether there are such fields in a value
-pub record Classed : Type 0 where
-  pub text : Option (List ℕ)
-  pub classed : Bool
-
-abbrev pub is_class : List ℕ → Bool
-is_class text = bytes_eq text (codes "File") || bytes_eq text (codes "Directory")
-
-abbrev pub names_class : Option Classed → Bool
-names_class None = false
-names_class (Some c) = option_map_or is_class c.text false
-
-abbrev pub unclassed : Classed
-unclassed = record { text = None; classed = false }
-
-abbrev pub classed_value : Value-F Classed Classed Classed → Classed
-classed_value (Value-F.Text text) = record { text = Some text; classed = false }
-classed_value (Value-F.List cs) = record { text = None; classed = list_any (λ (c : Classed). c.classed) cs }
-classed_value (Value-F.Fields cs) = record { text = None; classed = names_class (value_at (codes "class") cs) || list_any (λ (e : List ℕ × Classed). e.1.classed) cs }
-classed_value _ = unclassed
-
-abbrev pub classes : Value → Classed
-classes = fold-Value Classed Classed Classed classed_value (λ _. unclassed) (λ _. unclassed)
-
--- the fields themselves have such a class
-abbrev pub class_at : List (List ℕ × Value) → Bool
-class_at es = names_class (value_at (codes "class") (map_values classes es))
-
--- fields somewhere in the value have the class of a File or Directory
-abbrev pub has_class : Value → Bool
-has_class v = (classes v).classed

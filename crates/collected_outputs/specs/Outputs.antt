@@ -1,7 +1,7 @@
 -- The outputs of a tool, from what its command left behind (CWL v1.2, Command Line Tool, "Output binding").
-use Rattle.std.specs.Prelude.{◌≡◌, ℕ, Bool, true, false, not, ◌||◌, if◌then◌else◌, List, [], ◌∷◌, ◌++◌, Option, Some, None, is_some, unwrap_or, Result, Ok, Err}
+use Rattle.std.specs.Prelude.{◌≡◌, ℕ, Bool, true, false, not, ◌||◌, codes, if◌then◌else◌, List, [], ◌∷◌, ◌++◌, Option, Some, None, is_some, unwrap_or, Result, Ok, Err}
 use Rattle.std.specs.Option.{option_map_or, option_to_list}
-use Rattle.plain_data.specs.ByName.{with_value}
+use Rattle.plain_data.specs.ByName.{with_value, value_at}
 use Rattle.cwl_process.specs.declared.tool.OutputBinding.{OutputBinding}
 use Rattle.cwl_process.specs.declared.tool.OutputType.{OutputType}
 use Rattle.cwl_process.specs.declared.tool.OutputType.TheVariants.{Stdout, Stderr, Members}
@@ -14,9 +14,10 @@ use Rattle.cwl_value.specs.declared.value.Value as value
 use Rattle.param_refs.specs.declared.template.Part.{Part}
 use Rattle.staging.specs.declared.fault.GlobFault.{GlobFault}
 use Rattle.staging.specs.declared.item.PatternItem.{PatternItem}
+use Rattle.collected_outputs.specs.declared.listing.Entry.{Entry}
 use Rattle.collected_outputs.specs.Beside.{all_beside}
 use Rattle.collected_outputs.specs.ByType.{value_by_type}
-use Rattle.collected_outputs.specs.Checked.{is_typed, has_class, all_found, bare}
+use Rattle.collected_outputs.specs.Checked.{is_typed, all_found, bare}
 use Rattle.collected_outputs.specs.Contents.{Heads, all_loaded}
 use Rattle.collected_outputs.specs.Gives.{Gives, and_then}
 use Rattle.collected_outputs.specs.Listing.{Listing}
@@ -25,6 +26,10 @@ use Rattle.collected_outputs.specs.Patterns.{pattern_texts, value_in, AreRead}
 use Rattle.collected_outputs.specs.Values.{values_of, value_under}
 use Rattle.collected_outputs.specs.declared.fault.CollectFault.{CollectFault}
 use Rattle.collected_outputs.specs.declared.fault.CollectFault.TheVariants.{Pattern, NotTyped, NameOutside}
+
+-- a file `cwl.output.json`, which is the whole output object
+abbrev pub has_object : Listing → Bool
+has_object listing = option_map_or (λ (e : Entry). not e.is_dir) (value_at (codes "cwl.output.json") listing) false
 
 -- what a command leaves behind, and what references speak of
 pub record Left : Type 0 where
@@ -57,8 +62,8 @@ matched_values left load names = (if load then all_loaded left.heads (values_of 
 
 -- the value of `outputEval`, where `self` is the list of what matches, or else the value by the type
 abbrev pub evaluated : Left → List MemberType → Option (List Part) → List Value → Gives Value
-evaluated left members None matched = value_by_type members matched
-evaluated left members (Some template) matched = value_in left.inputs left.runtime (value.List matched) template
+evaluated left members None values = value_by_type members values
+evaluated left members (Some template) values = value_in left.inputs left.runtime (value.List values) template
 
 -- null without patterns and without `outputEval`
 abbrev pub value_of_binding : Left → List MemberType → Option OutputBinding → List Name → Gives Value
@@ -77,7 +82,7 @@ unchecked left (Members members) binding names = value_of_binding left members b
 
 -- a value that fits the type, and holds only what was found; its contents are dropped
 abbrev pub checked : Listing → OutputType → Value → Gives Value
-checked listing kind v = (if not (is_typed kind v) || has_class v then Err NotTyped else (if all_found listing v then Ok (bare v) else Err NameOutside))
+checked listing kind v = (if is_typed kind v then (if all_found listing v then Ok (bare v) else Err NameOutside) else Err NotTyped)
 
 -- the value of an output, of the names that its patterns match
 abbrev pub output_value : Left → ToolOutput → List Name → Gives Value

@@ -1,17 +1,10 @@
 //! Fields that would be read back as Files or Directories.
-ghost use Rattle.std.specs.Prelude.{◌≡◌, map};
-ghost use Rattle.std.specs.List.{list_any};
-ghost use Rattle.plain_data.specs.ByName.{value_at};
-ghost use Rattle.collected_outputs.specs.Checked.{has_class as has_class_of, class_at};
-
 use cwl_value::Value;
 use plain_data::{Items, Keyed};
 
-/// Checks whether fields somewhere in the value have the class of a File or Directory.
+// Whether fields somewhere in the value have the class of a File or Directory.
 #[cycle(classes)]
-pub(crate) fn has_class(value: &Value) -> bool
-    ensures { result ≡ has_class_of value.now }
-{
+fn has_class(value: &Value) -> bool {
     match value {
         Value::List(items) => items_have_class(items),
         Value::Fields(fields) => is_classed(fields) || fields_have_class(fields),
@@ -20,9 +13,7 @@ pub(crate) fn has_class(value: &Value) -> bool
 }
 
 #[cycle(classes)]
-fn items_have_class(items: &Items<Value>) -> bool
-    ensures { result ≡ list_any has_class_of items.now }
-{
+fn items_have_class(items: &Items<Value>) -> bool {
     for item in items.as_slice() {
         if has_class(item) {
             return true;
@@ -31,10 +22,9 @@ fn items_have_class(items: &Items<Value>) -> bool
     false
 }
 
+/// Checks whether fields somewhere in the values have the class of a File or Directory.
 #[cycle(classes)]
-fn fields_have_class(fields: &Keyed<Value>) -> bool
-    ensures { result ≡ list_any (λ e. has_class_of e.1) fields.now }
-{
+pub(crate) fn fields_have_class(fields: &Keyed<Value>) -> bool {
     for field in fields.as_slice() {
         if has_class(&field.1) {
             return true;
@@ -43,9 +33,7 @@ fn fields_have_class(fields: &Keyed<Value>) -> bool
     false
 }
 
-fn is_classed(fields: &Keyed<Value>) -> bool
-    ensures { result ≡ class_at fields.now }
-{
+fn is_classed(fields: &Keyed<Value>) -> bool {
     match fields.get("class") {
         Some(Value::Text(class)) => class.as_str() == "File" || class.as_str() == "Directory",
         _ => false,

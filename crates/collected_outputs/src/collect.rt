@@ -1,17 +1,19 @@
 //! The outputs of a job.
-ghost use Rattle.std.specs.Prelude.{◌≡◌, ◌∷◌, [], Ok, Some, IfOk, IfErr, OnOk};
+ghost use Rattle.std.specs.Prelude.{◌≡◌, ◌∷◌, [], false, is_some, Ok, Some, IfOk, IfErr, OnOk};
 ghost use Rattle.cwl_types.specs.declared.types.MemberType as member;
 ghost use Rattle.cwl_types.specs.declared.types.PlainType.TheVariants as plain;
 ghost use Rattle.cwl_value.specs.declared.value.Value.{out-Value};
 ghost use Rattle.collected_outputs.specs.Checked.{is_file_level, is_typed};
 ghost use Rattle.collected_outputs.specs.Gives.{Refuses};
 ghost use Rattle.collected_outputs.specs.Outputs as spec;
-ghost use Rattle.collected_outputs.specs.Outputs.{AreNames, HasValue, globs_in};
+ghost use Rattle.collected_outputs.specs.Outputs.{AreNames, AreOutputs, HasValue, globs_in, has_object};
+ghost use Rattle.collected_outputs.specs.Listing.{listing_of};
+ghost use Rattle.collected_outputs.specs.Patterns.{runtime};
 ghost use Rattle.collected_outputs.specs.inner.Steps.{left_of, texts_in, texts_by, HasNone, NoNames, NoOutputs, BindsOutput, BindsNone, error_at};
 
 use crate::bare::bare;
 use crate::by_type::value_by_type;
-use crate::classes::has_class;
+use crate::classes::fields_have_class;
 use crate::contents::load_all;
 use crate::evaluation::{Speaks, runtime_of, value_in};
 use crate::fault::{CollectError, CollectFault, OutputFault, Stop};
@@ -24,7 +26,7 @@ use crate::secondary::with_secondary;
 use crate::values::{push_value, values_of};
 use cwl_process::{OutputBinding, OutputType, Tool, ToolOutput};
 use cwl_types::{MemberType, PlainType};
-use cwl_value::{Value, ValueRefusal, from_json, to_json};
+use cwl_value::{Value, ValueRefusal, copy_fields, from_json, to_json};
 use param_refs::Template;
 use plain_data::{Items, Keyed, Text};
 use staging::Found;
@@ -59,7 +61,9 @@ pub fn collect_outputs(
     streams: StreamNames<'_>,
     found: &[Found],
     heads: &Keyed<Items<u8>>,
-) -> Result<Keyed<Value>, CollectError> {
+) -> Result<Keyed<Value>, CollectError>
+    ensures { IfOk result (λ outputs. has_object (listing_of found.now) ≡ false → AreOutputs (record { listing = listing_of found.now; heads = heads.now; stdout = streams.entry.stdout.now; stderr = streams.entry.stderr.now; inputs = inputs.now; runtime = runtime }) tool.now.outputs (Ok outputs)) }
+{
     let listing = listing_of(alloc, found)?;
     let runtime = runtime_of(alloc)?;
     let folder = Folder {
@@ -72,21 +76,27 @@ pub fn collect_outputs(
         },
     };
     let outputs = outputs_of(alloc, tool, folder)?;
-    checked_depth(alloc, outputs)
+    checked_object(alloc, outputs)
 }
 
-fn outputs_of(
-    alloc: Global,
-    tool: &Tool,
-    folder: Folder<'_>,
-) -> Result<Keyed<Value>, CollectError> {
-    match folder.listing.get(OUTPUT_OBJECT) {
-        Some(entry) if !entry.is_dir => match object_of(alloc, entry, folder.heads) {
+fn outputs_of(alloc: Global, tool: &Tool, folder: Folder<'_>) -> Result<Keyed<Value>, CollectError>
+    ensures { IfOk result (λ outputs. spec.has_object folder.entry.listing.now ≡ false → spec.AreOutputs (left_of folder.entry) tool.now.outputs (Ok outputs)) }
+{
+    match object_entry(folder.listing) {
+        None => from_bindings(alloc, tool, folder),
+        Some(entry) => match object_of(alloc, entry, folder.heads) {
             Ok(object) => from_object(alloc, tool, folder, &object),
             Err(stop) => Err(whole(stop)),
         },
-        _ => from_bindings(alloc, tool, folder),
     }
+}
+
+// The file that is the whole output object, where it is found.
+fn object_entry(listing: &Keyed<Entry>) -> Option<&Entry>
+    ensures { is_some result ≡ spec.has_object listing.now }
+{
+    let entry = listing.get(OUTPUT_OBJECT)?;
+    if entry.is_dir { None } else { Some(entry) }
 }
 
 fn from_bindings(
@@ -224,11 +234,12 @@ fn names_of(alloc: Global, output: &ToolOutput, folder: Folder<'_>) -> Result<It
     ensures err { IfErr result (NoNames folder.entry.listing.now (texts_by folder.entry output.now)) }
 {
     match &output.kind {
+        OutputType::Stdout => Ok(Items::new(alloc)),
+        OutputType::Stderr => Ok(Items::new(alloc)),
         OutputType::Members(_) => match &output.binding {
             None => Ok(Items::new(alloc)),
             Some(binding) => names_of_binding(alloc, binding, folder),
         },
-        _ => Ok(Items::new(alloc)),
     }
 }
 
@@ -351,7 +362,7 @@ fn checked(
     ensures ok { IfOk result (λ v. spec.checked listing.now kind.now value ≡ Ok v) }
     ensures err { IfErr result (Refuses (spec.checked listing.now kind.now value)) }
 {
-    if !is_typed(&value, kind) || has_class(&value) {
+    if !is_typed(&value, kind) {
         return Err(Stop::Refused(CollectFault::NotTyped));
     }
     if !all_found(listing, &value) {
@@ -375,21 +386,31 @@ fn is_file(value: &Value) -> bool
     matches!(value, Value::FileVal(_))
 }
 
-// The outputs, where their JSON doesn't nest too deep for a reader of values.
-fn checked_depth(alloc: Global, outputs: Keyed<Value>) -> Result<Keyed<Value>, CollectError> {
-    let object = Value::Fields(outputs);
-    let is_deep = nests_deep(alloc, &object)?;
-    match object {
-        Value::Fields(outputs) if !is_deep => Ok(outputs),
-        _ => Err(CollectError::Refused(OutputFault {
-            output: None,
-            fault: CollectFault::NotTyped,
-        })),
+// The outputs, where their JSON can be read back as these values.
+fn checked_object(alloc: Global, outputs: Keyed<Value>) -> Result<Keyed<Value>, CollectError>
+    ensures { IfOk result (λ same. same ≡ outputs) }
+{
+    if fields_have_class(&outputs) {
+        drop(outputs);
+        return Err(not_typed());
     }
+    if nests_deep(alloc, &outputs)? {
+        drop(outputs);
+        return Err(not_typed());
+    }
+    Ok(outputs)
 }
 
-fn nests_deep(alloc: Global, object: &Value) -> Result<bool, CollectError> {
-    let json = to_json(alloc, object)?;
+fn not_typed() -> CollectError {
+    CollectError::Refused(OutputFault {
+        output: None,
+        fault: CollectFault::NotTyped,
+    })
+}
+
+fn nests_deep(alloc: Global, outputs: &Keyed<Value>) -> Result<bool, CollectError> {
+    let object = Value::Fields(copy_fields(alloc, outputs)?);
+    let json = to_json(alloc, &object)?;
     match from_json(alloc, &json) {
         Err(ValueRefusal::TooDeep) => Ok(true),
         Err(ValueRefusal::OutOfMemory) => Err(CollectError::OutOfMemory),

@@ -145,3 +145,11 @@ impl From<AllocError> for Stop {
         Stop::OutOfMemory
     }
 }
+
+impl<T: Drop> From<AllocFailed<T>> for Stop {
+    ghost from_gives = { λ _ e. e ≡ OutOfMemory };
+
+    fn from(_error: AllocFailed<T>) -> Stop {
+        Stop::OutOfMemory
+    }
+}

@@ -65,9 +65,7 @@ fn placed_fields(
     let mut found = Vec::new(alloc);
     for field in fields.as_slice() {
         let name = field.0.copied(alloc)?;
-        found
-            .push((name, placed(alloc, listing, &field.1)?))
-            .map_err(AllocError::from)?;
+        found.push((name, placed(alloc, listing, &field.1)?))?;
     }
     Ok(Keyed::from_sorted(found))
 }
