@@ -16,6 +16,9 @@ use Rattle.document_table.specs.declared.form.Form.TheVariants as form
 use Rattle.document_table.specs.declared.form.Kind.{Kind}
 use Rattle.document_table.specs.declared.form.Kind.TheVariants as kind
 use Rattle.document_table.specs.Faults.{here}
+use Rattle.document_table.specs.Kept.{kept}
+use Rattle.document_table.proofs.Whole.{tool_whole}
+use Rattle.serde_json.specs.Written.{has_float}
 use Rattle.document_table.proofs.Faultless.{document_of, entries_of, field_has_form, run_of, some_is_not_none}
 use Rattle.cwl_process.specs.Processes.{is_workflow}
 
@@ -47,6 +50,9 @@ workflow_requirements d is = field_has_form kind.Workflow (codes "requirements")
 
 pub workflow_hints : (d : Data) → IsOf kind.Workflow d → MayHaveForm form.Hints (get (codes "hints") d)
 workflow_hints d is = field_has_form kind.Workflow (codes "hints") form.Hints d is refl
+
+pub tool_is_whole : (d : Data) → IsOf kind.Tool d → has_float (kept (form.Object kind.Tool) d) ≡ false
+tool_is_whole = tool_whole
 
 -- ---- steps
 

@@ -19,6 +19,10 @@ unlinked_in d = process_in MOST_NESTING nothing_asked d
 abbrev pub fault_together : Data → Option DocumentFault
 fault_together d = process_fault MOST_NESTING d
 
+-- The bytes keep to the table of fields, and their fields go together.
+abbrev pub IsSound : List ℕ → Data → Type 0
+IsSound bytes d = IsDocument bytes d × (fault_together d ≡ None)
+
 -- The bytes keep to the table of fields, their fields go together, and they represent that process.
 abbrev pub IsUnlinked : List ℕ → Process → Type 0
 IsUnlinked bytes process = (d : Data) × IsDocument bytes d × (fault_together d ≡ None) × (process ≡ unlinked_in d)

@@ -1,9 +1,12 @@
 -- The tool that an object represents (CWL v1.2, Command Line Tool Description, "CommandLineTool").
 use Rattle.std.specs.Prelude.{ℕ, List, [], map, codes}
 use Rattle.std.specs.Option.{option_map_or}
-use Rattle.serde_json.specs.Data.{Data}
+use Rattle.serde_json.specs.Data.{Data, null, boolean, number, string, array, object}
 use Rattle.serde_json.specs.Find.{get}
+use Rattle.serde_json.specs.Written.{compact_text}
 use Rattle.document_table.specs.Entries.{entries}
+use Rattle.document_table.specs.Kept.{kept}
+use Rattle.document_table.specs.declared.form.Form.TheVariants as form
 use Rattle.document_table.specs.declared.form.Kind.{Kind}
 use Rattle.document_table.specs.declared.form.Kind.TheVariants as kind
 use Rattle.cwl_process.specs.Acting.{asked_in}
@@ -30,6 +33,15 @@ exit_codes_in d = record {
   permanent = ints_at (codes "permanentFailCodes") d;
 }
 
+-- what tells the tool from another, beside its environment: its object without hints and what is read over (own)
+abbrev pub written_in : Data → List ℕ
+written_in null = []
+written_in (boolean b) = []
+written_in (number n) = []
+written_in (string s) = []
+written_in (array ds) = []
+written_in (object ms) = compact_text (kept (form.Object kind.Tool) (object ms))
+
 -- the tool, inside of what is asked around it
 abbrev pub tool_in : Asked → Data → Tool
 tool_in around d = record {
@@ -40,4 +52,5 @@ tool_in around d = record {
   streams = streams_in d;
   exit_codes = exit_codes_in d;
   asked = asked_in around d;
+  written = written_in d;
 }

@@ -14,6 +14,7 @@ use Rattle.cwl_process.specs.Parameters.{default_at, workflow_input_in, workflow
 use Rattle.cwl_process.specs.Simple.{list_at, text_at, text_in, texts_at}
 use Rattle.cwl_process.specs.Templates.{template_at}
 use Rattle.cwl_process.specs.Tools.{entries_at}
+use Rattle.cwl_process.specs.declared.parts.StepParts.{StepParts}
 use Rattle.cwl_process.specs.declared.process.Process.{Process}
 use Rattle.cwl_process.specs.declared.process.Run.{Run}
 use Rattle.cwl_process.specs.declared.process.Run as run
@@ -43,6 +44,16 @@ step_output_in d = option_map_or text_in (main_field (codes "id") d) []
 -- A text names a process; anything else is one, which `inner` gives.
 abbrev pub run_in : (Data → Process) → Asked → Data → Run
 run_in inner asked d = option_map_or (λ name. run.Named (record { name = name; asked = asked })) (as_str d) (run.Inline (inner d))
+
+-- a step without the process that it runs
+abbrev pub step_parts_in : Data → StepParts
+step_parts_in d = record {
+  inputs = entries_at kind.StepInput step_input_in (codes "in") d;
+  outputs = map step_output_in (list_at (codes "out") d);
+  scatter = texts_at (codes "scatter") d;
+  method = option_and_then method_named (text_at (codes "scatterMethod") d);
+  when = template_at (codes "when") d;
+}
 
 -- a step, where what it asks and the process that it runs are these
 abbrev pub step_of : Run → Data → Step

@@ -41,7 +41,7 @@ impl Asked {
 }
 
 /// Nothing is asked around a document.
-pub(crate) fn nothing_asked() -> Asked
+pub fn nothing_asked() -> Asked
     ensures { result ≡ nothing_asked }
 {
     Asked {
@@ -57,7 +57,7 @@ pub(crate) fn nothing_asked() -> Asked
 }
 
 /// What a process or step asks, inside of what is asked around it.
-pub(crate) fn read_asked(alloc: Global, around: &Asked, value: &Value) -> Result<Asked, AllocError>
+pub fn read_asked(alloc: Global, around: &Asked, value: &Value) -> Result<Asked, AllocError>
     requires requirements { MayHaveForm Requirements (get (codes "requirements") (view value.now)) }
     requires hints { MayHaveForm Hints (get (codes "hints") (view value.now)) }
     ensures { IfOk result (λ asked. asked ≡ asked_in around.now (view value.now)) }

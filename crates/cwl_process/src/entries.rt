@@ -31,7 +31,7 @@ impl<T> Model for Entries<T> {
 
 impl<T> Entries<T> {
     /// The same entries, of which no two have one id, without memory.
-    pub(crate) fn from_distinct(held: Vec<(Text, T)>) -> Entries<T>
+    pub fn from_distinct(held: Vec<(Text, T)>) -> Entries<T>
         requires { IsDistinct bytes_eq (keys_of held.items) }
         ensures { result ≡ held.items }
     {

@@ -15,24 +15,29 @@ mod from_entry;
 mod laws;
 mod links;
 mod parameters;
+mod parts;
 mod process;
 mod read_links;
-mod read_tool;
 mod read_workflow;
 mod simple;
 mod template_faults;
 mod templates;
 mod together;
 mod tool;
+mod tool_reader;
 mod workflow;
 
-pub use document::read_unlinked;
+pub use acting::{nothing_asked, read_asked};
+pub use document::{read_sound, read_unlinked};
 pub use entries::Entries;
 pub use laws::levels_never_decide;
 pub use links::{Links, Merge, Pick, Source};
+pub use parts::{StepParts, read_step_parts, read_workflow_inputs, read_workflow_outputs};
 pub use process::{Process, Run, RunName};
+pub use read_workflow::is_workflow;
 pub use tool::{
     Acting, Asked, Binding, ExitCodes, InputType, OutputBinding, OutputType, SecondaryFile,
     Streams, Tool, ToolInput, ToolOutput, Variable,
 };
+pub use tool_reader::read_tool;
 pub use workflow::{Step, StepInput, Workflow, WorkflowInput, WorkflowOutput};

@@ -18,10 +18,10 @@ use crate::from_entry::{FromEntry, entries_at};
 use crate::parameters::default_at;
 use crate::process::{Process, Run, RunName};
 use crate::read_links::read_links;
-use crate::read_tool::read_tool;
 use crate::simple::{list_at, read_any_text, texts_at};
 use crate::templates::template_at;
 use crate::tool::Asked;
+use crate::tool_reader::read_tool;
 use crate::workflow::{Step, StepInput, Workflow};
 use document_table::{Kind, entries, main_field};
 use plain_data::{Items, Text};
@@ -33,7 +33,7 @@ use std::mem;
 /// The process that JSON represents, inside of what is asked around it. So many workflows at most are
 /// inside one another.
 #[cycle(process)]
-#[tactic(auto, using(crate::proofs::Forms::tool_inputs, crate::proofs::Forms::tool_outputs, crate::proofs::Forms::tool_requirements, crate::proofs::Forms::tool_hints, crate::proofs::Forms::is_a_workflow, crate::proofs::Forms::is_a_tool, crate::proofs::Levels::at_nothing))]
+#[tactic(auto, using(crate::proofs::Forms::tool_inputs, crate::proofs::Forms::tool_outputs, crate::proofs::Forms::tool_requirements, crate::proofs::Forms::tool_hints, crate::proofs::Forms::tool_is_whole, crate::proofs::Forms::is_a_workflow, crate::proofs::Forms::is_a_tool, crate::proofs::Levels::at_nothing))]
 pub(crate) fn read_process(
     alloc: Global,
     levels: usize,
@@ -52,7 +52,8 @@ pub(crate) fn read_process(
     Ok(Process::Tool(read_tool(alloc, around, value)?))
 }
 
-pub(crate) fn is_workflow(value: &Value) -> bool
+/// Whether a process is a workflow.
+pub fn is_workflow(value: &Value) -> bool
     ensures { result ≡ is_workflow (view value.now) }
 {
     match value.get("class") {
@@ -181,7 +182,7 @@ fn named_run(alloc: Global, name: &str, asked: Asked) -> Result<Run, AllocError>
     Ok(Run::Named(RunName { name, asked }))
 }
 
-fn step_outputs(alloc: Global, value: &Value) -> Result<Items<Text>, AllocError>
+pub(crate) fn step_outputs(alloc: Global, value: &Value) -> Result<Items<Text>, AllocError>
     ensures { IfOk result (λ outputs. outputs ≡ map step_output_in (list_at (codes "out") (view value.now))) }
 {
     let found = list_at(alloc, "out", value)?;
@@ -207,7 +208,7 @@ fn read_step_output(alloc: Global, value: &Value) -> Result<Text, AllocError>
     }
 }
 
-fn scatter_method(value: &Value) -> Option<Method>
+pub(crate) fn scatter_method(value: &Value) -> Option<Method>
     ensures { result ≡ option_and_then method_named (text_at (codes "scatterMethod") (view value.now)) }
 {
     let text = value.get("scatterMethod")?.as_str()?;

@@ -17,6 +17,9 @@ pub struct Tool {
     pub streams: Streams,
     pub exit_codes: ExitCodes,
     pub asked: Asked,
+    /// What tells this tool from another, beside its environment: its object as it is written, without hints and what is read
+    /// over, as compact JSON text.
+    pub written: Text,
 }
 
 /// The names of the files at the command's streams, where the tool names them.

@@ -23,6 +23,7 @@ impl Answers for Calls {
             "read_document" => read(alloc, row),
             "read_nested_list" => read_nested_list(alloc, row),
             "read_unlinked" => process::read(alloc, row),
+            "read_written" => process::read_written(alloc, row),
             "read_type" => types::read(alloc, row),
             _ => Err(RowFault::UnknownCall),
         }

@@ -27,6 +27,17 @@ pub(crate) fn read(alloc: Global, row: &Row) -> Result<String, RowFault> {
     }
 }
 
+/// What the row's tool says.
+pub(crate) fn read_written(alloc: Global, row: &Row) -> Result<String, RowFault> {
+    let text = json_text(alloc, row.json("document")?)?;
+    match read_unlinked(alloc, text.as_bytes()) {
+        Ok(Process::Tool(tool)) => Ok(String::from_str(alloc, tool.written.as_str())?),
+        Ok(Process::Workflow(_)) => Ok(String::from_str(alloc, "a workflow")?),
+        Err(DocumentError::Refused(fault)) => Ok(told(alloc, &fault)?),
+        Err(DocumentError::OutOfMemory) => Err(RowFault::OutOfMemory),
+    }
+}
+
 #[cycle(process)]
 fn put_process(alloc: Global, out: &mut String, process: &Process) -> Result<(), RowFault> {
     match process {

@@ -1,3 +1,4 @@
 pub mod Faultless
 pub mod Ids
 pub mod Seen
+pub mod Whole

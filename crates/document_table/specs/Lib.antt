@@ -2,9 +2,11 @@ pub mod Codes
 pub mod Documents
 pub mod Entries
 pub mod Faults
+pub mod Kept
 pub mod Layouts
 pub mod Leaves
 pub mod Repeats
 pub mod Table
 pub mod Texts
 pub mod Walk
+pub mod inner

@@ -29,7 +29,7 @@ row_seen (May name form) = may name.now form
 abbrev pub rows_of : Kind → List Row
 rows_of kind.Tool =
     may (codes "cwlVersion") form.Version
-    ∷ must (codes "class") form.Anything
+    ∷ must (codes "class") form.Text
     ∷ may (codes "id") form.Id
     ∷ must (codes "inputs") (form.Objects kind.ToolInput)
     ∷ must (codes "outputs") (form.Objects kind.ToolOutput)
@@ -46,7 +46,7 @@ rows_of kind.Tool =
     ∷ []
 rows_of kind.Workflow =
     may (codes "cwlVersion") form.Version
-    ∷ must (codes "class") form.Anything
+    ∷ must (codes "class") form.Text
     ∷ may (codes "id") form.Id
     ∷ must (codes "inputs") (form.Objects kind.WorkflowInput)
     ∷ must (codes "outputs") (form.Objects kind.WorkflowOutput)
@@ -134,12 +134,12 @@ rows_of kind.ItemBinding =
     ∷ may (codes "separate") form.Bool
     ∷ []
 rows_of kind.ArrayType =
-    must (codes "type") form.Anything
+    must (codes "type") form.Text
     ∷ must (codes "items") form.Type
     ∷ may (codes "inputBinding") (form.Object kind.ItemBinding)
     ∷ []
 rows_of kind.EnumType =
-    must (codes "type") form.Anything
+    must (codes "type") form.Text
     ∷ must (codes "symbols") form.Texts
     ∷ may (codes "name") form.Text
     ∷ []
@@ -148,14 +148,14 @@ rows_of kind.SecondaryFile =
     ∷ may (codes "required") form.Bool
     ∷ []
 rows_of kind.PlainRequirement =
-    must (codes "class") form.Anything
+    must (codes "class") form.Text
     ∷ []
 rows_of kind.EnvVarRequirement =
-    must (codes "class") form.Anything
+    must (codes "class") form.Text
     ∷ must (codes "envDef") (form.Objects kind.Variable)
     ∷ []
 rows_of kind.WorkReuse =
-    must (codes "class") form.Anything
+    must (codes "class") form.Text
     ∷ may (codes "enableReuse") form.Bool
     ∷ []
 rows_of kind.Variable =

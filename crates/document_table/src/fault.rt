@@ -159,3 +159,35 @@ pub fn at(index: usize, fault: DocumentFault) -> Result<DocumentFault, AllocErro
     outward.push(Way::At(index))?;
     Ok(DocumentFault { cause, outward })
 }
+
+impl DocumentFault {
+    /// The same fault in memory of its own.
+    pub fn clone_in(&self, alloc: Global) -> Result<DocumentFault, AllocError>
+        ensures { IfOk result (λ copy. copy ≡ self.now) }
+    {
+        let outward = copied_ways(alloc, self.outward.as_slice())?;
+        Ok(DocumentFault {
+            cause: self.cause,
+            outward,
+        })
+    }
+}
+
+fn copied_ways(alloc: Global, ways: &[Way]) -> Result<Items<Way>, AllocError>
+    ensures { IfOk result (λ copies. copies ≡ ways.now) }
+{
+    let mut copies = Items::new(alloc);
+    for way in ways {
+        copies.push(copied_way(alloc, way)?)?;
+    }
+    Ok(copies)
+}
+
+fn copied_way(alloc: Global, way: &Way) -> Result<Way, AllocError>
+    ensures { IfOk result (λ copy. copy ≡ way.now) }
+{
+    match way {
+        Way::Under(name) => Ok(Way::Under(name.copied(alloc)?)),
+        Way::At(index) => Ok(Way::At(*index)),
+    }
+}

@@ -3,48 +3,51 @@ ghost use Rattle.std.specs.Prelude.{◌≡◌, ℕ, List, Some, true, false, is_
 ghost use Rattle.std.specs.List.{AllByRecursion};
 ghost use Rattle.serde_json.specs.Data.{Data, Members, array, object};
 ghost use Rattle.serde_json.specs.Find.{as_object, get};
+ghost use Rattle.serde_json.specs.Written.{has_float};
 ghost use Rattle.std.specs.List.{IsDistinct};
 ghost use Rattle.std.specs.Map.{keys_of};
 ghost use Rattle.serde_json.specs.Data.{Items};
 ghost use Rattle.document_table.specs.Entries.{HasForm, IsOf, IsProcess, IsThere, MayHaveForm, entries};
+ghost use Rattle.document_table.specs.Kept.{kept};
 ghost use Rattle.document_table.specs.Layouts.{layout_of, subject_of};
 ghost use Rattle.document_table.specs.Table.{form_of, rows_of};
 ghost use Rattle.document_table.specs.declared.form.Form.{Form};
 ghost use Rattle.document_table.specs.declared.form.Form.TheVariants as form;
 ghost use Rattle.document_table.specs.declared.form.Kind.{Kind};
+ghost use Rattle.document_table.specs.declared.form.Kind.TheVariants as kind;
 ghost use Rattle.document_table.specs.declared.layout.Layout.TheVariants.{Fields, KeyedFields};
 
 /// The value of each field of an object has the form of its row.
 pub fn fields_have_their_forms()
-    ensures { (kind : Kind) (name : List ℕ) (f : Form) (d : Data) → IsOf kind d
-        → form_of kind name ≡ Some f → MayHaveForm f (get name d) }
+    ensures { (k : Kind) (name : List ℕ) (f : Form) (d : Data) → IsOf k d
+        → form_of k name ≡ Some f → MayHaveForm f (get name d) }
 {}
 
 /// An object has each field that has to be there; under a key of a map, all but the one that the key
 /// stands for.
 #[tactic(auto, using(crate::proofs::Faultless::required_there, crate::proofs::Faultless::required_there_keyed))]
 pub fn required_fields_are_there()
-    ensures whole { (form : Form) (kind : Kind) (ms : Members) → HasForm form (object ms)
-        → layout_of form (object ms) ≡ Fields kind
-        → AllByRecursion (λ row. row.required ≡ true → IsThere row.name (object ms)) (rows_of kind) }
-    ensures keyed { (form : Form) (kind : Kind) (ms : Members) → HasForm form (object ms)
-        → layout_of form (object ms) ≡ KeyedFields kind
-        → AllByRecursion (λ row. row.required ≡ true → bytes_eq row.name (subject_of kind) ≡ false
-        → IsThere row.name (object ms)) (rows_of kind) }
+    ensures whole { (f : Form) (k : Kind) (ms : Members) → HasForm f (object ms)
+        → layout_of f (object ms) ≡ Fields k
+        → AllByRecursion (λ row. row.required ≡ true → IsThere row.name (object ms)) (rows_of k) }
+    ensures keyed { (f : Form) (k : Kind) (ms : Members) → HasForm f (object ms)
+        → layout_of f (object ms) ≡ KeyedFields k
+        → AllByRecursion (λ row. row.required ≡ true → bytes_eq row.name (subject_of k) ≡ false
+        → IsThere row.name (object ms)) (rows_of k) }
 {}
 
 /// What is in a list or a map of objects is such an object, or what may stand for one.
 #[tactic(auto, using(crate::proofs::Faultless::entries_of))]
 pub fn entries_have_their_form()
-    ensures { (kind : Kind) (d : Data) → HasForm (form.Objects kind) d
-        → AllByRecursion (λ e. IsOf kind e.1) (entries kind d) }
+    ensures { (k : Kind) (d : Data) → HasForm (form.Objects k) d
+        → AllByRecursion (λ e. IsOf k e.1) (entries k d) }
 {}
 
 /// No two objects of a list have one subject.
 #[tactic(auto, using(crate::proofs::Ids::list_ids_differ))]
 pub fn subjects_in_a_list_differ()
-    ensures { (kind : Kind) (ds : Items) → HasForm (form.Objects kind) (array ds)
-        → IsDistinct bytes_eq (keys_of (entries kind (array ds))) }
+    ensures { (k : Kind) (ds : Items) → HasForm (form.Objects k) (array ds)
+        → IsDistinct bytes_eq (keys_of (entries k (array ds))) }
 {}
 
 /// A document is a tool or a workflow, as its class says, and so is an object that a step runs.
@@ -52,4 +55,10 @@ pub fn subjects_in_a_list_differ()
 pub fn processes_are_tools_or_workflows()
     ensures document { (d : Data) → HasForm form.Document d → IsProcess d }
     ensures run { (d : Data) → HasForm form.Run d → is_some (as_object d) ≡ true → IsProcess d }
+{}
+
+/// What a tool says has no fraction.
+#[tactic(auto, using(crate::proofs::Whole::tool_whole))]
+pub fn tools_say_no_fraction()
+    ensures { (d : Data) → IsOf kind.Tool d → has_float (kept (form.Object kind.Tool) d) ≡ false }
 {}

@@ -10,6 +10,7 @@ mod document;
 mod entry;
 mod fault;
 mod form;
+mod kept;
 mod laws;
 mod layout;
 mod leaf;
@@ -23,8 +24,9 @@ pub use document::{MOST_NESTING, first_fault, read_document};
 pub use entry::{entries, main_field};
 pub use fault::{Cause, DocumentError, DocumentFault, Way, at, here, under};
 pub use form::{Form, Kind};
+pub use kept::kept_text;
 pub use laws::{
     entries_have_their_form, fields_have_their_forms, processes_are_tools_or_workflows,
-    required_fields_are_there, subjects_in_a_list_differ,
+    required_fields_are_there, subjects_in_a_list_differ, tools_say_no_fraction,
 };
 pub use walk::fault_in;

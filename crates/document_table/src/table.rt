@@ -8,7 +8,7 @@ use crate::form::{FieldRow, Form, Kind};
 
 static TOOL: [FieldRow; 15] = [
     May("cwlVersion", Form::Version),
-    Must("class", Form::Anything),
+    Must("class", Form::Text),
     May("id", Form::Id),
     Must("inputs", Form::Objects(Kind::ToolInput)),
     Must("outputs", Form::Objects(Kind::ToolOutput)),
@@ -26,7 +26,7 @@ static TOOL: [FieldRow; 15] = [
 
 static WORKFLOW: [FieldRow; 8] = [
     May("cwlVersion", Form::Version),
-    Must("class", Form::Anything),
+    Must("class", Form::Text),
     May("id", Form::Id),
     Must("inputs", Form::Objects(Kind::WorkflowInput)),
     Must("outputs", Form::Objects(Kind::WorkflowOutput)),
@@ -121,13 +121,13 @@ static OUTPUT_BINDING: [FieldRow; 3] = [
 static ITEM_BINDING: [FieldRow; 2] = [May("prefix", Form::Text), May("separate", Form::Bool)];
 
 static ARRAY_TYPE: [FieldRow; 3] = [
-    Must("type", Form::Anything),
+    Must("type", Form::Text),
     Must("items", Form::Type),
     May("inputBinding", Form::Object(Kind::ItemBinding)),
 ];
 
 static ENUM_TYPE: [FieldRow; 3] = [
-    Must("type", Form::Anything),
+    Must("type", Form::Text),
     Must("symbols", Form::Texts),
     May("name", Form::Text),
 ];
@@ -137,17 +137,14 @@ static SECONDARY_FILE: [FieldRow; 2] = [
     May("required", Form::Bool),
 ];
 
-static PLAIN_REQUIREMENT: [FieldRow; 1] = [Must("class", Form::Anything)];
+static PLAIN_REQUIREMENT: [FieldRow; 1] = [Must("class", Form::Text)];
 
 static ENV_VAR_REQUIREMENT: [FieldRow; 2] = [
-    Must("class", Form::Anything),
+    Must("class", Form::Text),
     Must("envDef", Form::Objects(Kind::Variable)),
 ];
 
-static WORK_REUSE: [FieldRow; 2] = [
-    Must("class", Form::Anything),
-    May("enableReuse", Form::Bool),
-];
+static WORK_REUSE: [FieldRow; 2] = [Must("class", Form::Text), May("enableReuse", Form::Bool)];
 
 static VARIABLE: [FieldRow; 2] = [Must("envName", Form::Text), Must("envValue", Form::Text)];
 

@@ -8,7 +8,7 @@ pub returns-clause-ok : goal.returns-clause-ok
 returns-clause-ok c =
     let d = view c.in_ok-document.document in (
       d,
-      c.in_ok-document.ensures.ok,
-      sym c.in_ok-fault.ensures ∙ c.in-None.is,
-      c.in_ok-read_process-in-None.ensures ∙ ap (λ around. process_in MOST_NESTING around d) c.nothing_asked.ensures,
+      c.in_ok-document.ensures.ok.0,
+      c.in_ok-document.ensures.ok.1,
+      c.in_ok-read_process.ensures ∙ ap (λ around. process_in MOST_NESTING around d) c.nothing_asked.ensures,
     )

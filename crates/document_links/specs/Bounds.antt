@@ -1,0 +1,50 @@
+-- How many processes there may be, once each `run` name is replaced by its process, and how many workflows inside one another (own). The
+-- processes are counted in the order of the documents: a workflow before those of its steps.
+use Rattle.std.specs.Prelude.{ℕ, zero, suc, ◌-◌, ◌==◌, List, [], ◌∷◌, Option, Some, None, Result, Ok, Err, if◌then◌else◌, codes}
+use Rattle.std.specs.Option.{option_map_or}
+use Rattle.serde_json.specs.Data.{Data}
+use Rattle.serde_json.specs.Find.{as_str, get}
+use Rattle.document_table.specs.Entries.{entries}
+use Rattle.document_table.specs.declared.form.Kind.TheVariants as kind
+use Rattle.cwl_process.specs.Processes.{is_workflow}
+use Rattle.url.specs.Parts.{Parts}
+use Rattle.document_links.specs.Library.{Finds}
+use Rattle.document_links.specs.Targets.{Target, target}
+use Rattle.document_links.specs.declared.fault.LinkFault.{LinkFault}
+use Rattle.document_links.specs.declared.fault.LinkFault.TheVariants.{TooDeep, TooMany}
+
+-- for how many processes there is room, or what is wrong first
+abbrev pub Left : Type 0
+Left = Result ℕ LinkFault
+
+abbrev pub then_left : Left → (ℕ → Left) → Left
+then_left (Ok n) next = next n
+then_left (Err fault) next = Err fault
+
+abbrev pub at_target : Target → (Parts → Data → Left) → Left
+at_target (Ok t) next = next t.0 t.1
+at_target (Err fault) next = Err fault
+
+-- a process: `inner` says it of those inside
+abbrev pub run_left : (ℕ → Parts → Data → Left) → Finds → ℕ → Parts → Data → Left
+run_left inner find room base d = option_map_or (λ name. at_target (target find base name) (inner room)) (as_str d) (inner room base d)
+
+abbrev pub step_left : (ℕ → Parts → Data → Left) → Finds → ℕ → Parts → Data → Left
+step_left inner find room base d = option_map_or (run_left inner find room base) (get (codes "run") d) (Ok room)
+
+abbrev pub steps_left : (ℕ → Parts → Data → Left) → Finds → ℕ → Parts → List (List ℕ × Data) → Left
+steps_left inner find room base [] = Ok room
+steps_left inner find room base (e ∷ es) = then_left (step_left inner find room base e.1) (λ n. steps_left inner find n base es)
+
+abbrev pub workflow_left : (ℕ → Parts → Data → Left) → Finds → ℕ → Parts → Data → Left
+workflow_left inner find room base d = option_map_or (λ v. steps_left inner find room base (entries kind.Step v)) (get (codes "steps") d) (Ok room)
+
+-- Where there is no `inner`, no workflow may be.
+abbrev pub process_left : Option (ℕ → Parts → Data → Left) → Finds → ℕ → Parts → Data → Left
+process_left inner find room base d =
+    if room == 0 then Err TooMany
+    else (if is_workflow d then option_map_or (λ f. workflow_left f find (room - 1) base d) inner (Err TooDeep) else Ok (room - 1))
+
+unfoldable pub left : Finds → ℕ → ℕ → Parts → Data → Left
+left find zero room base d = process_left None find room base d
+left find (suc levels) room base d = process_left (Some (left find levels)) find room base d

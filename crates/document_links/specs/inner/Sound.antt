@@ -1,0 +1,15 @@
+-- For private clauses: the JSON of each document that has no fault is a process.
+use Rattle.std.specs.Prelude.{◌≡◌, ⊤, ℕ, List, Some}
+use Rattle.plain_data.specs.ByName.{value_at}
+use Rattle.serde_json.specs.View.{view}
+use Rattle.document_table.specs.Entries.{IsProcess}
+use Rattle.document_links.specs.Library.{Library}
+use Rattle.document_links.specs.declared.library.Reading.{Reading}
+use Rattle.document_links.specs.declared.library.Reading.TheVariants.{Sound, Wrong}
+
+abbrev pub IsSoundReading : Reading → Type 0
+IsSoundReading (Sound v) = IsProcess (view v)
+IsSoundReading (Wrong fault) = ⊤
+
+abbrev pub AllProcesses : Library → Type 0
+AllProcesses library = (url : List ℕ) (reading : Reading) → value_at url library ≡ Some reading → IsSoundReading reading

@@ -1,0 +1,67 @@
+//! Why no process is read.
+ghost use Rattle.std.specs.Prelude.{◌≡◌};
+ghost use Rattle.document_links.specs.Codes.{code_of};
+ghost use Rattle.document_links.specs.declared.fault.LinkError.TheVariants.{OutOfMemory};
+
+use document_table::DocumentFault;
+use plain_data::Text;
+use std::alloc::AllocError;
+use std::fmt;
+
+/// Why documents make no process.
+#[derive(Drop)]
+pub enum LinkFault {
+    /// What is wrong with the document of this URL.
+    Document(Text, DocumentFault),
+    /// The `run` of a step, which is no URL on its document's own.
+    NoUrl(Text),
+    /// A step names the document of this URL, which isn't there.
+    NotLoaded(Text),
+    /// Over `MOST_WORKFLOWS` workflows are inside one another.
+    TooDeep,
+    /// There are over `MOST_PROCESSES` processes.
+    TooMany,
+}
+
+/// Why no process is read.
+#[derive(Drop)]
+pub enum LinkError {
+    Refused(LinkFault),
+    /// Nothing is said of the documents.
+    OutOfMemory,
+}
+
+impl LinkFault {
+    /// The fault's short name.
+    pub fn code(&self) -> &'static str
+        ensures { result.now ≡ code_of self.now }
+    {
+        match self {
+            LinkFault::Document(_, fault) => fault.code(),
+            LinkFault::NoUrl(_) => "C6",
+            LinkFault::NotLoaded(_) => "C10",
+            LinkFault::TooDeep => "C9",
+            LinkFault::TooMany => "C9",
+        }
+    }
+}
+
+impl fmt::Display for LinkFault {
+    fn fmt<W: fmt::Write>(&self, f: &mut fmt::Formatter<W>) -> fmt::Result {
+        match self {
+            LinkFault::Document(url, fault) => write!(f, "{fault} in {url}"),
+            LinkFault::NoUrl(name) => write!(f, "no URL on the document's own: {name}"),
+            LinkFault::NotLoaded(url) => write!(f, "no such document: {url}"),
+            LinkFault::TooDeep => f.write_str("over 16 workflows inside one another"),
+            LinkFault::TooMany => f.write_str("over 4,096 processes"),
+        }
+    }
+}
+
+impl From<AllocError> for LinkError {
+    ghost from_gives = { λ _ e. e ≡ OutOfMemory };
+
+    fn from(_error: AllocError) -> LinkError {
+        LinkError::OutOfMemory
+    }
+}
