@@ -78,7 +78,12 @@ fn found_in(alloc: Global, entry: &Value) -> Result<Found, RowFault> {
         return Err(RowFault::BadArgument);
     };
     match parts.as_slice() {
-        [Value::Text(name), Value::Bool(is_dir), Value::Whole(size), Value::Text(sum)] => {
+        [
+            Value::Text(name),
+            Value::Bool(is_dir),
+            Value::Whole(size),
+            Value::Text(sum),
+        ] => {
             Ok(Found {
                 name: name.copied(alloc)?,
                 is_dir: *is_dir,
