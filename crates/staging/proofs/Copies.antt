@@ -1,7 +1,6 @@
 -- Which copies a plan has, and that those of different sources go to different targets.
-use Rattle.std.proofs.Common.{◌≡◌, ◌≢◌, ℕ, ◌+◌, ◌<◌, ◌^◌, Bool, true, false, true≢false, not, ◌==◌, ◌||◌, List, [], ◌∷◌, ◌++◌, map, length, length-append, append-nil, get_or, take, Option, Some, None, ◌⊎◌, inl, inr, refl, sym, ap, subst, ◌∙◌, arith, eqb-true}
+use Rattle.std.proofs.Common.{◌≡◌, ℕ, ◌+◌, ◌<◌, ◌^◌, Bool, true, false, true≢false, not, ◌==◌, ◌||◌, List, [], ◌∷◌, ◌++◌, map, length, length-append, append-nil, get_or, take, Option, Some, None, inl, inr, refl, sym, ap, subst, ◌∙◌, arith, eqb-true}
 use Rattle.std.specs.Prelude.{Contains, decimal, MatchOption, is_some}
-use Rattle.std.specs.List.{list_any}
 use Rattle.std.proofs.lemmas.Bool.Decides.{leb_tells}
 use Rattle.std.proofs.lemmas.Fmt.{decimal_injective}
 use Rattle.std.proofs.lemmas.List.{take_more}
@@ -9,7 +8,7 @@ use Rattle.std.proofs.lemmas.List.Elements.{Contains-append_left, Contains-appen
 use Rattle.staging.specs.Groups.{path_in, groups_of_fields}
 use Rattle.staging.specs.Placing.{IsFolder, ArePlaced}
 use Rattle.staging.specs.Plan.{AreMoves, IsPlan, folder_path, move_to}
-use Rattle.staging.specs.Laws.{NamesDiffer, StandsIn, AreNamed, has_slash}
+use Rattle.staging.specs.Laws.{AreNamed, has_slash}
 use Rattle.staging.specs.inner.Folders.{NoneIs, IsAbove}
 use Rattle.staging.specs.declared.group.Member.{Member}
 use Rattle.staging.specs.declared.group.Placed.{Placed}

@@ -1,16 +1,14 @@
 -- A value at new paths is the same value, but for its places.
-use Rattle.std.proofs.Common.{◌≡◌, ℕ, ℤ, Bool, List, [], ◌∷◌, map, option_map, Option, Some, None, Result, Ok, Err, IfOk, refl, sym, ap, ◌∙◌, rules}
+use Rattle.std.proofs.Common.{◌≡◌, ℕ, Bool, List, [], ◌∷◌, option_map, Option, Some, None, Result, Ok, Err, IfOk, refl, sym, ap, ◌∙◌, rules}
 use Rattle.std.specs.List.{AllByRecursion}
 use Rattle.std.specs.Option.{IfSome}
-use Rattle.std.proofs.lemmas.Simd.{map-map}
-use Rattle.plain_data.specs.ByName.{map_values}
 use Rattle.cwl_value.specs.Erased.{erased, file_erased, dir_erased, items_erased, fields_erased}
 use Rattle.cwl_value.specs.declared.place.Place.TheVariants.{Nowhere, Path}
 use Rattle.cwl_value.specs.declared.value.Value.{Value, the_lemmas}
 use Rattle.cwl_value.specs.declared.value.Value as value
 use Rattle.cwl_value.specs.declared.value.Value.TheOpen.{FileVal-F, DirVal-F}
-use Rattle.cwl_value.specs.declared.value.FileVal.{FileVal, roll-FileVal, out-FileVal}
-use Rattle.cwl_value.specs.declared.value.DirVal.{DirVal, roll-DirVal, out-DirVal}
+use Rattle.cwl_value.specs.declared.value.FileVal.{FileVal, roll-FileVal}
+use Rattle.cwl_value.specs.declared.value.DirVal.{DirVal, roll-DirVal}
 use Rattle.cwl_value.proofs.Induction.{Cases, induction}
 use Rattle.staging.specs.inner.Ways.{group_at}
 use Rattle.staging.specs.Groups.{FolderOf, path_in, name_of, copied, copied_file, copied_dir, items_moved, fields_moved}

@@ -1,7 +1,6 @@
 -- Values at new paths, level by level.
-use Rattle.std.proofs.Common.{◌≡◌, ℕ, List, [], ◌∷◌, ◌++◌, map, option_map, Option, Some, None, length, take, refl, sym, ap, ◌∙◌, rules}
+use Rattle.std.proofs.Common.{◌≡◌, ℕ, List, [], ◌∷◌, map, option_map, Option, Some, None, refl, sym, ap, ◌∙◌, rules}
 use Rattle.std.specs.List.{flat_map}
-use Rattle.std.proofs.Math.Seq.{take-length}
 use Rattle.std.proofs.lemmas.Simd.{map-map}
 use Rattle.plain_data.specs.ByName.{map_values}
 use Rattle.cwl_value.specs.declared.place.Place.TheVariants.{Path}

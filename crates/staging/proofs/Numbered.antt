@@ -1,13 +1,11 @@
 -- The folders of groups, looked up.
-use Rattle.std.proofs.Common.{◌≡◌, ◌≢◌, ℕ, ◌+◌, ◌<◌, ◌↔◌, Bool, true, false, true≢false, ◌&&◌, List, [], ◌∷◌, ◌++◌, length, get_or, take, drop, Option, Some, None, IsTrue, ◌⊎◌, inl, inr, refl, sym, ap, subst, ◌∙◌, arith, take-append-drop}
-use Rattle.std.specs.Prelude.{Contains, find, bytes_eq, option_map}
-use Rattle.std.specs.Option.{option_map_or}
+use Rattle.std.proofs.Common.{◌≡◌, ℕ, ◌+◌, ◌<◌, Bool, true, false, true≢false, ◌&&◌, List, [], ◌∷◌, ◌++◌, length, get_or, take, drop, Some, None, ◌⊎◌, inl, inr, refl, sym, ap, ◌∙◌, arith, take-append-drop}
+use Rattle.std.specs.Prelude.{Contains, find, bytes_eq}
 use Rattle.std.proofs.lemmas.List.{take_more, drop_more}
 use Rattle.std.proofs.lemmas.List.Elements.{Contains-append_right, Contains-append_cases, Contains-push_cases}
 use Rattle.std.proofs.lemmas.Slice.Eq.{bytes_eq-Decides}
 use Rattle.staging.specs.declared.group.Member.{Member}
 use Rattle.staging.specs.declared.group.Placed.{Placed}
-use Rattle.staging.specs.inner.Folders.{NoneIs}
 use Rattle.staging.specs.inner.Ways.{same_members, place_in, number_in}
 use Rattle.staging.proofs.Greedy.{both, both_first, both_second}
 use Rattle.staging.proofs.Together.{nothing_in}

@@ -1,6 +1,5 @@
-use Rattle.std.proofs.Common.{◌≡◌, List, ap, sym, ◌∙◌, IfOk, subst, string_bytes}
-use Rattle.staging.specs.declared.group.Member.{Member}
-use Rattle.staging.specs.inner.Ways.{folder_by, group_at}
+use Rattle.std.proofs.Common.{◌≡◌, ◌∙◌}
+use Rattle.staging.specs.inner.Ways.{group_at}
 use Rattle.staging.proofs.Moved.{file_group_at}
 use Rattle.staging.proofs.moving.folder_of_file.Goals as goal
 

@@ -1,4 +1,4 @@
-use Rattle.std.proofs.Common.{◌≡◌, Some, IsTrue, ap, sym, ◌∙◌, subst, List, arith, rules, option_map, take, None, length, true}
+use Rattle.std.proofs.Common.{◌≡◌, IsTrue, ap, sym, ◌∙◌, subst, List, arith, option_map, take, length, true}
 use Rattle.std.proofs.Math.Seq.{take-length}
 use Rattle.staging.specs.declared.group.Placed.{Placed}
 use Rattle.staging.specs.inner.Ways.{same_members, place_in}

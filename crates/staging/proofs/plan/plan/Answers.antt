@@ -1,7 +1,7 @@
-use Rattle.std.proofs.Common.{◌≡◌, ◌++◌, ℕ, List, [], ap, sym, subst, ◌∙◌}
+use Rattle.std.proofs.Common.{◌≡◌, ◌++◌, ℕ, List, ap, subst, ◌∙◌}
 use Rattle.staging.specs.Groups.{groups_of_fields, fields_moved}
 use Rattle.staging.specs.Placing.{ArePlaced}
-use Rattle.staging.specs.Plan.{IsPlan, AreMoves, folder_path}
+use Rattle.staging.specs.Plan.{AreMoves, folder_path}
 use Rattle.staging.specs.inner.Ways.{number_in}
 use Rattle.staging.specs.declared.group.Member.{Member}
 use Rattle.staging.specs.declared.group.Placed.{Placed}

@@ -1,4 +1,3 @@
-use Rattle.std.proofs.Common.{true, false}
 use Rattle.staging.proofs.Erasing.{if_same}
 use Rattle.staging.proofs.plan.stage_plan.Goals as goal
 
