@@ -1,23 +1,20 @@
 -- Outputs that are bound one after another.
-use Rattle.std.proofs.Common.{◌≡◌, ℕ, ◌+◌, ◌<◌, List, [], ◌∷◌, ◌++◌, length, get_or, take, drop, Option, Some, None, Bool, true, false, true≢false, Result, Ok, Err, IfOk, refl, sym, ap, subst, ◌∙◌}
-use Rattle.std.specs.declared.alloc.AllocError.{AllocError}
+use Rattle.std.proofs.Common.{◌≡◌, ℕ, ◌+◌, ◌<◌, List, [], ◌∷◌, ◌++◌, length, get_or, take, drop, Option, Bool, true, false, true≢false, Result, Ok, Err, IfOk, sym, ap, subst, ◌∙◌}
 use Rattle.std.proofs.lemmas.List.{take_more}
-use Rattle.plain_data.specs.ByName.{with_value}
 use Rattle.cwl_process.specs.declared.tool.OutputBinding.{OutputBinding}
 use Rattle.cwl_process.specs.declared.tool.OutputType.{OutputType}
 use Rattle.cwl_process.specs.declared.tool.ToolOutput.{ToolOutput}
 use Rattle.param_refs.specs.declared.template.Part.{Part}
 use Rattle.cwl_value.specs.declared.value.Value.{Value}
 use Rattle.staging.specs.declared.item.PatternItem.{PatternItem}
-use Rattle.collected_outputs.specs.Gives.{Gives, and_then, Refuses}
+use Rattle.collected_outputs.specs.Gives.{Gives, Refuses}
 use Rattle.collected_outputs.specs.Listing.{Listing}
 use Rattle.collected_outputs.specs.Matched.{Name, AreMatched, AreOfAll}
-use Rattle.collected_outputs.specs.Outputs.{Left, globs_of, AreNames, HasValue, AreOutputs, output_value}
+use Rattle.collected_outputs.specs.Outputs.{Left, globs_of, AreNames, AreOutputs}
 use Rattle.collected_outputs.specs.Patterns.{AreRead, pattern_texts}
-use Rattle.collected_outputs.specs.inner.Steps.{NoNames, HasNone, BindsOutput, BindsNone, NoOutputs}
+use Rattle.collected_outputs.specs.inner.Steps.{NoNames, BindsOutput, BindsNone, NoOutputs}
 use Rattle.collected_outputs.specs.inner.Readings.{NoneRead}
 use Rattle.collected_outputs.specs.declared.fault.CollectFault.{CollectFault}
-use Rattle.collected_outputs.specs.declared.fault.CollectFault.TheVariants.{Pattern}
 use Rattle.collected_outputs.specs.declared.fault.CollectError.{CollectError}
 use Rattle.collected_outputs.specs.declared.fault.CollectError.TheVariants as error
 use Rattle.collected_outputs.specs.declared.fault.Stop.{Stop}

@@ -1,6 +1,6 @@
 -- Tests of each item.
 use Rattle.std.proofs.Common.{◌≡◌, ℕ, ◌+◌, ◌<◌, Bool, true, false, ◌&&◌, List, [], ◌∷◌, ◌++◌, map, length, get_or, take, drop, take-append-drop, refl, sym, ap, ◌∙◌}
-use Rattle.std.specs.List.{list_all, list_any}
+use Rattle.std.specs.List.{list_any}
 use Rattle.std.specs.Map.{keys_of}
 use Rattle.std.proofs.lemmas.List.{map-append, drop_more, take_more}
 use Rattle.std.proofs.lemmas.List.Folds.{list_all-append, list_any_at}

@@ -1,5 +1,5 @@
 -- Giving one after another, up to the first fault.
-use Rattle.std.proofs.Common.{◌≡◌, ℕ, Bool, true, false, List, [], ◌∷◌, ◌++◌, append_assoc, ◌+◌, ◌<◌, length, get_or, take, drop, take-append-drop, map, Result, Ok, Err, OnOk, refl, sym, ap, subst, ◌∙◌}
+use Rattle.std.proofs.Common.{◌≡◌, ℕ, List, [], ◌∷◌, ◌++◌, append_assoc, ◌+◌, ◌<◌, length, get_or, take, drop, take-append-drop, map, Ok, Err, refl, sym, ap, ◌∙◌}
 use Rattle.std.proofs.lemmas.List.{map-append, take_more, drop_more}
 use Rattle.collected_outputs.specs.Gives.{Gives, and_map, and_then, all_given, Refuses}
 use Rattle.collected_outputs.specs.declared.fault.CollectFault.{CollectFault}

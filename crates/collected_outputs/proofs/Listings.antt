@@ -1,11 +1,10 @@
 -- A listing that grows, by its look-ups.
 use Rattle.std.proofs.Common.{◌≡◌, ℕ, ◌+◌, ◌<◌, Bool, true, false, cond, List, [], ◌∷◌, ◌++◌, map, length, get_or, take, Option, Some, None, refl, sym, ap, subst, ◌∙◌}
 use Rattle.std.specs.Prelude.{is_some, bytes_eq}
-use Rattle.std.specs.Map.{lookup}
 use Rattle.std.proofs.lemmas.List.{map-append, take_more}
-use Rattle.plain_data.specs.ByName.{IsByName, value_at, with_value, by_name}
+use Rattle.plain_data.specs.ByName.{IsByName, value_at, with_value}
 use Rattle.plain_data.proofs.ByName.{by_name_empty, order_with_value}
-use Rattle.plain_data.proofs.Lookup.{value_at-with_value, by_name_only, value_at_first, name_itself}
+use Rattle.plain_data.proofs.Lookup.{value_at-with_value, by_name_only}
 use Rattle.staging.specs.declared.found.Found.{Found}
 use Rattle.collected_outputs.specs.declared.listing.Entry.{Entry}
 use Rattle.collected_outputs.specs.Listing.{Listing, entry_of, listing_of}

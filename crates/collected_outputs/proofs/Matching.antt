@@ -1,5 +1,5 @@
 -- Matched names that are added one after another.
-use Rattle.std.proofs.Common.{◌≡◌, ℕ, ◌+◌, ◌<◌, Bool, true, false, true≢false, cond, not, ◌||◌, List, [], ◌∷◌, ◌++◌, append-nil, append_assoc, map, length, get_or, take, Result, Ok, Err, OnOk, IfOk, refl, sym, ap, subst, ◌∙◌}
+use Rattle.std.proofs.Common.{◌≡◌, ℕ, ◌+◌, ◌<◌, Bool, true, false, true≢false, cond, not, ◌||◌, List, [], ◌∷◌, ◌++◌, append-nil, append_assoc, length, get_or, take, Result, Ok, Err, OnOk, IfOk, refl, sym, ap, subst, ◌∙◌}
 use Rattle.std.specs.Prelude.{bytes_eq, filter, codes}
 use Rattle.std.specs.declared.alloc.AllocError.{AllocError}
 use Rattle.std.specs.Cmp.Lexicographic.{nat_list_eq_equiv, slice_cmp}
@@ -9,7 +9,7 @@ use Rattle.std.proofs.lemmas.List.Folds.{list_any-append}
 use Rattle.std.specs.List.{list_any}
 use Rattle.std.specs.Str.{chars}
 use Rattle.std.specs.Map.{keys_of}
-use Rattle.std.proofs.lemmas.List.{map-append, take_more}
+use Rattle.std.proofs.lemmas.List.{take_more}
 use Rattle.std.proofs.lemmas.Slice.Eq.{bytes_eq-Decides}
 use Rattle.staging.specs.Glob.{Glob, is_folder}
 use Rattle.staging.specs.declared.item.PatternItem.{PatternItem}

@@ -1,11 +1,10 @@
 -- Patterns that are read one after another.
-use Rattle.std.proofs.Common.{◌≡◌, ℕ, ◌+◌, ◌<◌, List, [], ◌∷◌, ◌++◌, append_assoc, append-nil, length, get_or, take, drop, Result, Ok, Err, refl, sym, ap, subst, ◌∙◌}
+use Rattle.std.proofs.Common.{◌≡◌, ℕ, ◌+◌, ◌<◌, List, [], ◌∷◌, ◌++◌, append_assoc, append-nil, length, get_or, take, drop, Ok, Err, refl, sym, ap, subst, ◌∙◌}
 use Rattle.std.specs.Str.{chars}
 use Rattle.std.proofs.lemmas.List.{take_more}
 use Rattle.cwl_value.specs.declared.value.Value.{Value}
 use Rattle.param_refs.specs.declared.template.Part.{Part}
 use Rattle.staging.specs.Reading.{IsReading}
-use Rattle.staging.specs.declared.fault.GlobFault.{GlobFault}
 use Rattle.staging.specs.declared.item.PatternItem.{PatternItem}
 use Rattle.collected_outputs.specs.Gives.{Gives, and_map, and_then, Refuses}
 use Rattle.collected_outputs.specs.Matched.{Name}

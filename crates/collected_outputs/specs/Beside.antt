@@ -1,5 +1,5 @@
 -- The files beside an output's files (CWL v1.2, "CommandOutputParameter": secondaryFiles).
-use Rattle.std.specs.Prelude.{ℕ, Bool, true, false, not, ◌||◌, ◌&&◌, if◌then◌else◌, List, [], ◌∷◌, ◌++◌, take, length, map, codes, Option, Some, None, is_some, bytes_eq, Ok, Err}
+use Rattle.std.specs.Prelude.{Bool, false, not, ◌||◌, ◌&&◌, if◌then◌else◌, List, [], ◌∷◌, ◌++◌, map, codes, is_some, bytes_eq, Ok, Err}
 use Rattle.std.specs.Option.{option_map_or, option_to_list}
 use Rattle.std.specs.List.{list_any, before_last}
 use Rattle.plain_data.specs.ByName.{value_at}

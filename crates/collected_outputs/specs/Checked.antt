@@ -1,22 +1,19 @@
 -- Which values are outputs, and what of them is kept.
-use Rattle.std.specs.Prelude.{ℕ, Bool, true, false, not, ◌||◌, ◌&&◌, if◌then◌else◌, List, [], ◌∷◌, map, codes, Option, Some, None, bytes_eq, Ok, Err}
+use Rattle.std.specs.Prelude.{ℕ, Bool, true, false, not, ◌&&◌, if◌then◌else◌, List, map, codes, None, bytes_eq}
 use Rattle.std.specs.Option.{option_map_or}
-use Rattle.std.specs.List.{list_any, list_all}
-use Rattle.plain_data.specs.ByName.{value_at, map_values}
+use Rattle.std.specs.List.{list_all}
+use Rattle.plain_data.specs.ByName.{value_at}
 use Rattle.cwl_process.specs.declared.tool.OutputType.{OutputType}
 use Rattle.cwl_process.specs.declared.tool.OutputType.TheVariants.{Stdout, Stderr, Members}
 use Rattle.cwl_value.specs.declared.place.Place.{Place}
 use Rattle.cwl_value.specs.declared.place.Place.TheVariants.{Nowhere, Url, Path, Made}
 use Rattle.cwl_value.specs.declared.value.Value.{Value, out-Value, roll-Value, fold-Value}
-use Rattle.cwl_value.specs.declared.value.Value as value
 use Rattle.cwl_value.specs.declared.value.Value.TheOpen.{Value-F, FileVal-F, DirVal-F}
-use Rattle.cwl_value.specs.declared.value.FileVal.{FileVal, out-FileVal, roll-FileVal, fold-FileVal}
+use Rattle.cwl_value.specs.declared.value.FileVal.{FileVal, roll-FileVal, fold-FileVal}
 use Rattle.cwl_value.specs.declared.value.DirVal.{DirVal, roll-DirVal, fold-DirVal}
 use Rattle.type_check.specs.Fits.{fits}
 use Rattle.collected_outputs.specs.declared.listing.Entry.{Entry}
-use Rattle.collected_outputs.specs.Gives.{Gives, and_then}
 use Rattle.collected_outputs.specs.Listing.{Listing}
-use Rattle.collected_outputs.specs.declared.fault.CollectFault.TheVariants.{NotTyped, NameOutside}
 
 -- Files and Directories that were found.
 

@@ -1,5 +1,5 @@
 -- Which names the patterns of an output match (CWL v1.2, "CommandOutputBinding": glob; "files are returned in the order of their names").
-use Rattle.std.specs.Prelude.{◌≡◌, ℕ, Bool, true, false, not, List, [], ◌∷◌, ◌++◌, filter, map, codes, bytes_eq}
+use Rattle.std.specs.Prelude.{◌≡◌, ℕ, true, false, not, List, [], ◌∷◌, ◌++◌, filter, codes, bytes_eq}
 use Rattle.std.specs.Str.{chars}
 use Rattle.std.specs.Map.{keys_of}
 use Rattle.staging.specs.Glob.{Glob, is_folder}

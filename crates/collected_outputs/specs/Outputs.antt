@@ -1,5 +1,5 @@
 -- The outputs of a tool, from what its command left behind (CWL v1.2, Command Line Tool, "Output binding").
-use Rattle.std.specs.Prelude.{◌≡◌, ℕ, Bool, true, false, not, ◌||◌, codes, if◌then◌else◌, List, [], ◌∷◌, ◌++◌, Option, Some, None, is_some, unwrap_or, Result, Ok, Err}
+use Rattle.std.specs.Prelude.{◌≡◌, ℕ, Bool, false, not, ◌||◌, codes, if◌then◌else◌, List, [], ◌∷◌, ◌++◌, Option, Some, None, is_some, unwrap_or, Result, Ok, Err}
 use Rattle.std.specs.Option.{option_map_or, option_to_list}
 use Rattle.plain_data.specs.ByName.{with_value, value_at}
 use Rattle.cwl_process.specs.declared.tool.OutputBinding.{OutputBinding}

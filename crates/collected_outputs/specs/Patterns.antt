@@ -1,5 +1,5 @@
 -- The patterns of an output (CWL v1.2, "CommandOutputBinding": glob), and the values of its references.
-use Rattle.std.specs.Prelude.{◌≡◌, ℕ, ℤ, pos, List, [], ◌∷◌, ◌++◌, map, codes, Option, Some, Result, Ok, Err}
+use Rattle.std.specs.Prelude.{ℕ, pos, List, [], ◌∷◌, ◌++◌, map, codes, Some, Result, Ok, Err}
 use Rattle.cwl_value.specs.declared.value.Value.{Value, out-Value}
 use Rattle.cwl_value.specs.declared.value.Value as value
 use Rattle.cwl_value.specs.declared.value.Value.TheOpen.{Value-F}

@@ -1,5 +1,5 @@
 -- The Files and Directories of an output folder, as values (CWL v1.2, "File", "Directory"). Each stands at its name below the folder.
-use Rattle.std.specs.Prelude.{ℕ, suc, zero, Bool, ◌==◌, if◌then◌else◌, List, [], ◌∷◌, ◌++◌, length, map, filter, flat_map, codes, Option, Some, None, option_map, bytes_eq}
+use Rattle.std.specs.Prelude.{ℕ, suc, zero, Bool, ◌==◌, if◌then◌else◌, List, [], ◌++◌, length, map, filter, flat_map, codes, Option, Some, None, option_map, bytes_eq}
 use Rattle.std.specs.Option.{option_to_list}
 use Rattle.std.specs.List.{before_last, after_last}
 use Rattle.plain_data.specs.ByName.{value_at}

@@ -1,5 +1,5 @@
 -- The names that a secondary file would have. No public contract cites this.
-use Rattle.std.specs.Prelude.{ℕ, List, Option, Some, None}
+use Rattle.std.specs.Prelude.{Option, Some, None}
 use Rattle.cwl_process.specs.declared.tool.SecondaryFile.{SecondaryFile}
 use Rattle.cwl_value.specs.declared.place.Place.{Place}
 use Rattle.cwl_value.specs.declared.place.Place.TheVariants.{Nowhere, Url, Path, Made}

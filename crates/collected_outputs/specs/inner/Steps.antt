@@ -1,5 +1,5 @@
 -- What the steps of collecting answer. No public contract cites this.
-use Rattle.std.specs.Prelude.{◌≡◌, List, Option, Some, None, Ok, Err}
+use Rattle.std.specs.Prelude.{◌≡◌, List, Some, Ok, Err}
 use Rattle.plain_data.specs.ByName.{with_value}
 use Rattle.cwl_process.specs.declared.tool.ToolOutput.{ToolOutput}
 use Rattle.cwl_value.specs.declared.value.Value.{Value}

@@ -1,7 +1,4 @@
-use Rattle.std.proofs.Common.{◌∙◌, Ok, List, subst, ap, sym}
 use Rattle.std.proofs.lemmas.Result.{err_from_is_err_and}
-use Rattle.staging.specs.declared.item.PatternItem.{PatternItem}
-use Rattle.collected_outputs.specs.Matched.{Name, AreMatched}
 use Rattle.collected_outputs.specs.inner.Steps.{texts_in}
 use Rattle.collected_outputs.proofs.Bound.{no_texts_named, no_pattern_named, names_matched}
 use Rattle.collected_outputs.proofs.collect.names_by.Goals as goal

@@ -1,4 +1,4 @@
-use Rattle.std.proofs.Common.{◌≡◌, [], Ok, List, sym, subst, ap, ◌∙◌}
+use Rattle.std.proofs.Common.{ap, ◌∙◌}
 use Rattle.collected_outputs.specs.Outputs.{globs_of, globs_in}
 use Rattle.collected_outputs.proofs.Bound.{named_by_kind}
 use Rattle.collected_outputs.proofs.collect.names_of.Goals as goal

@@ -1,4 +1,3 @@
-use Rattle.std.proofs.Common.{◌≡◌, ap, sym, ◌∙◌}
 use Rattle.collected_outputs.proofs.Bound.{nothing_named}
 use Rattle.collected_outputs.proofs.collect.names_of_binding.Goals as goal
 

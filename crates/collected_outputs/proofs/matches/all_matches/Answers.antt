@@ -1,4 +1,4 @@
-use Rattle.std.proofs.Common.{◌≡◌, [], List, sym, subst}
+use Rattle.std.proofs.Common.{[], List, sym, subst}
 use Rattle.collected_outputs.specs.Matched.{Name, AreOfAll}
 use Rattle.collected_outputs.proofs.Matching.{all_more}
 use Rattle.collected_outputs.proofs.matches.all_matches.Goals as goal

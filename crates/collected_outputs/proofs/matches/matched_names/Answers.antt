@@ -1,4 +1,3 @@
-use Rattle.std.proofs.Common.{◌≡◌, sym, ap, ◌∙◌}
 use Rattle.collected_outputs.proofs.Matching.{if_once}
 use Rattle.collected_outputs.proofs.matches.matched_names.Goals as goal
 

@@ -1,4 +1,4 @@
-use Rattle.std.proofs.Common.{◌≡◌, ◌+◌, ◌↔◌, IsTrue, true, true≢false, take, List, sym, ap, subst, ◌∙◌}
+use Rattle.std.proofs.Common.{◌≡◌, ◌+◌, true, true≢false, take, List, sym, subst, ◌∙◌}
 use Rattle.std.specs.Str.{chars}
 use Rattle.staging.specs.Glob.{Glob}
 use Rattle.collected_outputs.specs.Matched.{Name}

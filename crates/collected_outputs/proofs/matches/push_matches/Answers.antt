@@ -1,5 +1,4 @@
-use Rattle.std.proofs.Common.{◌≡◌, false, sym, ◌∙◌}
-use Rattle.staging.specs.Glob.{is_folder}
+use Rattle.std.proofs.Common.{sym, ◌∙◌}
 use Rattle.collected_outputs.proofs.Matching.{if_folder, if_below}
 use Rattle.collected_outputs.proofs.matches.push_matches.Goals as goal
 
