@@ -4,6 +4,7 @@
 #![tactic(auto)]
 
 mod globs;
+mod outputs;
 mod plans;
 
 use row_io::{Answers, Row, RowFault, answer_rows};
@@ -17,6 +18,7 @@ impl Answers for Calls {
     fn answer(&self, alloc: Global, row: &Row) -> Result<String, RowFault> {
         match row.call() {
             "matches" => globs::answer(alloc, row),
+            "collect_outputs" => outputs::answer(alloc, row),
             "stage_plan" | "deliver_plan" => plans::answer(alloc, row),
             _ => Err(RowFault::UnknownCall),
         }

@@ -1,5 +1,5 @@
 -- Which folder is free, found.
-use Rattle.std.proofs.Common.{◌≡◌, ◌≢◌, ℕ, ◌+◌, ◌<◌, ◌≤◌, Bool, true, false, ◌&&◌, ◌||◌, ◌==◌, List, [], ◌∷◌, ◌++◌, length, length-append, take, get_or, Result, Ok, Err, IfOk, ◌⊎◌, inl, inr, refl, sym, ap, subst, ◌∙◌, arith, ne_eqb}
+use Rattle.std.proofs.Common.{◌≡◌, ℕ, ◌+◌, ◌<◌, ◌≤◌, Bool, true, false, ◌&&◌, ◌==◌, List, [], ◌∷◌, ◌++◌, length, length-append, take, get_or, Result, Ok, Err, IfOk, ◌⊎◌, inl, inr, refl, sym, ap, subst, ◌∙◌, arith, ne_eqb}
 use Rattle.std.specs.Prelude.{Contains}
 use Rattle.std.specs.List.{list_any}
 use Rattle.std.specs.declared.alloc.AllocError.{AllocError}
@@ -42,12 +42,12 @@ and-false : (a b : Bool) → b ≡ false → (a && b) ≡ false
 and-false true b h = h
 and-false false b h = refl
 
-free_above : (holds_others : Bool) (placed : List Placed) (group : List Member) (top : ℕ) → IsAbove placed top → 0 < top → is_taken holds_others placed group top ≡ false
+pub free_above : (holds_others : Bool) (placed : List Placed) (group : List Member) (top : ℕ) → IsAbove placed top → 0 < top → is_taken holds_others placed group top ≡ false
 free_above holds_others placed group top h some =
     let zero_apart : (top == 0) ≡ false = ne_eqb top 0 (λ e. omega arith) in
     rw (above_free group placed top h) (and-false holds_others (top == 0 && has_reserved group) (rw zero_apart refl))
 
-at_most : (a b : ℕ) → a ≤ b → (a < b) ⊎ (a ≡ b)
+pub at_most : (a b : ℕ) → a ≤ b → (a < b) ⊎ (a ≡ b)
 at_most a b h = elim (eqb_tells a b) [ inl p ↦ inr p.1 | inr p ↦ inl (omega (arith, p.1)) ]
 
 pub lowest : (holds_others : Bool) (placed : List Placed) (group : List Member) (taken : List Bool) (k : ℕ) → IsAbove placed (length placed + 1) → length taken ≡ length placed + 1 → TellsTaken taken holds_others placed group → IsFirstFree taken k

@@ -1,4 +1,8 @@
+pub mod Copies
+pub mod Erasing
 pub mod Greedy
+pub mod Moved
+pub mod Numbered
 pub mod Grouped
 pub mod Names
 pub mod Scanned

@@ -44,3 +44,8 @@ pub data Glob : Bool → List PatternItem → List ℕ → Type 0 where
 abbrev pub is_run : PatternItem → Bool
 is_run Run = true
 is_run _ = false
+
+-- `.`, which stands for the output folder itself
+abbrev pub is_folder : List PatternItem → Bool
+is_folder (Literal c ∷ []) = c == 46
+is_folder _ = false

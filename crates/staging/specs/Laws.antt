@@ -1,6 +1,12 @@
 -- What holds of all patterns and names, in the words of the standard.
-use Rattle.std.specs.Prelude.{◌≡◌, ℕ, ◌==◌, Bool, true, false, List, ◌∷◌, map, count_by, Contains}
+use Rattle.std.specs.Prelude.{◌≡◌, ℕ, ◌<◌, ◌^◌, length, ◌==◌, Bool, true, false, List, ◌∷◌, map, count_by, Contains}
+use Rattle.std.specs.List.{list_any}
+use Rattle.cwl_value.specs.declared.value.Value.{Value}
 use Rattle.staging.specs.Glob.{Glob}
+use Rattle.staging.specs.Groups.{groups_of_fields}
+use Rattle.staging.specs.Plan.{IsPlan, folder_path, move_to}
+use Rattle.staging.specs.declared.plan.Move.{Move}
+use Rattle.staging.specs.declared.plan.StagePlan.{StagePlan}
 use Rattle.staging.specs.Placing.{ArePlaced}
 use Rattle.staging.specs.declared.group.Member.{Member}
 use Rattle.staging.specs.declared.group.Placed.{Placed}
@@ -48,3 +54,21 @@ EachGroupIsPlaced = (holds_others : Bool) (groups : List (List Member)) (placed 
 -- and groups with the same places and names share one
 abbrev pub OneGroupOneFolder : Type 0
 OneGroupOneFolder = (holds_others : Bool) (groups : List (List Member)) (placed : List Placed) → ArePlaced holds_others groups placed → (p q : Placed) → Contains placed p → Contains placed q → p.members ≡ q.members → p.folder ≡ q.folder
+
+abbrev pub has_slash : List ℕ → Bool
+has_slash name = list_any (λ c. c == 47) name
+
+-- the files of a group have different names, none with a slash
+pub record AreNamed (group : List Member) : Type 0 where
+  pub differ : NamesDiffer group
+  pub plain : (m : Member) → Contains group m → has_slash m.name ≡ false
+
+-- what is copied from different places goes to different places, where the names of each group are names of files that differ
+abbrev pub TargetsNeverMeet : Type 0
+TargetsNeverMeet = (holds_others : Bool) (dir : List ℕ) (values : List (List ℕ × Value)) (plan : StagePlan) → IsPlan holds_others dir values plan → length (groups_of_fields values) < 2 ^ 63
+    → ((group : List Member) → Contains (groups_of_fields values) group → AreNamed group) → (x y : Move) → Contains plan.moves x → Contains plan.moves y → x.target ≡ y.target → x.source ≡ y.source
+
+-- every file of every group is copied to its group's folder
+abbrev pub EachFileIsCopied : Type 0
+EachFileIsCopied = (holds_others : Bool) (dir : List ℕ) (values : List (List ℕ × Value)) (plan : StagePlan) (is : IsPlan holds_others dir values plan) (group : List Member) (m : Member)
+    → Contains (groups_of_fields values) group → Contains group m → Contains plan.moves (move_to (folder_path holds_others dir (is.number group)) m)

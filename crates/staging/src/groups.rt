@@ -109,7 +109,8 @@ fn path_of(place: &Place) -> &str
     }
 }
 
-fn name_of(name: &Option<Text>) -> &str
+/// The basename, or the empty name.
+pub(crate) fn name_of(name: &Option<Text>) -> &str
     ensures { result.now ≡ name_in name.now }
 {
     match name {

@@ -1,6 +1,6 @@
 //! What holds of all patterns, names and folders: each law is the contract of a function that does nothing.
 
-ghost use Rattle.staging.specs.Laws.{TextMatchesItself, TextMatchesNoOther, SameComponents, HiddenByPeriodAlone, SourcesNeverMeet, EachGroupIsPlaced, OneGroupOneFolder};
+ghost use Rattle.staging.specs.Laws.{TextMatchesItself, TextMatchesNoOther, SameComponents, HiddenByPeriodAlone, SourcesNeverMeet, EachGroupIsPlaced, OneGroupOneFolder, TargetsNeverMeet, EachFileIsCopied};
 
 /// A pattern without `*`, `?` and brackets matches its own text and no other name.
 pub fn text_matches_itself_alone()
@@ -24,4 +24,11 @@ pub fn sources_never_meet()
     ensures apart { SourcesNeverMeet }
     ensures each { EachGroupIsPlaced }
     ensures one { OneGroupOneFolder }
+{}
+
+/// Copies of different sources have different targets, where the files of each group have different names without
+/// slashes; and each file of each group is copied to its group's folder.
+pub fn targets_never_meet()
+    ensures apart { TargetsNeverMeet }
+    ensures each { EachFileIsCopied }
 {}

@@ -10,22 +10,28 @@
 mod bracket;
 mod characters;
 mod fault;
+mod found;
 mod group;
 mod groups;
 mod item;
 mod laws;
 mod matching;
+mod moves;
+mod moving;
 mod pattern;
 mod placing;
 mod plan;
 mod reading;
 mod syntax;
+mod targets;
 
 pub use fault::{GlobError, GlobFault};
+pub use found::Found;
 pub use group::{Member, Placed};
 pub use item::{Bracket, CharRange, PatternItem};
 pub use laws::{
-    hidden_by_a_period_alone, same_components, sources_never_meet, text_matches_itself_alone,
+    hidden_by_a_period_alone, same_components, sources_never_meet, targets_never_meet,
+    text_matches_itself_alone,
 };
 pub use pattern::Pattern;
 pub use placing::place_groups;

@@ -1,3 +1,6 @@
+ghost use Rattle.std.specs.Prelude.{◌≡◌, ◌∷◌, []};
+ghost use Rattle.staging.specs.Glob.{is_folder};
+
 use crate::item::PatternItem;
 use plain_data::Items;
 use std::marker::Model;
@@ -15,4 +18,26 @@ impl Model for Pattern {
     ghost Value = { List PatternItem };
 
     ghost view = { λ pattern. pattern.items };
+}
+
+impl Pattern {
+    /// Checks whether the pattern is `.`, which stands for the output folder itself.
+    pub fn is_folder(&self) -> bool
+        ensures { result ≡ is_folder self.now }
+    {
+        let items = self.items.as_slice();
+        match items.split_first() {
+            None => false,
+            Some((first, rest)) => rest.is_empty() && is_period(first),
+        }
+    }
+}
+
+fn is_period(item: &PatternItem) -> bool
+    ensures { result ≡ is_folder (item.now ∷ []) }
+{
+    match item {
+        PatternItem::Literal(character) => *character == '.',
+        _ => false,
+    }
 }

@@ -1,8 +1,9 @@
 //! Which folder each group of files goes to.
-ghost use Rattle.std.specs.Prelude.{◌≡◌, ◌+◌, ◌≤◌, ◌↔◌, IsTrue, IfOk, MatchOption, Contains, bytes_eq, length, vec_len};
+ghost use Rattle.std.specs.Prelude.{◌≡◌, ◌+◌, ◌≤◌, ◌↔◌, IsTrue, IfOk, MatchOption, option_map, Contains, bytes_eq, length, vec_len};
 ghost use Rattle.std.specs.Char.{is_ascii_digit};
 ghost use Rattle.std.specs.List.{list_all, list_any};
 ghost use Rattle.staging.specs.Placing.{ArePlaced, IsFolder, has_reserved, is_reserved, share_a_name, are_digits};
+ghost use Rattle.staging.specs.inner.Ways.{place_in};
 ghost use Rattle.staging.specs.inner.Folders.{NoneIs, IsLowest, IsAbove, TellsTaken, IsFirstFree};
 
 use crate::group::{Member, Placed};
@@ -46,7 +47,8 @@ fn folder_of(
 
 // The folder of an earlier group with the same places and names.
 pub(crate) fn shared_folder(placed: &[Placed], group: &[Member]) -> Option<usize>
-    ensures { MatchOption result (NoneIs placed.now group.now) (λ k. Contains placed.now (record { members = group.now; folder = k })) }
+    ensures found { MatchOption result (NoneIs placed.now group.now) (λ k. Contains placed.now (record { members = group.now; folder = k })) }
+    ensures first { result ≡ option_map (λ (p : Placed). p.folder) (place_in placed.now group.now) }
 {
     for one in placed {
         if are_same(one.members.as_slice(), group) {

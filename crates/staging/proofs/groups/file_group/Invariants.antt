@@ -1,4 +1,4 @@
-use Rattle.std.proofs.Common.{◌≡◌, ◌++◌, ◌∷◌, [], take}
+use Rattle.std.proofs.Common.{◌≡◌, ◌∷◌, take}
 use Rattle.std.specs.List.{flat_map}
 use Rattle.cwl_value.specs.declared.value.FileVal.{out-FileVal}
 use Rattle.staging.specs.Groups.{path_of, name_of, copied}

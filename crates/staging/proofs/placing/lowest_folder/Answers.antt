@@ -1,4 +1,4 @@
-use Rattle.std.proofs.Common.{ℕ, Bool, List, sym, subst, ap, length, ◌∙◌}
+use Rattle.std.proofs.Common.{Bool, List, sym, subst, ap, length, ◌∙◌}
 use Rattle.staging.specs.inner.Folders.{IsFirstFree}
 use Rattle.staging.proofs.Folders.{lowest}
 use Rattle.staging.proofs.placing.lowest_folder.Goals as goal

@@ -1,0 +1,12 @@
+pub mod Beside
+pub mod ByType
+pub mod Checked
+pub mod Codes
+pub mod Contents
+pub mod Gives
+pub mod Listing
+pub mod Matched
+pub mod Outputs
+pub mod Patterns
+pub mod Values
+pub mod inner

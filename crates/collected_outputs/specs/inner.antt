@@ -1,0 +1,5 @@
+pub mod Listings
+pub mod Matches
+pub mod Names
+pub mod Readings
+pub mod Steps

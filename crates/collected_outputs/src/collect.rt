@@ -1,0 +1,419 @@
+//! The outputs of a job.
+ghost use Rattle.std.specs.Prelude.{◌≡◌, ◌∷◌, [], false, is_some, Ok, Some, IfOk, IfErr, OnOk};
+ghost use Rattle.cwl_types.specs.declared.types.MemberType as member;
+ghost use Rattle.cwl_types.specs.declared.types.PlainType.TheVariants as plain;
+ghost use Rattle.cwl_value.specs.declared.value.Value.{out-Value};
+ghost use Rattle.collected_outputs.specs.Checked.{is_file_level, is_typed};
+ghost use Rattle.collected_outputs.specs.Gives.{Refuses};
+ghost use Rattle.collected_outputs.specs.Outputs as spec;
+ghost use Rattle.collected_outputs.specs.Outputs.{AreNames, AreOutputs, HasValue, globs_in, has_object};
+ghost use Rattle.collected_outputs.specs.Listing.{listing_of};
+ghost use Rattle.collected_outputs.specs.Patterns.{runtime};
+ghost use Rattle.collected_outputs.specs.inner.Steps.{left_of, texts_in, texts_by, HasNone, NoNames, NoOutputs, BindsOutput, BindsNone, error_at};
+
+use crate::bare::bare;
+use crate::by_type::value_by_type;
+use crate::classes::fields_have_class;
+use crate::contents::load_all;
+use crate::evaluation::{Speaks, runtime_of, value_in};
+use crate::fault::{CollectError, CollectFault, OutputFault, Stop};
+use crate::found::all_found;
+use crate::listing::{Entry, listing_of};
+use crate::matches::matched_names;
+use crate::object::{OUTPUT_OBJECT, object_of, placed};
+use crate::patterns::{read_patterns, texts_of};
+use crate::secondary::with_secondary;
+use crate::values::{push_value, values_of};
+use cwl_process::{OutputBinding, OutputType, Tool, ToolOutput};
+use cwl_types::{MemberType, PlainType};
+use cwl_value::{Value, ValueRefusal, copy_fields, from_json, to_json};
+use param_refs::Template;
+use plain_data::{Items, Keyed, Text};
+use staging::Found;
+use std::alloc::{AllocError, Global};
+use type_check::fits;
+
+/// The files that took a command's streams, by their names in the output folder; empty where a stream was discarded.
+#[derive(Clone, Copy, Drop)]
+pub struct StreamNames<'a> {
+    pub stdout: &'a str,
+    pub stderr: &'a str,
+}
+
+// What outputs are collected from.
+#[derive(Clone, Copy, Drop)]
+struct Folder<'a> {
+    listing: &'a Keyed<Entry>,
+    heads: &'a Keyed<Items<u8>>,
+    streams: StreamNames<'a>,
+    speaks: Speaks<'a>,
+}
+
+/// Collects the outputs of a job whose command has ended well (CWL v1.2, CommandLineTool, "Output binding").
+///
+/// `found` is all that stands below its output folder, and `heads` has the first bytes of files by name: of
+/// `cwl.output.json` where it is found, and else of the files whose contents are asked for. A File or Directory of an
+/// output stands at its name below the folder, which is a `Url` place; the folder itself is `.`.
+pub fn collect_outputs(
+    alloc: Global,
+    tool: &Tool,
+    inputs: &Keyed<Value>,
+    streams: StreamNames<'_>,
+    found: &[Found],
+    heads: &Keyed<Items<u8>>,
+) -> Result<Keyed<Value>, CollectError>
+    ensures { IfOk result (λ outputs. has_object (listing_of found.now) ≡ false → AreOutputs (record { listing = listing_of found.now; heads = heads.now; stdout = streams.entry.stdout.now; stderr = streams.entry.stderr.now; inputs = inputs.now; runtime = runtime }) tool.now.outputs (Ok outputs)) }
+{
+    let listing = listing_of(alloc, found)?;
+    let runtime = runtime_of(alloc)?;
+    let folder = Folder {
+        listing: &listing,
+        heads,
+        streams,
+        speaks: Speaks {
+            inputs,
+            runtime: &runtime,
+        },
+    };
+    let outputs = outputs_of(alloc, tool, folder)?;
+    checked_object(alloc, outputs)
+}
+
+fn outputs_of(alloc: Global, tool: &Tool, folder: Folder<'_>) -> Result<Keyed<Value>, CollectError>
+    ensures { IfOk result (λ outputs. spec.has_object folder.entry.listing.now ≡ false → spec.AreOutputs (left_of folder.entry) tool.now.outputs (Ok outputs)) }
+{
+    match object_entry(folder.listing) {
+        None => from_bindings(alloc, tool, folder),
+        Some(entry) => match object_of(alloc, entry, folder.heads) {
+            Ok(object) => from_object(alloc, tool, folder, &object),
+            Err(stop) => Err(whole(stop)),
+        },
+    }
+}
+
+// The file that is the whole output object, where it is found.
+fn object_entry(listing: &Keyed<Entry>) -> Option<&Entry>
+    ensures { is_some result ≡ spec.has_object listing.now }
+{
+    let entry = listing.get(OUTPUT_OBJECT)?;
+    if entry.is_dir { None } else { Some(entry) }
+}
+
+fn from_bindings(
+    alloc: Global,
+    tool: &Tool,
+    folder: Folder<'_>,
+) -> Result<Keyed<Value>, CollectError>
+    ensures ok { IfOk result (λ outputs. spec.AreOutputs (left_of folder.entry) tool.now.outputs (Ok outputs)) }
+    ensures err { IfErr result (NoOutputs (left_of folder.entry) tool.now.outputs) }
+{
+    let mut outputs = Keyed::new(alloc);
+    for output in tool.outputs.as_slice() {
+        bind_output(alloc, &output.0, &output.1, folder, &mut outputs)?;
+    }
+    Ok(outputs)
+}
+
+fn bind_output(
+    alloc: Global,
+    id: &Text,
+    output: &ToolOutput,
+    folder: Folder<'_>,
+    outputs: &mut Keyed<Value>,
+) -> Result<(), CollectError>
+    ensures ok { OnOk result (BindsOutput (left_of folder.entry) id.now output.now outputs.old outputs.new) }
+    ensures err { IfErr result (BindsNone (left_of folder.entry) id.now output.now) }
+{
+    match bound_value(alloc, output, folder) {
+        Ok(value) => {
+            drop(outputs.insert(id.copied(alloc)?, value)?);
+            Ok(())
+        }
+        Err(stop) => Err(at_output(alloc, id, stop)?),
+    }
+}
+
+// The fault, with the output that it is met at.
+fn at_output(alloc: Global, id: &Text, stop: Stop) -> Result<CollectError, AllocError>
+    ensures { IfOk result (λ e. e ≡ error_at id.now stop) }
+{
+    match stop {
+        Stop::Refused(fault) => Ok(CollectError::Refused(OutputFault {
+            output: Some(id.copied(alloc)?),
+            fault,
+        })),
+        Stop::OutOfMemory => Ok(CollectError::OutOfMemory),
+    }
+}
+
+fn from_object(
+    alloc: Global,
+    tool: &Tool,
+    folder: Folder<'_>,
+    object: &Keyed<Value>,
+) -> Result<Keyed<Value>, CollectError> {
+    let mut outputs = Keyed::new(alloc);
+    for output in tool.outputs.as_slice() {
+        let written = written_value(alloc, &output.0, &output.1, folder, object);
+        add_output(alloc, &output.0, written, &mut outputs)?;
+    }
+    Ok(outputs)
+}
+
+fn add_output(
+    alloc: Global,
+    id: &Text,
+    value: Result<Value, Stop>,
+    outputs: &mut Keyed<Value>,
+) -> Result<(), CollectError> {
+    match value {
+        Ok(value) => {
+            drop(outputs.insert(id.copied(alloc)?, value)?);
+            Ok(())
+        }
+        Err(Stop::Refused(fault)) => Err(CollectError::Refused(OutputFault {
+            output: Some(id.copied(alloc)?),
+            fault,
+        })),
+        Err(Stop::OutOfMemory) => Err(CollectError::OutOfMemory),
+    }
+}
+
+fn whole(stop: Stop) -> CollectError {
+    match stop {
+        Stop::Refused(fault) => CollectError::Refused(OutputFault {
+            output: None,
+            fault,
+        }),
+        Stop::OutOfMemory => CollectError::OutOfMemory,
+    }
+}
+
+// The value that the output object has for an output, or null.
+fn written_value(
+    alloc: Global,
+    id: &Text,
+    output: &ToolOutput,
+    folder: Folder<'_>,
+    object: &Keyed<Value>,
+) -> Result<Value, Stop> {
+    let value = match object.get(id.as_str()) {
+        None => Value::Null,
+        Some(written) => placed(alloc, folder.listing, written)?,
+    };
+    checked(alloc, folder.listing, &output.kind, value)
+}
+
+// The value of an output by its type and binding.
+fn bound_value(alloc: Global, output: &ToolOutput, folder: Folder<'_>) -> Result<Value, Stop>
+    ensures ok { IfOk result (λ v. HasValue (left_of folder.entry) output.now (Ok v)) }
+    ensures err { IfErr result (HasNone (left_of folder.entry) output.now) }
+{
+    let names = names_of(alloc, output, folder)?;
+    output_value(alloc, output, folder, names.as_slice())
+}
+
+fn output_value(
+    alloc: Global,
+    output: &ToolOutput,
+    folder: Folder<'_>,
+    names: &[Text],
+) -> Result<Value, Stop>
+    ensures ok { IfOk result (λ v. spec.output_value (left_of folder.entry) output.now names.now ≡ Ok v) }
+    ensures err { IfErr result (Refuses (spec.output_value (left_of folder.entry) output.now names.now)) }
+{
+    let value = unchecked_value(alloc, output, folder, names)?;
+    let declared = output.secondary_files.as_slice();
+    let value = with_secondary(alloc, folder.listing, declared, value)?;
+    checked(alloc, folder.listing, &output.kind, value)
+}
+
+// The names that the output's patterns match.
+fn names_of(alloc: Global, output: &ToolOutput, folder: Folder<'_>) -> Result<Items<Text>, Stop>
+    ensures ok { IfOk result (λ names. AreNames folder.entry.listing.now (texts_by folder.entry output.now) (Ok names)) }
+    ensures err { IfErr result (NoNames folder.entry.listing.now (texts_by folder.entry output.now)) }
+{
+    match &output.kind {
+        OutputType::Stdout => Ok(Items::new(alloc)),
+        OutputType::Stderr => Ok(Items::new(alloc)),
+        OutputType::Members(_) => match &output.binding {
+            None => Ok(Items::new(alloc)),
+            Some(binding) => names_of_binding(alloc, binding, folder),
+        },
+    }
+}
+
+fn names_of_binding(
+    alloc: Global,
+    binding: &OutputBinding,
+    folder: Folder<'_>,
+) -> Result<Items<Text>, Stop>
+    ensures ok { IfOk result (λ names. AreNames folder.entry.listing.now (texts_in folder.entry (globs_in (Some binding.now))) (Ok names)) }
+    ensures err { IfErr result (NoNames folder.entry.listing.now (texts_in folder.entry (globs_in (Some binding.now)))) }
+{
+    match &binding.glob {
+        None => Ok(Items::new(alloc)),
+        Some(templates) => names_by(alloc, templates.as_slice(), folder),
+    }
+}
+
+fn names_by(alloc: Global, templates: &[Template], folder: Folder<'_>) -> Result<Items<Text>, Stop>
+    ensures ok { IfOk result (λ names. AreNames folder.entry.listing.now (texts_in folder.entry templates.now) (Ok names)) }
+    ensures err { IfErr result (NoNames folder.entry.listing.now (texts_in folder.entry templates.now)) }
+{
+    let texts = texts_of(alloc, templates, folder.speaks)?;
+    let patterns = read_patterns(alloc, texts.as_slice())?;
+    Ok(matched_names(alloc, folder.listing, patterns.as_slice())?)
+}
+
+fn unchecked_value(
+    alloc: Global,
+    output: &ToolOutput,
+    folder: Folder<'_>,
+    names: &[Text],
+) -> Result<Value, Stop>
+    ensures ok { IfOk result (λ v. spec.unchecked (left_of folder.entry) output.now.kind output.now.binding names.now ≡ Ok v) }
+    ensures err { IfErr result (Refuses (spec.unchecked (left_of folder.entry) output.now.kind output.now.binding names.now)) }
+{
+    match &output.kind {
+        OutputType::Stdout => stream_value(alloc, folder, folder.streams.stdout),
+        OutputType::Stderr => stream_value(alloc, folder, folder.streams.stderr),
+        OutputType::Members(members) => match &output.binding {
+            None => Ok(Value::Null),
+            Some(binding) => value_of_binding(alloc, members, binding, folder, names),
+        },
+    }
+}
+
+fn stream_value(alloc: Global, folder: Folder<'_>, name: &str) -> Result<Value, Stop>
+    ensures ok { IfOk result (λ v. spec.stream_value (left_of folder.entry) name.now ≡ Ok v) }
+    ensures err { IfErr result (Refuses (spec.stream_value (left_of folder.entry) name.now)) }
+{
+    let mut found = Items::new(alloc);
+    push_value(alloc, folder.listing, name, &mut found)?;
+    let members = file_type(alloc)?;
+    value_by_type(&members, found)
+}
+
+fn file_type(alloc: Global) -> Result<Items<MemberType>, AllocError>
+    ensures { IfOk result (λ members. members ≡ member.Plain plain.File ∷ []) }
+{
+    let mut members = Items::new(alloc);
+    members.push(MemberType::Plain(PlainType::File))?;
+    Ok(members)
+}
+
+fn value_of_binding(
+    alloc: Global,
+    members: &Items<MemberType>,
+    binding: &OutputBinding,
+    folder: Folder<'_>,
+    names: &[Text],
+) -> Result<Value, Stop>
+    ensures ok { IfOk result (λ v. spec.value_of_binding (left_of folder.entry) members.now (Some binding.now) names.now ≡ Ok v) }
+    ensures err { IfErr result (Refuses (spec.value_of_binding (left_of folder.entry) members.now (Some binding.now) names.now)) }
+{
+    if binding.glob.is_none() && binding.output_eval.is_none() {
+        return Ok(Value::Null);
+    }
+    let matched = matched_values(alloc, binding.load_contents, folder, names)?;
+    evaluated(members, &binding.output_eval, folder, matched)
+}
+
+fn evaluated(
+    members: &Items<MemberType>,
+    output_eval: &Option<Template>,
+    folder: Folder<'_>,
+    matched: Items<Value>,
+) -> Result<Value, Stop>
+    ensures ok { IfOk result (λ v. spec.evaluated (left_of folder.entry) members.now output_eval.now matched ≡ Ok v) }
+    ensures err { IfErr result (Refuses (spec.evaluated (left_of folder.entry) members.now output_eval.now matched)) }
+{
+    match output_eval {
+        None => value_by_type(members, matched),
+        Some(template) => value_in(template, folder.speaks, &Value::List(matched)),
+    }
+}
+
+fn matched_values(
+    alloc: Global,
+    load: bool,
+    folder: Folder<'_>,
+    names: &[Text],
+) -> Result<Items<Value>, Stop>
+    ensures ok { IfOk result (λ vs. spec.matched_values (left_of folder.entry) load names.now ≡ Ok vs) }
+    ensures err { IfErr result (Refuses (spec.matched_values (left_of folder.entry) load names.now)) }
+{
+    let values = values_of(alloc, folder.listing, names)?;
+    if load {
+        load_all(alloc, folder.heads, values)
+    } else {
+        Ok(values)
+    }
+}
+
+// The value without contents, where it fits the type and holds only what was found.
+fn checked(
+    alloc: Global,
+    listing: &Keyed<Entry>,
+    kind: &OutputType,
+    value: Value,
+) -> Result<Value, Stop>
+    ensures ok { IfOk result (λ v. spec.checked listing.now kind.now value ≡ Ok v) }
+    ensures err { IfErr result (Refuses (spec.checked listing.now kind.now value)) }
+{
+    if !is_typed(&value, kind) {
+        return Err(Stop::Refused(CollectFault::NotTyped));
+    }
+    if !all_found(listing, &value) {
+        return Err(Stop::Refused(CollectFault::NameOutside));
+    }
+    Ok(bare(alloc, &value)?)
+}
+
+fn is_typed(value: &Value, kind: &OutputType) -> bool
+    ensures { result ≡ is_typed kind.now value.now }
+{
+    match kind {
+        OutputType::Members(members) => fits(value, members),
+        _ => is_file(value),
+    }
+}
+
+fn is_file(value: &Value) -> bool
+    ensures { result ≡ is_file_level (out-Value value.now) }
+{
+    matches!(value, Value::FileVal(_))
+}
+
+// The outputs, where their JSON can be read back as these values.
+fn checked_object(alloc: Global, outputs: Keyed<Value>) -> Result<Keyed<Value>, CollectError>
+    ensures { IfOk result (λ same. same ≡ outputs) }
+{
+    if fields_have_class(&outputs) {
+        drop(outputs);
+        return Err(not_typed());
+    }
+    if nests_deep(alloc, &outputs)? {
+        drop(outputs);
+        return Err(not_typed());
+    }
+    Ok(outputs)
+}
+
+fn not_typed() -> CollectError {
+    CollectError::Refused(OutputFault {
+        output: None,
+        fault: CollectFault::NotTyped,
+    })
+}
+
+fn nests_deep(alloc: Global, outputs: &Keyed<Value>) -> Result<bool, CollectError> {
+    let object = Value::Fields(copy_fields(alloc, outputs)?);
+    let json = to_json(alloc, &object)?;
+    match from_json(alloc, &json) {
+        Err(ValueRefusal::TooDeep) => Ok(true),
+        Err(ValueRefusal::OutOfMemory) => Err(CollectError::OutOfMemory),
+        _ => Ok(false),
+    }
+}

@@ -1,0 +1,22 @@
+//! The outputs of a job, from what its command left behind (CWL v1.2, CommandLineTool, "Output binding").
+#![tactic(auto)]
+
+mod bare;
+mod by_type;
+mod classes;
+mod collect;
+mod contents;
+mod evaluation;
+mod fault;
+mod found;
+mod listing;
+mod matches;
+mod object;
+mod patterns;
+mod secondary;
+mod values;
+
+pub use collect::{StreamNames, collect_outputs};
+pub use contents::MOST_CONTENTS;
+pub use fault::{CollectError, CollectFault, OutputFault};
+pub use object::{MOST_OBJECT, OUTPUT_OBJECT};

@@ -1,0 +1,53 @@
+//! What is copied: each file of the placed groups, once.
+ghost use Rattle.std.specs.Prelude.{◌≡◌, ◌++◌, map, IfOk, OnOk};
+ghost use Rattle.staging.specs.Plan.{AreMoves, folder_path as path_of, move_to as move_of};
+
+use crate::group::{Member, Placed};
+use crate::placing::shared_folder;
+use crate::plan::Move;
+use crate::targets::{Folders, folder_path, path_in};
+use plain_data::Items;
+use std::alloc::{AllocError, Global};
+
+/// Each copy once: a group that shares its folder with an earlier one is copied with that.
+pub(crate) fn moves_of(
+    alloc: Global,
+    placed: &[Placed],
+    folders: Folders<'_>,
+) -> Result<Items<Move>, AllocError>
+    ensures { IfOk result (AreMoves (path_of folders.entry.holds_others folders.entry.dir.now) placed.now) }
+{
+    let mut moves = Items::new(alloc);
+    for at in 0..placed.len() {
+        let (earlier, one) = (&placed[..at], &placed[at]);
+        if shared_folder(earlier, one.members.as_slice()).is_none() {
+            push_moves(alloc, one, folders, &mut moves)?;
+        }
+    }
+    Ok(moves)
+}
+
+fn push_moves(
+    alloc: Global,
+    placed: &Placed,
+    folders: Folders<'_>,
+    moves: &mut Items<Move>,
+) -> Result<(), AllocError>
+    ensures { OnOk result (moves.new ≡ moves.old ++ map (move_of (path_of folders.entry.holds_others folders.entry.dir.now placed.now.folder)) placed.now.members) }
+{
+    let folder = folder_path(alloc, folders, placed.folder)?;
+    for member in placed.members.as_slice() {
+        moves.push(move_to(alloc, member, folder.as_str())?)?;
+    }
+    Ok(())
+}
+
+fn move_to(alloc: Global, member: &Member, folder: &str) -> Result<Move, AllocError>
+    ensures { IfOk result (λ one. one ≡ move_of folder.now member.now) }
+{
+    let target = path_in(alloc, folder, member.name.as_str())?;
+    Ok(Move {
+        source: member.source.copied(alloc)?,
+        target,
+    })
+}
