@@ -36,6 +36,7 @@ pub(crate) fn read_library(
     Ok(Keyed::from_sorted(entries))
 }
 
+#[tactic(auto, using(cwl_process::proofs::Forms::document_is_process))]
 fn read_as(alloc: Global, bytes: &[u8]) -> Result<Reading, AllocError>
     ensures read { IfOk result (λ reading. IsReadAs bytes.now (seen reading)) }
     ensures process { IfOk result IsSoundReading }

@@ -26,6 +26,7 @@ use url::Url;
 
 /// The process of a document at that URL, or of a value in it. So many workflows at most are inside one another.
 #[cycle(linking)]
+#[tactic(auto, using(cwl_process::proofs::Forms::is_a_workflow, cwl_process::proofs::Forms::is_a_tool))]
 pub(crate) fn linked(
     alloc: Global,
     library: &Keyed<Reading>,
@@ -39,13 +40,14 @@ pub(crate) fn linked(
     ensures { IfOk result (λ process. process
         ≡ linked (finds_in library.now) levels base.now around.now (view value.now)) }
 {
-    if !is_workflow(value) {
-        return Ok(Process::Tool(own_tool(alloc, around, value)?));
+    if is_workflow(value) {
+        if levels == 0 {
+            return nothing(alloc, around);
+        }
+        let workflow = linked_workflow(alloc, library, levels - 1, base, around, value)?;
+        return Ok(Process::Workflow(workflow));
     }
-    if levels == 0 {
-        return nothing(alloc, around);
-    }
-    Ok(Process::Workflow(linked_workflow(alloc, library, levels - 1, base, around, value)?))
+    Ok(Process::Tool(own_tool(alloc, around, value)?))
 }
 
 #[tactic(auto, using(cwl_process::proofs::Forms::tool_inputs, cwl_process::proofs::Forms::tool_outputs, cwl_process::proofs::Forms::tool_requirements, cwl_process::proofs::Forms::tool_hints, cwl_process::proofs::Forms::tool_is_whole))]
@@ -195,6 +197,7 @@ fn run_at(
 }
 
 #[cycle(linking)]
+#[tactic(auto, using(cwl_process::proofs::Forms::no_text_is_process))]
 fn run_in(
     alloc: Global,
     library: &Keyed<Reading>,

@@ -24,6 +24,7 @@ pub type Docs = Keyed<Items<u8>>;
 ///
 /// Of several faults the first is answered: of the document itself, then in the order of its steps. C6 where a name is no URL on its document's
 /// own, C9 where over 16 workflows are inside one another or over 4,096 processes come together, C10 where a document isn't there.
+#[tactic(auto, using(cwl_process::proofs::Forms::document_is_process))]
 pub fn read_process(
     alloc: Global,
     bytes: &[u8],
