@@ -10,14 +10,19 @@ SHAPE   chain: each job reads the one before it
         stairs: a graph made to be hard, with paths that go up and down among half of the jobs (COSTS is not looked at)
 COSTS   even: drawn from the whole range, each cost as likely as another
         decades: each number of digits as likely as another
-But in stairs, a job in eight has no load cost, and needed are the last job, or the last layer, or the leaves of a tree,
-or each job of a scatter, and one job in sixteen besides. No plan is given: each job is marked P, and each charge is 0.
+        first: those of a first run: no job can be loaded, and to compute one costs 1000
+        third: those of a run for which a third of the rows is absent: a job in three, drawn, is as in a first run; the
+        others take a thousandth to a thousand seconds to compute, and their files up to a GB to load
+But in stairs, and in runs, a job in eight has no load cost. Needed are the last job, or the last layer, or the leaves of
+a tree, or each job of a scatter, and but in runs one job in sixteen besides. No plan is given: each job is marked P, and
+each charge is 0.
 """
 
 import sys
 
 HIGHEST = 10**12
 WIDTH = 32
+RUNS = ("first", "third")
 
 
 class Numbers:
@@ -49,6 +54,16 @@ def parents_of(shape, job, numbers):
     return sorted(drawn)
 
 
+def costs_of(costs, numbers):
+    """What it costs to load a job, or None, and to compute it."""
+    if costs == "first" or costs == "third" and numbers.below(3) == 0:
+        return None, 1000
+    if costs == "third":
+        return 1 + 10 ** numbers.below(10) // 100_000, 10 ** numbers.below(7)
+    load = None if numbers.below(8) == 0 else cost_of(costs, 0, numbers)
+    return load, cost_of(costs, 1, numbers)
+
+
 def cost_of(costs, lowest, numbers):
     highest = HIGHEST if costs == "even" else 10 ** (1 + numbers.below(12))
     return lowest + numbers.below(highest - lowest + 1)
@@ -66,9 +81,9 @@ def drawn(shape, costs, jobs):
     parents = [parents_of(shape, job, numbers) for job in range(jobs)]
     read = {parent for row in parents for parent in row}
     for job, row in enumerate(parents):
-        load = None if numbers.below(8) == 0 else cost_of(costs, 0, numbers)
-        compute = cost_of(costs, 1, numbers)
-        yield numbers.below(16) == 0 or is_needed(shape, job, jobs, read), load, compute, row
+        load, compute = costs_of(costs, numbers)
+        also = costs not in RUNS and numbers.below(16) == 0
+        yield also or is_needed(shape, job, jobs, read), load, compute, row
 
 
 def stairs(jobs):

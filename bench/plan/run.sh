@@ -1,17 +1,21 @@
 #!/usr/bin/env bash
-# Measures `plan`, `plan_again` where nothing has changed, and `check` beside a plain maximum flow (dinic.cpp) and a careful one (levels.cpp) on generated graphs,
-# and prints a table.
+# Measures `plan`, `plan_again` and `check` beside a plain maximum flow (dinic.cpp) and a careful one (levels.cpp), and prints a table.
 #
 # usage: bench/plan/run.sh [VERTICES..]      64 256 1024 4096 where none is given
 #
+# Its rows are generated graphs, and then planning points of simulated runs with one slot, as many planning points from the start
+# as there are jobs, or the last one of a run with fewer: of a first run, and of one for which a third of the rows is absent. Below
+# them stand all plans of such runs of a scatter, and the memory that a line of 20 MB takes.
+#
 # The programs read the same graph in the same run; where their costs differ, it stops with status 1. Times are
-# milliseconds without reading, the least of five runs; memory is the peak of a whole process in MiB, with reading. The
-# ratio is that of `plan` and the careful flow, both with the building of their networks. It needs rt, g++, python3 and
-# GNU time.
+# milliseconds without reading, the least of five runs; memory is the peak of a whole process in MiB, with reading. `again` plans
+# where nothing has changed, `changed` from the charges of the planning point before. The ratio is that of `plan` and the careful
+# flow, both with the building of their networks. It needs rt, g++, python3 and GNU time.
 set -euo pipefail
 
 here=$(cd "$(dirname "$0")" && pwd)
 crate=$here/../../crates/plan_bench
+ours=$crate/out/plan_bench
 work=$(mktemp -d)
 trap 'rm -rf "$work"' EXIT
 
@@ -42,12 +46,11 @@ value() {
     awk -v word="$2" '$1 == word { print $2 }' "$work/$1.said"
 }
 
-row='%-7s %-7s %8s %8s %10s %9s %9s %9s %9s %7s %9s %9s\n'
+row='%-7s %-7s %8s %8s %10s %9s %9s %9s %9s %9s %7s %9s %9s\n'
 
-# compare SHAPE COSTS VERTICES: prints a row of the table
+# compare SHAPE COSTS CHANGED: prints a row of the table, on the graph at hand
 compare() {
-    python3 "$here/generate.py" "$@" > "$work/graph"
-    least ours "$crate/out/plan_bench" times
+    least ours "$ours" times
     least dinic "$work/dinic"
     least levels "$work/levels"
     for peer in dinic levels; do
@@ -56,26 +59,68 @@ compare() {
             exit 1
         fi
     done
-    entries=$(awk 'NF > 8 { entries += $8 } END { print entries + 0 }' "$work/graph")
-    awk -v row="$row" -v shape="$1" -v costs="$2" -v vertices="$3" -v entries="$entries" \
+    awk -v row="$row" -v shape="$1" -v costs="$2" -v changed="$3" \
         -v plan="$(value ours plan)" -v again="$(value ours again)" -v check="$(value ours check)" -v dinic="$(value dinic plan)" -v levels="$(value levels plan)" \
         -v ours_peak="$(value ours peak)" -v dinic_peak="$(value dinic peak)" \
         'function to(amount, unit, digits) { return sprintf("%.*f", digits, amount / unit) }
-        BEGIN {
+        NF >= 8 { vertices++; entries += $8 }
+        END {
             ratio = to(plan, levels > 0 ? levels : 1, 1)
-            printf row, shape, costs, vertices, entries, to(plan, 1000, 2), to(again, 1000, 2), to(check, 1000, 2), to(dinic, 1000, 2),
-                to(levels, 1000, 2), ratio, to(ours_peak, 1024, 1), to(dinic_peak, 1024, 1)
+            printf row, shape, costs, vertices + 0, entries + 0, to(plan, 1000, 2), to(again, 1000, 2), changed == "-" ? "-" : to(changed, 1000, 2),
+                to(check, 1000, 2), to(dinic, 1000, 2), to(levels, 1000, 2), ratio, to(ours_peak, 1024, 1), to(dinic_peak, 1024, 1)
+        }' "$work/graph"
+}
+
+# generated SHAPE COSTS VERTICES
+generated() {
+    python3 "$here/generate.py" "$@" > "$work/graph"
+    compare "$1" "$2" -
+}
+
+# planning_point SHAPE COSTS JOBS: the point of a run of so many jobs that has as many planning points before it
+planning_point() {
+    python3 "$here/generate.py" "$@" > "$work/jobs"
+    "$ours" run "$3" < "$work/jobs" > "$work/graph" 2> "$work/told"
+    compare "$1" "$2" "$(awk '$1 == "changed" { print $2 }' "$work/told")"
+}
+
+# all_plans COSTS JOBS: prints how long all plans of a run of a scatter take
+all_plans() {
+    python3 "$here/generate.py" scatter "$@" | "$ours" run | awk -v costs="$1" -v jobs="$2" '
+        { took[$1] = $2 }
+        END {
+            printf "%s run of a scatter of %d jobs: %d planning points; ms for all graphs %.0f, all plans from nothing %.0f, all plans from the charges of the point before %.0f\n",
+                costs, jobs, took["points"], took["graphs"] / 1000, took["plan"] / 1000, took["again"] / 1000
         }'
+}
+
+# long_line: prints the memory that it takes to refuse a certificate whose third line has 20 MB
+long_line() {
+    python3 -c 'print("cwl-plan 1\njobs 1\nC 1 - 1 1 1 1 5000000" + " 0 0" * 5_000_000 + "\nend")' > "$work/graph"
+    if /usr/bin/time -f 'peak %M' -o "$work/peak" "$ours" < "$work/graph" > /dev/null 2>&1; then
+        echo "a line of 20 MB was not refused" >&2
+        exit 1
+    fi
+    awk '$1 == "peak" { printf "a certificate with a line of 20 MB: refused with a peak of %.1f MiB, the text included\n", $2 / 1024 }' "$work/peak"
 }
 
 if [ $# -eq 0 ]; then
     set -- 64 256 1024 4096
 fi
-printf "$row" shape costs vertices entries 'plan ms' 'again ms' 'check ms' 'dinic ms' 'levels ms' ratio 'plan MiB' 'dinic MiB'
+printf "$row" shape costs vertices entries 'plan ms' 'again ms' 'changed' 'check ms' 'dinic ms' 'levels ms' ratio 'plan MiB' 'dinic MiB'
 for vertices in "$@"; do
     for shape in chain tree layers scatter; do
-        compare "$shape" even "$vertices"
-        compare "$shape" decades "$vertices"
+        generated "$shape" even "$vertices"
+        generated "$shape" decades "$vertices"
     done
-    compare stairs - "$vertices"
+    generated stairs - "$vertices"
+    for shape in chain layers scatter; do
+        planning_point "$shape" first "$vertices"
+        planning_point "$shape" third "$vertices"
+    done
 done
+for vertices in "$@"; do
+    all_plans first "$vertices"
+    all_plans third "$vertices"
+done
+long_line

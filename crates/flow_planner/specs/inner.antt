@@ -1,4 +1,1 @@
-pub mod Flow
-pub mod Search
-pub mod Path
 pub mod Network

@@ -1,79 +1,22 @@
 //! The planner.
 
-ghost use Rattle.std.specs.Prelude.{◌≡◌, ◌+◌, ◌*◌, ◌<◌, ◌≤◌, ◌^◌, IfOk, length, vec_len};
-ghost use Rattle.plan_checker.specs.Graph.{IsGraph};
+ghost use Rattle.std.specs.Prelude.{◌+◌, ◌*◌, ◌≤◌, ◌^◌, IfOk, length};
+ghost use Rattle.plan_checker.specs.Charges.{AreFair};
 ghost use Rattle.plan_checker.specs.Least.{IsLeast};
 ghost use Rattle.plan_checker.specs.Certificate.{IsCertificate};
-ghost use Rattle.flow_planner.specs.inner.Flow.{AreFairBut, nothing};
-ghost use Rattle.flow_planner.specs.inner.Search.{marked, AreMarked};
 
-use crate::augment::augment;
-use crate::begin::no_charges;
-use crate::chase::{Chase, find_path};
 use crate::error::OutOfMemory;
 use crate::greatest::{greatest, greatest_from};
 use crate::mend::mended;
-use crate::search::Search;
 use level_graphs::Phases;
-use plain_data::Items;
-use plan_checker::{Charges, Graph, Mark, Plan, Vertex, check};
+use path_planner::{no_charges, plan_from};
+use plan_checker::{Charges, Graph, Plan, check};
 use std::alloc::{AllocError, Global};
-
-/// What is done with a job, by what a last search reached.
-fn mark_of(search: &Search, job: usize) -> Mark
-    requires kept { job < vec_len search.now.kept }
-    requires computed { job < vec_len search.now.computed }
-    ensures { result ≡ marked search.now job }
-{
-    if search.computed[job].rank != 0 {
-        Mark::Compute
-    } else if search.kept[job].rank != 0 {
-        Mark::Load
-    } else {
-        Mark::Prune
-    }
-}
-
-/// The plan that a last search shows.
-fn read_off(alloc: Global, search: &Search, jobs: usize) -> Result<Plan, AllocError>
-    requires kept { vec_len search.now.kept ≡ jobs }
-    requires computed { vec_len search.now.computed ≡ jobs }
-    ensures { IfOk result (λ plan. AreMarked search.now plan.marks jobs) }
-{
-    let mut marks = Items::new(alloc);
-    for job in 0..jobs {
-        marks.push(mark_of(search, job))?;
-    }
-    Ok(Plan { marks })
-}
-
-/// Augments until no path is left.
-fn plan_from(
-    alloc: Global,
-    vertices: &[Vertex],
-    start: Charges,
-) -> Result<(Plan, Charges), AllocError>
-    requires graph { IsGraph vertices.now }
-    requires fair { AreFairBut vertices.now start nothing nothing }
-    ensures least { IfOk result (λ made. IsLeast vertices.now made.0.marks) }
-    ensures certified { IfOk result (λ made. IsCertificate vertices.now made.0.marks made.1) }
-{
-    let mut charges = start;
-    let mut search = Search::new(alloc, vertices.len())?;
-    let mut chase = Chase::new(alloc, vertices)?;
-    loop {
-        match find_path(&mut search, &mut chase, vertices, &charges) {
-            Some(end) => augment(alloc, &mut charges, vertices, &search, end),
-            None => return Ok((read_off(alloc, &search, vertices.len())?, charges)),
-        }
-        search.clear();
-    }
-}
 
 /// The charges of a greatest flow, where they are fair.
 fn fair_start(alloc: Global, graph: &Graph, phases: &mut Phases) -> Result<Charges, AllocError>
     requires { phases.old.count ≤ 2 ^ 63 }
-    ensures fair { IfOk result (λ charges. AreFairBut graph.now charges nothing nothing) }
+    ensures fair { IfOk result (λ charges. AreFair graph.now charges) }
     ensures phases { phases.new.count ≤ phases.old.count + 2 * length graph.now + 1 }
 {
     let vertices = graph.vertices();
@@ -83,7 +26,7 @@ fn fair_start(alloc: Global, graph: &Graph, phases: &mut Phases) -> Result<Charg
 
 /// The same, from the charges of an earlier graph.
 fn fair_again(alloc: Global, graph: &Graph, last: &Charges) -> Result<Charges, AllocError>
-    ensures { IfOk result (λ charges. AreFairBut graph.now charges nothing nothing) }
+    ensures { IfOk result (λ charges. AreFair graph.now charges) }
 {
     let vertices = graph.vertices();
     let start = mended(alloc, vertices, last)?;
@@ -99,11 +42,11 @@ fn checked(
     plan: &Plan,
     charges: Charges,
 ) -> Result<Charges, AllocError>
-    ensures { IfOk result (λ charges. AreFairBut graph.now charges nothing nothing) }
+    ensures { IfOk result (λ charges. AreFair graph.now charges) }
 {
     match check(graph, plan, &charges) {
         Ok(_) => Ok(charges),
-        Err(_) => no_charges(alloc, graph.vertices()),
+        Err(_) => no_charges(alloc, graph),
     }
 }
 
@@ -134,7 +77,7 @@ pub fn plan_counted(
     ensures phases { phases.new.count ≤ phases.old.count + 2 * length graph.now + 1 }
 {
     let start = fair_start(alloc, graph, phases)?;
-    Ok(plan_from(alloc, graph.vertices(), start)?)
+    Ok(plan_from(alloc, graph, start)?)
 }
 
 /// The Least plan of a graph, and charges that certify it, from the charges of an earlier graph.
@@ -150,7 +93,7 @@ pub fn plan_again(
     ensures certified { IfOk result (λ made. IsCertificate graph.now made.0.marks made.1) }
 {
     let start = fair_again(alloc, graph, last)?;
-    Ok(plan_from(alloc, graph.vertices(), start)?)
+    Ok(plan_from(alloc, graph, start)?)
 }
 
 /// The Least plan of a graph, and charges that certify it, found path by path from no charges.
@@ -160,6 +103,6 @@ pub fn plan_by_paths(alloc: Global, graph: &Graph) -> Result<(Plan, Charges), Ou
     ensures least { IfOk result (λ made. IsLeast graph.now made.0.marks) }
     ensures certified { IfOk result (λ made. IsCertificate graph.now made.0.marks made.1) }
 {
-    let start = no_charges(alloc, graph.vertices())?;
-    Ok(plan_from(alloc, graph.vertices(), start)?)
+    let start = no_charges(alloc, graph)?;
+    Ok(plan_from(alloc, graph, start)?)
 }

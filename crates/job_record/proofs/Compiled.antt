@@ -1,23 +1,25 @@
 -- What the statements of the record compile to, where the store holds its two tables.
-use Rattle.std.proofs.Common.{◌≡◌, ℕ, pos, negsuc, List, [], ◌∷◌, codes, true, false, Some, None, Ok, refl}
+use Rattle.std.proofs.Common.{◌≡◌, ℕ, pos, negsuc, List, [], ◌∷◌, codes, true, false, Some, None, Ok, Err, refl}
 use Rattle.sqlite.specs.Collation.TheVariants.{Binary}
 use Rattle.sqlite_value.specs.declared.keys.Key.{Key}
 use Rattle.sqlite_value.specs.Keys.{ascending}
-use Rattle.sqlite.specs.declared.types.Value.TheVariants.{Null, Int}
+use Rattle.sqlite.specs.declared.types.Value.TheVariants.{Null, Int, Text}
 use Rattle.sqlite.specs.Term.{Term, lit, col, op2}
 use Rattle.sqlite_sql.specs.declared.ops.BinaryOp.TheVariants.{Compare}
 use Rattle.sqlite_sql.specs.declared.ops.CompareOp.TheVariants.{Eq}
 use Rattle.sqlite.specs.Query.{Query, inner, end}
+use Rattle.sqlite.specs.Schema.{Schema}
 use Rattle.sqlite.specs.Source.TheVariants.{Values}
+use Rattle.sqlite_resolve.specs.declared.error.CompileError.TheVariants.{NoSuchTable}
 use Rattle.sqlite.specs.Command.{Command}
-use Rattle.sqlite.specs.Command.TheVariants.{InsertOr, Update, Delete, Select}
+use Rattle.sqlite.specs.Command.TheVariants.{Insert, InsertOr, Update, Delete, CreateTable, Select}
 use Rattle.sqlite_schema.specs.declared.command.Conflict.TheVariants.{Abort}
 use Rattle.sqlite.specs.Change.{created}
 use Rattle.sqlite.specs.Compile.{table_defined_by}
-use Rattle.sqlite.specs.Listing.{understood, reads_listing}
-use Rattle.sqlite.proofs.Callers.{IsPlain, command_of}
+use Rattle.sqlite.specs.Listing.{understood, reads_listing, listing_schema}
+use Rattle.sqlite.proofs.Callers.{IsPlain, command_of, statement_of}
 use Rattle.sqlite_tied.specs.Compute.{everything}
-use Rattle.job_record.specs.Statements.{make_meta, make_job, find_text, list_text, put_text, drop_archive_text, forget_text}
+use Rattle.job_record.specs.Statements.{make_meta, make_job, note_version, version_text, find_text, list_text, put_text, drop_archive_text, forget_text}
 use Rattle.job_record.specs.Tables.{meta_at, job_at, no_schema, record_schema}
 
 abbrev pub query : List Term → List Term → List (Term × Key) → Query
@@ -123,3 +125,54 @@ forget_plain = (refl, refl)
 pub put_plain : IsPlain (understood record_schema put_text)
 unfolding understood everything
 put_plain = (refl, refl)
+
+-- ---- the statements that make the tables, each on the schema that the one before it leaves
+
+abbrev pub meta_schema : Schema
+meta_schema = created no_schema (meta_at 0)
+
+abbrev pub version_row : List Term
+version_row = lit Null ∷ lit (Text (codes "version")) ∷ lit (Int (pos 1)) ∷ []
+
+abbrev pub note_command : Command
+note_command = Insert 0 (Values version_row 3)
+
+pub make_meta_is : command_of (understood no_schema make_meta) ≡ CreateTable
+unfolding understood everything
+make_meta_is = refl
+
+pub make_meta_plain : IsPlain (understood no_schema make_meta)
+unfolding understood everything
+make_meta_plain = (refl, refl)
+
+pub make_meta_defines : table_defined_by (statement_of make_meta (understood no_schema make_meta)) ≡ Ok (meta_at 0)
+unfolding understood everything
+make_meta_defines = refl
+
+pub make_job_is : command_of (understood meta_schema make_job) ≡ CreateTable
+unfolding understood everything
+make_job_is = refl
+
+pub make_job_plain : IsPlain (understood meta_schema make_job)
+unfolding understood everything
+make_job_plain = (refl, refl)
+
+pub make_job_defines : table_defined_by (statement_of make_job (understood meta_schema make_job)) ≡ Ok (job_at 0)
+unfolding understood everything
+make_job_defines = refl
+
+pub note_is : command_of (understood record_schema note_version) ≡ note_command
+unfolding understood everything
+note_is = refl
+
+pub note_plain : IsPlain (understood record_schema note_version)
+unfolding understood everything
+note_plain = (refl, refl)
+
+pub version_plain : IsPlain (understood record_schema version_text)
+unfolding understood everything
+version_plain = (refl, refl)
+
+pub version_absent : understood no_schema version_text ≡ Err NoSuchTable
+unfolding understood listing_schema everything
+version_absent = refl

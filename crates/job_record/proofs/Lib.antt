@@ -1,10 +1,13 @@
 mod Compiled
 mod Edits
 mod Files
+mod KeyOrder
 mod KeyTest
 mod KeyedRows
+mod Made
 mod MapSteps
 mod OneKey
+mod OpenedMap
 mod Opens
 mod Putting
 mod Reading
@@ -13,4 +16,5 @@ mod RowMap
 mod RowsRead
 mod Shapes
 mod Shown
+mod Unmade
 mod Writing

@@ -17,7 +17,9 @@ use Rattle.job_record.specs.Map.{held_in, held, IsKeyed, IsRecord, IsSame, Stand
 use Rattle.job_record.proofs.OneKey.{drops, forgets}
 use Rattle.job_record.specs.Texts.{texts_of}
 use Rattle.job_record.proofs.Putting.{puts}
-use Rattle.job_record.proofs.Reading.{find_is_plain, row_same, error_same, row_found, none_found, none_same, shown_same, failed_same, list_is_plain, all_found, listed, lists_all}
+use Rattle.job_record.proofs.Reading.{find_is_plain, row_same, error_same, row_found, none_found, none_same, shown_same, failed_same, list_is_plain, all_found, listed, lists_all, list_sorted}
+use Rattle.sqlite_rules.proofs.ListLemmas.{any_has}
+use Rattle.job_record.specs.Columns.{IsUnread}
 
 module _ (old new : State) (it : IsRecord old) where
   -- a store that shows what it showed
@@ -75,14 +77,14 @@ module _ {S : Type 0} (g : Ghosts S) (old new : Held S) where
 
   pub find_is_map : (key : List ℕ) (result : Result (Option Row) RecordFault) → Finds g old new key result → IsRecord (state g old) → FindsIn (state g old) (state g new) key result
   find_is_map key (Ok None) h it =
-      let u = same_shows (state g old) (state g new) it (none_same (state g old) (state g new) key it h) in
-      (none_found (state g old) (state g new) key it h, u.0, u.1)
+      let u = none_same (state g old) (state g new) key it h in
+      (none_found (state g old) (state g new) key it h, u, (same_shows (state g old) (state g new) it u).1)
   find_is_map key (Ok (Some row)) h it =
-      let u = same_shows (state g old) (state g new) it (row_same find_text (key_params key) (state g old) (state g new) (find_is_plain (state g old) (state g new) key it) h.0 h.1) in
-      (h.0, row_found (state g old) (state g new) key it h.0 h.1, h.2, u.0, u.1)
+      let u = row_same find_text (key_params key) (state g old) (state g new) (find_is_plain (state g old) (state g new) key it) h.0 h.1 in
+      (h.0, row_found (state g old) (state g new) key it h.0 h.1, h.2, u, (same_shows (state g old) (state g new) it u).1)
   find_is_map key (Err NotARecord) h it =
-      let u = same_shows (state g old) (state g new) it (row_same find_text (key_params key) (state g old) (state g new) (find_is_plain (state g old) (state g new) key it) h.0 h.1) in
-      (h.0, row_found (state g old) (state g new) key it h.0 h.1, h.2, u.0, u.1)
+      let u = row_same find_text (key_params key) (state g old) (state g new) (find_is_plain (state g old) (state g new) key it) h.0 h.1 in
+      (h.0, row_found (state g old) (state g new) key it h.0 h.1, h.2, u, (same_shows (state g old) (state g new) it u).1)
   find_is_map key (Err WrongVersion) h it = absurd h
   find_is_map key (Err NoRow) h it = absurd h
   find_is_map key (Err (Store e)) (inl q) it =
@@ -104,18 +106,29 @@ module _ {S : Type 0} (g : Ghosts S) (old new : Held S) where
   put_is_map row (Err (Store e)) h it = undone_stands (state g old) (state g new) it (fails_whole _ _ false put_text (put_params row) e h)
   put_is_map row (Err OutOfMemory) h it = same_stands it h
 
-  listed_same : (all : List Columns) → IsRecord (state g old) → Shown list_text [] (state g old) (state g new) all → IsSame (state g old) (state g new) × IsRecord (state g new)
-  listed_same all it h = same_shows (state g old) (state g new) it (shown_same list_text [] (state g old) (state g new) (list_is_plain (state g old) (state g new) it) all h)
+  listed_same : (all : List Columns) → IsRecord (state g old) → Shown list_text [] (state g old) (state g new) all → IsUnchanged (state g old) (state g new)
+  listed_same all it h = shown_same list_text [] (state g old) (state g new) (list_is_plain (state g old) (state g new) it) all h
 
   pub list_is_map : (result : Result (List Row) RecordFault) → Lists g old new result → IsRecord (state g old) → ListsIn (state g old) (state g new) result
   list_is_map (Ok rows) h it =
       let found = all_found (state g old) (state g new) it h.0 h.1 in
+      let u = listed_same h.0 it h.1 in (
+        h.0,
+        h.2,
+        listed (state g old) (state g new) it h.0 found,
+        lists_all (state g old) (state g new) it h.0 found,
+        list_sorted (state g old) (state g new) it h.0 rows h.1 h.2,
+        u,
+        (same_shows (state g old) (state g new) it u).1,
+      )
+  list_is_map (Err NotARecord) h it =
+      let c = any_has IsUnread h.0 h.2 in
+      let key = listed (state g old) (state g new) it h.0 (all_found (state g old) (state g new) it h.0 h.1) c.0 c.1 in
       let u = listed_same h.0 it h.1 in
-      (h.0, h.2, listed (state g old) (state g new) it h.0 found, lists_all (state g old) (state g new) it h.0 found, u.0, u.1)
-  list_is_map (Err NotARecord) h it = λ open_now. listed_same h.0 it h.1
+      (key.0, c.0, key.1, c.2, u, (same_shows (state g old) (state g new) it u).1)
   list_is_map (Err WrongVersion) h it = absurd h
   list_is_map (Err NoRow) h it = absurd h
   list_is_map (Err (Store e)) (inl h) it =
       undone_stands (state g old) (state g new) it (failed_same list_text [] (state g old) (state g new) (list_is_plain (state g old) (state g new) it) e h)
-  list_is_map (Err (Store e)) (inr h) it = λ open_now. listed_same h.1 it h.2
-  list_is_map (Err OutOfMemory) h it = λ open_now. listed_same h.0 it h.1
+  list_is_map (Err (Store e)) (inr h) it = λ open_now. same_shows (state g old) (state g new) it (listed_same h.1 it h.2)
+  list_is_map (Err OutOfMemory) h it = λ open_now. same_shows (state g old) (state g new) it (listed_same h.0 it h.1)

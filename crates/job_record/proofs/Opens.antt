@@ -14,6 +14,7 @@ use Rattle.sqlite.specs.Tree.{Trees}
 use Rattle.sqlite.specs.declared.error.Error.{Error}
 use Rattle.sqlite.specs.declared.error.Error.TheVariants.{SqlInputError}
 use Rattle.sqlite.proofs.Callers.{unchanged_then}
+use Rattle.sqlite.proofs.StateLemmas.{survives_then}
 use Rattle.sqlite_trees.specs.declared.error.StoreError.{StoreError}
 use Rattle.sqlite_trees.specs.declared.error.StoreError.TheVariants.{OutOfMemory, Io, Corrupt, Full, Broken, Unstorable}
 use Rattle.sqlite_resolve.specs.declared.compiled.Compiled.{Compiled}
@@ -21,7 +22,9 @@ use Rattle.sqlite_resolve.specs.declared.error.CompileError.{CompileError}
 use Rattle.job_record.specs.declared.fault.RecordFault.{RecordFault}
 use Rattle.job_record.specs.declared.fault.RecordFault.TheVariants as fault
 use Rattle.job_record.specs.Statements.{version_text, list_text}
-use Rattle.job_record.specs.Opening.{HasTable, HasTables, LacksColumn, both_of, VersionIn, ReadsVersion, IsUnready}
+use Rattle.sqlite_resolve.specs.declared.error.CompileError.TheVariants.{NoSuchTable, NoSuchColumn}
+use Rattle.job_record.specs.inner.Lacking.{lacking}
+use Rattle.job_record.specs.Opening.{HasTable, HasTables, LacksColumn, both_of, VersionIn, ReadsVersion, CannotRead, IsUnready}
 
 pub outlined : (r : Result Compiled CompileError) (o : Outline) → Outlines r o → IsOk r
 outlined (Ok c) o h = refl
@@ -48,8 +51,24 @@ unfolding IsNotRun
 misread old new sql f e is (inl h) = (misnamed old sql f (rw is at h.0), h.1)
 misread old new sql f e is (inr h) = absurd (no_cause h.0 f (sym is ∙ h.1))
 
+module _ (old new : State) (sql : List ℕ) where
+  pub lacking_ok : (e : Error) → ((params : Columns) → IsNotRun old new sql params e) → IfOk (lacking e) (λ there. HasTable old.now.schema sql there × IsUnchanged old new)
+  lacking_ok (SqlInputError NoSuchTable) h = misread old new sql NoSuchTable _ refl (h [])
+  lacking_ok (SqlInputError NoSuchColumn) h = tt
+  lacking_ok _ h = tt
+
+  pub lacking_err : (e : Error) → ((params : Columns) → IsNotRun old new sql params e)
+      → IfErr (lacking e) (λ f. ((f ≡ fault.NotARecord) × LacksColumn old.now.schema sql × IsUnchanged old new) ⊎ ((cause : Error) × (f ≡ fault.Store cause) × ((params : Columns) → IsNotRun old new sql params cause)))
+  lacking_err (SqlInputError NoSuchTable) h = tt
+  lacking_err (SqlInputError NoSuchColumn) h = let m = misread old new sql NoSuchColumn _ refl (h []) in inl (refl, m.0, m.1)
+  lacking_err e h = inr (e, refl, h)
+
 pub was_clean : (old new : State) (P : Trees → Type 0) → Survives old new P → HasCleanDisk new → HasCleanDisk old
 was_clean old new P s clean = omega (arith, s.clean, clean)
+
+-- two parts that commit nothing
+pub nothing_then : (a b c : State) → Survives a b (λ _. ⊥) → Survives b c (λ _. ⊥) → Survives a c (λ _. ⊥)
+nothing_then a b c = survives_then a b c (λ _. ⊥) (λ _. ⊥) (λ _. ⊥) (λ _ db none. none) (λ _ db none. none)
 
 pub version_reads : (old new : State) (c : Columns) (r : Result (Unit {0}) RecordFault) → QueriesRow version_text [] old new (Ok c) → VersionIn c r → ReadsVersion old new r
 version_reads old new c (Ok done) q h = (c, q, h)
@@ -86,13 +105,14 @@ module _ {S : Type 0} (g : Ghosts S) (old mid new : Held S) where
   both_err false true r is h = rw is (inl (refl, inr (inr (h.0.0, at_start true h.0.1 h.1.0)), then_same h.0.1 h.1.1))
 
   abbrev Lacks : Held S → Held S → List ℕ → RecordFault → Type 0
-  Lacks from to query f = ((f ≡ fault.NotARecord) × LacksColumn (state g from).now.schema query × IsUnchanged (state g from) (state g to)) ⊎ ((e : Error) × (f ≡ fault.Store e))
+  Lacks from to query f =
+      ((f ≡ fault.NotARecord) × LacksColumn (state g from).now.schema query × IsUnchanged (state g from) (state g to)) ⊎ ((e : Error) × (f ≡ fault.Store e) × CannotRead g query from to e)
 
   pub lacks_second : (f : RecordFault) → IsUnchanged (state g old) (state g mid) → Lacks mid new list_text f → IsUnready g old new f
   lacks_second f same (inl h) = inl (h.0, inl (inr (subst (λ (s : Schema). LacksColumn s list_text) (schema_is same) h.1)), then_same same h.2)
-  lacks_second f same (inr h) = inr h
+  lacks_second f same (inr h) = inr (h.0, h.1, inl (inr (mid, same, h.2)))
 
 pub lacks_first : {S : Type 0} (g : Ghosts S) (old new : Held S) (f : RecordFault)
-    → ((f ≡ fault.NotARecord) × LacksColumn (state g old).now.schema version_text × IsUnchanged (state g old) (state g new)) ⊎ ((e : Error) × (f ≡ fault.Store e)) → IsUnready g old new f
+    → ((f ≡ fault.NotARecord) × LacksColumn (state g old).now.schema version_text × IsUnchanged (state g old) (state g new)) ⊎ ((e : Error) × (f ≡ fault.Store e) × CannotRead g version_text old new e) → IsUnready g old new f
 lacks_first g old new f (inl h) = inl (h.0, inl (inl h.1), h.2)
-lacks_first g old new f (inr h) = inr h
+lacks_first g old new f (inr h) = inr (h.0, h.1, inl (inl h.2))

@@ -21,7 +21,11 @@ use Rattle.sqlite_value.specs.Keys.{ascending}
 use Rattle.sqlite_rules.specs.Lists.{Has}
 use Rattle.job_record.specs.Tables.{record_schema}
 use Rattle.job_record.specs.Statements.{find_text, list_text}
-use Rattle.job_record.specs.Map.{IsRecord, held}
+use Rattle.std.specs.List.Sorted.{IsSorted}
+use Rattle.job_record.specs.declared.row.Row.{Row as Job}
+use Rattle.job_record.specs.Columns.{AreRowsOf}
+use Rattle.job_record.specs.Map.{IsRecord, held, by_key}
+use Rattle.job_record.proofs.KeyOrder.{rows_sorted}
 use Rattle.job_record.proofs.Compiled.{columns, names, has_key, find_query, find_is, find_plain, list_is, list_plain}
 use Rattle.job_record.proofs.Shapes.{Laid, laid_in}
 use Rattle.job_record.proofs.Shown.{AreShown, shown_rows}
@@ -145,3 +149,7 @@ module _ (old new : State) (it : IsRecord old) where
       let r = row_held table key c h in
       let laid = laid_in old.now it.schema it.sound r.0 r.1 in
       subst (Has all) (row_is r.0 laid ∙ sym r.3) (shown.complete r.0 r.1 refl)
+
+  pub list_sorted : (all : List Row) (rows : List Job) → Shown list_text [] old new all → AreRowsOf all rows → IsSorted by_key rows
+  list_sorted all rows h are =
+      let read = reads_as list_text [] old new record_schema it.schema _ list_is.0 list_plain list_is.1 all h in rows_sorted old.now.trees (laid_in old.now it.schema it.sound) all read.answer rows are

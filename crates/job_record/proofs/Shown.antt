@@ -22,10 +22,10 @@ pub record AreShown (tests project : List Term) (table : List Row) (params : Row
   pub sound : (x : Row) → Has rows x → (r : Row) × Has table r × (passes tests params r ≡ true) × (x ≡ eval_all project (params ∷ r ∷ []))
   pub complete : (r : Row) → Has table r → passes tests params r ≡ true → Has rows (eval_all project (params ∷ r ∷ []))
 
-abbrev chosen : {X Y : Type 0} → (X → Bool) → (X → Y) → List X → List Y
+abbrev pub chosen : {X Y : Type 0} → (X → Bool) → (X → Y) → List X → List Y
 chosen p f = flat_map (λ x. cond (p x) (f x ∷ []) [])
 
-from_chosen : {X Y : Type 0} (p : X → Bool) (f : X → Y) (xs : List X) (y : Y) → Has (chosen p f xs) y → (x : X) × Has xs x × (p x ≡ true) × (y ≡ f x)
+pub from_chosen : {X Y : Type 0} (p : X → Bool) (f : X → Y) (xs : List X) (y : Y) → Has (chosen p f xs) y → (x : X) × Has xs x × (p x ≡ true) × (y ≡ f x)
 from_chosen p f [] y h = absurd h
 from_chosen {X} {Y} p f (x ∷ xs) y h = by (p x) refl h (from_chosen p f xs y)
   where
@@ -40,7 +40,7 @@ in_chosen p f [] x h passes = absurd h
 in_chosen p f (z ∷ xs) x (inl same) passes = rw (← same, passes) (inl refl)
 in_chosen p f (z ∷ xs) x (inr later) passes = has_right (cond (p z) (f z ∷ []) []) (chosen p f xs) (f x) (in_chosen p f xs x later passes)
 
-permuted : {X : Type 0} (xs ys : List X) (x : X) → IsPermutation xs ys → Has ys x → Has xs x
+pub permuted : {X : Type 0} (xs ys : List X) (x : X) → IsPermutation xs ys → Has ys x → Has xs x
 permuted xs ys x same = all_has (Has xs) ys x (all-permutation (Has xs) xs ys same (all_from (Has xs) xs (λ e h. h)))
 
 pub shown_rows : (tests project : List Term) (order : List (Term × Key)) (db : Trees) (params : Row) (rows : List Row) → IsSureAnswer (query tests project order) (overlay db []) params rows

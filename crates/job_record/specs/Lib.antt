@@ -6,3 +6,5 @@ pub mod Map
 pub mod RecordMap
 pub mod Log
 pub mod Opening
+pub mod OpenMap
+pub mod inner

@@ -1,12 +1,16 @@
 -- The record as a finite map from key to the columns of its row, and what each command makes of the map.
 use Rattle.std.specs.Prelude.{◌≡◌, ℕ, ℤ, pos, Bool, false, if◌then◌else◌, List, ◌∷◌, [], ◌++◌, take, drop, find, Option, Some, None, option_map, Result, Ok, Err, IsTrue, bytes_eq}
+use Rattle.std.specs.declared.cmp.Ordering.{Ordering}
 use Rattle.std.specs.declared.cmp.Ordering.TheVariants.{Equal}
+use Rattle.std.specs.Ordering.{nat_cmp}
+use Rattle.std.specs.Cmp.Lexicographic.{slice_cmp}
+use Rattle.std.specs.List.Sorted.{IsSorted}
 use Rattle.sqlite.specs.declared.types.Value.{Value}
 use Rattle.sqlite.specs.declared.types.Value.TheVariants.{Int, Text}
 use Rattle.sqlite.specs.Order.{Row as Columns, column, value_cmp}
 use Rattle.sqlite.specs.Tree.{rowid}
 use Rattle.sqlite.specs.Effect.{IsDatabase}
-use Rattle.sqlite.specs.State.{State}
+use Rattle.sqlite.specs.State.{State, IsUnchanged}
 use Rattle.sqlite_rules.specs.Lists.{Has}
 use Rattle.job_record.specs.declared.row.Row.{Row}
 use Rattle.job_record.specs.declared.fault.RecordFault.{RecordFault}
@@ -65,11 +69,11 @@ Stands old new = IsTrue new.is_open → IsSame old new × IsRecord new
 abbrev pub unarchived : Columns → Columns
 unarchived columns = take 4 columns ++ Int (pos 0) ∷ []
 
--- `find` gives the row of the key, or says that it does not read, and changes nothing
+-- `find` gives the row of the key, or says that it does not read, and changes nothing in the store
 abbrev pub FindsIn : State → State → List ℕ → Result (Option Row) RecordFault → Type 0
-FindsIn old new key (Ok None) = (held old key ≡ None) × IsSame old new × IsRecord new
-FindsIn old new key (Ok (Some row)) = (c : Columns) × (held old key ≡ Some c) × IsRowOf c row × IsSame old new × IsRecord new
-FindsIn old new key (Err NotARecord) = (c : Columns) × (held old key ≡ Some c) × IsUnread c × IsSame old new × IsRecord new
+FindsIn old new key (Ok None) = (held old key ≡ None) × IsUnchanged old new × IsRecord new
+FindsIn old new key (Ok (Some row)) = (c : Columns) × (held old key ≡ Some c) × IsRowOf c row × IsUnchanged old new × IsRecord new
+FindsIn old new key (Err NotARecord) = (c : Columns) × (held old key ≡ Some c) × IsUnread c × IsUnchanged old new × IsRecord new
 FindsIn old new key (Err _) = Stands old new
 
 -- `put` sets the whole row of its key
@@ -89,9 +93,14 @@ ForgetsIn old new key (Ok done) = (c : Columns) × (held old key ≡ Some c) × 
 ForgetsIn old new key (Err NoRow) = (held old key ≡ None) × IsSame old new × IsRecord new
 ForgetsIn old new key (Err _) = Stands old new
 
--- `list` gives the rows of the map, and no others, and changes nothing
+-- by the bytes of their keys
+abbrev pub by_key : Row → Row → Ordering
+by_key a b = slice_cmp nat_cmp a.key b.key
+
+-- `list` gives the rows of the map, and no others, in the order of their keys, or one of them does not read, and changes nothing
 abbrev pub ListsIn : State → State → Result (List Row) RecordFault → Type 0
 ListsIn old new (Ok rows) =
     (all : List Columns) × AreRowsOf all rows × ((c : Columns) → Has all c → (key : List ℕ) × (held old key ≡ Some c)) × ((key : List ℕ) (c : Columns) → held old key ≡ Some c → Has all c)
-    × IsSame old new × IsRecord new
+    × IsSorted by_key rows × IsUnchanged old new × IsRecord new
+ListsIn old new (Err NotARecord) = (key : List ℕ) × (c : Columns) × (held old key ≡ Some c) × IsUnread c × IsUnchanged old new × IsRecord new
 ListsIn old new (Err _) = Stands old new

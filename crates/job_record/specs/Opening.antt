@@ -1,5 +1,5 @@
 -- When a store opens as a record, and why it is refused.
-use Rattle.std.specs.Prelude.{◌≡◌, ◌≢◌, ◌⊎◌, ℕ, ℤ, pos, List, [], Bool, true, false, IsOk, IsErr, Result, Ok, Err}
+use Rattle.std.specs.Prelude.{◌≡◌, ◌≢◌, ◌⊎◌, ℕ, ℤ, pos, List, [], Bool, true, false, IsOk, IsErr, IsTrue, Result, Ok, Err}
 use Rattle.sqlite.specs.Order.{Row as Columns, column}
 use Rattle.sqlite.specs.Store.{Ghosts}
 use Rattle.sqlite.specs.Schema.{Schema}
@@ -8,8 +8,8 @@ use Rattle.sqlite.specs.declared.types.Value.TheVariants.{Int}
 use Rattle.sqlite.specs.declared.error.Error.{Error}
 use Rattle.sqlite.specs.declared.error.Error.TheVariants.{SqliteFailure, QueryReturnedNoRows}
 use Rattle.sqlite.specs.declared.error.ErrorCode.TheVariants as code
-use Rattle.sqlite.specs.Effect.{Database}
-use Rattle.sqlite.specs.State.{State, IsUnchanged, Executes, QueriesRow}
+use Rattle.sqlite.specs.State.{State, Shows, IsUnchanged, IsNotRun, Executes, ExecutesInside, QueriesRow}
+use Rattle.sqlite.specs.Steps.{FailsToCommit}
 use Rattle.sqlite.specs.Held.{Held, state}
 use Rattle.sqlite_resolve.specs.declared.error.CompileError.TheVariants.{NoSuchTable, NoSuchColumn}
 use Rattle.job_record.specs.declared.row.Row.{Row}
@@ -76,23 +76,32 @@ ReadsVersion old new (Err OutOfMemory) = ⊥
 
 -- ---- the whole
 
+-- the last commit stands, and no transaction is open
+abbrev pub GoesBack : State → State → Type 0
+GoesBack old new = (IsTrue new.is_open → (new.now ≡ old.committed) × (new.committed ≡ old.committed)) × (new.in_transaction ≡ false)
+
 module _ {S : Type 0} (g : Ghosts S) where
-  -- the two tables are made and the version is noted, in one transaction that leaves this database
-  pub record MakesTables (old : Held S) (db : Database) : Type 0 where
+  abbrev pub begun : Held S → Held S
+  begun old = record old { in_transaction = true }
+
+  -- the statements that make the two tables and note the version, each on what the one before it left
+  pub record MakesTables (old last : Held S) : Type 0 where
     pub meta : Held S
     pub job : Held S
-    pub last : Held S
     pub counts : ℕ × (ℕ × ℕ)
-    pub one : Executes make_meta [] (state g (record old { in_transaction = true })) (state g meta) (Ok counts.0)
+    pub one : Executes make_meta [] (state g (begun old)) (state g meta) (Ok counts.0)
     pub two : Executes make_job [] (state g meta) (state g job) (Ok counts.1.0)
     pub three : Executes note_version [] (state g job) (state g last) (Ok counts.1.1)
-    pub is : db ≡ (state g last).now
+
+  -- they ran, and are committed together
+  abbrev pub Makes : Held S → Held S → Type 0
+  Makes old new = (last : Held S) × MakesTables old last × Shows (state g last) (state g new) (state g last).now (state g last).now false
 
   -- both tables were there, or neither was and both were made
   abbrev pub IsReady : Held S → Held S → Type 0
   IsReady old at =
       (HasTables (state g old).now.schema true × IsUnchanged (state g old) (state g at))
-      ⊎ (HasTables (state g old).now.schema false × (found : Held S) × IsUnchanged (state g old) (state g found) × MakesTables found (state g at).committed)
+      ⊎ (HasTables (state g old).now.schema false × (found : Held S) × IsUnchanged (state g old) (state g found) × Makes found at)
 
   -- the version is read, and where it is 1 all rows
   abbrev pub ReadsRecord : Held S → Held S → Result (Unit {0}) RecordFault → Type 0
@@ -100,11 +109,38 @@ module _ {S : Type 0} (g : Ghosts S) where
       (IsErr result × ReadsVersion (state g old) (state g new) result)
       ⊎ ((mid : Held S) × ReadsVersion (state g old) (state g mid) (Ok tt) × (rows : Result (List Row) RecordFault) × Lists g mid new rows × (result ≡ outcome rows))
 
-  -- R1 for one table without the other or a column, with nothing changed; R4 from the store
-  abbrev pub IsUnready : Held S → Held S → RecordFault → Type 0
-  IsUnready old new fault = ((fault ≡ NotARecord) × IsHalf (state g old).now.schema × IsUnchanged (state g old) (state g new)) ⊎ ((e : Error) × (fault ≡ Store e))
+  -- ---- why it is not ready
 
-  -- Both tables or neither: R1 for anything else, and then the record is read. R4 may come from each call of the store.
+  abbrev pub CannotRead : List ℕ → Held S → Held S → Error → Type 0
+  CannotRead query old new e = (params : Columns) → IsNotRun (state g old) (state g new) query params e
+
+  -- the store refuses to look for a table
+  abbrev pub FailsToLook : Held S → Held S → Error → Type 0
+  FailsToLook old new e = CannotRead version_text old new e ⊎ ((mid : Held S) × IsUnchanged (state g old) (state g mid) × CannotRead list_text mid new e)
+
+  abbrev pub Refuses : List ℕ → Held S → Error → Type 0
+  Refuses sql at e = (to : Held S) × ExecutesInside 0 sql [] (state g at) (state g to) (Err e)
+
+  -- the store refuses a statement that makes the tables, or to commit them
+  abbrev pub FailsToMake : Held S → Held S → Error → Type 0
+  FailsToMake old new e =
+      Refuses make_meta (begun old) e
+      ⊎ (((meta : Held S) × (n : ℕ) × Executes make_meta [] (state g (begun old)) (state g meta) (Ok n) × Refuses make_job meta e)
+      ⊎ (((job : Held S) × (meta : Held S) × (counts : ℕ × ℕ) × Executes make_meta [] (state g (begun old)) (state g meta) (Ok counts.0)
+      × Executes make_job [] (state g meta) (state g job) (Ok counts.1) × Refuses note_version job e)
+      ⊎ ((last : Held S) × MakesTables old last × FailsToCommit (state g last) (state g new) e)))
+
+  -- neither table was there, and the store is as it was
+  abbrev pub IsUnmade : Held S → Held S → Error → Type 0
+  IsUnmade old new e =
+      HasTables (state g old).now.schema false × (found : Held S) × IsUnchanged (state g old) (state g found) × FailsToMake found new e × GoesBack (state g found) (state g new)
+
+  -- R1 for one table without the other or a column, with nothing changed; R4 where the store refuses
+  abbrev pub IsUnready : Held S → Held S → RecordFault → Type 0
+  IsUnready old new fault =
+      ((fault ≡ NotARecord) × IsHalf (state g old).now.schema × IsUnchanged (state g old) (state g new)) ⊎ ((e : Error) × (fault ≡ Store e) × (FailsToLook old new e ⊎ IsUnmade old new e))
+
+  -- Both tables or neither: R1 for anything else, and then the record is read.
   abbrev pub Opens : Held S → Held S → Result (Unit {0}) RecordFault → Type 0
   Opens old new result =
       ((fault : RecordFault) × (result ≡ Err fault) × IsUnready old new fault) ⊎ ((at : Held S) × IsReady old at × ReadsRecord at new result)

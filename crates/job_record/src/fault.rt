@@ -17,8 +17,13 @@ pub enum RecordFault {
 }
 
 impl RecordFault {
+    ghost use Rattle.std.specs.Prelude.{◌≡◌};
+    ghost use Rattle.job_record.specs.Log.{code_of};
+
     /// The fault's short name, from `R1` to `R4`, or `OutOfMemory`.
-    pub fn code(&self) -> &'static str {
+    pub fn code(&self) -> &'static str
+        ensures { result.now ≡ code_of self.now }
+    {
         match self {
             RecordFault::NotARecord => "R1",
             RecordFault::WrongVersion => "R2",

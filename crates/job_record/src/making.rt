@@ -1,11 +1,15 @@
 //! Opening a record, and making one where the store has none.
 
-ghost use Rattle.std.specs.Prelude.{◌≡◌, ◌⊎◌, false, IfOk, IfErr, OnOk};
-ghost use Rattle.sqlite.specs.State.{HasCleanDisk, IsUnchanged};
+ghost use Rattle.std.specs.Prelude.{◌≡◌, ◌⊎◌, [], false, IfOk, IfErr, OnOk};
+ghost use Rattle.sqlite.specs.State.{HasCleanDisk, IsUnchanged, Survives, CommitsShowing};
 ghost use Rattle.sqlite.specs.Held.{state};
 ghost use Rattle.job_record.specs.declared.fault.RecordFault.TheVariants.{NotARecord, Store};
 ghost use Rattle.job_record.specs.Log.{outcome};
-ghost use Rattle.job_record.specs.Opening.{HasTable, HasTables, LacksColumn, both_of, VersionIn, ReadsVersion, MakesTables, IsReady, ReadsRecord, IsUnready, Opens};
+ghost use Rattle.job_record.specs.Statements.{version_text};
+ghost use Rattle.job_record.specs.Opening.{HasTable, HasTables, LacksColumn, both_of, VersionIn, ReadsVersion, GoesBack, Makes, FailsToMake, IsReady, ReadsRecord, CannotRead, IsUnready, Opens};
+ghost use Rattle.job_record.specs.OpenMap.{CrashesAs};
+ghost use Rattle.job_record.specs.inner.Crash.{CommitsTables, CommitsReady, CommitsReading, OpensMap};
+ghost use Rattle.job_record.specs.inner.Lacking.{lacking};
 
 use crate::commands::read_all;
 use crate::fault::RecordFault;
@@ -29,7 +33,9 @@ const NOTE_VERSION: &str = "INSERT INTO meta (name, value) VALUES ('version', 1)
 /// Makes the tables where the store has neither, and reads what they hold.
 pub fn open_tables<S: Alter>(alloc: Global, conn: &mut Connection<S>) -> Result<(), RecordFault>
     requires { conn.old.in_transaction ≡ false }
-    ensures { HasCleanDisk (state S.Store conn.new) → Opens S.Store conn.old conn.new result }
+    ensures opens { HasCleanDisk (state S.Store conn.new) → Opens S.Store conn.old conn.new result }
+    ensures map { HasCleanDisk (state S.Store conn.new) → OpensMap (state S.Store conn.old) (state S.Store conn.new) result }
+    ensures crash { CrashesAs (state S.Store conn.old) (state S.Store conn.new) }
 {
     make_ready(conn)?;
     read_record(alloc, conn)
@@ -40,7 +46,7 @@ fn make_ready<S: Alter>(conn: &mut Connection<S>) -> Result<(), RecordFault>
     requires { conn.old.in_transaction ≡ false }
     ensures ok { HasCleanDisk (state S.Store conn.new) → OnOk result (IsReady S.Store conn.old conn.new) }
     ensures err { HasCleanDisk (state S.Store conn.new) → IfErr result (IsUnready S.Store conn.old conn.new) }
-    ensures clean { HasCleanDisk (state S.Store conn.new) → HasCleanDisk (state S.Store conn.old) }
+    ensures survives { Survives (state S.Store conn.old) (state S.Store conn.new) (CommitsReady S.Store conn.old) }
 {
     if has_tables(conn)? {
         return Ok(());
@@ -55,7 +61,7 @@ fn make_ready<S: Alter>(conn: &mut Connection<S>) -> Result<(), RecordFault>
 fn has_tables<S: Alter>(conn: &mut Connection<S>) -> Result<bool, RecordFault>
     ensures ok { HasCleanDisk (state S.Store conn.new) → IfOk result (λ both. HasTables (state S.Store conn.old).now.schema both × IsUnchanged (state S.Store conn.old) (state S.Store conn.new)) }
     ensures err { HasCleanDisk (state S.Store conn.new) → IfErr result (IsUnready S.Store conn.old conn.new) }
-    ensures clean { HasCleanDisk (state S.Store conn.new) → HasCleanDisk (state S.Store conn.old) }
+    ensures survives { Survives (state S.Store conn.old) (state S.Store conn.new) (λ _. ⊥) }
     ensures mode { conn.old.in_transaction ≡ false → conn.new.in_transaction ≡ false }
 {
     let meta = has_table(conn, VERSION_TEXT)?;
@@ -77,23 +83,33 @@ fn both_of(meta: bool, job: bool) -> Result<bool, RecordFault>
 // Whether there is the table that the query reads. One without a column is R1.
 fn has_table<S: Alter>(conn: &mut Connection<S>, query: &str) -> Result<bool, RecordFault>
     ensures ok { HasCleanDisk (state S.Store conn.new) → IfOk result (λ there. HasTable (state S.Store conn.old).now.schema query.now there × IsUnchanged (state S.Store conn.old) (state S.Store conn.new)) }
-    ensures err { HasCleanDisk (state S.Store conn.new) → IfErr result (λ fault. ((fault ≡ NotARecord) × LacksColumn (state S.Store conn.old).now.schema query.now × IsUnchanged (state S.Store conn.old) (state S.Store conn.new)) ⊎ ((e : _) × (fault ≡ Store e))) }
-    ensures clean { HasCleanDisk (state S.Store conn.new) → HasCleanDisk (state S.Store conn.old) }
+    ensures err { HasCleanDisk (state S.Store conn.new) → IfErr result (λ fault. ((fault ≡ NotARecord) × LacksColumn (state S.Store conn.old).now.schema query.now × IsUnchanged (state S.Store conn.old) (state S.Store conn.new)) ⊎ ((e : _) × (fault ≡ Store e) × CannotRead S.Store query.now conn.old conn.new e)) }
+    ensures survives { Survives (state S.Store conn.old) (state S.Store conn.new) (λ _. ⊥) }
     ensures mode { conn.old.in_transaction ≡ false → conn.new.in_transaction ≡ false }
 {
     match conn.prepare(query) {
         Ok(_) => Ok(true),
-        Err(Error::SqlInputError(CompileError::NoSuchTable)) => Ok(false),
-        Err(Error::SqlInputError(CompileError::NoSuchColumn)) => Err(RecordFault::NotARecord),
-        Err(error) => Err(RecordFault::Store(error)),
+        Err(error) => lacking(error),
+    }
+}
+
+// What the refusal of a query says of its table.
+fn lacking(error: Error) -> Result<bool, RecordFault>
+    ensures { result ≡ lacking error }
+{
+    match error {
+        Error::SqlInputError(CompileError::NoSuchTable) => Ok(false),
+        Error::SqlInputError(CompileError::NoSuchColumn) => Err(RecordFault::NotARecord),
+        _ => Err(RecordFault::Store(error)),
     }
 }
 
 // Both tables and the version, in one transaction.
 fn make_tables<S: Alter>(conn: &mut Connection<S>) -> Result<(), Error>
     requires { conn.old.in_transaction ≡ false }
-    ensures made { HasCleanDisk (state S.Store conn.new) → OnOk result (MakesTables S.Store conn.old (state S.Store conn.new).committed) }
-    ensures clean { HasCleanDisk (state S.Store conn.new) → HasCleanDisk (state S.Store conn.old) }
+    ensures made { HasCleanDisk (state S.Store conn.new) → OnOk result (Makes S.Store conn.old conn.new) }
+    ensures fails { HasCleanDisk (state S.Store conn.new) → IfErr result (λ e. FailsToMake S.Store conn.old conn.new e × GoesBack (state S.Store conn.old) (state S.Store conn.new)) }
+    ensures survives { Survives (state S.Store conn.old) (state S.Store conn.new) (CommitsTables S.Store conn.old) }
 {
     let mut making = conn.transaction();
     making.execute(MAKE_META, &[])?;
@@ -105,7 +121,7 @@ fn make_tables<S: Alter>(conn: &mut Connection<S>) -> Result<(), Error>
 // The version, and each row where it is 1.
 fn read_record<S: Alter>(alloc: Global, conn: &mut Connection<S>) -> Result<(), RecordFault>
     ensures reads { HasCleanDisk (state S.Store conn.new) → ReadsRecord S.Store conn.old conn.new result }
-    ensures clean { HasCleanDisk (state S.Store conn.new) → HasCleanDisk (state S.Store conn.old) }
+    ensures survives { Survives (state S.Store conn.old) (state S.Store conn.new) (CommitsReading S.Store conn.old) }
 {
     check_version(conn)?;
     outcome_of(read_all(alloc, conn))
@@ -127,7 +143,7 @@ fn outcome_of(rows: Result<Items<Row>, RecordFault>) -> Result<(), RecordFault>
 #[tactic(auto, using(crate::proofs::Opens::version_reads))]
 fn check_version<S: Alter>(conn: &mut Connection<S>) -> Result<(), RecordFault>
     ensures reads { HasCleanDisk (state S.Store conn.new) → ReadsVersion (state S.Store conn.old) (state S.Store conn.new) result }
-    ensures clean { HasCleanDisk (state S.Store conn.new) → HasCleanDisk (state S.Store conn.old) }
+    ensures survives { Survives (state S.Store conn.old) (state S.Store conn.new) (CommitsShowing version_text [] (state S.Store conn.old)) }
 {
     match tables::version(conn) {
         Ok(Some(columns)) => version_in(&columns),

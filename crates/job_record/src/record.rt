@@ -7,6 +7,7 @@ ghost use Rattle.job_record.specs.RecordMap.{Finds, Puts, Changes, Lists};
 ghost use Rattle.job_record.specs.Map.{IsRecord, FindsIn, PutsIn, DropsIn, ForgetsIn, ListsIn};
 ghost use Rattle.job_record.specs.Log.{Logs};
 ghost use Rattle.job_record.specs.Opening.{Opens};
+ghost use Rattle.job_record.specs.OpenMap.{OpensAs, RefusesAs, CrashesAs};
 
 use crate::commands::{change_of, look_up, read_all, room, set};
 use crate::fault::RecordFault;
@@ -51,6 +52,10 @@ impl<S: Alter + Drop> JobRecord<S> {
         requires { conn.in_transaction ≡ false }
         ensures opens { IfOk result (λ opened. HasCleanDisk (state S.Store opened.conn) → Opens S.Store conn opened.conn (Ok tt)) }
         ensures refused { IfErr result (λ left. HasCleanDisk (state S.Store left.1) → Opens S.Store conn left.1 (Err left.0)) }
+        ensures map { IfOk result (λ opened. HasCleanDisk (state S.Store opened.conn) → OpensAs (state S.Store conn) (state S.Store opened.conn)) }
+        ensures stays { IfErr result (λ left. HasCleanDisk (state S.Store left.1) → RefusesAs (state S.Store conn) (state S.Store left.1)) }
+        ensures crash { IfOk result (λ opened. CrashesAs (state S.Store conn) (state S.Store opened.conn)) }
+        ensures crash_refused { IfErr result (λ left. CrashesAs (state S.Store conn) (state S.Store left.1)) }
         ensures log { IfOk result (λ opened. opened.log.items ≡ []) }
     {
         match open_tables(alloc, &mut conn) {

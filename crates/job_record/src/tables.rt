@@ -35,7 +35,7 @@ pub fn version<S: Alter>(conn: &mut Connection<S>) -> Result<Option<Columns>, Er
         (λ c. QueriesRow version_text [] (state S.Store conn.old) (state S.Store conn.new) (Ok c))) }
     ensures err { HasCleanDisk (state S.Store conn.new) → IfErr result (λ e. (e ≢ QueryReturnedNoRows)
         × QueriesRow version_text [] (state S.Store conn.old) (state S.Store conn.new) (Err e)) }
-    ensures clean { HasCleanDisk (state S.Store conn.new) → HasCleanDisk (state S.Store conn.old) }
+    ensures survives { Survives (state S.Store conn.old) (state S.Store conn.new) (CommitsShowing version_text [] (state S.Store conn.old)) }
 {
     match conn.query_row(VERSION_TEXT, &[]) {
         Ok(columns) => Ok(Some(columns)),

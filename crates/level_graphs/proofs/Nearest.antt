@@ -77,18 +77,3 @@ ends_empty arcs source sink of queue level start end on last empty =
       };
       beyond = λ v k none r. let close = near arcs source of (k + 1) on.first (closed (k + 1)) k v (omega arith) r in let some = close.0 in absurd (omega arith);
     }
-
--- there are no more levels than nodes
-pub few_levels : (arcs : List Arc) (source sink : ℕ) (of queue : List ℕ) (level start end : ℕ) → IsFrontier arcs source of queue level start end → end ≡ length queue → get_or of sink 0 ≤ length of
-few_levels arcs source sink of queue level start end on last =
-    let most = within arcs source of queue level start end on last sink in
-    let counted = on.counted in
-    let early = on.early in
-    let ordered = on.ordered in
-    ⊎_elim (λ lt. omega arith)
-    (λ ge.
-    let stands = on.all_here sink (omega arith) in
-    let from = stands.from in
-    let before = stands.below in
-    omega arith)
-    (cases_lt (get_or of sink 0) level)

@@ -1,62 +1,57 @@
-use crate::listing::{code_text, fault_json, found_json};
-use crate::place::{below, made, prepared, removed};
+use crate::listing::{put_code, put_fault, put_listing};
+use crate::place::{below, empty_plan, machine, prepared};
 use command_line::{Launch, Variable};
-use plain_data::{Items, Keyed, Text};
-use proc_host::{ChildEnd, Host, StagePlan};
-use process_machine::Machine;
-use row_io::{Row, RowFault};
+use plain_data::{Items, Text};
+use proc_host::{ChildEnd, Host};
+use row_io::{AnswerText, Row, RowFault};
 use serde_json::Value as Json;
 use std::alloc::Global;
 
 /// How a child of these words ended, and what is in its output folder then.
-pub fn answer(rt: &HostRuntime, row: &Row) -> Result<String, RowFault> {
-    let place = made(rt)?;
-    let told = told_of(rt, row, place.as_str());
-    removed(rt, place.as_str())?;
-    told
+pub fn told_of(rt: &HostRuntime, row: &Row, place: &str) -> Result<String, RowFault> {
+    prepared(rt, row, place)?;
+    let launch = launch_of(rt.alloc(), row, place)?;
+    let mut host = machine(rt, place)?;
+    let mut out = AnswerText::new(rt.alloc());
+    stage_and_run(rt.alloc(), &mut host, &launch, &mut out);
+    out.finish()
 }
 
-fn told_of(rt: &HostRuntime, row: &Row, place: &str) -> Result<String, RowFault> {
-    let alloc = rt.alloc();
-    prepared(rt, row, place)?;
-    let launch = launch_of(alloc, row, place)?;
-    let mut host = Machine::new(
-        rt,
-        Text::from_text(alloc, place)?,
-        below(alloc, place, "results")?,
-    );
-    let plan = StagePlan {
-        moves: Items::new(alloc),
-        value: Keyed::new(alloc),
-    };
+fn stage_and_run<H: Host>(alloc: Global, host: &mut H, launch: &Launch, out: &mut AnswerText) {
+    let plan = empty_plan(alloc);
     match host.stage(&plan, 1) {
-        Ok(()) => {}
-        Err(error) => return fault_json(alloc, error),
+        Ok(()) => run(host, launch, out),
+        Err(error) => put_fault(out, error),
     }
-    let ticket = match host.start(&launch) {
+}
+
+fn run<H: Host>(host: &mut H, launch: &Launch, out: &mut AnswerText) {
+    let ticket = match host.start(launch) {
         Ok(ticket) => ticket,
-        Err(error) => return fault_json(alloc, error),
+        Err(error) => return put_fault(out, error),
     };
     let ended = host.collect();
     host.close(ticket);
     match ended {
-        Ok(ending) => after_end(alloc, &mut host, &launch.dir, &ending),
-        Err(error) => fault_json(alloc, error),
+        Ok(ending) => put_end(host, &launch.dir, &ending, out),
+        Err(error) => put_fault(out, error),
     }
 }
 
-fn after_end<H: Host>(
-    alloc: Global,
-    host: &mut H,
-    folder: &Text,
-    ending: &ChildEnd,
-) -> Result<String, RowFault> {
-    let code = code_text(alloc, ending.code)?;
-    let found = match host.scan(folder) {
-        Ok(found) => found_json(alloc, found.as_slice())?,
-        Err(error) => fault_json(alloc, error)?,
-    };
-    Ok(format!(in alloc; "{{\"code\":{code},\"found\":{found}}}")?)
+fn put_end<H: Host>(host: &mut H, folder: &Text, ending: &ChildEnd, out: &mut AnswerText) {
+    out.put("{\"code\":");
+    put_code(out, ending.code);
+    out.put(",\"found\":");
+    put_folder(host, folder, out);
+    out.put("}");
+}
+
+/// Adds what is below a folder.
+pub fn put_folder<H: Host>(host: &mut H, folder: &Text, out: &mut AnswerText) {
+    match host.scan(folder) {
+        Ok(found) => put_listing(out, found.as_slice()),
+        Err(error) => put_fault(out, error),
+    }
 }
 
 fn launch_of(alloc: Global, row: &Row, place: &str) -> Result<Launch, RowFault> {

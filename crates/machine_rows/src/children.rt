@@ -1,10 +1,10 @@
 use crate::child::{launch_with, words_in};
-use crate::listing::{code_text, fault_json};
-use crate::place::{below, made, removed};
-use plain_data::{Items, Keyed, Text};
-use proc_host::{Host, StagePlan, Ticket};
+use crate::listing::{put_code, put_fault};
+use crate::place::{empty_plan, machine};
+use proc_host::{ChildEnd, Host, Ticket};
 use process_machine::{Machine, World};
-use row_io::{Row, RowFault};
+use row_io::{AnswerText, Row, RowFault};
+use serde_json::Value as Json;
 use std::alloc::Global;
 use std::process::Stdio;
 use std::rt::Clock;
@@ -12,40 +12,36 @@ use std::time::Duration;
 
 /// The tickets and exit codes of several children at once, in the order in which they are collected. The first is
 /// collected a little after the last was started.
-pub fn answer(rt: &HostRuntime, row: &Row) -> Result<String, RowFault> {
-    let place = made(rt)?;
-    let told = told_of(rt, row, place.as_str());
-    removed(rt, place.as_str())?;
-    told
+pub fn told_of(rt: &HostRuntime, row: &Row, place: &str) -> Result<String, RowFault> {
+    let mut host = machine(rt, place)?;
+    let mut out = AnswerText::new(rt.alloc());
+    let plan = empty_plan(rt.alloc());
+    match host.stage(&plan, 1) {
+        Ok(()) => run_all(rt, &mut host, row, place, &mut out),
+        Err(error) => put_fault(&mut out, error),
+    }
+    out.finish()
 }
 
-fn told_of(rt: &HostRuntime, row: &Row, place: &str) -> Result<String, RowFault> {
-    let alloc = rt.alloc();
-    let mut host = Machine::new(
-        rt,
-        Text::from_text(alloc, place)?,
-        below(alloc, place, "results")?,
-    );
-    let plan = StagePlan {
-        moves: Items::new(alloc),
-        value: Keyed::new(alloc),
-    };
-    if let Err(error) = host.stage(&plan, 1) {
-        return fault_json(alloc, error);
-    }
-    let mut held = Vec::new(alloc);
-    let told = match started(alloc, &mut host, row, place, &mut held) {
+fn run_all(
+    rt: &HostRuntime,
+    host: &mut Machine<&HostRuntime>,
+    row: &Row,
+    place: &str,
+    out: &mut AnswerText,
+) {
+    let mut held = Vec::new(rt.alloc());
+    match start_all(rt.alloc(), host, row, place, &mut held) {
         Ok(()) => {
             rt.sleep(Duration::from_millis(300));
-            collected(alloc, &mut host, held.len())
+            collect_all(host, held.len(), out);
         }
-        Err(fault) => Err(fault),
-    };
-    closed(&mut host, held);
-    told
+        Err(fault) => out.fail(fault),
+    }
+    close_all(host, held);
 }
 
-fn started<H: Host>(
+fn start_all<H: Host>(
     alloc: Global,
     host: &mut H,
     row: &Row,
@@ -53,46 +49,54 @@ fn started<H: Host>(
     held: &mut Vec<Ticket>,
 ) -> Result<(), RowFault> {
     for child in row.list("children")? {
-        let words = words_in(alloc, child.as_array().ok_or(RowFault::BadArgument)?)?;
-        let launch = launch_with(alloc, row, place, words)?;
         held.reserve(1)?;
-        match host.start(&launch) {
-            Ok(ticket) => held.push(ticket).unwrap(),
-            Err(_) => return Err(RowFault::BadArgument),
+        match start(alloc, host, row, place, child)? {
+            Some(ticket) => held.push(ticket).unwrap(),
+            None => return Err(RowFault::BadArgument),
         }
     }
     Ok(())
 }
 
-fn collected<R: World>(
+fn start<H: Host>(
     alloc: Global,
-    host: &mut Machine<R>,
-    count: usize,
-) -> Result<String, RowFault>
+    host: &mut H,
+    row: &Row,
+    place: &str,
+    child: &Json,
+) -> Result<Option<Ticket>, RowFault> {
+    let words = words_in(alloc, child.as_array().ok_or(RowFault::BadArgument)?)?;
+    let launch = launch_with(alloc, row, place, words)?;
+    Ok(host.start(&launch).ok())
+}
+
+fn collect_all<R: World>(host: &mut Machine<R>, count: usize, out: &mut AnswerText)
 where
     R::File: Into<Stdio>,
 {
-    let mut text = String::from_str(alloc, "[")?;
-    let mut between = "";
+    out.put("[");
     for _ in 0..count {
         if host.running().is_empty() {
-            return Err(RowFault::BadArgument);
+            return out.fail(RowFault::BadArgument);
         }
-        let end = match host.collect() {
-            Ok(ending) => {
-                let code = code_text(alloc, ending.code)?;
-                format!(in alloc; "{between}[{},{code}]", ending.ticket)?
-            }
-            Err(error) => return fault_json(alloc, error),
-        };
-        text.push_str(end.as_str())?;
-        between = ",";
+        out.put_comma();
+        match host.collect() {
+            Ok(ending) => put_end(out, &ending),
+            Err(error) => put_fault(out, error),
+        }
     }
-    text.push(']')?;
-    Ok(text)
+    out.put("]");
 }
 
-fn closed<H: Host>(host: &mut H, mut held: Vec<Ticket>) {
+fn put_end(out: &mut AnswerText, ending: &ChildEnd) {
+    out.put("[");
+    out.put_natural(ending.ticket);
+    out.put(",");
+    put_code(out, ending.code);
+    out.put("]");
+}
+
+fn close_all<H: Host>(host: &mut H, mut held: Vec<Ticket>) {
     while let Some(ticket) = held.pop() {
         host.close(ticket);
     }

@@ -1,61 +1,62 @@
-use crate::listing::{fault_json, found_json};
-use crate::place::{below, made, prepared, removed};
+use crate::child::put_folder;
+use crate::listing::put_fault;
+use crate::place::{below, machine, prepared};
 use plain_data::{Items, Keyed, Text};
 use proc_host::{Host, HostError, Move, StagePlan};
-use process_machine::Machine;
-use row_io::{Row, RowFault};
+use row_io::{AnswerText, Row, RowFault};
+use serde_json::Value as Json;
 use std::alloc::Global;
 
 /// What a stage or a delivery of these moves answers, and what the row's folder holds then.
-pub fn answer(rt: &HostRuntime, row: &Row) -> Result<String, RowFault> {
-    let place = made(rt)?;
-    let told = told_of(rt, row, place.as_str());
-    removed(rt, place.as_str())?;
-    told
-}
-
-fn told_of(rt: &HostRuntime, row: &Row, place: &str) -> Result<String, RowFault> {
-    let alloc = rt.alloc();
+pub fn told_of(rt: &HostRuntime, row: &Row, place: &str) -> Result<String, RowFault> {
     prepared(rt, row, place)?;
-    let plan = plan_of(alloc, row, place)?;
-    let mut host = Machine::new(
-        rt,
-        Text::from_text(alloc, place)?,
-        below(alloc, place, "results")?,
-    );
-    let outcome = match row.call() {
-        "stage" => host.stage(&plan, row.natural("number")?),
-        _ => host.deliver(&plan),
-    };
-    let told = outcome_json(alloc, outcome)?;
-    match host.scan(&Text::from_text(alloc, place)?) {
-        Ok(found) => {
-            let found = found_json(alloc, found.as_slice())?;
-            Ok(format!(in alloc; "{{\"call\":{told},\"found\":{found}}}")?)
-        }
-        Err(_) => Err(RowFault::BadArgument),
-    }
+    let plan = plan_of(rt.alloc(), row, place)?;
+    let folder = Text::from_text(rt.alloc(), place)?;
+    let mut host = machine(rt, place)?;
+    let mut out = AnswerText::new(rt.alloc());
+    copy(&mut host, row, &plan, &folder, &mut out);
+    out.finish()
 }
 
-fn outcome_json(alloc: Global, outcome: Result<(), HostError>) -> Result<String, RowFault> {
-    match outcome {
-        Ok(()) => Ok(String::from_str(alloc, "\"done\"")?),
-        Err(error) => fault_json(alloc, error),
+fn copy<H: Host>(host: &mut H, row: &Row, plan: &StagePlan, folder: &Text, out: &mut AnswerText) {
+    out.put("{\"call\":");
+    match copied(host, row, plan) {
+        Ok(()) => out.put_quoted("done"),
+        Err(error) => put_fault(out, error),
+    }
+    out.put(",\"found\":");
+    put_folder(host, folder, out);
+    out.put("}");
+}
+
+fn copied<H: Host>(host: &mut H, row: &Row, plan: &StagePlan) -> Result<(), HostError> {
+    match row.natural("number") {
+        Ok(number) => host.stage(plan, number),
+        Err(_) => host.deliver(plan),
     }
 }
 
 fn plan_of(alloc: Global, row: &Row, place: &str) -> Result<StagePlan, RowFault> {
     let mut moves = Items::new(alloc);
     for pair in row.list("moves")? {
-        let source = pair.get(0).and_then(|name| name.as_str());
-        let target = pair.get(1).and_then(|name| name.as_str());
-        moves.push(Move {
-            source: below(alloc, place, source.ok_or(RowFault::BadArgument)?)?,
-            target: below(alloc, place, target.ok_or(RowFault::BadArgument)?)?,
-        })?;
+        moves.push(move_of(alloc, pair, place)?)?;
     }
     Ok(StagePlan {
         moves,
         value: Keyed::new(alloc),
     })
+}
+
+fn move_of(alloc: Global, pair: &Json, place: &str) -> Result<Move, RowFault> {
+    let source = name_at(pair, 0)?;
+    let target = name_at(pair, 1)?;
+    Ok(Move {
+        source: below(alloc, place, source)?,
+        target: below(alloc, place, target)?,
+    })
+}
+
+fn name_at(pair: &Json, index: usize) -> Result<&str, RowFault> {
+    let name = pair.get(index).and_then(|name| name.as_str());
+    name.ok_or(RowFault::BadArgument)
 }

@@ -1,34 +1,40 @@
 use proc_host::{Found, HostError};
-use row_io::{RowFault, quoted};
-use std::alloc::{AllocError, Global};
+use row_io::AnswerText;
 
-/// A listing as JSON: name, whether it is a folder, size and sum of each entry.
-pub fn found_json(alloc: Global, found: &[Found]) -> Result<String, RowFault> {
-    let mut text = String::from_str(alloc, "[")?;
-    let mut between = "";
+/// Adds a listing: name, whether it is a folder, size and sum of each entry.
+pub fn put_listing(out: &mut AnswerText, found: &[Found]) {
+    out.put("[");
     for entry in found {
-        let name = quoted(alloc, entry.name.as_str())?;
-        let sum = quoted(alloc, entry.sum.as_str())?;
-        let entry = format!(in alloc; "{between}[{name},{},{},{sum}]", entry.is_dir, entry.size)?;
-        text.push_str(entry.as_str())?;
-        between = ",";
+        out.put_comma();
+        put_entry(out, entry);
     }
-    text.push(']')?;
-    Ok(text)
+    out.put("]");
 }
 
-/// The code of a call's fault.
-pub fn fault_json(alloc: Global, error: HostError) -> Result<String, RowFault> {
+fn put_entry(out: &mut AnswerText, entry: &Found) {
+    out.put("[");
+    out.put_quoted(entry.name.as_str());
+    out.put(",");
+    out.put_flag(entry.is_dir);
+    out.put(",");
+    out.put_natural(entry.size);
+    out.put(",");
+    out.put_quoted(entry.sum.as_str());
+    out.put("]");
+}
+
+/// Adds the code of a call's fault.
+pub fn put_fault(out: &mut AnswerText, error: HostError) {
     match error {
-        HostError::Fault(fault) => quoted(alloc, fault.code()),
-        HostError::OutOfMemory => Err(RowFault::OutOfMemory),
+        HostError::Fault(fault) => out.put_quoted(fault.code()),
+        HostError::OutOfMemory => out.put_quoted("memory"),
     }
 }
 
-/// An exit code, or null where a signal ended the child.
-pub fn code_text(alloc: Global, code: Option<i32>) -> Result<String, AllocError> {
+/// Adds an exit code, or null where a signal ended the child.
+pub fn put_code(out: &mut AnswerText, code: Option<i32>) {
     match code {
-        Some(code) => format!(in alloc; "{code}"),
-        None => String::from_str(alloc, "null"),
+        Some(code) => out.put_whole(code as i64),
+        None => out.put("null"),
     }
 }

@@ -11,6 +11,7 @@ mod listing;
 mod place;
 mod program;
 
+use place::{made, removed};
 use row_io::{Answers, Row, RowFault, answer_rows};
 use std::alloc::Global;
 use std::io;
@@ -21,13 +22,20 @@ struct Calls<'a>(&'a HostRuntime);
 
 impl Answers for Calls<'_> {
     fn answer(&self, _alloc: Global, row: &Row) -> Result<String, RowFault> {
-        match row.call() {
-            "child" => child::answer(self.0, row),
-            "children" => children::answer(self.0, row),
-            "stage" | "deliver" => copies::answer(self.0, row),
-            "main_run" => program::answer(self.0, row),
-            _ => Err(RowFault::UnknownCall),
-        }
+        let place = made(self.0)?;
+        let told = told_of(self.0, row, place.as_str());
+        removed(self.0, place.as_str())?;
+        told
+    }
+}
+
+fn told_of(rt: &HostRuntime, row: &Row, place: &str) -> Result<String, RowFault> {
+    match row.call() {
+        "child" => child::told_of(rt, row, place),
+        "children" => children::told_of(rt, row, place),
+        "stage" | "deliver" => copies::told_of(rt, row, place),
+        "main_run" => program::told_of(rt, row, place),
+        _ => Err(RowFault::UnknownCall),
     }
 }
 

@@ -1,8 +1,10 @@
-use plain_data::Text;
+use plain_data::{Items, Keyed, Text};
+use proc_host::StagePlan;
+use process_machine::Machine;
 use row_io::{Row, RowFault};
 use std::alloc::{AllocError, Global};
 use std::process::{Command, Stdio};
-use std::{env, fs, io};
+use std::{env, fs, io, mem};
 
 /// The folder that a row works in, from the root.
 pub fn made(rt: &HostRuntime) -> Result<String, RowFault> {
@@ -24,20 +26,33 @@ pub fn below(alloc: Global, place: &str, name: &str) -> Result<Text, AllocError>
 
 /// Runs the row's `before`, a script of the shell, in its folder.
 pub fn prepared(rt: &HostRuntime, row: &Row, place: &str) -> Result<(), RowFault> {
-    if row.find("before").is_none() {
-        return Ok(());
+    match row.find("before") {
+        None => Ok(()),
+        Some(_) => run_script(rt, row.text("before")?, place),
     }
-    let mut command = Command::new(rt.alloc(), "/bin/sh")?;
-    command.arg("-c")?;
-    command.arg(row.text("before")?)?;
-    command.current_dir(place)?;
-    command.stdin(Stdio::null());
-    let status = done(command.status(rt))?;
-    if status.success() {
-        Ok(())
-    } else {
-        Err(RowFault::BadArgument)
+}
+
+fn run_script(rt: &HostRuntime, script: &str, place: &str) -> Result<(), RowFault> {
+    let mut shell = Command::new(rt.alloc(), "/bin/sh")?;
+    let succeeds = succeeds(rt, &mut shell, script, place);
+    mem::drop(shell);
+    match succeeds {
+        Ok(true) => Ok(()),
+        _ => Err(RowFault::BadArgument),
     }
+}
+
+fn succeeds(
+    rt: &HostRuntime,
+    shell: &mut Command,
+    script: &str,
+    place: &str,
+) -> Result<bool, RowFault> {
+    shell.arg("-c")?;
+    shell.arg(script)?;
+    shell.current_dir(place)?;
+    shell.stdin(Stdio::null());
+    Ok(done(shell.status(rt))?.success())
 }
 
 /// A row whose own files can't be made has no answer.
@@ -45,5 +60,22 @@ pub fn done<T>(outcome: io::Result<T>) -> Result<T, RowFault> {
     match outcome {
         Ok(value) => Ok(value),
         Err(_) => Err(RowFault::BadArgument),
+    }
+}
+
+/// A host whose jobs' folders are right in the row's folder, and which delivers to `results` there.
+pub fn machine<'a>(
+    rt: &'a HostRuntime,
+    place: &str,
+) -> Result<Machine<&'a HostRuntime>, AllocError> {
+    let work = Text::from_text(rt.alloc(), place)?;
+    Ok(Machine::new(rt, work, below(rt.alloc(), place, "results")?))
+}
+
+/// A plan that copies nothing.
+pub fn empty_plan(alloc: Global) -> StagePlan {
+    StagePlan {
+        moves: Items::new(alloc),
+        value: Keyed::new(alloc),
     }
 }

@@ -1,51 +1,51 @@
-use crate::listing::found_json;
-use crate::place::{below, done, made, prepared, removed};
+use crate::child::put_folder;
+use crate::place::{below, done, machine, prepared};
 use cwl_program::main_run;
 use plain_data::Text;
-use proc_host::Host;
-use process_machine::Machine;
-use row_io::{Row, RowFault, json_text, quoted};
+use row_io::{AnswerText, Row, RowFault, json_text};
 use std::alloc::{AllocError, Global};
 use std::{fs, str};
 
 /// What the program answers and writes for a document and its inputs, and what the row's folder holds then beside them.
-pub fn answer(rt: &HostRuntime, row: &Row) -> Result<String, RowFault> {
-    let place = made(rt)?;
-    let told = told_of(rt, row, place.as_str());
-    removed(rt, place.as_str())?;
-    told
-}
-
-fn told_of(rt: &HostRuntime, row: &Row, place: &str) -> Result<String, RowFault> {
-    let alloc = rt.alloc();
+pub fn told_of(rt: &HostRuntime, row: &Row, place: &str) -> Result<String, RowFault> {
     prepared(rt, row, place)?;
     written(rt, row, "document", place)?;
     written(rt, row, "inputs", place)?;
-    let words = words_of(alloc, row, place)?;
-    let mut out = Vec::new(alloc);
-    let mut err = Vec::new(alloc);
-    let status = main_run(rt, words.as_slice(), "/usr/bin:/bin", &mut out, &mut err);
-    let out = shown(alloc, out.as_slice(), place)?;
-    let err = shown(alloc, err.as_slice(), place)?;
+    let mut out = AnswerText::new(rt.alloc());
+    run(rt, row, place, &mut out)?;
     unwritten(rt, "document", place)?;
     unwritten(rt, "inputs", place)?;
-    let found = held(rt, place)?;
-    Ok(format!(in alloc; "{{\"status\":{status},\"out\":{out},\"err\":{err},\"found\":{found}}}")?)
+    out.put(",\"found\":");
+    put_held(rt, place, &mut out)?;
+    out.put("}");
+    out.finish()
 }
 
-// What is in the row's folder.
-fn held(rt: &HostRuntime, place: &str) -> Result<String, RowFault> {
-    let alloc = rt.alloc();
-    let folder = Text::from_text(alloc, place)?;
-    let mut host = Machine::new(
+fn run(rt: &HostRuntime, row: &Row, place: &str, out: &mut AnswerText) -> Result<(), RowFault> {
+    let words = words_of(rt.alloc(), row, place)?;
+    let mut printed = Vec::new(rt.alloc());
+    let mut told = Vec::new(rt.alloc());
+    let status = main_run(
         rt,
-        below(alloc, place, "work")?,
-        below(alloc, place, "results")?,
+        words.as_slice(),
+        "/usr/bin:/bin",
+        &mut printed,
+        &mut told,
     );
-    match host.scan(&folder) {
-        Ok(found) => found_json(alloc, found.as_slice()),
-        Err(_) => Err(RowFault::BadArgument),
-    }
+    out.put("{\"status\":");
+    out.put_natural(status as u64);
+    out.put(",\"out\":");
+    put_shown(rt.alloc(), out, printed.as_slice(), place)?;
+    out.put(",\"err\":");
+    put_shown(rt.alloc(), out, told.as_slice(), place)
+}
+
+// Adds what is in the row's folder.
+fn put_held(rt: &HostRuntime, place: &str, out: &mut AnswerText) -> Result<(), RowFault> {
+    let folder = Text::from_text(rt.alloc(), place)?;
+    let mut host = machine(rt, place)?;
+    put_folder(&mut host, &folder, out);
+    Ok(())
 }
 
 // Writes an argument, where the row has it, into a file of its name.
@@ -77,12 +77,18 @@ fn words_of(alloc: Global, row: &Row, place: &str) -> Result<Vec<String>, RowFau
     Ok(words)
 }
 
-// What was written, with `@` for the row's folder.
-fn shown(alloc: Global, bytes: &[u8], place: &str) -> Result<String, RowFault> {
+// Adds what was written, with `@` for the row's folder.
+fn put_shown(
+    alloc: Global,
+    out: &mut AnswerText,
+    bytes: &[u8],
+    place: &str,
+) -> Result<(), RowFault> {
     match str::from_utf8(bytes) {
-        Ok(text) => quoted(alloc, replaced(alloc, text, place, "@")?.as_str()),
-        Err(_) => Err(RowFault::BadArgument),
+        Ok(text) => out.put_quoted(replaced(alloc, text, place, "@")?.as_str()),
+        Err(_) => return Err(RowFault::BadArgument),
     }
+    Ok(())
 }
 
 fn replaced(alloc: Global, text: &str, old: &str, new: &str) -> Result<String, AllocError> {

@@ -1,20 +1,30 @@
 //! Plans the graph of a certificate: the program that `bench/plan` measures.
 //!
-//! It reads a certificate from the standard input, leaves its plan and charges aside, plans its graph, checks what was
-//! planned, and prints the cost. With the argument `times` it also prints the microseconds that planning,
-//! checking, and planning again from the charges took.
+//! It reads a certificate from the standard input, and leaves its plan and charges aside. Without an argument it plans
+//! the graph, checks what was planned, and prints the cost; with `times` it also prints the microseconds that planning,
+//! checking, and planning again from the charges took. With `run` it simulates a run of the jobs (`run.rt`), plans at
+//! each planning point, and prints how long all plans took; with a number behind it, it goes as far as that planning
+//! point, prints its graph as a certificate, and tells the times of that point on the standard error.
 #![tactic(auto)]
 
-use anyhow::{Result, anyhow};
-use flow_planner::{plan, plan_again};
-use plan_checker::{Charges, Graph, Plan, check, read_certificate};
+mod run;
+mod simulated;
+mod times;
+
+use anyhow::{Result, bail};
+use plan_checker::{Graph, read_certificate};
+use std::env;
 use std::io::Read;
-use std::time::Instant;
-use std::{env, mem};
 
 fn main(rt: HostRuntime) -> Result<()> {
     let graph = graph_of(&rt)?;
-    measured(&rt, &graph)
+    let mut words = env::args(&rt)?;
+    let _program = words.next();
+    match (words.next(), words.next()) {
+        (Some(verb), Some(point)) => until(&rt, &graph, verb.as_str(), point.as_str()),
+        (Some(verb), None) => measured(&rt, &graph, verb.as_str()),
+        _ => times::cost(&rt, &graph),
+    }
 }
 
 fn graph_of(rt: &HostRuntime) -> Result<Graph> {
@@ -24,40 +34,17 @@ fn graph_of(rt: &HostRuntime) -> Result<Graph> {
     Ok(graph)
 }
 
-fn measured(rt: &HostRuntime, graph: &Graph) -> Result<()> {
-    let start = Instant::now(rt)?;
-    let (plan, charges) = plan(rt.alloc(), graph)?;
-    report(rt, graph, &plan, &charges, start)
-}
-
-// Prints what a plan that was begun at `start` costs.
-fn report(
-    rt: &HostRuntime,
-    graph: &Graph,
-    plan: &Plan,
-    charges: &Charges,
-    start: Instant,
-) -> Result<()> {
-    let planned = start.elapsed(rt)?;
-    let start = Instant::now(rt)?;
-    let cost = check(graph, plan, charges).map_err(|broken| anyhow!("{broken:?}"))?;
-    let checked = start.elapsed(rt)?;
-
-    println!(rt; "cost {cost}")?;
-    if env::args(rt)?.any(|word| word.as_str() == "times") {
-        let (plan, check) = (planned.as_micros(), checked.as_micros());
-        println!(rt; "plan {plan}\ncheck {check}")?;
-        let again = again(rt, graph, charges)?;
-        println!(rt; "again {again}")?;
+fn measured(rt: &HostRuntime, graph: &Graph, verb: &str) -> Result<()> {
+    match verb {
+        "times" => times::times(rt, graph),
+        "run" => simulated::whole(rt, graph.vertices()),
+        _ => bail!("times, run, or run POINT"),
     }
-    Ok(())
 }
 
-// The microseconds that it takes to plan again where nothing has changed.
-fn again(rt: &HostRuntime, graph: &Graph, last: &Charges) -> Result<u128> {
-    let start = Instant::now(rt)?;
-    let made = plan_again(rt.alloc(), graph, last)?;
-    let took = start.elapsed(rt)?.as_micros();
-    mem::drop(made);
-    Ok(took)
+fn until(rt: &HostRuntime, graph: &Graph, verb: &str, point: &str) -> Result<()> {
+    match verb {
+        "run" => simulated::until(rt, graph.vertices(), point.parse::<usize>()?),
+        _ => bail!("times, run, or run POINT"),
+    }
 }

@@ -1,8 +1,8 @@
-use Rattle.std.proofs.Common.{◌≡◌, ◌≢◌, ℕ, ◌+◌, ◌<◌, List, [], ◌∷◌, ◌++◌, cond, eqb, length, get_or, set, replicate, sum_by, sym, refl, ap, subst, ◌∙◌, ⊎_elim, arith, get_or-set_other, get_or-set_same}
-use Rattle.std.proofs.lemmas.List.{length-set, length-replicate, get_or-replicate, get_or_past}
-use Rattle.std.proofs.lemmas.List.Elements.{All-push, All-nil, All-same}
+use Rattle.std.proofs.Common.{◌≡◌, ◌≢◌, ℕ, ◌+◌, ◌<◌, List, [], ◌∷◌, ◌++◌, cond, eqb, length, get_or, set, sum_by, sym, refl, ap, subst, ◌∙◌, ⊎_elim, arith, get_or-set_other, get_or-set_same}
+use Rattle.std.proofs.lemmas.List.{length-set}
+use Rattle.std.proofs.lemmas.List.Elements.{All-push, All-same}
 use Rattle.std.proofs.lemmas.List.Sums.{sum_by_push}
-use Rattle.std.proofs.lemmas.Bool.{cases_eq, cases_lt, eq-eqb, ne_eqb, cond-true, cond-false}
+use Rattle.std.proofs.lemmas.Bool.{cases_eq, eq-eqb, ne_eqb, cond-true, cond-false}
 use Rattle.plan_checker.specs.declared.vertex.Vertex.{Vertex}
 use Rattle.plan_checker.specs.declared.child.Child.{Child}
 use Rattle.plan_checker.specs.declared.charges.Charges.{Charges}
@@ -11,21 +11,6 @@ use Rattle.plan_checker.specs.Graph.{vertex}
 use Rattle.plan_checker.specs.Charges.{passes, passed_to}
 use Rattle.plan_checker.specs.inner.Children.{amount_from, IsThere, AreChildrenBelow, AddsChild}
 use Rattle.plan_checker.proofs.SumsBelow.{sum_below_more}
-
--- no lists yet, and no vertices
-no_child : (n p : ℕ) → get_or (replicate n (let none : List Child = [] in none)) p [] ≡ []
-no_child n p =
-    ⊎_elim
-    (λ lt. get_or-replicate n p [] [] lt)
-    (λ le. let count = length-replicate n (let none : List Child = [] in none) in get_or_past (replicate n []) p [] (omega arith))
-    (cases_lt p n)
-
-pub no_children : (graph : List Vertex) (n : ℕ) → n ≡ length graph → AreChildrenBelow graph (replicate n []) 0
-no_children graph n count = record {
-  one_each = length-replicate n [] ∙ count;
-  there = λ p. All-same (IsThere graph) (get_or (replicate n []) p []) [] (no_child n p) (All-nil (IsThere graph));
-  sums = λ charges p h. ap (sum_by (amount_from charges)) (no_child n p);
-}
 
 -- the lists after a child was put at the end of one of them
 list_at : (cur new : List (List Child)) (p : ℕ) (y : Child) → p < length cur → new ≡ set cur p (get_or cur p [] ++ y ∷ []) → get_or new p [] ≡ get_or cur p [] ++ y ∷ []

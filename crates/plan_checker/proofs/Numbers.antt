@@ -1,15 +1,15 @@
-use Rattle.std.proofs.Common.{◌≡◌, ◌≢◌, ℕ, ◌<◌, List, [], ◌∷◌, ◌++◌, length, get_or, All, Option, Some, None, sym, refl, ap, ◌∙◌, subst, arith}
+use Rattle.std.proofs.Common.{◌≡◌, ℕ, ◌<◌, ◌≤◌, List, [], ◌∷◌, ◌++◌, length, get_or, All, Option, Some, None, sym, refl, ap, ◌∙◌, subst, arith}
 use Rattle.std.specs.Fmt.{decimal}
 use Rattle.std.specs.Char.{IsAsciiDigit}
 use Rattle.std.specs.Option.{ForSome}
 use Rattle.std.specs.Str.Parse.{AllDigits}
 use Rattle.std.proofs.lemmas.Fmt.{decimal_is_IsNumeral, decimal_injective}
 use Rattle.std.proofs.lemmas.Str.Parse.{digit_from_value}
-use Rattle.std.proofs.lemmas.List.{append_assoc, append-nil}
-use Rattle.std.proofs.lemmas.List.Elements.{All-head, All-tail, All-push}
+use Rattle.std.proofs.lemmas.List.{append_assoc, append-nil, length-append, get_or_append_left}
+use Rattle.std.proofs.lemmas.List.Elements.{All-head, All-tail, All-nil, All-cons, All-append}
 use Rattle.plan_checker.specs.Format.{IsSmall, spaced, load_field, pairs}
 use Rattle.plan_checker.proofs.Texts.{spaced-append}
-use Rattle.plan_checker.specs.inner.Reading.{EndsNumber, NoNumber, NoNumbers, BeginsWithNumber}
+use Rattle.plan_checker.specs.inner.Reading.{EndsNumber, NoNumber, BeginsWithNumber, BeginsWithNumbers}
 
 -- digits are read in one way, up to what ends them
 pub digits_once : (xs ys a b : List ℕ) → AllDigits 10 xs → AllDigits 10 ys → EndsNumber a → EndsNumber b → xs ++ a ≡ ys ++ b → (xs ≡ ys) × (a ≡ b)
@@ -119,39 +119,67 @@ ends_more : (ns rest : List ℕ) → EndsNumber rest → EndsNumber (spaced ns +
 ends_more [] rest h = h
 ends_more (n ∷ ns) rest h = space_ends ((decimal n ++ spaced ns) ++ rest)
 
-numbers_stop : (ns ms rest y : List ℕ) → All IsSmall ns → All IsSmall ms → (0 < length ns → EndsNumber rest) → NoNumber rest → ((z : List ℕ) → rest ≢ 10 ∷ z) → spaced ns ++ rest ≢ spaced ms ++ 10 ∷ y
-numbers_stop [] [] rest y p q ends none feed e = feed y e
-numbers_stop [] (m ∷ ms) rest y p q ends none feed e =
-    none m (spaced ms ++ 10 ∷ y) (record { small = All-head IsSmall m ms q; ends = numbers_end ms y; begins = e ∙ append_assoc (32 ∷ decimal m) (spaced ms) (10 ∷ y) })
-numbers_stop (n ∷ ns) [] rest y p q ends none feed e = absurd (let h : 32 ≡ 10 = ap first_of e in omega (arith, h))
-numbers_stop (n ∷ ns) (m ∷ ms) rest y p q ends none feed e =
-    let tail : (decimal n ++ spaced ns) ++ rest ≡ (decimal m ++ spaced ms) ++ 10 ∷ y = cc in
-    let grouped : decimal n ++ (spaced ns ++ rest) ≡ decimal m ++ (spaced ms ++ 10 ∷ y) =
-    sym (append_assoc (decimal n) (spaced ns) rest) ∙ tail ∙ append_assoc (decimal m) (spaced ms) (10 ∷ y)
+-- no number, no numbers
+pub no_numbers : (text : List ℕ) (n : ℕ) (ns rest : List ℕ) → NoNumber text → ¬ BeginsWithNumbers text (n ∷ ns) rest
+no_numbers text n ns rest none read =
+    none n (spaced ns ++ rest) (record { small = All-head IsSmall n ns read.small; ends = ends_more ns rest read.ends; begins = read.begins ∙ append_assoc (32 ∷ decimal n) (spaced ns) rest })
+
+pub number_read : (text : List ℕ) (n : ℕ) (rest : List ℕ) → BeginsWithNumber text n rest → BeginsWithNumbers text (n ∷ []) rest
+number_read text n rest read = record {
+  small = All-cons IsSmall n [] read.small (All-nil IsSmall);
+  ends = read.ends;
+  begins = read.begins ∙ ap (λ t. t ++ rest) (sym (append-nil (32 ∷ decimal n)));
+}
+
+-- numbers, and those behind them
+pub numbers_read : (text ns after ms rest : List ℕ) → BeginsWithNumbers text ns after → BeginsWithNumbers after ms rest → BeginsWithNumbers text (ns ++ ms) rest
+numbers_read text ns after ms rest read more = record {
+  small = All-append IsSmall ns ms read.small more.small;
+  ends = more.ends;
+  begins =
+      read.begins
+      ∙ ap (λ t. spaced ns ++ t) more.begins
+      ∙ sym (append_assoc (spaced ns) (spaced ms) rest)
+      ∙ ap (λ t. t ++ rest) (sym (spaced-append ns ms));
+}
+
+-- the first of some numbers
+pub first_read : (text ns ms rest : List ℕ) → BeginsWithNumbers text (ns ++ ms) rest → BeginsWithNumbers text ns (spaced ms ++ rest)
+first_read text ns ms rest read = record {
+  small = λ k d below. subst IsSmall (get_or_append_left ns ms d k below) (read.small k d (omega (arith, length-append ns ms, below)));
+  ends = ends_more ms rest read.ends;
+  begins = read.begins ∙ ap (λ t. t ++ rest) (spaced-append ns ms) ∙ append_assoc (spaced ns) (spaced ms) rest;
+}
+
+-- numbers are read in one way: where there are more of them, the others follow
+pub others_follow : (text ns ms a b : List ℕ) → BeginsWithNumbers text ns a → BeginsWithNumbers text ms b → length ns ≤ length ms → (others : List ℕ) × (ms ≡ ns ++ others) × BeginsWithNumbers a others b
+others_follow text [] ms a b p q le = (ms, refl, record { small = q.small; ends = q.ends; begins = sym p.begins ∙ q.begins })
+others_follow text (n ∷ ns) [] a b p q le = absurd (omega arith)
+others_follow text (n ∷ ns) (m ∷ ms) a b p q le =
+    let whole : spaced (n ∷ ns) ++ a ≡ spaced (m ∷ ms) ++ b = sym p.begins ∙ q.begins in
+    let tail : (decimal n ++ spaced ns) ++ a ≡ (decimal m ++ spaced ms) ++ b = cc in
+    let grouped : decimal n ++ (spaced ns ++ a) ≡ decimal m ++ (spaced ms ++ b) =
+    sym (append_assoc (decimal n) (spaced ns) a) ∙ tail ∙ append_assoc (decimal m) (spaced ms) b
     in
-    let ended : EndsNumber rest = ends (omega arith) in
-    let one : (n ≡ m) × (spaced ns ++ rest ≡ spaced ms ++ 10 ∷ y) =
-    number_once n m (spaced ns ++ rest) (spaced ms ++ 10 ∷ y) (All-head IsSmall n ns p) (All-head IsSmall m ms q) (ends_more ns rest ended) (numbers_end ms y) grouped
+    let one : (n ≡ m) × (spaced ns ++ a ≡ spaced ms ++ b) =
+    number_once n m (spaced ns ++ a) (spaced ms ++ b) (All-head IsSmall n ns p.small) (All-head IsSmall m ms q.small) (ends_more ns a p.ends) (ends_more ms b q.ends) grouped
     in
-    numbers_stop ns ms rest y (All-tail IsSmall n ns p) (All-tail IsSmall m ms q) (λ l. ended) none feed one.1
+    let ours : BeginsWithNumbers (spaced ns ++ a) ns a = record { small = All-tail IsSmall n ns p.small; ends = p.ends; begins = refl } in
+    let theirs : BeginsWithNumbers (spaced ns ++ a) ms b = record { small = All-tail IsSmall m ms q.small; ends = q.ends; begins = one.1 } in
+    let rest = others_follow (spaced ns ++ a) ns ms a b ours theirs (omega arith) in
+    let head : n ≡ m = one.0 in
+    let more : ms ≡ ns ++ rest.0 = rest.1 in
+    (rest.0, (cc), rest.2)
 
--- where no number and no line feed follows, these were no numbers up to a line feed
-pub no_numbers : (text ns rest : List ℕ) → All IsSmall ns → text ≡ spaced ns ++ rest → (0 < length ns → EndsNumber rest) → NoNumber rest → ((z : List ℕ) → rest ≢ 10 ∷ z) → NoNumbers text
-no_numbers text ns rest small read ends none feed ms y other =
-    numbers_stop ns ms rest y small other.small ends none feed (sym read ∙ other.begins)
+-- one number before others
+pub number_before : (text : List ℕ) (n : ℕ) (after ns rest : List ℕ) → BeginsWithNumber text n after → BeginsWithNumbers after ns rest → BeginsWithNumbers text (n ∷ ns) rest
+number_before text n after ns rest read more = numbers_read text (n ∷ []) after ns rest (number_read text n after read) more
 
--- one number more
-pub numbers_more : (text ns rest after : List ℕ) (n : ℕ) → text ≡ spaced ns ++ rest → rest ≡ (32 ∷ decimal n) ++ after → text ≡ spaced (ns ++ n ∷ []) ++ after
-numbers_more text ns rest after n read next =
-    read
-    ∙ ap (λ t. spaced ns ++ t) next
-    ∙ sym (append_assoc (spaced ns) (32 ∷ decimal n) after)
-    ∙ ap (λ t. (spaced ns ++ t) ++ after) (sym (append-nil (32 ∷ decimal n)))
-    ∙ ap (λ t. t ++ after) (sym (spaced-append ns (n ∷ [])))
-
-pub small_more : (ns new : List ℕ) (n : ℕ) → All IsSmall ns → IsSmall n → new ≡ ns ++ n ∷ [] → All IsSmall new
-small_more ns new n small one is = subst (All IsSmall) (sym is) (All-push IsSmall ns n small one)
-
-pub number_more : (text ns new rest after : List ℕ) (n : ℕ) → text ≡ spaced ns ++ rest → BeginsWithNumber rest n after → new ≡ ns ++ n ∷ [] → text ≡ spaced new ++ after
-number_more text ns new rest after n read next is =
-    numbers_more text ns rest after n read next.begins ∙ ap (λ t. spaced t ++ after) (sym is)
+-- what is behind the first of some numbers
+pub behind_number : (text : List ℕ) (n : ℕ) (after : List ℕ) (m : ℕ) (ms rest : List ℕ) → BeginsWithNumber text n after → BeginsWithNumbers text (m ∷ ms) rest → BeginsWithNumbers after ms rest
+behind_number text n after m ms rest read all =
+    let follow = others_follow text (n ∷ []) (m ∷ ms) after rest (number_read text n after read) all (omega arith) in
+    let is : m ∷ ms ≡ n ∷ follow.0 = follow.1 in
+    let same : follow.0 ≡ ms = cc in
+    let with : List ℕ → Type 0 = λ ns. BeginsWithNumbers after ns rest in
+    subst with same follow.2

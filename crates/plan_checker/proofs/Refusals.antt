@@ -5,10 +5,9 @@ use Rattle.plan_checker.specs.declared.plan.Plan.{Plan}
 use Rattle.plan_checker.specs.declared.charges.Charges.{Charges}
 use Rattle.plan_checker.specs.declared.certificate_error.CertificateError.{CertificateError}
 use Rattle.plan_checker.specs.declared.certificate_error.CertificateError.TheVariants.{NotACertificate, OutOfMemory}
-use Rattle.plan_checker.specs.Format.{title, last_line, HasGoodLines, IsFirstBad, IsRefusedText, IsTextOf, count_line}
-use Rattle.plan_checker.specs.inner.Reading.{BeginsWithHead, BeginsWithLines, BeginsWithCount, NoCount, StopsBy}
+use Rattle.plan_checker.specs.Format.{title, last_line, HasGoodLines, IsFirstBad, IsRefusedText, IsTextOf}
+use Rattle.plan_checker.specs.inner.Reading.{BeginsWithHead, BeginsWithLines, NoCount, StopsBy}
 use Rattle.plan_checker.proofs.BadLines.{first_bad, none_good, title_needed, title_good, bad_count, rows_good, bad_row, bad_end, end_good, bad_tail, all_read}
-use Rattle.std.proofs.lemmas.List.{append_assoc}
 
 bad_at : (text : List ℕ) (k number : ℕ) → number ≡ suc k → HasGoodLines text k → ¬ HasGoodLines text (suc k) → IsFirstBad text number
 bad_at text k number e good bad = subst (IsFirstBad text) (sym e) (first_bad text k good bad)
@@ -23,12 +22,6 @@ pub no_count : (text start rest : List ℕ) → start ≡ title → text ≡ sta
 no_count text start rest s starts none =
     let e : text ≡ title ++ rest = starts ∙ ap (λ t. t ++ rest) s in
     first_bad text 1 (title_good text rest e) (bad_count text rest e none)
-
-pub head_read : (text start t : List ℕ) (count : ℕ) (rest : List ℕ) → start ≡ title → text ≡ start ++ t → BeginsWithCount t count rest → BeginsWithHead text count rest
-head_read text start t count rest s starts read = record {
-  few = read.few;
-  begins = starts ∙ ap (λ x. x ++ t) s ∙ ap (λ x. title ++ x) read.begins ∙ sym (append_assoc title (count_line count) rest);
-}
 
 -- the line of a vertex is bad
 pub stopped : (bytes text : List ℕ) (count : ℕ) (error : CertificateError) → BeginsWithHead bytes count text → StopsBy text count error → IsRefusedText bytes error

@@ -1,6 +1,6 @@
 use Rattle.std.proofs.Common.{◌≡◌, ℕ, suc, ◌+◌, ◌<◌, List, [], ◌∷◌, ◌++◌, length, get_or, take, sym, refl, ap, ◌∙◌, arith}
 use Rattle.std.specs.Fmt.{decimal}
-use Rattle.std.proofs.lemmas.List.{append_assoc, append-nil, take_more, length-take-le, take_all}
+use Rattle.std.proofs.lemmas.List.{append_assoc, append-nil, take_more, length-take-le}
 use Rattle.plan_checker.specs.declared.vertex.Vertex.{Vertex}
 use Rattle.plan_checker.specs.declared.plan.Mark.{Mark}
 use Rattle.plan_checker.specs.declared.charges.Charges.{Charges}
@@ -34,11 +34,6 @@ spaced_pairs_more xs ws i h e =
     ∙ spaced-append (pairs (take i xs) (take i ws)) (get_or xs i 0 ∷ get_or ws i 0 ∷ [])
     ∙ ap (λ rest. spaced (pairs (take i xs) (take i ws)) ++ rest) (spaced-append (get_or xs i 0 ∷ []) (get_or ws i 0 ∷ []))
     ∙ sym (append_assoc (spaced (pairs (take i xs) (take i ws))) (spaced (get_or xs i 0 ∷ [])) (spaced (get_or ws i 0 ∷ [])))
-
-pub all_pairs : (xs ws : List ℕ) → length ws ≡ length xs → spaced (pairs (take (length xs) xs) (take (length xs) ws)) ≡ spaced (pairs xs ws)
-all_pairs xs ws e =
-    ap (λ ps. spaced (pairs ps (take (length xs) ws))) (take_all (length xs) xs (omega arith))
-    ∙ ap (λ amounts. spaced (pairs xs amounts)) (take_all (length xs) ws (omega arith))
 
 pub pairs_step : (old cur mid new : List ℕ) (xs ws : List ℕ) (i : ℕ) → i < length xs → length ws ≡ length xs → cur ≡ old ++ spaced (pairs (take i xs) (take i ws)) → mid ≡ cur ++ spaced (get_or xs i 0 ∷ []) → new ≡ mid ++ spaced (get_or ws i 0 ∷ []) → new ≡ old ++ spaced (pairs (take (i + 1) xs) (take (i + 1) ws))
 pairs_step old cur mid new xs ws i h e was one two =

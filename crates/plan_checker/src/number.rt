@@ -1,12 +1,11 @@
 //! Numbers in the text of a certificate, read.
 
-ghost use Rattle.std.specs.Prelude.{◌≡◌, ◌≢◌, ℕ, ◌<◌, ◌++◌, List, [], ◌∷◌, MatchOption, IfOk, All, slice_index};
+ghost use Rattle.std.specs.Prelude.{◌≡◌, ◌≢◌, ℕ, ◌<◌, ◌++◌, List, MatchOption, All, slice_index};
 ghost use Rattle.std.specs.Char.{IsAsciiDigit};
 ghost use Rattle.std.specs.Fmt.{decimal};
 ghost use Rattle.plan_checker.specs.Format.{IsSmall};
-ghost use Rattle.plan_checker.specs.inner.Reading.{BeginsWithNumber, BeginsWithNumbers, EndsNumber, NoNumber, NoNumbers};
+ghost use Rattle.plan_checker.specs.inner.Reading.{BeginsWithNumber, EndsNumber, NoNumber};
 
-use std::alloc::{AllocError, Global};
 use std::str;
 
 /// What follows this beginning, where a text has it.
@@ -28,22 +27,6 @@ pub fn read_number(text: &[u8]) -> Option<(u64, &[u8])>
         return None;
     };
     Some((number, rest))
-}
-
-/// Reads numbers, each behind a space, up to the line feed that follows the last one, and gives what follows that.
-pub fn read_numbers(alloc: Global, text: &[u8]) -> Result<Option<(Vec<u64>, &[u8])>, AllocError>
-    ensures { IfOk result (λ read. MatchOption read (NoNumbers text.now) (λ read. BeginsWithNumbers text.now read.0.items read.1.now)) }
-{
-    let mut numbers = Vec::new(alloc);
-    let mut rest = text;
-    while let Some((number, behind)) = read_number(rest) {
-        numbers.push(number)?;
-        rest = behind;
-    }
-    let Some(rest) = after(rest, b"\n".as_slice()) else {
-        return Ok(None);
-    };
-    Ok(Some((numbers, rest)))
 }
 
 /// The digits that a text begins with, and what follows them.

@@ -76,7 +76,7 @@ fn read_rows(alloc: Global, count: usize, text: &[u8]) -> Result<(Draft, &[u8]),
     let mut entries = 0;
     let mut rest = text;
     for i in 0..count {
-        let Some((row, after)) = Row::read(alloc, rest)? else {
+        let Some((row, after)) = Row::read(alloc, rest, i)? else {
             mem::drop(draft);
             return Err(CertificateError::NotACertificate(i + 3));
         };

@@ -1,11 +1,11 @@
 //! One line of a certificate, read.
 
-ghost use Rattle.std.specs.Prelude.{◌≡◌, ◌≢◌, ◌<◌, ◌∷◌, length, MatchOption, IfOk, Bool};
+ghost use Rattle.std.specs.Prelude.{◌≡◌, ◌≢◌, ◌∷◌, [], length, MatchOption, IfOk, IfSome, Bool};
 ghost use Rattle.plan_checker.specs.declared.plan.Mark.{Mark};
 ghost use Rattle.plan_checker.specs.Format.{flag, letter};
-ghost use Rattle.plan_checker.specs.inner.Reading.{start_of, AreNumbersOf, ArePairs, BeginsWithLoad, BeginsWithRow, BeginsWithStart, NoLoadField, NoPairs, NoRow, NoRowOf, NoStart};
+ghost use Rattle.plan_checker.specs.inner.Reading.{first_numbers, BeginsWithLoad, BeginsWithNumbers, BeginsWithPairs, BeginsWithRow, BeginsWithStart, EndsNumber, NoCosts, NoLoadField, NoPair, NoPairs, NoRow, NoStart};
 
-use crate::number::{read_number, read_numbers};
+use crate::number::{after, read_number};
 use crate::plan::Mark;
 use crate::vertex::Vertex;
 use plain_data::Items;
@@ -30,51 +30,50 @@ pub struct Start {
     pub load: Option<u64>,
 }
 
+/// The five numbers behind them.
+#[derive(Drop, Clone, Copy)]
+pub struct Costs {
+    pub compute: u64,
+    pub enter: u64,
+    pub through: u64,
+    pub pay: u64,
+    pub parents: u64,
+}
+
 impl Row {
     /// Reads a line with its line feed, `MARK NEEDED LOAD COMPUTE ENTER THROUGH PAY K` and K times `PARENT PASS`, and
-    /// gives what follows it.
-    pub fn read(alloc: Global, text: &[u8]) -> Result<Option<(Row, &[u8])>, AllocError>
-        ensures { IfOk result (λ read. MatchOption read (NoRow text.now) (λ read. BeginsWithRow text.now read.0 read.1.now)) }
+    /// gives what follows it. No line of a vertex with more parents than `most` is read, so that memory goes with what a
+    /// vertex can have and not with how long a line is.
+    pub fn read(alloc: Global, text: &[u8], most: usize) -> Result<Option<(Row, &[u8])>, AllocError>
+        ensures { IfOk result (λ read. MatchOption read (NoRow text.now most) (λ read. BeginsWithRow text.now read.0 read.1.now)) }
     {
         let Some((start, rest)) = read_start(text) else {
             return Ok(None);
         };
-        let Some((numbers, rest)) = read_numbers(alloc, rest)? else {
+        let Some((costs, rest)) = read_costs(rest) else {
             return Ok(None);
         };
-        let Some(row) = Row::from_numbers(alloc, start, &numbers)? else {
-            return Ok(None);
-        };
-        Ok(Some((row, rest)))
-    }
-
-    /// A row of these numbers, from the compute cost on.
-    fn from_numbers(alloc: Global, start: Start, numbers: &[u64]) -> Result<Option<Row>, AllocError>
-        ensures { IfOk result (λ row. MatchOption row (NoRowOf numbers.now) (λ row. (start_of row ≡ start) × AreNumbersOf numbers.now row)) }
-    {
-        let [compute, enter, through, pay, count, pairs @ ..] = numbers else {
-            return Ok(None);
-        };
-        let Some((parents, amounts)) = unpaired(alloc, pairs)? else {
-            return Ok(None);
-        };
-        if parents.len() as u64 != *count {
+        if costs.parents > most as u64 {
             return Ok(None);
         }
+        let Some((parents, amounts, rest)) = read_pairs(alloc, rest, costs.parents as usize)? else {
+            return Ok(None);
+        };
         let job = Vertex {
             load: start.load,
-            compute: *compute,
+            compute: costs.compute,
             parents,
             needed: start.needed,
         };
-        Ok(Some(Row {
+        let row = Row {
             job,
             mark: start.mark,
-            enter: *enter,
-            through: *through,
-            pay: *pay,
+            enter: costs.enter,
+            through: costs.through,
+            pay: costs.pay,
             amounts,
-        }))
+        };
+        Ok(Some((row, rest)))
     }
 }
 
@@ -123,33 +122,56 @@ fn read_load(text: &[u8]) -> Option<(Option<u64>, &[u8])>
     Some((Some(load), rest))
 }
 
-/// Numbers as pairs of a parent and what is passed to it.
-fn unpaired(
+/// Reads the compute cost, three charges and how many parents there are.
+fn read_costs(text: &[u8]) -> Option<(Costs, &[u8])>
+    ensures { MatchOption result (NoCosts text.now) (λ read. BeginsWithNumbers text.now (first_numbers read.0) read.1.now) }
+{
+    let (compute, rest) = read_number(text)?;
+    let (enter, rest) = read_number(rest)?;
+    let (through, rest) = read_number(rest)?;
+    let (pay, rest) = read_number(rest)?;
+    let (parents, rest) = read_number(rest)?;
+    let costs = Costs {
+        compute,
+        enter,
+        through,
+        pay,
+        parents,
+    };
+    Some((costs, rest))
+}
+
+/// Reads so many pairs of a parent and what is passed to it, and the line feed behind them.
+fn read_pairs(
     alloc: Global,
-    numbers: &[u64],
-) -> Result<Option<(Items<usize>, Items<u64>)>, AllocError>
-    ensures { IfOk result (λ read. MatchOption read (NoPairs numbers.now) (λ read. ArePairs numbers.now read.0 read.1)) }
+    text: &[u8],
+    count: usize,
+) -> Result<Option<(Items<usize>, Items<u64>, &[u8])>, AllocError>
+    requires { EndsNumber text.now }
+    ensures { IfOk result (λ read. MatchOption read (NoPairs text.now count) (λ read. BeginsWithPairs text.now count read.0 read.1 read.2.now)) }
 {
     let mut parents = Items::new(alloc);
     let mut amounts = Items::new(alloc);
-    let mut rest = numbers;
-    while let Some((parent, amount, others)) = split_pair(rest) {
+    let mut rest = text;
+    for _ in 0..count {
+        let Some((parent, amount, others)) = read_pair(rest) else {
+            return Ok(None);
+        };
         parents.push(parent as usize)?;
         amounts.push(amount)?;
         rest = others;
     }
-    if !rest.is_empty() {
+    let Some(rest) = after(rest, b"\n".as_slice()) else {
         return Ok(None);
-    }
-    Ok(Some((parents, amounts)))
+    };
+    Ok(Some((parents, amounts, rest)))
 }
 
-/// The first two numbers, and those behind them.
-fn split_pair(numbers: &[u64]) -> Option<(u64, u64, &[u64])>
-    ensures { MatchOption result (length numbers.now < 2) (λ split. numbers.now ≡ split.0 ∷ split.1 ∷ split.2.now) }
+/// Reads a parent and what is passed to it.
+fn read_pair(text: &[u8]) -> Option<(u64, u64, &[u8])>
+    ensures { MatchOption result (NoPair text.now) (λ read. BeginsWithNumbers text.now (read.0 ∷ read.1 ∷ []) read.2.now) }
 {
-    let [first, second, others @ ..] = numbers else {
-        return None;
-    };
-    Some((*first, *second, others))
+    let (parent, rest) = read_number(text)?;
+    let (amount, rest) = read_number(rest)?;
+    Some((parent, amount, rest))
 }

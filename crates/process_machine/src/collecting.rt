@@ -19,17 +19,29 @@ pub(crate) fn next_end<R: Clock, P: OpenProcess + Drop>(
     rt: &R,
     flying: &mut Vec<Flying<P>>,
 ) -> Result<ChildEnd, Trouble> {
-    if flying.is_empty() {
-        return Err(Trouble::Failed);
+    match flying.len() {
+        0 => Err(Trouble::Failed),
+        1 => {
+            let status = flying[0].child.wait()?;
+            taken(rt, flying, 0, status)
+        }
+        _ => {
+            let (index, status) = next_of_several(rt, flying)?;
+            taken(rt, flying, index, status)
+        }
     }
-    if flying.len() == 1 {
-        let status = flying[0].child.wait()?;
-        return taken(rt, flying, 0, status);
-    }
+}
+
+fn next_of_several<R: Clock, P: OpenProcess + Drop>(
+    rt: &R,
+    flying: &mut [Flying<P>],
+) -> Result<(usize, ExitStatus), Trouble>
+    ensures { IfOk result (λ ended. ended.0 < length flying.new) }
+{
     let start = Instant::now(rt)?;
     for _ in 0..u64::MAX {
-        if let Some((index, status)) = first_ended(flying)? {
-            return taken(rt, flying, index, status);
+        if let Some(ended) = first_ended(flying)? {
+            return Ok(ended);
         }
         rt.sleep(delay_after(start.elapsed(rt)?));
     }

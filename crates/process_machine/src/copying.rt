@@ -5,7 +5,7 @@ use crate::world::World;
 use std::alloc::Global;
 use std::fs::{File, OpenFile};
 use std::io::{Read, Write};
-use std::{fs, io};
+use std::{fs, io, mem};
 
 /// The bytes that one read asks for.
 const BLOCK: usize = 65_536;
@@ -17,15 +17,18 @@ pub(crate) fn copy_file<R: World>(rt: &R, source: &str, target: &str) -> Result<
         return Err(Trouble::Failed);
     }
     let mut reader = File::open(rt, source)?;
+    copy_from(rt, &mut reader, target)
+}
+
+fn copy_from<R: World>(rt: &R, reader: &mut R::File, target: &str) -> Result<(), Trouble> {
     clear(rt, target)?;
     let mut writer = File::create_new(rt, target)?;
-    match fill(rt.alloc(), &mut reader, &mut writer) {
-        Ok(()) => Ok(()),
-        Err(trouble) => {
-            let _removed = fs::remove_file(rt, target);
-            Err(trouble)
-        }
+    let filled = fill(rt.alloc(), reader, &mut writer);
+    mem::drop(writer);
+    if filled.is_err() {
+        let _removed = fs::remove_file(rt, target);
     }
+    filled
 }
 
 // Removes the file or link at a path, where there is one.

@@ -17,13 +17,21 @@ pub(crate) fn lay_out<R: World>(
     number: u64,
 ) -> Result<(), Trouble> {
     let folder = job_folder(rt.alloc(), work, number)?;
-    fs::create_dir(rt, folder.as_str())?;
+    lay_out_in(rt, folder.as_str(), plan)
+}
+
+fn lay_out_in<R: World>(rt: &R, folder: &str, plan: &StagePlan) -> Result<(), Trouble> {
+    fs::create_dir(rt, folder)?;
     for name in ["out", "tmp", "in"] {
-        let part = joined(rt.alloc(), folder.as_str(), name)?;
-        fs::create_dir(rt, part.as_str())?;
+        make_part(rt, folder, name)?;
     }
-    let inputs = joined(rt.alloc(), folder.as_str(), "in")?;
+    let inputs = joined(rt.alloc(), folder, "in")?;
     copy_all(rt, plan.moves.as_slice(), inputs.as_str())
+}
+
+fn make_part<R: World>(rt: &R, folder: &str, name: &str) -> Result<(), Trouble> {
+    let part = joined(rt.alloc(), folder, name)?;
+    Ok(fs::create_dir(rt, part.as_str())?)
 }
 
 fn job_folder(alloc: Global, work: &str, number: u64) -> Result<String, AllocError> {

@@ -1,6 +1,6 @@
 //! The start of a child.
 ghost use Rattle.std.specs.Prelude.{◌≡◌, [], List, ℕ, Some, IfOk, OnOk, true};
-ghost use Rattle.std.specs.Process.{SameEnv, SameOtherVars, SameProgramAndArgs, clears_env, command_args, command_program, command_var};
+ghost use Rattle.std.specs.Process.{SameEnv, SameOtherVars, SameProgramAndArgs, clears_env, command_args, command_dir, command_program, command_var};
 ghost use Rattle.process_machine.specs.Launched.{IsOf, Keeps, text_under};
 
 use crate::layout::joined;
@@ -9,10 +9,10 @@ use crate::world::World;
 use command_line::{Launch, Variable};
 use plain_data::Text;
 use std::alloc::{AllocError, Global};
-use std::fs;
 use std::fs::{File, OpenFile};
 use std::process::{Child, Command, OpenProcess, Stdio};
 use std::time::Instant;
+use std::{fs, mem};
 
 /// A child that was not collected yet.
 #[derive(Drop)]
@@ -32,10 +32,26 @@ where
     R::File: Into<Stdio>,
 {
     let mut command = command_of(rt.alloc(), launch)?;
-    set_input(rt, &launch.stdin, &mut command)?;
-    set_outputs(rt, launch, &mut command)?;
+    let flying = begun_with_streams(rt, &mut command, launch, ticket);
+    mem::drop(command);
+    flying
+}
+
+// Opens the files of a command's streams, and starts it.
+fn begun_with_streams<R: World>(
+    rt: &R,
+    command: &mut Command,
+    launch: &Launch,
+    ticket: u64,
+) -> Result<Flying<R::Started>, Trouble>
+where
+    R::File: Into<Stdio>,
+    requires { IsOf launch.now command.old }
+{
+    set_input(rt, &launch.stdin, command)?;
+    set_outputs(rt, launch, command)?;
     let started = Instant::now(rt)?;
-    let child = begun(rt, &mut command, launch)?;
+    let child = begun(rt, command, launch)?;
     Ok(Flying {
         ticket,
         child,
@@ -62,9 +78,25 @@ fn command_of(alloc: Global, launch: &Launch) -> Result<Command, Trouble>
         return Err(Trouble::Failed);
     };
     let mut command = command_in(alloc, program, launch.env.as_slice())?;
-    add_words(&mut command, words)?;
-    command.current_dir(launch.dir.as_str())?;
-    Ok(command)
+    match add_words_and_folder(&mut command, words, &launch.dir) {
+        Ok(()) => Ok(command),
+        Err(trouble) => {
+            mem::drop(command);
+            Err(trouble)
+        }
+    }
+}
+
+fn add_words_and_folder(command: &mut Command, words: &[Text], folder: &Text) -> Result<(), Trouble>
+    requires { command_args command.old ≡ [] }
+    ensures args { OnOk result (command_args command.new ≡ words.now) }
+    ensures program { OnOk result (command_program command.new ≡ command_program command.old) }
+    ensures env { OnOk result (SameEnv command.old command.new) }
+    ensures dir { OnOk result (command_dir command.new ≡ Some folder.now) }
+{
+    add_words(command, words)?;
+    command.current_dir(folder.as_str())?;
+    Ok(())
 }
 
 // A program without arguments, in this environment alone.
@@ -133,15 +165,29 @@ where
 {
     match (&launch.stdout, &launch.stderr) {
         (Some(output), Some(messages)) if output.equals(messages) => {
-            let file = created(rt, &launch.dir, output)?;
-            command.stdout(file.try_clone()?);
-            command.stderr(file);
+            share_output(rt, &launch.dir, output, command)
         }
         (output, messages) => {
             command.stdout(stream_to(rt, &launch.dir, output)?);
             command.stderr(stream_to(rt, &launch.dir, messages)?);
+            Ok(())
         }
     }
+}
+
+fn share_output<R: World>(
+    rt: &R,
+    folder: &Text,
+    name: &Text,
+    command: &mut Command,
+) -> Result<(), Trouble>
+where
+    R::File: Into<Stdio>,
+    ensures { Keeps command.old command.new }
+{
+    let file = created(rt, folder, name)?;
+    command.stdout(file.try_clone()?);
+    command.stderr(file);
     Ok(())
 }
 

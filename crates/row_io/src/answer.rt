@@ -49,9 +49,30 @@ impl AnswerText {
         }
     }
 
+    /// Adds a whole number from 0 on.
+    pub fn put_natural(&mut self, number: u64) {
+        if self.state.is_ok() {
+            self.state = push_natural(self.alloc, &mut self.text, number);
+        }
+    }
+
     /// Adds `true` or `false`.
     pub fn put_flag(&mut self, flag: bool) {
         self.put(if flag { "true" } else { "false" });
+    }
+
+    /// Adds a comma, unless a list or an object has just begun.
+    pub fn put_comma(&mut self) {
+        if !self.text.ends_with('[') && !self.text.ends_with('{') {
+            self.put(",");
+        }
+    }
+
+    /// Makes this fault the answer, unless an earlier piece went wrong.
+    pub fn fail(&mut self, fault: RowFault) {
+        if self.state.is_ok() {
+            self.state = Err(fault);
+        }
     }
 
     /// Returns the whole answer, or what went wrong with the first piece that could not be added.
@@ -76,6 +97,11 @@ fn push_quoted(alloc: Global, out: &mut String, text: &str) -> Result<(), RowFau
 }
 
 fn push_whole(alloc: Global, out: &mut String, number: i64) -> Result<(), RowFault> {
+    let text = number.to_string(alloc)?;
+    push(out, text.as_str())
+}
+
+fn push_natural(alloc: Global, out: &mut String, number: u64) -> Result<(), RowFault> {
     let text = number.to_string(alloc)?;
     push(out, text.as_str())
 }

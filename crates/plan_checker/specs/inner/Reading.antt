@@ -8,6 +8,7 @@ use Rattle.plan_checker.specs.declared.plan.Mark.{Mark}
 use Rattle.plan_checker.specs.declared.charges.Charges.{Charges}
 use Rattle.plan_checker.specs.declared.row.Row.{Row}
 use Rattle.plan_checker.specs.declared.row.Start.{Start}
+use Rattle.plan_checker.specs.declared.row.Costs.{Costs}
 use Rattle.plan_checker.specs.declared.draft.Draft.{Draft}
 use Rattle.plan_checker.specs.declared.certificate_error.CertificateError.{CertificateError}
 use Rattle.plan_checker.specs.declared.certificate_error.CertificateError.TheVariants.{NotACertificate, OutOfMemory}
@@ -28,13 +29,11 @@ pub record BeginsWithNumber (text : List ℕ) (number : ℕ) (rest : List ℕ) :
 abbrev pub NoNumber : List ℕ → Type 0
 NoNumber text = (number : ℕ) (rest : List ℕ) → ¬ BeginsWithNumber text number rest
 
--- the text begins with these numbers, each behind a space, and ends its line there
+-- the text begins with these numbers, each behind a space
 pub record BeginsWithNumbers (text : List ℕ) (numbers rest : List ℕ) : Type 0 where
   pub small : All IsSmall numbers
-  pub begins : text ≡ spaced numbers ++ 10 ∷ rest
-
-abbrev pub NoNumbers : List ℕ → Type 0
-NoNumbers text = (numbers rest : List ℕ) → ¬ BeginsWithNumbers text numbers rest
+  pub ends : EndsNumber rest
+  pub begins : text ≡ spaced numbers ++ rest
 
 -- the second line, and what follows it
 pub record BeginsWithCount (text : List ℕ) (count : ℕ) (rest : List ℕ) : Type 0 where
@@ -70,24 +69,36 @@ pub record BeginsWithStart (text : List ℕ) (start : Start) (rest : List ℕ) :
 abbrev pub NoStart : List ℕ → Type 0
 NoStart text = (start : Start) (rest : List ℕ) → EndsNumber rest → ¬ BeginsWithStart text start rest
 
--- the numbers are these pairs
-pub record ArePairs (numbers parents amounts : List ℕ) : Type 0 where
-  pub one_each : length amounts ≡ length parents
-  pub paired : numbers ≡ pairs parents amounts
-
-abbrev pub NoPairs : List ℕ → Type 0
-NoPairs numbers = (parents amounts : List ℕ) → ¬ ArePairs numbers parents amounts
-
 abbrev pub start_of : Row → Start
 start_of row = record { mark = row.mark; needed = row.job.needed; load = row.job.load }
 
--- the numbers of this row
-pub record AreNumbersOf (numbers : List ℕ) (row : Row) : Type 0 where
-  pub one_each : length row.amounts ≡ length row.job.parents
-  pub numbers_are : numbers ≡ row_numbers row
+-- the numbers behind them, up to how many parents there are
+abbrev pub first_numbers : Costs → List ℕ
+first_numbers costs = costs.compute ∷ costs.enter ∷ costs.through ∷ costs.pay ∷ costs.parents ∷ []
 
-abbrev pub NoRowOf : List ℕ → Type 0
-NoRowOf numbers = (row : Row) → ¬ AreNumbersOf numbers row
+abbrev pub NoCosts : List ℕ → Type 0
+NoCosts text = (costs : Costs) (rest : List ℕ) → ¬ BeginsWithNumbers text (first_numbers costs) rest
+
+abbrev pub costs_of : Row → Costs
+costs_of row = record {
+  compute = row.job.compute;
+  enter = row.enter;
+  through = row.through;
+  pay = row.pay;
+  parents = length row.job.parents;
+}
+
+abbrev pub NoPair : List ℕ → Type 0
+NoPair text = (parent amount : ℕ) (rest : List ℕ) → ¬ BeginsWithNumbers text (parent ∷ amount ∷ []) rest
+
+-- the text begins with so many pairs, and ends its line there
+pub record BeginsWithPairs (text : List ℕ) (count : ℕ) (parents amounts rest : List ℕ) : Type 0 where
+  pub counted : length parents ≡ count
+  pub one_each : length amounts ≡ length parents
+  pub begins : BeginsWithNumbers text (pairs parents amounts) (10 ∷ rest)
+
+abbrev pub NoPairs : List ℕ → ℕ → Type 0
+NoPairs text count = (parents amounts rest : List ℕ) → ¬ BeginsWithPairs text count parents amounts rest
 
 -- a row that can be written: numbers of 64 bits, and one amount for each parent
 pub record IsRow (row : Row) : Type 0 where
@@ -100,8 +111,9 @@ pub record BeginsWithRow (text : List ℕ) (row : Row) (rest : List ℕ) : Type 
   pub is_row : IsRow row
   pub begins : text ≡ line row ++ rest
 
-abbrev pub NoRow : List ℕ → Type 0
-NoRow text = (row : Row) (rest : List ℕ) → ¬ BeginsWithRow text row rest
+-- the text begins with the line of no row with at most so many parents
+abbrev pub NoRow : List ℕ → ℕ → Type 0
+NoRow text most = (row : Row) (rest : List ℕ) → length row.job.parents ≤ most → ¬ BeginsWithRow text row rest
 
 -- the row's vertex may follow these vertices
 abbrev pub FitsNext : List Vertex → Row → Type 0

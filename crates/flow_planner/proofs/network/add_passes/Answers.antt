@@ -1,5 +1,5 @@
 use Rattle.std.proofs.Common.{◌<◌, length, get_or, ap, arith}
-use Rattle.flow_planner.proofs.UnderWay.{parents_read}
+use Rattle.path_planner.proofs.UnderWay.{parents_read}
 use Rattle.flow_planner.proofs.network.add_passes.Goals as goal
 
 pub join-requires-clause-to : goal.join-requires-clause-to

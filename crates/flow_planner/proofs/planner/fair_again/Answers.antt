@@ -1,5 +1,5 @@
 use Rattle.std.proofs.Common.{length, ap, arith}
-use Rattle.flow_planner.proofs.UnderWay.{length-graph-le}
+use Rattle.path_planner.proofs.UnderWay.{length-graph-le}
 use Rattle.flow_planner.proofs.planner.fair_again.Goals as goal
 
 pub greatest_from-requires-clause-few : goal.greatest_from-requires-clause-few

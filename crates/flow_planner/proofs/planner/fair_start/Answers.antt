@@ -1,5 +1,5 @@
 use Rattle.std.proofs.Common.{length, ap, arith}
-use Rattle.flow_planner.proofs.UnderWay.{length-graph-le}
+use Rattle.path_planner.proofs.UnderWay.{length-graph-le}
 use Rattle.flow_planner.proofs.planner.fair_start.Goals as goal
 
 pub greatest-requires-clause-few : goal.greatest-requires-clause-few

@@ -1,8 +1,13 @@
-use Rattle.std.proofs.Common.{ℕ, ◌+◌, length, subst, ap, ◌∙◌, rules, arith}
+use Rattle.std.proofs.Common.{ℕ, ◌+◌, length, subst, refl, ap, ◌∙◌, rules, arith}
 use Rattle.plan_checker.specs.Graph.{Fits}
 use Rattle.plan_checker.specs.inner.Reading.{BeginsWithRow, AddsRow}
-use Rattle.plan_checker.proofs.ReadRows.{rows_fit, entries_pushed, unfit}
+use Rattle.plan_checker.proofs.ReadRows.{no_row_next, rows_fit, entries_pushed, unfit}
 use Rattle.plan_checker.proofs.reader.read_rows.Goals as goal
+
+pub returns-in_default : goal.returns-in_default
+returns-in_default c =
+    let none = rw c.in_default.is at c.in_ok-row.ensures in
+    no_row_next c.args.text.now c.loop-i.i c.args.count _ _ _ _ _ c.loop-i.invariant.read c.loop-i-test.true none refl
 
 pub returns-then-not-fits : goal.returns-then-not-fits
 returns-then-not-fits c = first_of (search (rules, unfit), grind (arith, unfit))

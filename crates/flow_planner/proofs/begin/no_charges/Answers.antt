@@ -1,6 +1,0 @@
-use Rattle.flow_planner.proofs.Fresh.{fair_zeros}
-use Rattle.flow_planner.proofs.begin.no_charges.Goals as goal
-
-pub returns : goal.returns
-returns c =
-    fair_zeros c.args.vertices.now _ c.in_ok-zeros.ensures c.in_ok-zeros-2.ensures c.in_ok-zeros-3.ensures c.in_ok-no_passes.ensures

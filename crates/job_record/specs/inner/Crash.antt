@@ -1,0 +1,27 @@
+-- What the parts of an opening may leave to a crash, and what they make of the map.
+use Rattle.std.specs.Prelude.{◌≡◌, ◌⊎◌, List, [], Result, Ok, Err, false}
+use Rattle.sqlite.specs.Store.{Ghosts}
+use Rattle.sqlite.specs.Tree.{Trees}
+use Rattle.sqlite.specs.State.{State, IsUnchanged, CommitsShowing}
+use Rattle.sqlite.specs.Held.{Held, state}
+use Rattle.job_record.specs.declared.fault.RecordFault.{RecordFault}
+use Rattle.job_record.specs.Statements.{version_text, list_text}
+use Rattle.job_record.specs.Opening.{HasTables, ReadsVersion, MakesTables}
+use Rattle.job_record.specs.OpenMap.{OpensAs, RefusesAs}
+
+module _ {S : Type 0} (g : Ghosts S) where
+  -- the transaction that makes the tables
+  abbrev pub CommitsTables : Held S → Trees → Type 0
+  CommitsTables old trees = (last : Held S) × MakesTables g old last × (trees ≡ (state g last).now.trees)
+
+  abbrev pub CommitsReady : Held S → Trees → Type 0
+  CommitsReady old trees = HasTables (state g old).now.schema false × (found : Held S) × IsUnchanged (state g old) (state g found) × CommitsTables found trees
+
+  -- the query for the version, and where it is 1 the one for all rows
+  abbrev pub CommitsReading : Held S → Trees → Type 0
+  CommitsReading old trees =
+      CommitsShowing version_text [] (state g old) trees ⊎ ((mid : Held S) × ReadsVersion (state g old) (state g mid) (Ok tt) × CommitsShowing list_text [] (state g mid) trees)
+
+abbrev pub OpensMap : State → State → Result (Unit {0}) RecordFault → Type 0
+OpensMap old new (Ok done) = OpensAs old new
+OpensMap old new (Err fault) = RefusesAs old new

@@ -1,0 +1,28 @@
+-- The line that a row is shown as, and the keys that have a sum.
+use Rattle.std.specs.Prelude.{ℕ, ◌-◌, ◌^◌, min, Bool, if◌then◌else◌, List, [], ◌∷◌, ◌++◌, codes, decimal, bytes_eq, sum_by, flat_map}
+use Rattle.hex.specs.Hex.{encode_lower}
+use Rattle.sha1.specs.Sha1.{sha1}
+use Rattle.job_record.specs.declared.row.Found.{Found}
+use Rattle.job_record.specs.declared.row.Row.{Row}
+
+-- the SHA-1 of a key in lower case digits, which names its folder in the archive
+abbrev pub key_sum : List ℕ → List ℕ
+key_sum key = encode_lower (sha1 key)
+
+-- the bytes of the files, held to the greatest number of 64 bits
+abbrev pub bytes_of : List Found → ℕ
+bytes_of files = min (sum_by (λ f. f.size) files) (2 ^ 64 - 1)
+
+abbrev pub spaced : ℕ → List ℕ
+spaced number = codes " " ++ decimal number
+
+abbrev pub kept_word : Bool → List ℕ
+kept_word archived = if archived then codes " yes\n" else codes " no\n"
+
+-- `HEX COST BYTES yes`, or `no` where no archive is kept
+abbrev pub line_of : Row → List ℕ
+line_of row = key_sum row.key ++ spaced row.cost ++ spaced (bytes_of row.files) ++ kept_word row.archived
+
+-- the keys whose SHA-1 has this text
+abbrev pub keys_with : List ℕ → List Row → List (List ℕ)
+keys_with sum = flat_map (λ row. if bytes_eq (key_sum row.key) sum then row.key ∷ [] else [])

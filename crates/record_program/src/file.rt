@@ -1,0 +1,113 @@
+//! The record of a file.
+ghost use Rattle.std.specs.Prelude.{◌≡◌, false};
+ghost use Rattle.record_program.specs.Endings.{Says};
+
+use crate::ending::Ending;
+use crate::store::shown;
+use job_record::{JobRecord, RecordFault};
+use sqlite::{Alter, Connection, Error, FileStore};
+use sqlite_resolve::CompileError;
+use sqlite_std_file::File;
+use std::alloc::Global;
+use std::io::Write;
+use std::{fs, io};
+
+/// The status of a fault.
+const FAULT: u8 = 3;
+
+const META: &str = "SELECT value FROM meta WHERE name = 'version'";
+
+/// Runs `record` on a file: forgets the rows whose key has the SHA-1 `forget`, where one is given, and writes a line
+/// for each row to `out`, or what went wrong to `err`.
+///
+/// Returns the exit status: 0, or 3 for a fault or a write that fails.
+pub fn main_run<O: Write, E: Write>(
+    rt: &HostRuntime,
+    file: &str,
+    forget: Option<&str>,
+    out: &mut O,
+    err: &mut E,
+) -> u8
+    ensures { Says (O.contents out.old) (O.contents out.new) (E.contents err.old) (E.contents err.new) result }
+{
+    let ending = ending_of(rt, file, forget);
+    match ending.print(out, err) {
+        Ok(()) => ending.status(),
+        Err(_) => FAULT,
+    }
+}
+
+// A file that holds nothing is no record, and is not opened, since the store would begin one in it.
+fn ending_of(rt: &HostRuntime, file: &str, forget: Option<&str>) -> Ending {
+    match fs::metadata(rt, file) {
+        Ok(found) if found.is_dir() => Ending::Input,
+        Ok(found) if found.len() == 0 => Ending::Record(RecordFault::NotARecord),
+        Ok(_) => in_file(rt, file, forget),
+        Err(error) => unseen(&error),
+    }
+}
+
+fn unseen(error: &io::Error) -> Ending {
+    match error.kind() {
+        io::ErrorKind::OutOfMemory => Ending::Record(RecordFault::OutOfMemory),
+        _ => Ending::Input,
+    }
+}
+
+fn in_file(rt: &HostRuntime, file: &str, forget: Option<&str>) -> Ending {
+    match Connection::open(rt, file) {
+        Ok(conn) => in_database(rt.alloc(), conn, forget),
+        Err(error) => Ending::Record(RecordFault::Store(error)),
+    }
+}
+
+fn in_database(
+    alloc: Global,
+    conn: Connection<FileStore<File>>,
+    forget: Option<&str>,
+) -> Ending
+    requires { conn.in_transaction ≡ false }
+{
+    let (ending, conn) = in_store(alloc, conn, forget);
+    match conn.close() {
+        Ok(()) => ending,
+        Err(error) => ended_with(ending, error),
+    }
+}
+
+// What went wrong first is told.
+fn ended_with(ending: Ending, error: Error) -> Ending {
+    match ending {
+        Ending::Rows(_) => Ending::Record(RecordFault::Store(error)),
+        other => other,
+    }
+}
+
+fn in_store<S: Alter + Drop>(
+    alloc: Global,
+    mut conn: Connection<S>,
+    forget: Option<&str>,
+) -> (Ending, Connection<S>)
+    requires { conn.in_transaction ≡ false }
+{
+    if lacks_version(&mut conn) {
+        return (Ending::Record(RecordFault::NotARecord), conn);
+    }
+    match JobRecord::open_record(alloc, conn) {
+        Ok(mut record) => {
+            let ending = shown(alloc, &mut record, forget);
+            (ending, record.into_connection())
+        }
+        Err((fault, conn)) => (Ending::Record(fault), conn),
+    }
+}
+
+// A store without the table of the version is no record. Opened as one it would be made one.
+fn lacks_version<S: Alter>(conn: &mut Connection<S>) -> bool
+    ensures { conn.old.in_transaction ≡ false → conn.new.in_transaction ≡ false }
+{
+    match conn.prepare(META) {
+        Err(Error::SqlInputError(CompileError::NoSuchTable)) => true,
+        _ => false,
+    }
+}
