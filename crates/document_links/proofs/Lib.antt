@@ -1,0 +1,4 @@
+pub mod Counted
+pub mod Made
+pub mod Placed
+pub mod Results

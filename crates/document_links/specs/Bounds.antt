@@ -1,6 +1,6 @@
 -- How many processes there may be, once each `run` name is replaced by its process, and how many workflows inside one another (own). The
 -- processes are counted in the order of the documents: a workflow before those of its steps.
-use Rattle.std.specs.Prelude.{ℕ, zero, suc, ◌-◌, ◌==◌, List, [], ◌∷◌, Option, Some, None, Result, Ok, Err, if◌then◌else◌, codes}
+use Rattle.std.specs.Prelude.{ℕ, zero, suc, List, [], ◌∷◌, Option, Some, None, Result, Ok, Err, if◌then◌else◌, codes}
 use Rattle.std.specs.Option.{option_map_or}
 use Rattle.serde_json.specs.Data.{Data}
 use Rattle.serde_json.specs.Find.{as_str, get}
@@ -41,9 +41,8 @@ workflow_left inner find room base d = option_map_or (λ v. steps_left inner fin
 
 -- Where there is no `inner`, no workflow may be.
 abbrev pub process_left : Option (ℕ → Parts → Data → Left) → Finds → ℕ → Parts → Data → Left
-process_left inner find room base d =
-    if room == 0 then Err TooMany
-    else (if is_workflow d then option_map_or (λ f. workflow_left f find (room - 1) base d) inner (Err TooDeep) else Ok (room - 1))
+process_left inner find zero base d = Err TooMany
+process_left inner find (suc room) base d = if is_workflow d then option_map_or (λ f. workflow_left f find room base d) inner (Err TooDeep) else Ok room
 
 unfoldable pub left : Finds → ℕ → ℕ → Parts → Data → Left
 left find zero room base d = process_left None find room base d

@@ -1,6 +1,8 @@
 pub mod Bounds
 pub mod Codes
+pub mod Documents
 pub mod Library
+pub mod Linked
 pub mod Refused
 pub mod Targets
 pub mod Urls

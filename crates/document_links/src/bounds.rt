@@ -43,13 +43,13 @@ pub(crate) fn left(
     if room == 0 {
         return Err(LinkError::Refused(LinkFault::TooMany));
     }
-    if !is_workflow(value) {
-        return Ok(room - 1);
+    if is_workflow(value) {
+        if levels == 0 {
+            return Err(LinkError::Refused(LinkFault::TooDeep));
+        }
+        return workflow_left(alloc, library, levels - 1, room - 1, base, value);
     }
-    if levels == 0 {
-        return Err(LinkError::Refused(LinkFault::TooDeep));
-    }
-    workflow_left(alloc, library, levels - 1, room - 1, base, value)
+    Ok(room - 1)
 }
 
 #[cycle(bounds)]

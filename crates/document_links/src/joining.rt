@@ -9,6 +9,7 @@ use url::{ParseError, Url};
 pub const LONG: usize = 1 << 24;
 
 /// A URL's text.
+#[tactic(auto, unfolding(crate::specs::Urls::url_text))]
 pub(crate) fn url_text(url: &Url) -> &str
     ensures { result.now ≡ url_text url.now }
 {
@@ -16,6 +17,7 @@ pub(crate) fn url_text(url: &Url) -> &str
 }
 
 /// The URL that a name has on a base, if it has one.
+#[tactic(auto, unfolding(crate::specs::Urls::joined))]
 pub(crate) fn joined(base: &Url, name: &str) -> Result<Option<Url>, AllocError>
     ensures { IfOk result (λ url. url ≡ joined base.now name.now) }
 {
@@ -24,7 +26,8 @@ pub(crate) fn joined(base: &Url, name: &str) -> Result<Option<Url>, AllocError>
     }
     match base.join(name) {
         Ok(url) => Ok(Some(url)),
-        Err(ParseError::OutOfMemory | ParseError::Overflow) => Err(AllocError),
+        Err(ParseError::OutOfMemory) => Err(AllocError),
+        Err(ParseError::Overflow) => Err(AllocError),
         Err(_) => Ok(None),
     }
 }

@@ -3,8 +3,6 @@
 //! `read_process` gives exactly the process that the document at a base URL represents (`specs/Linked.antt`): what a step names is
 //! read from the document of that URL, with that document's own base, and takes on what the step and the workflows around it
 //! ask. What comes to over 16 workflows inside one another or over 4,096 processes is refused before any of it is built.
-//!
-//! `needed_docs` gives the URLs that a document names.
 #![tactic(auto)]
 
 mod bounds;

@@ -31,12 +31,13 @@ pub(crate) fn read_library(
     let mut entries = Vec::new(alloc);
     for entry in docs.as_slice() {
         let url = entry.0.copied(alloc)?;
-        entries.push((url, reading(alloc, entry.1.as_slice())?))?;
+        entries.push((url, read_as(alloc, entry.1.as_slice())?))?;
     }
     Ok(Keyed::from_sorted(entries))
 }
 
-fn reading(alloc: Global, bytes: &[u8]) -> Result<Reading, AllocError>
+#[tactic(auto, using(cwl_process::proofs::Forms::document_is_process))]
+fn read_as(alloc: Global, bytes: &[u8]) -> Result<Reading, AllocError>
     ensures read { IfOk result (λ reading. IsReadAs bytes.now (seen reading)) }
     ensures process { IfOk result IsSoundReading }
 {

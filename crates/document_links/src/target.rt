@@ -16,6 +16,7 @@ use std::alloc::Global;
 use url::Url;
 
 /// The URL that a name has on a base, and the JSON of its document.
+#[tactic(auto, unfolding(crate::specs::Targets::target))]
 pub(crate) fn target<'l>(
     alloc: Global,
     library: &'l Keyed<Reading>,

@@ -10,6 +10,7 @@ use std::alloc::{AllocError, Global};
 use std::io;
 use std::process::ExitCode;
 
+mod linked;
 mod process;
 mod template;
 mod tool;
@@ -23,6 +24,7 @@ impl Answers for Calls {
             "read_document" => read(alloc, row),
             "read_nested_list" => read_nested_list(alloc, row),
             "read_unlinked" => process::read(alloc, row),
+            "read_process" => linked::read(alloc, row),
             "read_written" => process::read_written(alloc, row),
             "read_type" => types::read(alloc, row),
             _ => Err(RowFault::UnknownCall),

@@ -1,0 +1,222 @@
+//! Builds the process of a document, with those that its steps name.
+ghost use Rattle.std.specs.Prelude.{◌≡◌, IfOk, map, codes};
+ghost use Rattle.serde_json.specs.View.{view};
+ghost use Rattle.document_table.specs.Entries.{HasForm, IsOf, IsProcess, entries};
+ghost use Rattle.document_table.specs.declared.form.Form.TheVariants as form;
+ghost use Rattle.document_table.specs.declared.form.Kind.TheVariants as kind;
+ghost use Rattle.cwl_process.specs.Acting.{asked_in};
+ghost use Rattle.cwl_process.specs.Tools.{entries_at, tool_in};
+ghost use Rattle.document_links.specs.Library.{finds_in};
+ghost use Rattle.document_links.specs.Linked.{linked, nothing, run_at, run_in, step_in, workflow_in};
+ghost use Rattle.document_links.specs.inner.Sound.{AllProcesses};
+
+use crate::fault::LinkError;
+use crate::library::Reading;
+use crate::process::{Process, Step, Workflow};
+use crate::target::target;
+use cwl_process::{
+    Asked, Entries, StepParts, Tool, is_workflow, read_asked, read_step_parts, read_tool,
+    read_workflow_inputs, read_workflow_outputs,
+};
+use document_table::{Kind, entries};
+use plain_data::{Keyed, Text};
+use serde_json::Value;
+use std::alloc::{AllocError, Global};
+use url::Url;
+
+/// The process of a document at that URL, or of a value in it. So many workflows at most are inside one another.
+#[cycle(linking)]
+#[tactic(auto, using(cwl_process::proofs::Forms::is_a_workflow, cwl_process::proofs::Forms::is_a_tool))]
+pub(crate) fn linked(
+    alloc: Global,
+    library: &Keyed<Reading>,
+    levels: usize,
+    base: &Url,
+    around: &Asked,
+    value: &Value,
+) -> Result<Process, AllocError>
+    requires processes { AllProcesses library.now }
+    requires process { IsProcess (view value.now) }
+    ensures { IfOk result (λ process. process
+        ≡ linked (finds_in library.now) levels base.now around.now (view value.now)) }
+{
+    if is_workflow(value) {
+        if levels == 0 {
+            return nothing(alloc, around);
+        }
+        let workflow = linked_workflow(alloc, library, levels - 1, base, around, value)?;
+        return Ok(Process::Workflow(workflow));
+    }
+    Ok(Process::Tool(own_tool(alloc, around, value)?))
+}
+
+#[tactic(auto, using(cwl_process::proofs::Forms::tool_inputs, cwl_process::proofs::Forms::tool_outputs, cwl_process::proofs::Forms::tool_requirements, cwl_process::proofs::Forms::tool_hints, cwl_process::proofs::Forms::tool_is_whole))]
+fn own_tool(alloc: Global, around: &Asked, value: &Value) -> Result<Tool, AllocError>
+    requires { IsOf kind.Tool (view value.now) }
+    ensures { IfOk result (λ tool. tool ≡ tool_in around.now (view value.now)) }
+{
+    read_tool(alloc, around, value)
+}
+
+/// What stands where there is no process.
+fn nothing(alloc: Global, around: &Asked) -> Result<Process, AllocError>
+    ensures { IfOk result (λ process. process ≡ nothing around.now) }
+{
+    Ok(Process::Tool(read_tool(alloc, around, &Value::Null)?))
+}
+
+#[cycle(linking)]
+fn linked_workflow(
+    alloc: Global,
+    library: &Keyed<Reading>,
+    levels: usize,
+    base: &Url,
+    around: &Asked,
+    value: &Value,
+) -> Result<Workflow, AllocError>
+    requires processes { AllProcesses library.now }
+    requires workflow { IsOf kind.Workflow (view value.now) }
+    ensures { IfOk result (λ workflow. workflow ≡ workflow_in (linked (finds_in library.now) levels)
+        (finds_in library.now) base.now around.now (view value.now)) }
+{
+    let inputs = read_workflow_inputs(alloc, value)?;
+    let outputs = read_workflow_outputs(alloc, value)?;
+    let steps = steps_at(alloc, library, levels, base, around, value)?;
+    Ok(Workflow {
+        inputs,
+        outputs,
+        steps,
+    })
+}
+
+#[cycle(linking)]
+#[tactic(auto, using(cwl_process::proofs::Forms::workflow_steps, cwl_process::proofs::Forms::workflow_requirements, cwl_process::proofs::Forms::workflow_hints))]
+fn steps_at(
+    alloc: Global,
+    library: &Keyed<Reading>,
+    levels: usize,
+    base: &Url,
+    around: &Asked,
+    value: &Value,
+) -> Result<Entries<Step>, AllocError>
+    requires processes { AllProcesses library.now }
+    requires workflow { IsOf kind.Workflow (view value.now) }
+    ensures { IfOk result (λ steps. steps ≡ entries_at kind.Step
+        (step_in (linked (finds_in library.now) levels) (finds_in library.now) base.now
+        (asked_in around.now (view value.now))) (codes "steps") (view value.now)) }
+{
+    let asked = read_asked(alloc, around, value)?;
+    match value.get("steps") {
+        None => Ok(Entries::from_distinct(Vec::new(alloc))),
+        Some(found) => linked_steps(alloc, library, levels, base, &asked, found),
+    }
+}
+
+#[cycle(linking)]
+fn linked_steps(
+    alloc: Global,
+    library: &Keyed<Reading>,
+    levels: usize,
+    base: &Url,
+    around: &Asked,
+    value: &Value,
+) -> Result<Entries<Step>, AllocError>
+    requires processes { AllProcesses library.now }
+    requires steps { HasForm (form.Objects kind.Step) (view value.now) }
+    ensures { IfOk result (λ steps. steps ≡ map (λ e. (
+      e.0,
+      step_in (linked (finds_in library.now) levels)
+          (finds_in library.now) base.now around.now e.1,
+    )) (entries kind.Step (view value.now))) }
+{
+    let found = entries(alloc, Kind::Step, value)?;
+    let mut made = Vec::new(alloc);
+    for entry in found.as_slice() {
+        let id = Text::from_text(alloc, entry.0)?;
+        made.push((
+            id,
+            linked_step(alloc, library, levels, base, around, entry.1)?,
+        ))?;
+    }
+    Ok(Entries::from_distinct(made))
+}
+
+#[cycle(linking)]
+fn linked_step(
+    alloc: Global,
+    library: &Keyed<Reading>,
+    levels: usize,
+    base: &Url,
+    around: &Asked,
+    value: &Value,
+) -> Result<Step, AllocError>
+    requires processes { AllProcesses library.now }
+    requires step { IsOf kind.Step (view value.now) }
+    ensures { IfOk result (λ step. step ≡ step_in (linked (finds_in library.now) levels)
+        (finds_in library.now) base.now around.now (view value.now)) }
+{
+    let parts = read_step_parts(alloc, value)?;
+    let process = run_at(alloc, library, levels, base, around, value)?;
+    let StepParts {
+        inputs,
+        outputs,
+        scatter,
+        method,
+        when,
+    } = parts;
+    Ok(Step {
+        inputs,
+        outputs,
+        process,
+        scatter,
+        method,
+        when,
+    })
+}
+
+#[cycle(linking)]
+#[tactic(auto, using(cwl_process::proofs::Forms::step_requirements, cwl_process::proofs::Forms::step_hints))]
+fn run_at(
+    alloc: Global,
+    library: &Keyed<Reading>,
+    levels: usize,
+    base: &Url,
+    around: &Asked,
+    value: &Value,
+) -> Result<Process, AllocError>
+    requires processes { AllProcesses library.now }
+    requires step { IsOf kind.Step (view value.now) }
+    ensures { IfOk result (λ process. process ≡ run_at (linked (finds_in library.now) levels)
+        (finds_in library.now) base.now (asked_in around.now (view value.now)) (view value.now)) }
+{
+    let asked = read_asked(alloc, around, value)?;
+    match value.get("run") {
+        None => nothing(alloc, &asked),
+        Some(found) => run_in(alloc, library, levels, base, &asked, found),
+    }
+}
+
+#[cycle(linking)]
+#[tactic(auto, using(cwl_process::proofs::Forms::no_text_is_process))]
+fn run_in(
+    alloc: Global,
+    library: &Keyed<Reading>,
+    levels: usize,
+    base: &Url,
+    asked: &Asked,
+    value: &Value,
+) -> Result<Process, AllocError>
+    requires processes { AllProcesses library.now }
+    requires run { HasForm form.Run (view value.now) }
+    ensures { IfOk result (λ process. process ≡ run_in (linked (finds_in library.now) levels)
+        (finds_in library.now) base.now asked.now (view value.now)) }
+{
+    let Some(name) = value.as_str() else {
+        return linked(alloc, library, levels, base, asked, value);
+    };
+    match target(alloc, library, base, name) {
+        Ok((url, json)) => linked(alloc, library, levels, &url, asked, json),
+        Err(LinkError::Refused(_)) => nothing(alloc, asked),
+        Err(LinkError::OutOfMemory) => Err(AllocError),
+    }
+}

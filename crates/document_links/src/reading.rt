@@ -1,0 +1,69 @@
+//! Whole documents, with those that they name.
+ghost use Rattle.std.specs.Prelude.{IfOk, IfErr};
+ghost use Rattle.serde_json.specs.View.{view};
+ghost use Rattle.cwl_process.specs.Documents as one;
+ghost use Rattle.document_links.specs.Documents.{IsLinked, IsOwnError, IsRefused};
+
+use crate::bounds::{MOST_PROCESSES, MOST_WORKFLOWS, left};
+use crate::fault::{LinkError, LinkFault};
+use crate::joining::url_text;
+use crate::library::read_library;
+use crate::linking::linked;
+use crate::process::Process;
+use cwl_process::{nothing_asked, read_sound};
+use document_table::DocumentError;
+use plain_data::{Items, Keyed, Text};
+use serde_json::Value;
+use std::alloc::Global;
+use url::Url;
+
+/// The bytes of documents by their URLs.
+pub type Docs = Keyed<Items<u8>>;
+
+/// The process of a document at that URL, with those that its steps name (CWL v1.2, Workflow Description, `WorkflowStep`).
+///
+/// Of several faults the first is answered: of the document itself, then in the order of its steps. C6 where a name is no URL on its document's
+/// own, C9 where over 16 workflows are inside one another or over 4,096 processes come together, C10 where a document isn't there.
+#[tactic(auto, using(cwl_process::proofs::Forms::document_is_process))]
+pub fn read_process(
+    alloc: Global,
+    bytes: &[u8],
+    base: &Url,
+    docs: &Docs,
+) -> Result<Process, LinkError>
+    ensures ok { IfOk result (λ process. IsLinked bytes.now base.now docs.now process) }
+    ensures err { IfErr result (λ e. IsRefused e bytes.now base.now docs.now) }
+{
+    let document = own_document(alloc, bytes, base)?;
+    let library = read_library(alloc, docs)?;
+    let _room = left(
+        alloc,
+        &library,
+        MOST_WORKFLOWS,
+        MOST_PROCESSES,
+        base,
+        &document,
+    )?;
+    Ok(linked(
+        alloc,
+        &library,
+        MOST_WORKFLOWS,
+        base,
+        &nothing_asked(),
+        &document,
+    )?)
+}
+
+fn own_document(alloc: Global, bytes: &[u8], base: &Url) -> Result<Value, LinkError>
+    ensures ok { IfOk result (λ document. one.IsSound bytes.now (view document)) }
+    ensures err { IfErr result (λ e. IsOwnError e bytes.now base.now) }
+{
+    match read_sound(alloc, bytes) {
+        Ok(document) => Ok(document),
+        Err(DocumentError::Refused(fault)) => {
+            let url = Text::from_text(alloc, url_text(base))?;
+            Err(LinkError::Refused(LinkFault::Document(url, fault)))
+        }
+        Err(DocumentError::OutOfMemory) => Err(LinkError::OutOfMemory),
+    }
+}

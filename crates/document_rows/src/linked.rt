@@ -1,0 +1,88 @@
+//! Reads processes with the documents that they name, and writes their tools by their places.
+use crate::process::{put_asked, put_key, put_texts};
+use crate::told;
+use document_links::{Docs, LinkError, LinkFault, Process, Step, Workflow, read_process};
+use plain_data::{Items, Keyed, Text};
+use row_io::{Row, RowFault, json_text};
+use serde_json::Value;
+use std::alloc::Global;
+use url::Url;
+
+/// The process of the row's document at its base, with the documents under `docs`, or its fault.
+pub(crate) fn read(alloc: Global, row: &Row) -> Result<String, RowFault> {
+    let text = json_text(alloc, row.json("document")?)?;
+    let docs = docs(alloc, row)?;
+    let base = base(alloc, row.text("base")?)?;
+    match read_process(alloc, text.as_bytes(), &base, &docs) {
+        Ok(process) => {
+            let mut out = String::new(alloc);
+            put_process(alloc, &mut out, &process)?;
+            Ok(out)
+        }
+        Err(LinkError::Refused(fault)) => fault_told(alloc, &fault),
+        Err(LinkError::OutOfMemory) => Err(RowFault::OutOfMemory),
+    }
+}
+
+fn base(alloc: Global, text: &str) -> Result<Url, RowFault> {
+    Url::parse(alloc, text).map_err(|_refusal| RowFault::OutOfMemory)
+}
+
+fn fault_told(alloc: Global, fault: &LinkFault) -> Result<String, RowFault> {
+    match fault {
+        LinkFault::Document(url, fault) => {
+            let mut text = told(alloc, fault)?;
+            text.push_str(" in ")?;
+            text.push_str(url.as_str())?;
+            Ok(text)
+        }
+        _ => Ok(format!(in alloc; "{} {fault}", fault.code())?),
+    }
+}
+
+/// The documents of the row, by their URLs.
+fn docs(alloc: Global, row: &Row) -> Result<Docs, RowFault> {
+    let mut docs = Keyed::new(alloc);
+    if let Some(Value::Object(members)) = row.find("docs") {
+        for (url, document) in members.iter() {
+            let name = Text::from_text(alloc, url.as_str())?;
+            let _old = docs.insert(name, bytes(alloc, document)?)?;
+        }
+    }
+    Ok(docs)
+}
+
+fn bytes(alloc: Global, document: &Value) -> Result<Items<u8>, RowFault> {
+    let text = json_text(alloc, document)?;
+    Ok(Items::from_vec(text.as_bytes().to_vec(alloc)?))
+}
+
+#[cycle(linked)]
+fn put_process(alloc: Global, out: &mut String, process: &Process) -> Result<(), RowFault> {
+    match process {
+        Process::Tool(tool) => {
+            out.push_str("{\"baseCommand\":")?;
+            put_texts(alloc, out, tool.base_command.as_slice())?;
+            put_asked(alloc, out, &tool.asked)?;
+            Ok(out.push_str("}")?)
+        }
+        Process::Workflow(workflow) => put_workflow(alloc, out, workflow),
+    }
+}
+
+#[cycle(linked)]
+fn put_workflow(alloc: Global, out: &mut String, workflow: &Workflow) -> Result<(), RowFault> {
+    out.push_str("{")?;
+    let mut gap = "";
+    for entry in workflow.steps.as_slice() {
+        put_key(alloc, out, gap, entry.0.as_str())?;
+        put_step(alloc, out, &entry.1)?;
+        gap = ",";
+    }
+    Ok(out.push_str("}")?)
+}
+
+#[cycle(linked)]
+fn put_step(alloc: Global, out: &mut String, step: &Step) -> Result<(), RowFault> {
+    put_process(alloc, out, &step.process)
+}
