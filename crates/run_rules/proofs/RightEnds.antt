@@ -171,6 +171,6 @@ ends_rightly setting t end run world honest =
     means_of setting world end
     (by_process setting (λ (x : Scene). Goes x (LoadsHeld x) t f marks → EndsSo x f marks end → AgreesFrom x world [] f.events → MeansBy x world end)
     (λ tool goes ends agrees. let its_inputs : Result Fields Cause = inputs_for tool.inputs setting.inputs in
-        means_rightly tool setting.options its_inputs (LoadsHeld (scene_by tool setting.options its_inputs)) t f marks end world goes ends agrees)
+    means_rightly tool setting.options its_inputs (LoadsHeld (scene_by tool setting.options its_inputs)) t f marks end world goes ends agrees)
     (λ workflow goes ends agrees. unknown_rightly workflow setting.options (LoadsHeld (unknown workflow setting.options)) t f marks end world goes ends)
     run.goes run.ended honest)

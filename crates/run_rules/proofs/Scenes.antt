@@ -40,8 +40,8 @@ scene_at q setting = record { walker = walker_at q setting.inputs; options = set
 pub by_process : (setting : Setting) (P : Scene → Type 0) → ((tool : Tool) → P (scene_by tool setting.options (inputs_for tool.inputs setting.inputs))) →
     ((workflow : Workflow) → P (unknown workflow setting.options)) → P (scene_of setting)
 by_process setting P of_tool of_workflow = elim (out-Process setting.process) as (λ q. P (scene_at q setting)) [
-    | Process-F.Tool tool ↦ of_tool tool
-    | Process-F.Workflow workflow ↦ of_workflow workflow
+  | Process-F.Tool tool ↦ of_tool tool
+  | Process-F.Workflow workflow ↦ of_workflow workflow
 ]
 
 -- ---- a workflow

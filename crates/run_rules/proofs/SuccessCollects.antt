@@ -172,8 +172,8 @@ pub success_ran : (setting : Setting) (t : List Pair) (outputs : Fields) (run : 
 success_ran setting t outputs run job there =
     by_process setting (λ (x : Scene). (its_run : Ends x (LoadsHeld x) t (succeeds_with outputs)) → Contains (unfolding_at x its_run.happened.events).jobs job → RanWell t job.place)
     (λ tool its_run its_there. let inputs : Result Fields Cause = inputs_for tool.inputs setting.inputs in
-        let known : List Resolved = resolved its_run.happened.events in
-        ran_if_met (scene_by tool setting.options inputs) t outputs its_run job (known_is_met tool inputs (made_by known) (reverse known) job its_there))
+    let known : List Resolved = resolved its_run.happened.events in
+    ran_if_met (scene_by tool setting.options inputs) t outputs its_run job (known_is_met tool inputs (made_by known) (reverse known) job its_there))
     (λ workflow its_run its_there. absurd (none_in job
-        (subst (λ (jobs : List Job). Contains jobs job) (no_jobs workflow setting.options (reverse (resolved its_run.happened.events))) its_there)))
+    (subst (λ (jobs : List Job). Contains jobs job) (no_jobs workflow setting.options (reverse (resolved its_run.happened.events))) its_there)))
     run there
