@@ -1,5 +1,6 @@
 #!/usr/bin/env bash
-# Measures `plan`, `plan_again` and `check` beside a plain maximum flow (dinic.cpp) and a careful one (levels.cpp), and prints a table.
+# Measures `plan`, `plan_again` and `check` beside a plain maximum flow (dinic.cpp), a careful one (levels.cpp) and, where Boost is
+# installed, the one of Boykov and Kolmogorov (boykov.cpp), and prints a table.
 #
 # usage: bench/plan/run.sh [VERTICES..]      64 256 1024 4096 where none is given
 #
@@ -22,6 +23,11 @@ trap 'rm -rf "$work"' EXIT
 (cd "$crate" && rt run < stdin > "$work/built" 2>&1) || { cat "$work/built" >&2; exit 1; }
 g++ -O2 -std=c++17 "$here/dinic.cpp" -o "$work/dinic"
 g++ -O2 -std=c++17 "$here/levels.cpp" -o "$work/levels"
+peers="dinic levels"
+if echo '#include <boost/graph/boykov_kolmogorov_max_flow.hpp>' | g++ -std=c++17 -E -x c++ - > "$work/headers" 2>&1; then
+    g++ -O2 -std=c++17 "$here/boykov.cpp" -o "$work/boykov"
+    peers="$peers boykov"
+fi
 
 # measure NAME COMMAND..: runs it on the graph, and keeps what it prints and its peak memory
 measure() {
@@ -46,14 +52,13 @@ value() {
     awk -v word="$2" '$1 == word { print $2 }' "$work/$1.said"
 }
 
-row='%-7s %-7s %8s %8s %10s %9s %9s %9s %9s %9s %7s %9s %9s\n'
+row='%-7s %-7s %8s %8s %10s %9s %9s %9s %9s %9s %9s %7s %9s %9s\n'
 
 # compare SHAPE COSTS CHANGED: prints a row of the table, on the graph at hand
 compare() {
     least ours "$ours" times
-    least dinic "$work/dinic"
-    least levels "$work/levels"
-    for peer in dinic levels; do
+    for peer in $peers; do
+        least "$peer" "$work/$peer"
         if [ "$(value ours cost)" != "$(value $peer cost)" ]; then
             echo "costs differ at $*: $(value ours cost), $(value $peer cost)" >&2
             exit 1
@@ -61,13 +66,14 @@ compare() {
     done
     awk -v row="$row" -v shape="$1" -v costs="$2" -v changed="$3" \
         -v plan="$(value ours plan)" -v again="$(value ours again)" -v check="$(value ours check)" -v dinic="$(value dinic plan)" -v levels="$(value levels plan)" \
+        -v boykov="$(case $peers in *boykov) value boykov plan ;; *) echo - ;; esac)" \
         -v ours_peak="$(value ours peak)" -v dinic_peak="$(value dinic peak)" \
         'function to(amount, unit, digits) { return sprintf("%.*f", digits, amount / unit) }
         NF >= 8 { vertices++; entries += $8 }
         END {
             ratio = to(plan, levels > 0 ? levels : 1, 1)
             printf row, shape, costs, vertices + 0, entries + 0, to(plan, 1000, 2), to(again, 1000, 2), changed == "-" ? "-" : to(changed, 1000, 2),
-                to(check, 1000, 2), to(dinic, 1000, 2), to(levels, 1000, 2), ratio, to(ours_peak, 1024, 1), to(dinic_peak, 1024, 1)
+                to(check, 1000, 2), to(dinic, 1000, 2), to(levels, 1000, 2), boykov == "-" ? "-" : to(boykov, 1000, 2), ratio, to(ours_peak, 1024, 1), to(dinic_peak, 1024, 1)
         }' "$work/graph"
 }
 
@@ -107,7 +113,7 @@ long_line() {
 if [ $# -eq 0 ]; then
     set -- 64 256 1024 4096
 fi
-printf "$row" shape costs vertices entries 'plan ms' 'again ms' 'changed' 'check ms' 'dinic ms' 'levels ms' ratio 'plan MiB' 'dinic MiB'
+printf "$row" shape costs vertices entries 'plan ms' 'again ms' 'changed' 'check ms' 'dinic ms' 'levels ms' 'boykov ms' ratio 'plan MiB' 'dinic MiB'
 for vertices in "$@"; do
     for shape in chain tree layers scatter; do
         generated "$shape" even "$vertices"
