@@ -1,12 +1,12 @@
 -- What was made of documents so far: each beside what it reads as.
-use Rattle.std.proofs.Common.{◌≡◌, ℕ, suc, ◌+◌, ◌<◌, List, [], ◌∷◌, ◌++◌, length, take, get_or, Bool, true, false, Option, Some, None, refl, sym, ap, subst, ◌∙◌, bytes_eq, add-one, cond, MatchOption}
+use Rattle.std.proofs.Common.{◌≡◌, ℕ, ◌+◌, ◌<◌, List, [], ◌∷◌, ◌++◌, length, take, get_or, Bool, true, false, Option, Some, None, refl, sym, ap, subst, ◌∙◌, bytes_eq, add-one, cond, MatchOption}
 use Rattle.std.specs.Prelude.{option_map, ⊤}
 use Rattle.std.specs.Map.{keys_of}
 use Rattle.std.proofs.Math.Seq.{take-length, take-suc}
 use Rattle.std.proofs.lemmas.Option.{none-some, same_Some}
 use Rattle.std.specs.List.Sorted.{IsStrictlySortedBy}
 use Rattle.plain_data.specs.ByName.{IsByName, name_cmp, value_at}
-use Rattle.document_links.specs.Library.{Documents, Finds, Found, IsLookUp, IsReadAs, Library, finds_in, seen}
+use Rattle.document_links.specs.Library.{Documents, Found, IsReadAs, Library, finds_in, seen}
 use Rattle.document_links.specs.declared.library.Reading.{Reading}
 use Rattle.document_links.specs.inner.Sound.{AllProcesses, IsSoundReading}
 

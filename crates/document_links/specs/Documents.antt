@@ -1,15 +1,16 @@
 -- Which process a document represents, among others that it names; and what is wrong first where it represents none.
-use Rattle.std.specs.Prelude.{◌≡◌, ◌⊎◌, ⊤, ℕ, List, Ok, Err}
+use Rattle.std.specs.Prelude.{◌≡◌, ◌⊎◌, ⊤, ℕ, List, Result, Ok, Err}
 use Rattle.serde_json.specs.Data.{Data}
 use Rattle.document_table.specs.declared.fault.DocumentError.TheVariants as error
 use Rattle.document_table.specs.declared.fault.DocumentFault.{DocumentFault}
 use Rattle.cwl_process.specs.Acting.{nothing_asked}
 use Rattle.cwl_process.specs.Documents as one
 use Rattle.url.specs.Parts.{Parts}
-use Rattle.document_links.specs.Bounds.{Left, left}
+use Rattle.document_links.specs.Bounds.{left}
 use Rattle.document_links.specs.Library.{Documents, Finds, IsLookUp}
 use Rattle.document_links.specs.Linked.{linked}
 use Rattle.document_links.specs.Urls.{url_text}
+use Rattle.document_links.specs.Walks.{Left, told_of}
 use Rattle.document_links.specs.declared.bounds.TheConstants.{MOST_PROCESSES, MOST_WORKFLOWS}
 use Rattle.document_links.specs.declared.fault.LinkError.{LinkError}
 use Rattle.document_links.specs.declared.fault.LinkError.TheVariants.{Refused, OutOfMemory}
@@ -17,15 +18,23 @@ use Rattle.document_links.specs.declared.fault.LinkFault.{LinkFault}
 use Rattle.document_links.specs.declared.fault.LinkFault.TheVariants.{Document}
 use Rattle.document_links.specs.declared.process.Process.{Process}
 
+abbrev pub told_left : Parts → Left → Result ℕ LinkFault
+told_left base (Ok n) = Ok n
+told_left base (Err fault) = Err (told_of base fault)
+
 -- all that the document leads to: room for it, or what is wrong first
-abbrev pub bounded : Finds → Parts → Data → Left
-bounded find base d = left find MOST_WORKFLOWS MOST_PROCESSES base d
+abbrev pub bounded : Finds → Parts → Data → Result ℕ LinkFault
+bounded find base d = told_left base (left find MOST_WORKFLOWS MOST_PROCESSES base d)
 
 -- The bytes are a document without a fault, what it names is there and is within the bounds, and together they are that process.
 abbrev pub IsLinked : List ℕ → Parts → Documents → Process → Type 0
 IsLinked bytes base docs process =
     (d : Data) × (find : Finds) × one.IsSound bytes d × IsLookUp docs find × ((n : ℕ) × (bounded find base d ≡ Ok n))
     × (process ≡ linked find MOST_WORKFLOWS base nothing_asked d)
+
+abbrev pub IsErrorOf : {T : Type 0} → Result T LinkFault → LinkError → Type 0
+IsErrorOf found (Refused fault) = found ≡ Err fault
+IsErrorOf found OutOfMemory = ⊤
 
 -- what is wrong with the document itself
 abbrev pub IsOwnError : LinkError → List ℕ → Parts → Type 0

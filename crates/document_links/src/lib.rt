@@ -6,13 +6,16 @@
 #![tactic(auto)]
 
 mod bounds;
+mod defaults;
 mod fault;
 mod joining;
 mod library;
 mod linking;
+mod places;
 mod process;
 mod reading;
 mod target;
+mod walk;
 
 pub use bounds::{MOST_PROCESSES, MOST_WORKFLOWS};
 pub use fault::{LinkError, LinkFault};

@@ -1,15 +1,18 @@
 //! Whole documents, with those that they name.
-ghost use Rattle.std.specs.Prelude.{IfOk, IfErr};
+ghost use Rattle.std.specs.Prelude.{◌≡◌, ℕ, Ok, IfOk, IfErr};
 ghost use Rattle.serde_json.specs.View.{view};
 ghost use Rattle.cwl_process.specs.Documents as one;
-ghost use Rattle.document_links.specs.Documents.{IsLinked, IsOwnError, IsRefused};
+ghost use Rattle.document_links.specs.Documents.{IsErrorOf, IsLinked, IsOwnError, IsRefused, bounded};
+ghost use Rattle.document_links.specs.Library.{finds_in};
+ghost use Rattle.document_links.specs.inner.Sound.{AllProcesses};
 
 use crate::bounds::{MOST_PROCESSES, MOST_WORKFLOWS, left};
 use crate::fault::{LinkError, LinkFault};
 use crate::joining::url_text;
-use crate::library::read_library;
+use crate::library::{Reading, read_library};
 use crate::linking::linked;
 use crate::process::Process;
+use crate::walk::{WalkError, told_of};
 use cwl_process::{nothing_asked, read_sound};
 use document_table::DocumentError;
 use plain_data::{Items, Keyed, Text};
@@ -36,14 +39,7 @@ pub fn read_process(
 {
     let document = own_document(alloc, bytes, base)?;
     let library = read_library(alloc, docs)?;
-    let _room = left(
-        alloc,
-        &library,
-        MOST_WORKFLOWS,
-        MOST_PROCESSES,
-        base,
-        &document,
-    )?;
+    check_bounds(alloc, &library, base, &document)?;
     Ok(linked(
         alloc,
         &library,
@@ -52,6 +48,31 @@ pub fn read_process(
         &nothing_asked(),
         &document,
     )?)
+}
+
+/// Checks that all that the document leads to is there, has no fault, and is within the bounds.
+fn check_bounds(
+    alloc: Global,
+    library: &Keyed<Reading>,
+    base: &Url,
+    document: &Value,
+) -> Result<(), LinkError>
+    requires { AllProcesses library.now }
+    ensures ok { IfOk result (λ _. (n : ℕ) × (bounded (finds_in library.now) base.now (view document.now) ≡ Ok n)) }
+    ensures err { IfErr result (IsErrorOf (bounded (finds_in library.now) base.now (view document.now))) }
+{
+    match left(
+        alloc,
+        library,
+        MOST_WORKFLOWS,
+        MOST_PROCESSES,
+        base,
+        document,
+    ) {
+        Ok(_room) => Ok(()),
+        Err(WalkError::Refused(fault)) => { Err(LinkError::Refused(told_of(alloc, base, fault)?)) }
+        Err(WalkError::OutOfMemory) => Err(LinkError::OutOfMemory),
+    }
 }
 
 fn own_document(alloc: Global, bytes: &[u8], base: &Url) -> Result<Value, LinkError>

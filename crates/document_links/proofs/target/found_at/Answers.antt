@@ -1,6 +1,5 @@
 use Rattle.std.proofs.Common.{◌≡◌, Some, subst}
 use Rattle.plain_data.specs.ByName.{value_at}
-use Rattle.document_links.specs.Urls.{url_text}
 use Rattle.document_links.specs.inner.Sound.{IsSoundReading}
 use Rattle.document_links.proofs.target.found_at.Goals as goal
 
