@@ -26,11 +26,14 @@ told_left base (Err fault) = Err (told_of base fault)
 abbrev pub bounded : Finds → Parts → Data → Result ℕ LinkFault
 bounded find base d = told_left base (left find MOST_WORKFLOWS MOST_PROCESSES base d)
 
--- The bytes are a document without a fault, what it names is there and is within the bounds, and together they are that process.
+-- What the document of that JSON names is there and is within the bounds, and together they are that process.
+abbrev pub IsTogether : Data → Parts → Documents → Process → Type 0
+IsTogether d base docs process =
+    (find : Finds) × IsLookUp docs find × ((n : ℕ) × (bounded find base d ≡ Ok n)) × (process ≡ linked find MOST_WORKFLOWS base nothing_asked d)
+
+-- The bytes are a document without a fault, and with what it names it is that process.
 abbrev pub IsLinked : List ℕ → Parts → Documents → Process → Type 0
-IsLinked bytes base docs process =
-    (d : Data) × (find : Finds) × one.IsSound bytes d × IsLookUp docs find × ((n : ℕ) × (bounded find base d ≡ Ok n))
-    × (process ≡ linked find MOST_WORKFLOWS base nothing_asked d)
+IsLinked bytes base docs process = (d : Data) × one.IsSound bytes d × IsTogether d base docs process
 
 abbrev pub IsErrorOf : {T : Type 0} → Result T LinkFault → LinkError → Type 0
 IsErrorOf found (Refused fault) = found ≡ Err fault
@@ -41,8 +44,12 @@ abbrev pub IsOwnError : LinkError → List ℕ → Parts → Type 0
 IsOwnError (Refused fault) bytes base = (own : DocumentFault) × (fault ≡ Document (url_text base) own) × one.IsRefused (error.Refused own) bytes
 IsOwnError OutOfMemory bytes base = ⊤
 
+-- That is the first of what the document of that JSON leads to.
+abbrev pub IsApart : LinkError → Data → Parts → Documents → Type 0
+IsApart (Refused fault) d base docs = (find : Finds) × IsLookUp docs find × (bounded find base d ≡ Err fault)
+IsApart OutOfMemory d base docs = ⊤
+
 -- The document has that fault first; or it has none, and that is the first of what it leads to.
 abbrev pub IsRefused : LinkError → List ℕ → Parts → Documents → Type 0
-IsRefused (Refused fault) bytes base docs =
-    IsOwnError (Refused fault) bytes base ⊎ ((d : Data) × (find : Finds) × one.IsSound bytes d × IsLookUp docs find × (bounded find base d ≡ Err fault))
+IsRefused (Refused fault) bytes base docs = IsOwnError (Refused fault) bytes base ⊎ ((d : Data) × one.IsSound bytes d × IsApart (Refused fault) d base docs)
 IsRefused OutOfMemory bytes base docs = ⊤

@@ -1,8 +1,9 @@
 //! Whole documents, with those that they name.
 ghost use Rattle.std.specs.Prelude.{◌≡◌, ℕ, Ok, IfOk, IfErr};
 ghost use Rattle.serde_json.specs.View.{view};
+ghost use Rattle.document_table.specs.Entries.{IsProcess};
 ghost use Rattle.cwl_process.specs.Documents as one;
-ghost use Rattle.document_links.specs.Documents.{IsErrorOf, IsLinked, IsOwnError, IsRefused, bounded};
+ghost use Rattle.document_links.specs.Documents.{IsApart, IsErrorOf, IsLinked, IsOwnError, IsRefused, IsTogether, bounded};
 ghost use Rattle.document_links.specs.Library.{finds_in};
 ghost use Rattle.document_links.specs.inner.Sound.{AllProcesses};
 
@@ -18,6 +19,7 @@ use document_table::DocumentError;
 use plain_data::{Items, Keyed, Text};
 use serde_json::Value;
 use std::alloc::Global;
+use std::mem;
 use url::Url;
 
 /// The bytes of documents by their URLs.
@@ -38,15 +40,26 @@ pub fn read_process(
     ensures err { IfErr result (λ e. IsRefused e bytes.now base.now docs.now) }
 {
     let document = own_document(alloc, bytes, base)?;
+    let process = together(alloc, base, docs, &document);
+    mem::drop(document);
+    process
+}
+
+/// The process of a document, with those that its steps name.
+fn together(alloc: Global, base: &Url, docs: &Docs, document: &Value) -> Result<Process, LinkError>
+    requires { IsProcess (view document.now) }
+    ensures ok { IfOk result (λ process. IsTogether (view document.now) base.now docs.now process) }
+    ensures err { IfErr result (λ e. IsApart e (view document.now) base.now docs.now) }
+{
     let library = read_library(alloc, docs)?;
-    check_bounds(alloc, &library, base, &document)?;
+    check_bounds(alloc, &library, base, document)?;
     Ok(linked(
         alloc,
         &library,
         MOST_WORKFLOWS,
         base,
         &nothing_asked(),
-        &document,
+        document,
     )?)
 }
 

@@ -1,27 +1,47 @@
 //! Reads processes with the documents that they name, and writes their tools by their places.
 use crate::process::{put_asked, put_key, put_texts};
 use crate::told;
+use crate::values::put_default;
+use cwl_process::Tool;
 use document_links::{Docs, LinkError, LinkFault, Process, Step, Workflow, read_process};
 use plain_data::{Items, Keyed, Text};
 use row_io::{Row, RowFault, json_text};
 use serde_json::Value;
 use std::alloc::Global;
+use std::mem;
 use url::Url;
 
 /// The process of the row's document at its base, with the documents under `docs`, or its fault.
 pub(crate) fn read(alloc: Global, row: &Row) -> Result<String, RowFault> {
-    let text = json_text(alloc, row.json("document")?)?;
     let docs = docs(alloc, row)?;
+    let found = found(alloc, row, &docs);
+    mem::drop(docs);
+    let process = found?;
+    let answer = answer(alloc, &process);
+    mem::drop(process);
+    answer
+}
+
+type Found = Result<Process, LinkError>;
+
+fn found(alloc: Global, row: &Row, docs: &Docs) -> Result<Found, RowFault> {
+    let text = json_text(alloc, row.json("document")?)?;
     let base = base(alloc, row.text("base")?)?;
-    match read_process(alloc, text.as_bytes(), &base, &docs) {
-        Ok(process) => {
-            let mut out = String::new(alloc);
-            put_process(alloc, &mut out, &process)?;
-            Ok(out)
-        }
-        Err(LinkError::Refused(fault)) => fault_told(alloc, &fault),
+    Ok(read_process(alloc, text.as_bytes(), &base, docs))
+}
+
+fn answer(alloc: Global, found: &Found) -> Result<String, RowFault> {
+    match found {
+        Ok(process) => process_text(alloc, process),
+        Err(LinkError::Refused(fault)) => fault_told(alloc, fault),
         Err(LinkError::OutOfMemory) => Err(RowFault::OutOfMemory),
     }
+}
+
+fn process_text(alloc: Global, process: &Process) -> Result<String, RowFault> {
+    let mut out = String::new(alloc);
+    put_process(alloc, &mut out, process)?;
+    Ok(out)
 }
 
 fn base(alloc: Global, text: &str) -> Result<Url, RowFault> {
@@ -64,16 +84,30 @@ fn put_process(alloc: Global, out: &mut String, process: &Process) -> Result<(),
             out.push_str("{\"baseCommand\":")?;
             put_texts(alloc, out, tool.base_command.as_slice())?;
             put_asked(alloc, out, &tool.asked)?;
+            put_tool_defaults(alloc, out, tool)?;
             Ok(out.push_str("}")?)
         }
         Process::Workflow(workflow) => put_workflow(alloc, out, workflow),
     }
 }
 
+fn put_tool_defaults(alloc: Global, out: &mut String, tool: &Tool) -> Result<(), RowFault> {
+    if tool.inputs.is_empty() {
+        return Ok(());
+    }
+    out.push_str(",\"defaults\":{")?;
+    let mut gap = "";
+    for entry in tool.inputs.as_slice() {
+        gap = put_default(alloc, out, gap, &entry.0, &entry.1.default)?;
+    }
+    Ok(out.push_str("}")?)
+}
+
+/// The steps, and before them the inputs, if there are any.
 #[cycle(linked)]
 fn put_workflow(alloc: Global, out: &mut String, workflow: &Workflow) -> Result<(), RowFault> {
     out.push_str("{")?;
-    let mut gap = "";
+    let mut gap = put_workflow_defaults(alloc, out, workflow)?;
     for entry in workflow.steps.as_slice() {
         put_key(alloc, out, gap, entry.0.as_str())?;
         put_step(alloc, out, &entry.1)?;
@@ -82,7 +116,35 @@ fn put_workflow(alloc: Global, out: &mut String, workflow: &Workflow) -> Result<
     Ok(out.push_str("}")?)
 }
 
+fn put_workflow_defaults(
+    alloc: Global,
+    out: &mut String,
+    workflow: &Workflow,
+) -> Result<&'static str, RowFault> {
+    if workflow.inputs.is_empty() {
+        return Ok("");
+    }
+    out.push_str("\"/defaults\":{")?;
+    let mut gap = "";
+    for entry in workflow.inputs.as_slice() {
+        gap = put_default(alloc, out, gap, &entry.0, &entry.1.default)?;
+    }
+    out.push_str("}")?;
+    Ok(",")
+}
+
+/// The process of the step, in a list after the step's inputs, if there are any.
 #[cycle(linked)]
 fn put_step(alloc: Global, out: &mut String, step: &Step) -> Result<(), RowFault> {
-    put_process(alloc, out, &step.process)
+    if step.inputs.is_empty() {
+        return put_process(alloc, out, &step.process);
+    }
+    out.push_str("[{")?;
+    let mut gap = "";
+    for entry in step.inputs.as_slice() {
+        gap = put_default(alloc, out, gap, &entry.0, &entry.1.default)?;
+    }
+    out.push_str("},")?;
+    put_process(alloc, out, &step.process)?;
+    Ok(out.push_str("]")?)
 }

@@ -15,6 +15,7 @@ mod process;
 mod template;
 mod tool;
 mod types;
+mod values;
 
 struct Calls;
 
