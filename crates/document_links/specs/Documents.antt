@@ -9,6 +9,7 @@ use Rattle.url.specs.Parts.{Parts}
 use Rattle.document_links.specs.Bounds.{left}
 use Rattle.document_links.specs.Library.{Documents, Finds, IsLookUp}
 use Rattle.document_links.specs.Linked.{linked}
+use Rattle.document_links.specs.Names.{anything, each_once, urls_in}
 use Rattle.document_links.specs.Urls.{url_text}
 use Rattle.document_links.specs.Walks.{Left, told_of}
 use Rattle.document_links.specs.declared.bounds.TheConstants.{MOST_PROCESSES, MOST_WORKFLOWS}
@@ -53,3 +54,15 @@ IsApart OutOfMemory d base docs = ⊤
 abbrev pub IsRefused : LinkError → List ℕ → Parts → Documents → Type 0
 IsRefused (Refused fault) bytes base docs = IsOwnError (Refused fault) bytes base ⊎ ((d : Data) × one.IsSound bytes d × IsApart (Refused fault) d base docs)
 IsRefused OutOfMemory bytes base docs = ⊤
+
+-- ---- which documents are needed
+
+-- The bytes are a document without a fault, nothing is wrong with it whatever it names, and it names these.
+abbrev pub IsNeeded : List ℕ → Parts → List (List ℕ) → Type 0
+IsNeeded bytes base urls =
+    (d : Data) × one.IsSound bytes d × ((n : ℕ) × (bounded anything base d ≡ Ok n)) × (urls ≡ each_once (urls_in MOST_WORKFLOWS base d))
+
+-- The document has that fault first; or it has none, and that is the first whatever it names.
+abbrev pub IsNotNeeding : LinkError → List ℕ → Parts → Type 0
+IsNotNeeding (Refused fault) bytes base = IsOwnError (Refused fault) bytes base ⊎ ((d : Data) × one.IsSound bytes d × (bounded anything base d ≡ Err fault))
+IsNotNeeding OutOfMemory bytes base = ⊤

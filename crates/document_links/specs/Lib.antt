@@ -4,6 +4,7 @@ pub mod Defaults
 pub mod Documents
 pub mod Library
 pub mod Linked
+pub mod Names
 pub mod Refused
 pub mod Targets
 pub mod Urls

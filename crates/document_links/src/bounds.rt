@@ -6,16 +6,14 @@ ghost use Rattle.document_links.specs.Bounds.{left, run_left, step_left, steps_l
 ghost use Rattle.document_links.specs.Defaults.{defaults_fault};
 ghost use Rattle.document_links.specs.Library.{finds_in};
 ghost use Rattle.document_links.specs.Refused.{IsOwnFaultOf, IsWalkErrorOf};
-ghost use Rattle.document_links.specs.inner.Sound.{AllProcesses};
 
 use crate::defaults::defaults_fault;
 use crate::fault::LinkFault;
-use crate::library::Reading;
+use crate::library::Library;
 use crate::target::target;
 use crate::walk::{WalkError, WalkFault, told_of, within};
 use cwl_process::is_workflow;
 use document_table::{Kind, entries};
-use plain_data::Keyed;
 use serde_json::Value;
 use std::alloc::Global;
 use url::Url;
@@ -31,13 +29,12 @@ pub const MOST_PROCESSES: usize = 4096;
 #[cycle(bounds)]
 pub(crate) fn left(
     alloc: Global,
-    library: &Keyed<Reading>,
+    library: &Library,
     levels: usize,
     room: usize,
     base: &Url,
     value: &Value,
 ) -> Result<usize, WalkError>
-    requires { AllProcesses library.now }
     ensures ok { IfOk result
         (λ n. left (finds_in library.now) levels room base.now (view value.now) ≡ Ok n) }
     ensures err { IfErr result
@@ -59,13 +56,12 @@ pub(crate) fn left(
 #[cycle(bounds)]
 fn workflow_left(
     alloc: Global,
-    library: &Keyed<Reading>,
+    library: &Library,
     levels: usize,
     room: usize,
     base: &Url,
     value: &Value,
 ) -> Result<usize, WalkError>
-    requires { AllProcesses library.now }
     ensures ok { IfOk result (λ n. workflow_left (left (finds_in library.now) levels)
         (finds_in library.now) room base.now (view value.now) ≡ Ok n) }
     ensures err { IfErr result (IsWalkErrorOf (workflow_left (left (finds_in library.now) levels)
@@ -83,13 +79,12 @@ fn workflow_left(
 #[cycle(bounds)]
 fn steps_left(
     alloc: Global,
-    library: &Keyed<Reading>,
+    library: &Library,
     levels: usize,
     room: usize,
     base: &Url,
     all: &[(&str, &Value)],
 ) -> Result<usize, WalkError>
-    requires { AllProcesses library.now }
     ensures ok { IfOk result (λ n. steps_left (left (finds_in library.now) levels)
         (finds_in library.now) room base.now (map entry_seen all.now) ≡ Ok n) }
     ensures err { IfErr result (IsWalkErrorOf (steps_left (left (finds_in library.now) levels)
@@ -106,13 +101,12 @@ fn steps_left(
 #[cycle(bounds)]
 fn step_left(
     alloc: Global,
-    library: &Keyed<Reading>,
+    library: &Library,
     levels: usize,
     room: usize,
     base: &Url,
     value: &Value,
 ) -> Result<usize, WalkError>
-    requires { AllProcesses library.now }
     ensures ok { IfOk result (λ n. step_left (left (finds_in library.now) levels)
         (finds_in library.now) room base.now (view value.now) ≡ Ok n) }
     ensures err { IfErr result (IsWalkErrorOf (step_left (left (finds_in library.now) levels)
@@ -129,13 +123,12 @@ fn step_left(
 #[cycle(bounds)]
 fn run_left(
     alloc: Global,
-    library: &Keyed<Reading>,
+    library: &Library,
     levels: usize,
     room: usize,
     base: &Url,
     value: &Value,
 ) -> Result<usize, WalkError>
-    requires { AllProcesses library.now }
     ensures ok { IfOk result (λ n. run_left (left (finds_in library.now) levels)
         (finds_in library.now) room base.now (view value.now) ≡ Ok n) }
     ensures err { IfErr result (IsWalkErrorOf (run_left (left (finds_in library.now) levels)

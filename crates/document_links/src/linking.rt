@@ -12,7 +12,7 @@ ghost use Rattle.document_links.specs.Linked.{linked, nothing, run_at, run_in, s
 ghost use Rattle.document_links.specs.inner.Sound.{AllProcesses};
 
 use crate::defaults::{each_on, tool_on};
-use crate::library::Reading;
+use crate::library::Library;
 use crate::process::{Process, Step, Workflow};
 use crate::target::target;
 use crate::walk::WalkError;
@@ -21,7 +21,7 @@ use cwl_process::{
     read_workflow_inputs, read_workflow_outputs,
 };
 use document_table::{Kind, entries};
-use plain_data::{Keyed, Text};
+use plain_data::Text;
 use serde_json::Value;
 use std::alloc::{AllocError, Global};
 use std::mem;
@@ -32,7 +32,7 @@ use url::Url;
 #[tactic(auto, using(cwl_process::proofs::Forms::is_a_workflow, cwl_process::proofs::Forms::is_a_tool))]
 pub(crate) fn linked(
     alloc: Global,
-    library: &Keyed<Reading>,
+    library: &Library,
     levels: usize,
     base: &Url,
     around: &Asked,
@@ -72,7 +72,7 @@ fn nothing(alloc: Global, around: &Asked) -> Result<Process, AllocError>
 #[cycle(linking)]
 fn linked_workflow(
     alloc: Global,
-    library: &Keyed<Reading>,
+    library: &Library,
     levels: usize,
     base: &Url,
     around: &Asked,
@@ -97,7 +97,7 @@ fn linked_workflow(
 #[tactic(auto, using(cwl_process::proofs::Forms::workflow_steps, cwl_process::proofs::Forms::workflow_requirements, cwl_process::proofs::Forms::workflow_hints))]
 fn steps_at(
     alloc: Global,
-    library: &Keyed<Reading>,
+    library: &Library,
     levels: usize,
     base: &Url,
     around: &Asked,
@@ -119,7 +119,7 @@ fn steps_at(
 #[cycle(linking)]
 fn linked_steps(
     alloc: Global,
-    library: &Keyed<Reading>,
+    library: &Library,
     levels: usize,
     base: &Url,
     around: &Asked,
@@ -148,7 +148,7 @@ fn linked_steps(
 #[cycle(linking)]
 fn linked_step(
     alloc: Global,
-    library: &Keyed<Reading>,
+    library: &Library,
     levels: usize,
     base: &Url,
     around: &Asked,
@@ -200,7 +200,7 @@ fn step_of(
 #[tactic(auto, using(cwl_process::proofs::Forms::step_requirements, cwl_process::proofs::Forms::step_hints))]
 fn run_at(
     alloc: Global,
-    library: &Keyed<Reading>,
+    library: &Library,
     levels: usize,
     base: &Url,
     around: &Asked,
@@ -222,7 +222,7 @@ fn run_at(
 #[tactic(auto, using(cwl_process::proofs::Forms::no_text_is_process))]
 fn run_in(
     alloc: Global,
-    library: &Keyed<Reading>,
+    library: &Library,
     levels: usize,
     base: &Url,
     asked: &Asked,

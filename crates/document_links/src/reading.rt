@@ -3,15 +3,15 @@ ghost use Rattle.std.specs.Prelude.{◌≡◌, ℕ, Ok, IfOk, IfErr};
 ghost use Rattle.serde_json.specs.View.{view};
 ghost use Rattle.document_table.specs.Entries.{IsProcess};
 ghost use Rattle.cwl_process.specs.Documents as one;
-ghost use Rattle.document_links.specs.Documents.{IsApart, IsErrorOf, IsLinked, IsOwnError, IsRefused, IsTogether, bounded};
+ghost use Rattle.document_links.specs.Documents.{IsApart, IsErrorOf, IsLinked, IsNeeded, IsNotNeeding, IsOwnError, IsRefused, IsTogether, bounded};
 ghost use Rattle.document_links.specs.Library.{finds_in};
-ghost use Rattle.document_links.specs.inner.Sound.{AllProcesses};
 
 use crate::bounds::{MOST_PROCESSES, MOST_WORKFLOWS, left};
 use crate::fault::{LinkError, LinkFault};
 use crate::joining::url_text;
-use crate::library::{Reading, read_library};
+use crate::library::{Library, read_library};
 use crate::linking::linked;
+use crate::names::urls_in;
 use crate::process::Process;
 use crate::walk::{WalkError, told_of};
 use cwl_process::{nothing_asked, read_sound};
@@ -45,6 +45,19 @@ pub fn read_process(
     process
 }
 
+/// The URLs of the documents that a document names, in the order of its steps, each once.
+///
+/// It refuses what `read_process` refuses whatever the other documents are: C1 to C8 of the document itself, and C9 where a document in
+/// the place of each name already makes too many.
+pub fn needed_docs(alloc: Global, bytes: &[u8], base: &Url) -> Result<Items<Text>, LinkError>
+    ensures ok { IfOk result (λ urls. IsNeeded bytes.now base.now urls) }
+    ensures err { IfErr result (λ e. IsNotNeeding e bytes.now base.now) }
+{
+    let document = own_document(alloc, bytes, base)?;
+    check_bounds(alloc, &Library::Any(Value::Null), base, &document)?;
+    Ok(urls_in(alloc, MOST_WORKFLOWS, base, &document)?)
+}
+
 /// The process of a document, with those that its steps name.
 fn together(alloc: Global, base: &Url, docs: &Docs, document: &Value) -> Result<Process, LinkError>
     requires { IsProcess (view document.now) }
@@ -66,11 +79,10 @@ fn together(alloc: Global, base: &Url, docs: &Docs, document: &Value) -> Result<
 /// Checks that all that the document leads to is there, has no fault, and is within the bounds.
 fn check_bounds(
     alloc: Global,
-    library: &Keyed<Reading>,
+    library: &Library,
     base: &Url,
     document: &Value,
 ) -> Result<(), LinkError>
-    requires { AllProcesses library.now }
     ensures ok { IfOk result (λ _. (n : ℕ) × (bounded (finds_in library.now) base.now (view document.now) ≡ Ok n)) }
     ensures err { IfErr result (IsErrorOf (bounded (finds_in library.now) base.now (view document.now))) }
 {

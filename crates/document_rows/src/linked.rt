@@ -3,7 +3,9 @@ use crate::process::{put_asked, put_key, put_texts};
 use crate::told;
 use crate::values::put_default;
 use cwl_process::Tool;
-use document_links::{Docs, LinkError, LinkFault, Process, Step, Workflow, read_process};
+use document_links::{
+    Docs, LinkError, LinkFault, Process, Step, Workflow, needed_docs, read_process,
+};
 use plain_data::{Items, Keyed, Text};
 use row_io::{Row, RowFault, json_text};
 use serde_json::Value;
@@ -20,6 +22,36 @@ pub(crate) fn read(alloc: Global, row: &Row) -> Result<String, RowFault> {
     let answer = answer(alloc, &process);
     mem::drop(process);
     answer
+}
+
+/// The URLs that the row's document names at its base, or its fault.
+pub(crate) fn needed(alloc: Global, row: &Row) -> Result<String, RowFault> {
+    let urls = urls(alloc, row)?;
+    let answer = urls_answer(alloc, &urls);
+    mem::drop(urls);
+    answer
+}
+
+type Urls = Result<Items<Text>, LinkError>;
+
+fn urls(alloc: Global, row: &Row) -> Result<Urls, RowFault> {
+    let text = json_text(alloc, row.json("document")?)?;
+    let base = base(alloc, row.text("base")?)?;
+    Ok(needed_docs(alloc, text.as_bytes(), &base))
+}
+
+fn urls_answer(alloc: Global, urls: &Urls) -> Result<String, RowFault> {
+    match urls {
+        Ok(urls) => urls_text(alloc, urls.as_slice()),
+        Err(LinkError::Refused(fault)) => fault_told(alloc, fault),
+        Err(LinkError::OutOfMemory) => Err(RowFault::OutOfMemory),
+    }
+}
+
+fn urls_text(alloc: Global, urls: &[Text]) -> Result<String, RowFault> {
+    let mut out = String::new(alloc);
+    put_texts(alloc, &mut out, urls)?;
+    Ok(out)
 }
 
 type Found = Result<Process, LinkError>;
@@ -107,7 +139,8 @@ fn put_tool_defaults(alloc: Global, out: &mut String, tool: &Tool) -> Result<(),
 #[cycle(linked)]
 fn put_workflow(alloc: Global, out: &mut String, workflow: &Workflow) -> Result<(), RowFault> {
     out.push_str("{")?;
-    let mut gap = put_workflow_defaults(alloc, out, workflow)?;
+    put_workflow_defaults(alloc, out, workflow)?;
+    let mut gap = if workflow.inputs.is_empty() { "" } else { "," };
     for entry in workflow.steps.as_slice() {
         put_key(alloc, out, gap, entry.0.as_str())?;
         put_step(alloc, out, &entry.1)?;
@@ -120,17 +153,16 @@ fn put_workflow_defaults(
     alloc: Global,
     out: &mut String,
     workflow: &Workflow,
-) -> Result<&'static str, RowFault> {
+) -> Result<(), RowFault> {
     if workflow.inputs.is_empty() {
-        return Ok("");
+        return Ok(());
     }
     out.push_str("\"/defaults\":{")?;
     let mut gap = "";
     for entry in workflow.inputs.as_slice() {
         gap = put_default(alloc, out, gap, &entry.0, &entry.1.default)?;
     }
-    out.push_str("}")?;
-    Ok(",")
+    Ok(out.push_str("}")?)
 }
 
 /// The process of the step, in a list after the step's inputs, if there are any.
@@ -139,12 +171,16 @@ fn put_step(alloc: Global, out: &mut String, step: &Step) -> Result<(), RowFault
     if step.inputs.is_empty() {
         return put_process(alloc, out, &step.process);
     }
+    put_step_defaults(alloc, out, step)?;
+    put_process(alloc, out, &step.process)?;
+    Ok(out.push_str("]")?)
+}
+
+fn put_step_defaults(alloc: Global, out: &mut String, step: &Step) -> Result<(), RowFault> {
     out.push_str("[{")?;
     let mut gap = "";
     for entry in step.inputs.as_slice() {
         gap = put_default(alloc, out, gap, &entry.0, &entry.1.default)?;
     }
-    out.push_str("},")?;
-    put_process(alloc, out, &step.process)?;
-    Ok(out.push_str("]")?)
+    Ok(out.push_str("},")?)
 }
