@@ -3,3 +3,5 @@ pub mod Matches
 pub mod Names
 pub mod Readings
 pub mod Steps
+pub mod Written
+pub mod Wanted

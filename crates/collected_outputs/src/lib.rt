@@ -3,20 +3,28 @@
 
 mod bare;
 mod by_type;
+mod checked;
 mod classes;
 mod collect;
 mod contents;
 mod evaluation;
 mod fault;
 mod found;
+mod heads;
+mod laws;
 mod listing;
 mod matches;
+mod nesting;
 mod object;
 mod patterns;
+mod placed;
 mod secondary;
 mod values;
+mod written;
 
 pub use collect::{StreamNames, collect_outputs};
 pub use contents::MOST_CONTENTS;
 pub use fault::{CollectError, CollectFault, OutputFault};
+pub use heads::{head_limit, heads_wanted};
+pub use laws::{every_folder_has_outputs_or_a_fault, some_heads_are_wanted};
 pub use object::{MOST_OBJECT, OUTPUT_OBJECT};
