@@ -16,9 +16,13 @@ Fields = List (Name × Value)
 abbrev pub JobPlace : Type 0
 JobPlace = List Segment
 
+-- entries put to those that are in the order of their names
+abbrev pub put_from : {X : Type 0} → List (Name × X) → List (Name × X) → List (Name × X)
+put_from sorted entries = fold (λ now e. with_value e.0 e.1 now) sorted entries
+
 -- the entries in the order of their names
 abbrev pub last_by_name : {X : Type 0} → List (Name × X) → List (Name × X)
-last_by_name entries = fold (λ sorted e. with_value e.0 e.1 sorted) [] entries
+last_by_name entries = put_from [] entries
 
 abbrev pub segment_eq : Segment → Segment → Bool
 segment_eq s t = bytes_eq s.step t.step && bytes_eq s.index t.index

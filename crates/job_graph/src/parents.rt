@@ -1,7 +1,6 @@
 //! Which jobs made the files in a job's inputs.
 ghost use Rattle.std.specs.Prelude.{◌≡◌};
-ghost use Rattle.std.specs.List.{list_any};
-ghost use Rattle.job_graph.specs.Made.{any_made, dir_holds, file_holds, holds_made, is_of};
+ghost use Rattle.job_graph.specs.Made.{is_of};
 
 use crate::place::is_same_place;
 use cwl_value::{DirVal, FileVal, JobPlace, Place, Value};
@@ -18,9 +17,7 @@ fn is_of(job: &JobPlace, place: &Place) -> bool
 
 /// Whether a value holds, at any depth, a File or Directory that the job at a place made.
 #[cycle(holds)]
-fn holds_made(job: &JobPlace, value: &Value) -> bool
-    ensures { result ≡ holds_made job.now value.now }
-{
+fn holds_made(job: &JobPlace, value: &Value) -> bool {
     match value {
         Value::FileVal(file) => file_holds(job, file),
         Value::DirVal(dir) => dir_holds(job, dir),
@@ -31,16 +28,12 @@ fn holds_made(job: &JobPlace, value: &Value) -> bool
 }
 
 #[cycle(holds)]
-fn file_holds(job: &JobPlace, file: &FileVal) -> bool
-    ensures { result ≡ file_holds job.now file.now }
-{
+fn file_holds(job: &JobPlace, file: &FileVal) -> bool {
     is_of(job, &file.place) || items_hold(job, &file.secondary)
 }
 
 #[cycle(holds)]
-fn dir_holds(job: &JobPlace, dir: &DirVal) -> bool
-    ensures { result ≡ dir_holds job.now dir.now }
-{
+fn dir_holds(job: &JobPlace, dir: &DirVal) -> bool {
     if is_of(job, &dir.place) {
         return true;
     }
@@ -51,9 +44,7 @@ fn dir_holds(job: &JobPlace, dir: &DirVal) -> bool
 }
 
 #[cycle(holds)]
-fn items_hold(job: &JobPlace, items: &Items<Value>) -> bool
-    ensures { result ≡ list_any (holds_made job.now) items.now }
-{
+fn items_hold(job: &JobPlace, items: &Items<Value>) -> bool {
     for item in items.as_slice() {
         if holds_made(job, item) {
             return true;
@@ -64,9 +55,7 @@ fn items_hold(job: &JobPlace, items: &Items<Value>) -> bool
 
 /// Whether one of the values holds a File or Directory that the job at a place made.
 #[cycle(holds)]
-pub(crate) fn any_made(job: &JobPlace, fields: &Keyed<Value>) -> bool
-    ensures { result ≡ any_made job.now fields.now }
-{
+pub(crate) fn any_made(job: &JobPlace, fields: &Keyed<Value>) -> bool {
     for field in fields.as_slice() {
         if holds_made(job, &field.1) {
             return true;

@@ -11,12 +11,17 @@ use std::alloc::{AllocError, Global};
 pub(crate) fn is_same_place(one: &[Segment], other: &[Segment]) -> bool
     ensures { result ≡ is_same_place one.now other.now }
 {
-    match (one, other) {
-        ([], []) => true,
-        ([first, rest @ ..], [second, others @ ..]) => {
-            is_same_segment(first, second) && is_same_place(rest, others)
-        }
-        _ => false,
+    match one {
+        [] => match other {
+            [] => true,
+            [_, ..] => false,
+        },
+        [first, rest @ ..] => match other {
+            [] => false,
+            [second, others @ ..] => {
+                is_same_segment(first, second) && is_same_place(rest, others)
+            }
+        },
     }
 }
 

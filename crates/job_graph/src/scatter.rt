@@ -1,9 +1,12 @@
 //! The tuples of a scattered step, and the inputs of each.
-ghost use Rattle.std.specs.Prelude.{◌≡◌, ◌≢◌, [], Some, IfOk, OnOk, unwrap_or};
+ghost use Rattle.std.specs.Prelude.{◌≡◌, ◌≢◌, [], Some, IfErr, IfOk, OnOk, unwrap_or};
 ghost use Rattle.std.specs.Option.{option_copied};
+ghost use Rattle.plain_data.specs.ByName.{with_value};
 ghost use Rattle.link_values.specs.StepInputs.{null};
-ghost use Rattle.scatter_shape.specs.Tuples.{IsTaken};
-ghost use Rattle.job_graph.specs.Scatter.{at_tuple, index_for, item_at, lengths_under, tuples_for};
+ghost use Rattle.scatter_shape.specs.Tuples.{IsRefused, IsTaken, tuples_of};
+ghost use Rattle.scatter_shape.specs.declared.refusal.ScatterFault.{ScatterFault};
+ghost use Rattle.job_graph.specs.declared.cause.Cause.TheVariants.{Scatter};
+ghost use Rattle.job_graph.specs.Scatter.{at_tuple, index_for, item_at, lengths_under};
 
 use crate::cause::Cause;
 use cwl_value::Value;
@@ -36,7 +39,8 @@ pub(crate) fn tuples_for(
     lengths: &[usize],
 ) -> Result<Result<Items<Items<usize>>, Cause>, AllocError>
     requires { lengths.now ≢ [] }
-    ensures value { IfOk result (λ found. found ≡ tuples_for method lengths.now) }
+    ensures ok { IfOk result (λ found. IfOk found (λ tuples. tuples ≡ tuples_of method lengths.now)) }
+    ensures err { IfOk result (λ found. IfErr found (λ cause. (fault : ScatterFault) × (cause ≡ Scatter fault) × IsRefused method lengths.now fault)) }
     ensures taken { IfOk result (λ found. OnOk found (IsTaken method lengths.now)) }
 {
     match jobs_of(alloc, method, lengths) {
@@ -50,14 +54,17 @@ pub(crate) fn tuples_for(
 fn index_for(name: &str, names: &[Text], tuple: &[usize]) -> Option<usize>
     ensures { result ≡ index_for name.now names.now tuple.now }
 {
-    match (names, tuple) {
-        ([scattered, others @ ..], [index, rest @ ..]) => {
-            if name == scattered.as_str() {
-                return Some(*index);
+    match names {
+        [] => None,
+        [scattered, others @ ..] => match tuple {
+            [] => None,
+            [index, rest @ ..] => {
+                if name == scattered.as_str() {
+                    return Some(*index);
+                }
+                index_for(name, others, rest)
             }
-            index_for(name, others, rest)
-        }
-        _ => None,
+        },
     }
 }
 
@@ -94,11 +101,20 @@ pub(crate) fn at_tuple(
 ) -> Result<Keyed<Value>, AllocError>
     ensures { IfOk result (λ found. found ≡ at_tuple names.now tuple.now fields.now) }
 {
-    let mut found = Vec::new(alloc);
+    let mut found = Keyed::new(alloc);
     for field in fields.as_slice() {
         let index = index_for(field.0.as_str(), names, tuple);
-        let name = field.0.copied(alloc)?;
-        found.push((name, item_at(alloc, index, &field.1)?))?;
+        let value = item_at(alloc, index, &field.1)?;
+        put(alloc, &mut found, &field.0, value)?;
     }
-    Ok(Keyed::from_sorted(found))
+    Ok(found)
+}
+
+/// Puts a value under a copy of a name.
+fn put(alloc: Global, found: &mut Keyed<Value>, name: &Text, value: Value) -> Result<(), AllocError>
+    ensures { OnOk result (found.new ≡ with_value name.now value found.old) }
+{
+    let name = name.copied(alloc)?;
+    drop(found.insert(name, value)?);
+    Ok(())
 }

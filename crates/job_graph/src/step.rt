@@ -1,14 +1,9 @@
 //! Steps, and what all that recurs is: the walk through a process.
-ghost use Rattle.std.specs.Prelude.{◌≡◌, ◌≢◌, ◌++◌, [], Ok, length, map, IfOk, OnOk};
-ghost use Rattle.document_links.specs.declared.process.Step.{out-Step};
-ghost use Rattle.job_graph.specs.Equations.{fault_at, goes_on, instance, instance_from, meaning_of, over_lengths, scattered, step_meaning_of, step_place};
-ghost use Rattle.job_graph.specs.Links.{entry_value, with_entry};
-ghost use Rattle.job_graph.specs.Scatter.{at_tuple};
-ghost use Rattle.job_graph.specs.Unfold.{made_by};
+ghost use Rattle.std.specs.Prelude.{◌≡◌, ◌≢◌, ◌++◌, [], length, map, IfOk, OnOk};
+ghost use Rattle.job_graph.specs.Equations.{fault_at, goes_on};
+ghost use Rattle.job_graph.specs.Links.{with_entry};
 ghost use Rattle.job_graph.specs.declared.partly.Partly.TheVariants.{Gives};
-ghost use Rattle.job_graph.specs.inner.Entered.{HasEntered};
-ghost use Rattle.job_graph.specs.inner.Levels.{step_of};
-ghost use Rattle.job_graph.specs.inner.Views.{met_of, walk_of};
+ghost use Rattle.job_graph.specs.inner.Views.{met_of};
 
 use crate::cause::{Cause, of_link};
 use crate::gather::all_instances;
@@ -36,9 +31,7 @@ pub(crate) fn walk_process<'a>(
     process: &'a Process,
     place: &JobPlace,
     given: &Keyed<Value>,
-) -> Result<Walk<'a>, AllocError>
-    ensures { IfOk result (λ walk. walk_of walk ≡ meaning_of (made_by learned.now) process.now place.now given.now) }
-{
+) -> Result<Walk<'a>, AllocError> {
     match process {
         Process::Tool(tool) => walk_tool(alloc, learned, tool, place, given),
         Process::Workflow(workflow) => walk_workflow(alloc, learned, workflow, place, given),
@@ -57,24 +50,23 @@ struct Entered<'a> {
 pub(crate) fn walk_step<'a>(
     alloc: Global,
     learned: &[Resolved],
-    step: &'a (Text, Step),
+    id: &Text,
+    step: &'a Step,
     place: &JobPlace,
     inputs: &Keyed<Value>,
     env: &Env,
-) -> Result<Walk<'a>, AllocError>
-    ensures { IfOk result (λ walk. walk_of walk ≡ step_meaning_of (made_by learned.now) step.now.1 step.now.0 place.now inputs.now env.now) }
-{
-    let entered = enter(alloc, step, place, inputs, env)?;
+) -> Result<Walk<'a>, AllocError> {
+    let entered = enter(alloc, id, step, place, inputs, env)?;
     let Entered { faults, values } = entered;
     match values {
         Some(values) => {
             drop(faults);
-            let walk = scattered(alloc, learned, step, place, &values);
+            let walk = scattered(alloc, learned, id, step, place, &values);
             drop(values);
             walk
         }
         None => {
-            let outs = unknown(alloc, step.1.outputs.as_slice())?;
+            let outs = unknown(alloc, step.outputs.as_slice())?;
             Ok(Walk { met: faults, outs })
         }
     }
@@ -82,19 +74,18 @@ pub(crate) fn walk_step<'a>(
 
 fn enter<'a>(
     alloc: Global,
-    step: &(Text, Step),
+    id: &Text,
+    step: &Step,
     place: &JobPlace,
     inputs: &Keyed<Value>,
     env: &Env,
-) -> Result<Entered<'a>, AllocError>
-    ensures { IfOk result (HasEntered (step_place place.now step.now.0 []) (map (λ i. (i.0, entry_value inputs.now env.now i.1)) (out-Step step.now.1).inputs)) }
-{
-    let own = step_place(alloc, place, &step.0, &Items::new(alloc))?;
+) -> Result<Entered<'a>, AllocError> {
+    let own = step_place(alloc, place, id, &Items::new(alloc))?;
     let mut entered = Entered {
         faults: Items::new(alloc),
         values: Some(Keyed::new(alloc)),
     };
-    for input in step.1.inputs.as_slice() {
+    for input in step.inputs.as_slice() {
         let value = entry_value(alloc, inputs, env, &input.1)?;
         put_entry(alloc, &mut entered, &own, &input.0, value)?;
     }
@@ -146,19 +137,20 @@ fn put_value(
 fn scattered<'a>(
     alloc: Global,
     learned: &[Resolved],
-    step: &'a (Text, Step),
+    id: &Text,
+    step: &'a Step,
     place: &JobPlace,
     values: &Keyed<Value>,
-) -> Result<Walk<'a>, AllocError>
-    ensures { IfOk result (λ walk. walk_of walk ≡ scattered (step_of (made_by learned.now) step.now.1) step.now.0 place.now values.now (step_of (made_by learned.now) step.now.1).scatter) }
-{
-    let own = step_place(alloc, place, &step.0, &Items::new(alloc))?;
-    if step.1.scatter.is_empty() {
-        return instance(alloc, learned, &step.1, &own, values);
-    }
-    match lengths_under(alloc, step.1.scatter.as_slice(), values)? {
-        Ok(lengths) => over_lengths(alloc, learned, step, place, values, lengths),
-        Err(cause) => failed(alloc, &own, cause, step.1.outputs.as_slice()),
+) -> Result<Walk<'a>, AllocError> {
+    let own = step_place(alloc, place, id, &Items::new(alloc))?;
+    match lengths_under(alloc, step.scatter.as_slice(), values)? {
+        Ok(lengths) => {
+            if lengths.is_empty() {
+                return instance(alloc, learned, step, &own, values);
+            }
+            over_lengths(alloc, learned, id, step, place, values, lengths)
+        }
+        Err(cause) => failed(alloc, &own, cause, step.outputs.as_slice()),
     }
 }
 
@@ -166,24 +158,24 @@ fn scattered<'a>(
 fn over_lengths<'a>(
     alloc: Global,
     learned: &[Resolved],
-    step: &'a (Text, Step),
+    id: &Text,
+    step: &'a Step,
     place: &JobPlace,
     values: &Keyed<Value>,
     lengths: Items<usize>,
 ) -> Result<Walk<'a>, AllocError>
     requires { lengths ≢ [] }
-    ensures { IfOk result (λ walk. walk_of walk ≡ over_lengths (step_of (made_by learned.now) step.now.1) step.now.0 place.now values.now (Ok lengths)) }
 {
-    let method = step.1.method.unwrap_or(Method::Dotproduct);
+    let method = step.method.unwrap_or(Method::Dotproduct);
     match tuples_for(alloc, method, lengths.as_slice())? {
         Ok(tuples) => {
-            let walks = instances(alloc, learned, step, place, values, tuples.as_slice())?;
+            let walks = instances(alloc, learned, id, step, place, values, tuples.as_slice())?;
             let shape = Shape { method, lengths };
-            all_instances(alloc, &shape, walks, step.1.outputs.as_slice())
+            all_instances(alloc, &shape, walks, step.outputs.as_slice())
         }
         Err(cause) => {
-            let own = step_place(alloc, place, &step.0, &Items::new(alloc))?;
-            failed(alloc, &own, cause, step.1.outputs.as_slice())
+            let own = step_place(alloc, place, id, &Items::new(alloc))?;
+            failed(alloc, &own, cause, step.outputs.as_slice())
         }
     }
 }
@@ -192,18 +184,17 @@ fn over_lengths<'a>(
 fn instances<'a>(
     alloc: Global,
     learned: &[Resolved],
-    step: &'a (Text, Step),
+    id: &Text,
+    step: &'a Step,
     place: &JobPlace,
     values: &Keyed<Value>,
     tuples: &[Items<usize>],
 ) -> Result<Vec<Walk<'a>>, AllocError>
-    ensures one_each { IfOk result (λ walks. length walks.items ≡ length tuples.now) }
-    ensures walks { IfOk result (λ walks. map walk_of walks.items ≡ map (λ tuple. instance (step_of (made_by learned.now) step.now.1)
-        (step_place place.now step.now.0 tuple) (at_tuple (step_of (made_by learned.now) step.now.1).scatter tuple values.now)) tuples.now) }
+    ensures { IfOk result (λ walks. length walks.items ≡ length tuples.now) }
 {
     let mut walks = Vec::new(alloc);
     for tuple in tuples {
-        walks.push(instance_at(alloc, learned, step, place, values, tuple)?)?;
+        walks.push(instance_at(alloc, learned, id, step, place, values, tuple)?)?;
     }
     Ok(walks)
 }
@@ -212,17 +203,15 @@ fn instances<'a>(
 fn instance_at<'a>(
     alloc: Global,
     learned: &[Resolved],
-    step: &'a (Text, Step),
+    id: &Text,
+    step: &'a Step,
     place: &JobPlace,
     values: &Keyed<Value>,
     tuple: &Items<usize>,
-) -> Result<Walk<'a>, AllocError>
-    ensures { IfOk result (λ walk. walk_of walk ≡ instance (step_of (made_by learned.now) step.now.1) (step_place place.now step.now.0 tuple.now)
-        (at_tuple (step_of (made_by learned.now) step.now.1).scatter tuple.now values.now)) }
-{
-    let own = step_place(alloc, place, &step.0, tuple)?;
-    let fields = at_tuple(alloc, step.1.scatter.as_slice(), tuple.as_slice(), values)?;
-    instance(alloc, learned, &step.1, &own, &fields)
+) -> Result<Walk<'a>, AllocError> {
+    let own = step_place(alloc, place, id, tuple)?;
+    let fields = at_tuple(alloc, step.scatter.as_slice(), tuple.as_slice(), values)?;
+    instance(alloc, learned, step, &own, &fields)
 }
 
 /// One value of a step: `valueFrom`, then `when`, then its process.
@@ -233,9 +222,7 @@ fn instance<'a>(
     step: &'a Step,
     place: &JobPlace,
     values: &Keyed<Value>,
-) -> Result<Walk<'a>, AllocError>
-    ensures { IfOk result (λ walk. walk_of walk ≡ instance (step_of (made_by learned.now) step.now) place.now values.now) }
-{
+) -> Result<Walk<'a>, AllocError> {
     match of_link(value_froms(alloc, step.inputs.as_slice(), values))? {
         Ok(fields) => {
             let walk = run_where(alloc, learned, step, place, &fields);
@@ -253,9 +240,7 @@ fn run_where<'a>(
     step: &'a Step,
     place: &JobPlace,
     fields: &Keyed<Value>,
-) -> Result<Walk<'a>, AllocError>
-    ensures { IfOk result (λ walk. walk_of walk ≡ instance_from (step_of (made_by learned.now) step.now) place.now (Ok fields.now)) }
-{
+) -> Result<Walk<'a>, AllocError> {
     match goes_on(&step.when, fields)? {
         Ok(true) => walk_process(alloc, learned, &step.process, place, fields),
         Ok(false) => Ok(Walk {

@@ -1,11 +1,9 @@
 //! Workflows: steps that read one another's outputs.
-ghost use Rattle.std.specs.Prelude.{◌≡◌, ◌++◌, ◌∷◌, [], Ok, length, map, IfOk, OnOk};
+ghost use Rattle.std.specs.Prelude.{◌≡◌, ◌++◌, ◌∷◌, [], map, IfOk, OnOk};
 ghost use Rattle.std.specs.List.{flat_map};
-ghost use Rattle.job_graph.specs.Equations.{env_after, fault_at, next_env, step_meaning_of, step_walk, workflow_at, workflow_meaning_of};
+ghost use Rattle.job_graph.specs.Equations.{fault_at};
 ghost use Rattle.job_graph.specs.Links.{given, output_value};
-ghost use Rattle.job_graph.specs.Unfold.{made_by};
-ghost use Rattle.job_graph.specs.inner.Levels.{steps_of, workflow_of};
-ghost use Rattle.job_graph.specs.inner.Views.{met_of, walk_of};
+ghost use Rattle.job_graph.specs.inner.Views.{met_of};
 
 use crate::gather::push_met;
 use crate::inputs::inputs_for;
@@ -14,7 +12,7 @@ use crate::made::Resolved;
 use crate::partly::Partly;
 use crate::step::walk_step;
 use crate::walk::{Met, Out, Walk, failed_process};
-use cwl_process::WorkflowOutput;
+use cwl_process::{Entries, WorkflowOutput};
 use cwl_value::{JobPlace, Value, copy_job};
 use document_links::{Step, Workflow};
 use plain_data::{Items, Keyed, Text};
@@ -29,12 +27,11 @@ pub(crate) fn walk_workflow<'a>(
     workflow: &'a Workflow,
     place: &JobPlace,
     given: &Keyed<Value>,
-) -> Result<Walk<'a>, AllocError>
-    ensures { IfOk result (λ walk. walk_of walk ≡ workflow_meaning_of (made_by learned.now) workflow.now place.now given.now) }
-{
+) -> Result<Walk<'a>, AllocError> {
     match inputs_for(alloc, workflow.inputs.as_slice(), given)? {
         Ok(inputs) => {
-            let walk = walk_steps(alloc, learned, workflow, place, &inputs);
+            let outputs = workflow.outputs.as_slice();
+            let walk = walk_steps(alloc, learned, &workflow.steps, outputs, place, &inputs);
             drop(inputs);
             walk
         }
@@ -46,18 +43,16 @@ pub(crate) fn walk_workflow<'a>(
 fn walk_steps<'a>(
     alloc: Global,
     learned: &[Resolved],
-    workflow: &'a Workflow,
+    steps: &'a Entries<Step>,
+    outputs: &[(Text, WorkflowOutput)],
     place: &JobPlace,
     inputs: &Keyed<Value>,
-) -> Result<Walk<'a>, AllocError>
-    ensures { IfOk result (λ walk. walk_of walk ≡ workflow_at (workflow_of (made_by learned.now) workflow.now) place.now (Ok inputs.now)) }
-{
-    let steps = workflow.steps.as_slice();
+) -> Result<Walk<'a>, AllocError> {
     let env = env_after(alloc, learned, steps, place, inputs)?;
     let met = steps_met(alloc, learned, steps, place, inputs, &env);
     match met {
         Ok(met) => {
-            let walk = with_outputs(alloc, met, workflow.outputs.as_slice(), place, inputs, &env);
+            let walk = with_outputs(alloc, met, outputs, place, inputs, &env);
             drop(env);
             walk
         }
@@ -70,12 +65,10 @@ fn walk_steps<'a>(
 fn env_after(
     alloc: Global,
     learned: &[Resolved],
-    steps: &[(Text, Step)],
+    steps: &Entries<Step>,
     place: &JobPlace,
     inputs: &Keyed<Value>,
-) -> Result<Env, AllocError>
-    ensures { IfOk result (λ env. env ≡ env_after (length steps.now) (steps_of (made_by learned.now) steps.now) place.now inputs.now) }
-{
+) -> Result<Env, AllocError> {
     let mut env = Keyed::new(alloc);
     for _ in 0..steps.len() {
         let next = next_env(alloc, learned, steps, place, inputs, &env)?;
@@ -89,17 +82,15 @@ fn env_after(
 fn next_env(
     alloc: Global,
     learned: &[Resolved],
-    steps: &[(Text, Step)],
+    steps: &Entries<Step>,
     place: &JobPlace,
     inputs: &Keyed<Value>,
     env: &Env,
-) -> Result<Env, AllocError>
-    ensures { IfOk result (λ next. next ≡ next_env (steps_of (made_by learned.now) steps.now) place.now inputs.now env.now) }
-{
+) -> Result<Env, AllocError> {
     let mut next = Keyed::new(alloc);
-    for step in steps {
+    for step in steps.as_slice() {
         let name = step.0.copied(alloc)?;
-        let outs = step_outs(alloc, learned, step, place, inputs, env)?;
+        let outs = step_outs(alloc, learned, &step.0, &step.1, place, inputs, env)?;
         drop(next.insert(name, outs)?);
     }
     Ok(next)
@@ -109,14 +100,13 @@ fn next_env(
 fn step_outs(
     alloc: Global,
     learned: &[Resolved],
-    step: &(Text, Step),
+    id: &Text,
+    step: &Step,
     place: &JobPlace,
     inputs: &Keyed<Value>,
     env: &Env,
-) -> Result<Items<Out>, AllocError>
-    ensures { IfOk result (λ outs. outs ≡ (step_meaning_of (made_by learned.now) step.now.1 step.now.0 place.now inputs.now env.now).outs) }
-{
-    let Walk { met, outs } = walk_step(alloc, learned, step, place, inputs, env)?;
+) -> Result<Items<Out>, AllocError> {
+    let Walk { met, outs } = walk_step(alloc, learned, id, step, place, inputs, env)?;
     drop(met);
     Ok(outs)
 }
@@ -126,18 +116,16 @@ fn step_outs(
 fn steps_met<'a>(
     alloc: Global,
     learned: &[Resolved],
-    steps: &'a [(Text, Step)],
+    steps: &'a Entries<Step>,
     place: &JobPlace,
     inputs: &Keyed<Value>,
     env: &Env,
-) -> Result<Items<Met<'a>>, AllocError>
-    ensures { IfOk result (λ met. map met_of met ≡ flat_map (λ s. (step_walk place.now inputs.now env.now s).met) (steps_of (made_by learned.now) steps.now)) }
-{
+) -> Result<Items<Met<'a>>, AllocError> {
     let mut met = Items::new(alloc);
-    for step in steps {
+    for step in steps.as_slice() {
         push_met(
             &mut met,
-            walk_step(alloc, learned, step, place, inputs, env)?,
+            walk_step(alloc, learned, &step.0, &step.1, place, inputs, env)?,
         )?;
     }
     Ok(met)
@@ -153,7 +141,7 @@ fn with_outputs<'a>(
     env: &Env,
 ) -> Result<Walk<'a>, AllocError>
     ensures met { IfOk result (λ walk. map met_of walk.met
-        ≡ map met_of met ++ flat_map (λ o. fault_at place.now (output_value inputs.now env.now o.1.links)) outputs.now) }
+        ≡ map met_of met.entry ++ flat_map (λ o. fault_at place.now (output_value inputs.now env.now o.1.links)) outputs.now) }
     ensures outs { IfOk result (λ walk. walk.outs ≡ map (λ o. (o.0, given (output_value inputs.now env.now o.1.links))) outputs.now) }
 {
     let mut walk = Walk {
