@@ -2,7 +2,8 @@ ghost use Rattle.std.specs.Prelude.{◌≡◌};
 ghost use Rattle.link_values.specs.Codes.{code_of};
 ghost use Rattle.link_values.specs.declared.fault.LinkError.TheVariants.{OutOfMemory};
 
-use std::alloc::AllocError;
+use param_refs::{RefError, RefFault};
+use std::alloc::{AllocError, AllocFailed};
 use std::error::Error;
 use std::fmt;
 
@@ -13,16 +14,22 @@ pub enum LinkFault {
     NoneNonNull,
     /// Several values are not null where only one may be.
     SeveralNonNull,
+    /// What decides whether a step is skipped is no boolean.
+    NotABoolean,
+    /// A reference of `valueFrom` or `when` has no value.
+    Reference(RefFault),
 }
 
 impl LinkFault {
-    /// The fault's short name, L1 or L2.
+    /// The fault's short name, from L1 to L4.
     pub fn code(&self) -> &'static str
         ensures { result.now ≡ code_of self.now }
     {
         match self {
             LinkFault::NoneNonNull => "L1",
             LinkFault::SeveralNonNull => "L2",
+            LinkFault::NotABoolean => "L3",
+            LinkFault::Reference(_) => "L4",
         }
     }
 }
@@ -32,6 +39,8 @@ impl fmt::Display for LinkFault {
         f.write_str(match self {
             LinkFault::NoneNonNull => "each of the linked values is null",
             LinkFault::SeveralNonNull => "more than one of the linked values is not null",
+            LinkFault::NotABoolean => "the value of `when` is no boolean",
+            LinkFault::Reference(fault) => return fault.fmt(f),
         })
     }
 }
@@ -63,5 +72,26 @@ impl From<AllocError> for LinkError {
 
     fn from(_refused: AllocError) -> LinkError {
         LinkError::OutOfMemory
+    }
+}
+
+impl<T: Drop> From<AllocFailed<T>> for LinkError {
+    ghost from_gives = { λ _ e. e ≡ OutOfMemory };
+
+    fn from(_refused: AllocFailed<T>) -> LinkError {
+        LinkError::OutOfMemory
+    }
+}
+
+impl From<RefError> for LinkError {
+    ghost use Rattle.link_values.specs.Refused.{of_reference};
+
+    ghost from_gives = { λ error e. e ≡ of_reference error };
+
+    fn from(error: RefError) -> LinkError {
+        match error {
+            RefError::Refused(fault) => LinkError::Refused(LinkFault::Reference(fault)),
+            RefError::OutOfMemory => LinkError::OutOfMemory,
+        }
     }
 }

@@ -1,9 +1,10 @@
 //! The values that are not null.
 
-ghost use Rattle.std.specs.Prelude.{◌≡◌, ◌∷◌, [], IfOk, IfErr};
+ghost use Rattle.std.specs.Prelude.{◌≡◌, Ok, IfOk, IfErr};
 ghost use Rattle.std.specs.List.{filter};
 ghost use Rattle.link_values.specs.Merged.{items_or_one};
-ghost use Rattle.link_values.specs.Picked.{is_something, IsFirst, IsPicked, IsNoPick, IsNotFirst, IsNotOne};
+ghost use Rattle.link_values.specs.Picked.{is_something, picked, the_first, the_only};
+ghost use Rattle.link_values.specs.Refused.{IsError};
 
 use crate::fault::{LinkError, LinkFault};
 use cwl_process::Pick;
@@ -13,8 +14,8 @@ use std::alloc::{AllocError, Global};
 
 /// What a pick takes of a value (CWL v1.2, Workflow, `pickValue`). A value that is no list counts as a list of one.
 pub fn pick(alloc: Global, method: Option<Pick>, value: Value) -> Result<Value, LinkError>
-    ensures value { IfOk result (IsPicked method value) }
-    ensures err { IfErr result (IsNoPick method value) }
+    ensures value { IfOk result (λ found. picked method value ≡ Ok found) }
+    ensures err { IfErr result (IsError (picked method value)) }
 {
     let Some(method) = method else {
         return Ok(value);
@@ -46,8 +47,8 @@ fn values_of(alloc: Global, value: Value) -> Result<Vec<Value>, AllocError>
 }
 
 fn first(values: Vec<Value>) -> Result<Value, LinkError>
-    ensures value { IfOk result (IsFirst values.items) }
-    ensures err { IfErr result (IsNotFirst values.items) }
+    ensures value { IfOk result (λ found. the_first values.items ≡ Ok found) }
+    ensures err { IfErr result (IsError (the_first values.items)) }
 {
     values
         .into_iter()
@@ -56,8 +57,8 @@ fn first(values: Vec<Value>) -> Result<Value, LinkError>
 }
 
 fn only(values: Vec<Value>) -> Result<Value, LinkError>
-    ensures value { IfOk result (λ value. values.items ≡ value ∷ []) }
-    ensures err { IfErr result (IsNotOne values.items) }
+    ensures value { IfOk result (λ found. the_only values.items ≡ Ok found) }
+    ensures err { IfErr result (IsError (the_only values.items)) }
 {
     if values.len() > 1 {
         return Err(LinkError::Refused(LinkFault::SeveralNonNull));

@@ -1,0 +1,11 @@
+pub mod Codes
+pub mod Equations
+pub mod Eval
+pub mod Inputs
+pub mod Jobs
+pub mod Links
+pub mod Made
+pub mod Scatter
+pub mod Unfold
+pub mod Words
+pub mod inner

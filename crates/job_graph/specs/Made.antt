@@ -1,0 +1,76 @@
+-- Values elsewhere: each File and Directory in them at another place; and which jobs made those in a value.
+use Rattle.std.specs.Prelude.{Bool, false, ◌||◌, List, Option, Some, None, map}
+use Rattle.std.specs.List.{list_any}
+use Rattle.cwl_value.specs.declared.value.Value.{Value, fold-Value, roll-Value}
+use Rattle.cwl_value.specs.declared.value.Value.TheOpen.{Value-F, FileVal-F, DirVal-F}
+use Rattle.cwl_value.specs.declared.value.FileVal.{FileVal, roll-FileVal, fold-FileVal}
+use Rattle.cwl_value.specs.declared.value.DirVal.{DirVal, roll-DirVal, fold-DirVal}
+use Rattle.cwl_value.specs.declared.place.Place.{Place}
+use Rattle.job_graph.specs.Words.{Fields, JobPlace, is_same_place}
+
+abbrev pub file_moved : (Place → Place) → FileVal-F Value DirVal FileVal → FileVal
+file_moved move f = roll-FileVal (record f { place = move f.place })
+
+abbrev pub dir_moved : (Place → Place) → DirVal-F Value DirVal FileVal → DirVal
+dir_moved move d = roll-DirVal (record d { place = move d.place })
+
+abbrev pub value_moved : (Place → Place) → Value → Value
+value_moved move = fold-Value Value DirVal FileVal roll-Value (dir_moved move) (file_moved move)
+
+abbrev pub file_value_moved : (Place → Place) → FileVal → FileVal
+file_value_moved move = fold-FileVal Value DirVal FileVal roll-Value (dir_moved move) (file_moved move)
+
+abbrev pub dir_value_moved : (Place → Place) → DirVal → DirVal
+dir_value_moved move = fold-DirVal Value DirVal FileVal roll-Value (dir_moved move) (file_moved move)
+
+abbrev pub fields_moved : (Place → Place) → Fields → Fields
+fields_moved move fields = map (λ f. (f.0, value_moved move f.1)) fields
+
+-- a relative name in the output folder becomes the job's
+abbrev pub made_place : JobPlace → Place → Place
+made_place job (Place.Url name) = Place.Made job name
+made_place job place = place
+
+-- a job's named outputs, as the rest of the process sees them
+abbrev pub fields_made : JobPlace → Fields → Fields
+fields_made job fields = fields_moved (made_place job) fields
+
+-- Which files a job made
+
+abbrev pub is_of : JobPlace → Place → Bool
+is_of job (Place.Made maker name) = is_same_place maker job
+is_of job place = false
+
+abbrev pub some_true : List Bool → Bool
+some_true found = list_any (λ b. b) found
+
+-- where each of its parts is known to hold one or not
+abbrev pub holds_at : Value-F Bool Bool Bool → Bool
+holds_at (Value-F.FileVal b) = b
+holds_at (Value-F.DirVal b) = b
+holds_at (Value-F.List found) = some_true found
+holds_at (Value-F.Fields found) = some_true (map (λ f. f.1) found)
+holds_at _ = false
+
+abbrev pub listing_holds : Option (List Bool) → Bool
+listing_holds None = false
+listing_holds (Some found) = some_true found
+
+abbrev pub dir_level : JobPlace → DirVal-F Bool Bool Bool → Bool
+dir_level job d = is_of job d.place || listing_holds d.listing
+
+abbrev pub file_level : JobPlace → FileVal-F Bool Bool Bool → Bool
+file_level job f = is_of job f.place || some_true f.secondary
+
+-- whether a value holds, at any depth, a File or Directory that the job made
+abbrev pub holds_made : JobPlace → Value → Bool
+holds_made job = fold-Value Bool Bool Bool holds_at (dir_level job) (file_level job)
+
+abbrev pub file_holds : JobPlace → FileVal → Bool
+file_holds job = fold-FileVal Bool Bool Bool holds_at (dir_level job) (file_level job)
+
+abbrev pub dir_holds : JobPlace → DirVal → Bool
+dir_holds job = fold-DirVal Bool Bool Bool holds_at (dir_level job) (file_level job)
+
+abbrev pub any_made : JobPlace → Fields → Bool
+any_made job fields = list_any (λ f. holds_made job f.1) fields

@@ -1,0 +1,95 @@
+-- The jobs that are known once the outputs of some places are, from scratch.
+use Rattle.std.specs.Prelude.{ℕ, ◌+◌, nat_le, ◌&&◌, Bool, not, cond, length, List, [], ◌∷◌, ◌++◌, Option, Some, None, filter, filter_map, find, option_map, reverse}
+use Rattle.std.specs.List.{list_any}
+use Rattle.plan_checker.specs.declared.graph.TheConstants.{MOST_VERTICES, MOST_ENTRIES}
+use Rattle.job_graph.specs.declared.cause.Cause.{Cause}
+use Rattle.job_graph.specs.declared.made.Resolved.{Resolved}
+use Rattle.job_graph.specs.Words.{Fields, JobPlace, is_same_place}
+use Rattle.job_graph.specs.Jobs.{Job, Met, met_job, met_fault, Made, Walker, result}
+use Rattle.job_graph.specs.Made.{any_made, fields_made}
+
+-- why a process has no result
+pub data Fault : Type 0 where
+  -- the equation at this place fails
+  fault_at : (place : JobPlace) (cause : Cause) → Fault
+  -- there are more jobs, or more parents of jobs, than the limits allow
+  too_many_jobs : Fault
+
+-- whether a job is at a place
+abbrev pub is_at : JobPlace → Job → Bool
+is_at place job = is_same_place job.place place
+
+-- the named outputs of the job at a place, by the resolved places
+abbrev pub outputs_at : List Resolved → JobPlace → Option Fields
+outputs_at resolved place = option_map (λ r. r.outputs) (find (λ r. is_same_place r.place place) resolved)
+
+-- those, as the rest of the process sees them
+abbrev pub made_at : List Resolved → JobPlace → Option Fields
+made_at resolved place = option_map (fields_made place) (outputs_at resolved place)
+
+-- a job's outputs by the resolved places
+abbrev pub made_by : List Resolved → Made
+made_by resolved job = made_at resolved job.place
+
+-- the job that is met, or none where it is a fault
+abbrev pub job_met : Met → Option Job
+job_met (met_job job) = Some job
+job_met (met_fault place cause) = None
+
+-- whether one of these jobs is at the job's place
+abbrev pub is_known : List Job → Job → Bool
+is_known jobs job = list_any (is_at job.place) jobs
+
+-- the jobs that are met at places where none of these jobs is
+abbrev pub new_in : List Job → List Met → List Job
+new_in jobs met = filter (λ job. not (is_known jobs job)) (filter_map job_met met)
+
+-- the jobs in the order in which they came to be known; of the places, the one learned last comes first
+abbrev pub jobs_after : Walker → List Resolved → List Job
+jobs_after walks [] = new_in [] (walks (made_by [])).met
+jobs_after walks (r ∷ earlier) =
+    let jobs : List Job = jobs_after walks earlier in jobs ++ new_in jobs (walks (made_by (r ∷ earlier))).met
+
+-- a job's parents: the jobs known before it that made a File or Directory in its inputs
+abbrev pub parents_among : List Job → Job → List Job
+parents_among earlier job = filter (λ maker. any_made maker.place job.inputs) earlier
+
+-- how many parents these jobs have in all, where those before them have n
+abbrev pub entries_from : ℕ → List Job → List Job → ℕ
+entries_from n earlier [] = n
+entries_from n earlier (job ∷ jobs) = entries_from (n + length (parents_among earlier job)) (earlier ++ job ∷ []) jobs
+
+-- whether so many jobs, with so many parents, are allowed: what a graph may have
+abbrev pub is_within_limits : List Job → Bool
+is_within_limits jobs = nat_le (length jobs) MOST_VERTICES && nat_le (entries_from 0 [] jobs) MOST_ENTRIES
+
+-- the first fault in the order of the walk, where these jobs are known: an equation that fails, or a job beyond a limit
+abbrev pub first_fault : List Job → List Met → Option Fault
+first_fault jobs [] = None
+first_fault jobs (met_fault place cause ∷ met) = Some (fault_at place cause)
+first_fault jobs (met_job job ∷ met) =
+    cond (is_known jobs job) (first_fault jobs met)
+    (cond (is_within_limits (jobs ++ job ∷ [])) (first_fault (jobs ++ job ∷ []) met) (Some too_many_jobs))
+
+abbrev pub or_else : {T : Type 0} → Option T → Option T → Option T
+or_else (Some x) later = Some x
+or_else None later = later
+
+-- the first fault: by the shortest front of what was learned, and then in the order of the walk
+abbrev pub fault_after : Walker → List Resolved → Option Fault
+fault_after walks [] = first_fault [] (walks (made_by [])).met
+fault_after walks (r ∷ earlier) =
+    or_else (fault_after walks earlier) (first_fault (jobs_after walks earlier) (walks (made_by (r ∷ earlier))).met)
+
+pub record Unfolded : Type 0 where
+  pub jobs : List Job
+  pub fault : Option Fault
+  pub result : Option Fields
+
+-- what is known, for resolved places in the order learned
+abbrev pub unfolded : Walker → List Resolved → Unfolded
+unfolded walks resolved = record {
+  jobs = jobs_after walks (reverse resolved);
+  fault = fault_after walks (reverse resolved);
+  result = result walks (made_by resolved);
+}

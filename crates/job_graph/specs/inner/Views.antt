@@ -1,0 +1,17 @@
+-- What is kept of a walk, as the walk that it stands for.
+use Rattle.std.specs.Prelude.{List, map}
+use Rattle.job_graph.specs.Jobs.{Job, Met, met_job, met_fault, Walk}
+use Rattle.job_graph.specs.declared.walk.Job.{Job as KeptJob}
+use Rattle.job_graph.specs.declared.walk.Met.{Met as KeptMet}
+use Rattle.job_graph.specs.declared.walk.Met.TheVariants as kept
+use Rattle.job_graph.specs.declared.walk.Walk.{Walk as KeptWalk}
+
+abbrev pub job_of : KeptJob → Job
+job_of job = record { place = job.place; tool = job.tool.now; inputs = job.inputs }
+
+abbrev pub met_of : KeptMet → Met
+met_of (kept.Job job) = met_job (job_of job)
+met_of (kept.Fault place cause) = met_fault place cause
+
+abbrev pub walk_of : KeptWalk → Walk
+walk_of walk = record { met = map met_of walk.met; outs = walk.outs }

@@ -1,0 +1,99 @@
+//! The outputs of a scattered step: those of its jobs, put together.
+ghost use Rattle.std.specs.Prelude.{◌≡◌, ◌≢◌, [], length, IfOk, IfSome};
+ghost use Rattle.scatter_shape.specs.Tuples.{IsTaken, tuples_of};
+
+use crate::links::out_under;
+use crate::walk::{Met, Out, Walk};
+use cwl_value::Value;
+use plain_data::{Items, Text};
+use scatter_shape::{Shape, gather};
+use std::alloc::{AllocError, Global};
+
+/// The values that all walks have under a name, once each is known.
+fn all_under(
+    alloc: Global,
+    walks: &[Walk<'_>],
+    name: &str,
+) -> Result<Option<Vec<Value>>, AllocError>
+    ensures { IfOk result (λ found. IfSome found (λ values. length values.items ≡ length walks.now)) }
+{
+    let mut values = Vec::new(alloc);
+    for walk in walks {
+        match out_under(walk.outs.as_slice(), name) {
+            None => return Ok(None),
+            Some(value) => values.push(value.clone_in(alloc)?)?,
+        }
+    }
+    Ok(Some(values))
+}
+
+/// An output of all, put together once each has its value.
+fn out_gathered(
+    alloc: Global,
+    shape: &Shape,
+    walks: &[Walk<'_>],
+    name: &str,
+) -> Result<Option<Value>, AllocError>
+    requires some { shape.now.lengths ≢ [] }
+    requires taken { IsTaken shape.now.method shape.now.lengths }
+    requires one_each { length walks.now ≡ length (tuples_of shape.now.method shape.now.lengths) }
+{
+    match all_under(alloc, walks, name)? {
+        None => Ok(None),
+        Some(values) => Ok(Some(gather(alloc, shape, values)?)),
+    }
+}
+
+/// Each output of all, put together.
+fn outs_gathered(
+    alloc: Global,
+    shape: &Shape,
+    walks: &[Walk<'_>],
+    names: &[Text],
+) -> Result<Items<Out>, AllocError>
+    requires some { shape.now.lengths ≢ [] }
+    requires taken { IsTaken shape.now.method shape.now.lengths }
+    requires one_each { length walks.now ≡ length (tuples_of shape.now.method shape.now.lengths) }
+{
+    let mut outs = Items::new(alloc);
+    for name in names {
+        let copy = name.copied(alloc)?;
+        outs.push((copy, out_gathered(alloc, shape, walks, name.as_str())?))?;
+    }
+    Ok(outs)
+}
+
+/// What all walks met, one walk after another.
+fn all_met<'a>(alloc: Global, walks: Vec<Walk<'a>>) -> Result<Items<Met<'a>>, AllocError> {
+    let mut met = Items::new(alloc);
+    for walk in walks {
+        push_met(&mut met, walk)?;
+    }
+    Ok(met)
+}
+
+/// Adds what a walk met.
+pub(crate) fn push_met<'a>(met: &mut Items<Met<'a>>, walk: Walk<'a>) -> Result<(), AllocError> {
+    let Walk { met: more, outs } = walk;
+    drop(outs);
+    for one in more.into_vec() {
+        met.push(one)?;
+    }
+    Ok(())
+}
+
+/// The walks of the jobs of a scattered step, as one.
+pub(crate) fn all_instances<'a>(
+    alloc: Global,
+    shape: &Shape,
+    walks: Vec<Walk<'a>>,
+    names: &[Text],
+) -> Result<Walk<'a>, AllocError>
+    requires some { shape.now.lengths ≢ [] }
+    requires taken { IsTaken shape.now.method shape.now.lengths }
+    requires one_each { length walks.items ≡ length (tuples_of shape.now.method shape.now.lengths) }
+{
+    let outs = outs_gathered(alloc, shape, walks.as_slice(), names)?;
+    let met = all_met(alloc, walks)?;
+    Ok(Walk { met, outs })
+}

@@ -1,0 +1,28 @@
+//! The jobs of a process, as they come to be known (CWL v1.2, Workflow).
+//!
+//! - `Unfolding::new` finds the jobs that can run at once; `learn` takes a job's outputs, and then more jobs are known.
+//! - `known` has the jobs in the order in which they came to be known, `result` the process's outputs once all are.
+//!
+//! What is known is one walk through the process (`specs/Equations.antt`), made anew each time. What computing every job
+//! gives (`specs/Eval.antt`) is the same walk where each job's outputs are known.
+#![tactic(auto)]
+
+mod cause;
+mod fault;
+mod gather;
+mod inputs;
+mod links;
+mod made;
+mod parents;
+mod partly;
+mod place;
+mod scatter;
+mod step;
+mod unfolding;
+mod walk;
+mod workflow;
+
+pub use cause::Cause;
+pub use fault::{UnfoldError, UnfoldFault};
+pub use unfolding::{KnownJob, Unfolding};
+pub use walk::Job;

@@ -1,0 +1,48 @@
+//! Places of jobs.
+ghost use Rattle.std.specs.Prelude.{◌≡◌, IfOk};
+ghost use Rattle.job_graph.specs.Words.{is_same_place, segment_eq};
+ghost use Rattle.job_graph.specs.Equations.{step_place};
+
+use cwl_value::{JobPlace, Segment, copy_job};
+use plain_data::{Items, Text};
+use std::alloc::{AllocError, Global};
+
+/// Whether two places are the same.
+pub(crate) fn is_same_place(one: &[Segment], other: &[Segment]) -> bool
+    ensures { result ≡ is_same_place one.now other.now }
+{
+    match one {
+        [] => match other {
+            [] => true,
+            [_, ..] => false,
+        },
+        [first, rest @ ..] => match other {
+            [] => false,
+            [second, others @ ..] => {
+                is_same_segment(first, second) && is_same_place(rest, others)
+            }
+        },
+    }
+}
+
+fn is_same_segment(one: &Segment, other: &Segment) -> bool
+    ensures { result ≡ segment_eq one.now other.now }
+{
+    one.step.as_str() == other.step.as_str() && one.index.as_slice() == other.index.as_slice()
+}
+
+/// The place of a step, at a tuple where it is scattered.
+pub(crate) fn step_place(
+    alloc: Global,
+    place: &JobPlace,
+    id: &Text,
+    tuple: &Items<usize>,
+) -> Result<JobPlace, AllocError>
+    ensures { IfOk result (λ found. found ≡ step_place place.now id.now tuple.now) }
+{
+    let index = Items::from_vec(Vec::from_slice(alloc, tuple.as_slice())?);
+    let step = id.copied(alloc)?;
+    let mut found = copy_job(alloc, place)?;
+    found.push(Segment { step, index })?;
+    Ok(found)
+}

@@ -1,0 +1,265 @@
+//! Steps, and what all that recurs is: the walk through a process.
+ghost use Rattle.std.specs.Prelude.{◌≡◌, ◌≢◌, ◌++◌, [], length, map, IfOk, OnOk};
+ghost use Rattle.job_graph.specs.Equations.{fault_at, goes_on};
+ghost use Rattle.job_graph.specs.Links.{with_entry};
+ghost use Rattle.job_graph.specs.declared.partly.Partly.TheVariants.{Gives};
+ghost use Rattle.job_graph.specs.inner.Views.{met_of};
+
+use crate::cause::{Cause, of_link};
+use crate::gather::all_instances;
+use crate::links::{Env, entry_value};
+use crate::made::Resolved;
+use crate::partly::Partly;
+use crate::place::step_place;
+use crate::scatter::{at_tuple, lengths_under, tuples_for};
+use crate::walk::{Met, Walk, failed, nulls, unknown, walk_tool};
+use crate::workflow::walk_workflow;
+use cwl_value::{JobPlace, Value, copy_job};
+use document_links::{Process, Step};
+use link_values::{value_froms, when_value};
+use param_refs::Template;
+use plain_data::{Items, Keyed, Text};
+use scatter_shape::{Method, Shape};
+use std::alloc::{AllocError, Global};
+use std::mem;
+
+/// The walk through a process at a place.
+#[cycle(walk)]
+pub(crate) fn walk_process<'a>(
+    alloc: Global,
+    learned: &[Resolved],
+    process: &'a Process,
+    place: &JobPlace,
+    given: &Keyed<Value>,
+) -> Result<Walk<'a>, AllocError> {
+    match process {
+        Process::Tool(tool) => walk_tool(alloc, learned, tool, place, given),
+        Process::Workflow(workflow) => walk_workflow(alloc, learned, workflow, place, given),
+    }
+}
+
+/// The inputs of a step: those that fail, and all together once each is known.
+#[derive(Drop)]
+struct Entered<'a> {
+    faults: Items<Met<'a>>,
+    values: Option<Keyed<Value>>,
+}
+
+/// The walk through a step of a workflow with these inputs, whose steps have these outputs.
+#[cycle(walk)]
+pub(crate) fn walk_step<'a>(
+    alloc: Global,
+    learned: &[Resolved],
+    id: &Text,
+    step: &'a Step,
+    place: &JobPlace,
+    inputs: &Keyed<Value>,
+    env: &Env,
+) -> Result<Walk<'a>, AllocError> {
+    let entered = enter(alloc, id, step, place, inputs, env)?;
+    let Entered { faults, values } = entered;
+    match values {
+        Some(values) => {
+            drop(faults);
+            let walk = scattered(alloc, learned, id, step, place, &values);
+            drop(values);
+            walk
+        }
+        None => {
+            let outs = unknown(alloc, step.outputs.as_slice())?;
+            Ok(Walk { met: faults, outs })
+        }
+    }
+}
+
+fn enter<'a>(
+    alloc: Global,
+    id: &Text,
+    step: &Step,
+    place: &JobPlace,
+    inputs: &Keyed<Value>,
+    env: &Env,
+) -> Result<Entered<'a>, AllocError> {
+    let own = step_place(alloc, place, id, &Items::new(alloc))?;
+    let mut entered = Entered {
+        faults: Items::new(alloc),
+        values: Some(Keyed::new(alloc)),
+    };
+    for input in step.inputs.as_slice() {
+        let value = entry_value(alloc, inputs, env, &input.1)?;
+        put_entry(alloc, &mut entered, &own, &input.0, value)?;
+    }
+    Ok(entered)
+}
+
+fn put_entry(
+    alloc: Global,
+    entered: &mut Entered<'_>,
+    place: &JobPlace,
+    name: &Text,
+    value: Partly,
+) -> Result<(), AllocError>
+    ensures faults { OnOk result (map met_of entered.new.faults ≡ map met_of entered.old.faults ++ fault_at place.now value) }
+    ensures values { OnOk result (entered.new.values ≡ with_entry entered.old.values (name.now, value)) }
+{
+    match value {
+        Partly::Waits => {
+            drop(mem::replace(&mut entered.values, None));
+            Ok(())
+        }
+        Partly::Gives(value) => put_value(alloc, entered, name, value),
+        Partly::Fails(cause) => {
+            drop(mem::replace(&mut entered.values, None));
+            let place = copy_job(alloc, place)?;
+            Ok(entered.faults.push(Met::Fault(place, cause))?)
+        }
+    }
+}
+
+fn put_value(
+    alloc: Global,
+    entered: &mut Entered<'_>,
+    name: &Text,
+    value: Value,
+) -> Result<(), AllocError>
+    ensures faults { OnOk result (entered.new.faults ≡ entered.old.faults) }
+    ensures values { OnOk result (entered.new.values ≡ with_entry entered.old.values (name.now, Gives value)) }
+{
+    let name = name.copied(alloc)?;
+    if let Some(values) = &mut entered.values {
+        drop(values.insert(name, value)?);
+    }
+    Ok(())
+}
+
+/// A step whose inputs are all known.
+#[cycle(walk)]
+fn scattered<'a>(
+    alloc: Global,
+    learned: &[Resolved],
+    id: &Text,
+    step: &'a Step,
+    place: &JobPlace,
+    values: &Keyed<Value>,
+) -> Result<Walk<'a>, AllocError> {
+    let own = step_place(alloc, place, id, &Items::new(alloc))?;
+    match lengths_under(alloc, step.scatter.as_slice(), values)? {
+        Ok(lengths) => {
+            if lengths.is_empty() {
+                return instance(alloc, learned, step, &own, values);
+            }
+            over_lengths(alloc, learned, id, step, place, values, lengths)
+        }
+        Err(cause) => failed(alloc, &own, cause, step.outputs.as_slice()),
+    }
+}
+
+#[cycle(walk)]
+fn over_lengths<'a>(
+    alloc: Global,
+    learned: &[Resolved],
+    id: &Text,
+    step: &'a Step,
+    place: &JobPlace,
+    values: &Keyed<Value>,
+    lengths: Items<usize>,
+) -> Result<Walk<'a>, AllocError>
+    requires { lengths ≢ [] }
+{
+    let method = step.method.unwrap_or(Method::Dotproduct);
+    match tuples_for(alloc, method, lengths.as_slice())? {
+        Ok(tuples) => {
+            let walks = instances(alloc, learned, id, step, place, values, tuples.as_slice())?;
+            let shape = Shape { method, lengths };
+            all_instances(alloc, &shape, walks, step.outputs.as_slice())
+        }
+        Err(cause) => {
+            let own = step_place(alloc, place, id, &Items::new(alloc))?;
+            failed(alloc, &own, cause, step.outputs.as_slice())
+        }
+    }
+}
+
+#[cycle(walk)]
+fn instances<'a>(
+    alloc: Global,
+    learned: &[Resolved],
+    id: &Text,
+    step: &'a Step,
+    place: &JobPlace,
+    values: &Keyed<Value>,
+    tuples: &[Items<usize>],
+) -> Result<Vec<Walk<'a>>, AllocError>
+    ensures { IfOk result (λ walks. length walks.items ≡ length tuples.now) }
+{
+    let mut walks = Vec::new(alloc);
+    for tuple in tuples {
+        walks.push(instance_at(alloc, learned, id, step, place, values, tuple)?)?;
+    }
+    Ok(walks)
+}
+
+#[cycle(walk)]
+fn instance_at<'a>(
+    alloc: Global,
+    learned: &[Resolved],
+    id: &Text,
+    step: &'a Step,
+    place: &JobPlace,
+    values: &Keyed<Value>,
+    tuple: &Items<usize>,
+) -> Result<Walk<'a>, AllocError> {
+    let own = step_place(alloc, place, id, tuple)?;
+    let fields = at_tuple(alloc, step.scatter.as_slice(), tuple.as_slice(), values)?;
+    instance(alloc, learned, step, &own, &fields)
+}
+
+/// One value of a step: `valueFrom`, then `when`, then its process.
+#[cycle(walk)]
+fn instance<'a>(
+    alloc: Global,
+    learned: &[Resolved],
+    step: &'a Step,
+    place: &JobPlace,
+    values: &Keyed<Value>,
+) -> Result<Walk<'a>, AllocError> {
+    match of_link(value_froms(alloc, step.inputs.as_slice(), values))? {
+        Ok(fields) => {
+            let walk = run_where(alloc, learned, step, place, &fields);
+            drop(fields);
+            walk
+        }
+        Err(cause) => failed(alloc, place, cause, step.outputs.as_slice()),
+    }
+}
+
+#[cycle(walk)]
+fn run_where<'a>(
+    alloc: Global,
+    learned: &[Resolved],
+    step: &'a Step,
+    place: &JobPlace,
+    fields: &Keyed<Value>,
+) -> Result<Walk<'a>, AllocError> {
+    match goes_on(&step.when, fields)? {
+        Ok(true) => walk_process(alloc, learned, &step.process, place, fields),
+        Ok(false) => Ok(Walk {
+            met: Items::new(alloc),
+            outs: nulls(alloc, step.outputs.as_slice())?,
+        }),
+        Err(cause) => failed(alloc, place, cause, step.outputs.as_slice()),
+    }
+}
+
+/// Whether a step is not skipped.
+fn goes_on(
+    when: &Option<Template>,
+    fields: &Keyed<Value>,
+) -> Result<Result<bool, Cause>, AllocError>
+    ensures { IfOk result (λ found. found ≡ goes_on when.now fields.now) }
+{
+    match when {
+        None => Ok(Ok(true)),
+        Some(template) => of_link(when_value(template, fields)),
+    }
+}
