@@ -1,0 +1,61 @@
+//! Whole processes: inner workflows before the outer one.
+use crate::fault::{AcceptError, inside};
+use crate::linking::{check_outputs, check_steps};
+use crate::order::check_order;
+use crate::scope::Scope;
+use crate::shapes::check_shapes;
+use cwl_process::Entries;
+use cwl_types::MemberType;
+use document_links::{Process, Step, Workflow};
+use plain_data::Items;
+use std::alloc::Global;
+
+/// Looks at every workflow of a process.
+#[cycle(levels)]
+pub(crate) fn check_process(
+    alloc: Global,
+    file: &Items<MemberType>,
+    process: &Process,
+) -> Result<(), AcceptError> {
+    match process {
+        Process::Tool(_) => Ok(()),
+        Process::Workflow(workflow) => check_workflow(alloc, file, workflow),
+    }
+}
+
+#[cycle(levels)]
+fn check_workflow(
+    alloc: Global,
+    file: &Items<MemberType>,
+    workflow: &Workflow,
+) -> Result<(), AcceptError> {
+    check_inner(alloc, file, &workflow.steps)?;
+    check_shapes(alloc, &workflow.steps)?;
+    let scope = Scope {
+        inputs: &workflow.inputs,
+        steps: &workflow.steps,
+        file,
+    };
+    check_steps(alloc, scope)?;
+    check_outputs(alloc, scope, &workflow.outputs)?;
+    check_order(alloc, &workflow.steps)
+}
+
+#[cycle(levels)]
+fn check_inner(
+    alloc: Global,
+    file: &Items<MemberType>,
+    steps: &Entries<Step>,
+) -> Result<(), AcceptError> {
+    for entry in steps.as_slice() {
+        if let Err(error) = check_step(alloc, file, &entry.1) {
+            return Err(inside(alloc, &entry.0, error));
+        }
+    }
+    Ok(())
+}
+
+#[cycle(levels)]
+fn check_step(alloc: Global, file: &Items<MemberType>, step: &Step) -> Result<(), AcceptError> {
+    check_process(alloc, file, &step.process)
+}

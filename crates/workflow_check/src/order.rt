@@ -1,0 +1,57 @@
+//! Steps that wait for one another (K4).
+use crate::fault::{AcceptError, LinkRule, refused};
+use crate::finding::lists;
+use cwl_process::{Entries, StepInput};
+use document_links::Step;
+use plain_data::{Items, Text};
+use std::alloc::{AllocError, Global};
+
+/// Looks whether the steps can be put in an order in which each comes after those that it is linked to.
+pub(crate) fn check_order(alloc: Global, steps: &Entries<Step>) -> Result<(), AcceptError> {
+    if is_cyclic(alloc, steps)? {
+        return Err(refused(alloc, LinkRule::Cycle));
+    }
+    Ok(())
+}
+
+/// Takes out the steps that wait for none of those that are left, until none goes.
+fn is_cyclic(alloc: Global, steps: &Entries<Step>) -> Result<bool, AllocError> {
+    let mut left = Vec::new(alloc);
+    for entry in steps.as_slice() {
+        left.push(entry)?;
+    }
+    for _ in 0..steps.len() {
+        left = still_waiting(alloc, left.as_slice())?;
+    }
+    Ok(!left.is_empty())
+}
+
+fn still_waiting<'p>(
+    alloc: Global,
+    left: &[&'p (Text, Step)],
+) -> Result<Vec<&'p (Text, Step)>, AllocError> {
+    let mut kept = Vec::new(alloc);
+    for entry in left {
+        if waits(left, &entry.1.inputs) {
+            kept.push(*entry)?;
+        }
+    }
+    Ok(kept)
+}
+
+fn waits(left: &[&(Text, Step)], inputs: &Entries<StepInput>) -> bool {
+    inputs
+        .as_slice()
+        .iter()
+        .any(|entry| waits_for_source(left, &entry.1))
+}
+
+fn waits_for_source(left: &[&(Text, Step)], input: &StepInput) -> bool {
+    match &input.links.sources {
+        None => false,
+        Some(sources) => sources.as_slice().iter().any(|source| match &source.step {
+            None => false,
+            Some(id) => left.iter().any(|entry| entry.0.as_str() == id.as_str()),
+        }),
+    }
+}

@@ -1,0 +1,148 @@
+//! What processes take and give, and what the sources of a workflow lead to.
+use crate::finding::{find, has, lists};
+use cwl_process::{Entries, InputType, OutputType, Source, ToolInput, ToolOutput, WorkflowInput};
+use cwl_types::MemberType;
+use document_links::{Process, Step};
+use plain_data::{Items, Text};
+use scatter_shape::Method;
+
+/// What the sources of a workflow may name.
+#[derive(Clone, Copy, Drop)]
+pub(crate) struct Scope<'p> {
+    pub inputs: &'p Entries<WorkflowInput>,
+    pub steps: &'p Entries<Step>,
+    /// The type File.
+    pub file: &'p Items<MemberType>,
+}
+
+/// What an input of a process takes.
+#[derive(Clone, Copy, Drop)]
+pub(crate) struct Taken<'p> {
+    pub kind: &'p Items<MemberType>,
+    pub has_default: bool,
+}
+
+/// The type of what a source gives: in so many arrays one of the members, or null too.
+#[derive(Clone, Copy, Drop)]
+pub(crate) struct Given<'p> {
+    pub members: &'p Items<MemberType>,
+    pub or_null: bool,
+    pub arrays: usize,
+}
+
+pub(crate) fn tool_taken<'p>(input: &'p ToolInput, file: &'p Items<MemberType>) -> Taken<'p> {
+    Taken {
+        kind: match &input.kind {
+            InputType::Stdin => file,
+            InputType::Members(members) => members,
+        },
+        has_default: input.default.is_some(),
+    }
+}
+
+pub(crate) fn workflow_taken(input: &WorkflowInput) -> Taken<'_> {
+    Taken {
+        kind: &input.kind,
+        has_default: input.default.is_some(),
+    }
+}
+
+/// What the process takes under an id.
+pub(crate) fn input_at<'p>(
+    process: &'p Process,
+    id: &Text,
+    file: &'p Items<MemberType>,
+) -> Option<Taken<'p>> {
+    match process {
+        Process::Tool(tool) => match find(&tool.inputs, id) {
+            Some(input) => Some(tool_taken(input, file)),
+            None => None,
+        },
+        Process::Workflow(workflow) => match find(&workflow.inputs, id) {
+            Some(input) => Some(workflow_taken(input)),
+            None => None,
+        },
+    }
+}
+
+fn tool_given<'p>(output: &'p ToolOutput, file: &'p Items<MemberType>) -> &'p Items<MemberType> {
+    match &output.kind {
+        OutputType::Stdout => file,
+        OutputType::Stderr => file,
+        OutputType::Members(members) => members,
+    }
+}
+
+/// The type of what the process gives under an id.
+pub(crate) fn output_at<'p>(
+    process: &'p Process,
+    id: &Text,
+    file: &'p Items<MemberType>,
+) -> Option<&'p Items<MemberType>> {
+    match process {
+        Process::Tool(tool) => match find(&tool.outputs, id) {
+            Some(output) => Some(tool_given(output, file)),
+            None => None,
+        },
+        Process::Workflow(workflow) => match find(&workflow.outputs, id) {
+            Some(output) => Some(&output.kind),
+            None => None,
+        },
+    }
+}
+
+/// Whether the process gives something under an id.
+pub(crate) fn gives(process: &Process, id: &Text) -> bool {
+    match process {
+        Process::Tool(tool) => has(&tool.outputs, id),
+        Process::Workflow(workflow) => has(&workflow.outputs, id),
+    }
+}
+
+/// Whether the source leads to something that is there.
+pub(crate) fn is_there(scope: Scope<'_>, source: &Source) -> bool {
+    match &source.step {
+        None => has(scope.inputs, &source.name),
+        Some(id) => match find(scope.steps, id) {
+            None => false,
+            Some(step) => lists(&step.outputs, &source.name),
+        },
+    }
+}
+
+/// What the source gives, where it is there.
+pub(crate) fn source_given<'p>(scope: Scope<'p>, source: &Source) -> Option<Given<'p>> {
+    match &source.step {
+        None => match find(scope.inputs, &source.name) {
+            None => None,
+            Some(input) => Some(Given {
+                members: &input.kind,
+                or_null: false,
+                arrays: 0,
+            }),
+        },
+        Some(id) => match find(scope.steps, id) {
+            None => None,
+            Some(step) => step_given(step, &source.name, scope.file),
+        },
+    }
+}
+
+fn step_given<'p>(step: &'p Step, name: &Text, file: &'p Items<MemberType>) -> Option<Given<'p>> {
+    match output_at(&step.process, name, file) {
+        None => None,
+        Some(members) => Some(Given {
+            members,
+            or_null: step.when.is_some(),
+            arrays: arrays(step.scatter.len(), step.method),
+        }),
+    }
+}
+
+/// In how many arrays the values of a scattered step are put.
+fn arrays(scattered: usize, method: Option<Method>) -> usize {
+    match method {
+        Some(Method::NestedCrossproduct) => scattered,
+        _ => { if scattered == 0 { 0 } else { 1 } }
+    }
+}
