@@ -1,4 +1,9 @@
 //! Processes whose links are right.
+ghost use Rattle.std.specs.Prelude.{◌≡◌, None, IfOk, IfErr, OnOk};
+ghost use Rattle.workflow_check.specs.Checked.{fault_in};
+ghost use Rattle.workflow_check.specs.Faults.{IsErrorOf};
+ghost use Rattle.workflow_check.specs.Scope.{file_type};
+
 use crate::fault::AcceptError;
 use crate::levels::check_process;
 use cwl_types::{MemberType, PlainType};
@@ -17,7 +22,10 @@ pub struct Accepted {
 /// Of several faults the first is answered. Inner workflows come before the outer one. Of one workflow come, step by step, K5, K6 and
 /// K7; then, step by step for its entries and for what its process takes without an entry, and last for each output of the
 /// workflow, K1, K3 and K2; last K4.
-pub fn accept(alloc: Global, process: Process) -> Result<Accepted, AcceptError> {
+pub fn accept(alloc: Global, process: Process) -> Result<Accepted, AcceptError>
+    ensures ok { OnOk result (fault_in process ≡ None) }
+    ensures err { IfErr result (IsErrorOf (fault_in process)) }
+{
     let file = file_type(alloc)?;
     match check_process(alloc, &file, &process) {
         Ok(()) => Ok(Accepted { process }),
@@ -26,7 +34,9 @@ pub fn accept(alloc: Global, process: Process) -> Result<Accepted, AcceptError> 
 }
 
 /// The type File.
-fn file_type(alloc: Global) -> Result<Items<MemberType>, AllocError> {
+fn file_type(alloc: Global) -> Result<Items<MemberType>, AllocError>
+    ensures { IfOk result (λ file. file ≡ file_type) }
+{
     let mut members = Items::new(alloc);
     members.push(MemberType::Plain(PlainType::File))?;
     Ok(members)

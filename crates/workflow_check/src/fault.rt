@@ -1,5 +1,7 @@
 //! Why a process is not accepted.
-ghost use Rattle.std.specs.Prelude.{◌≡◌};
+ghost use Rattle.std.specs.Prelude.{◌≡◌, IfOk};
+ghost use Rattle.workflow_check.specs.Codes.{code_of};
+ghost use Rattle.workflow_check.specs.Faults.{IsErrorOf, IsInside, itself, put_first};
 ghost use Rattle.workflow_check.specs.declared.fault.AcceptError.TheVariants.{OutOfMemory};
 
 use plain_data::{Items, Text};
@@ -44,7 +46,9 @@ pub enum AcceptError {
 
 impl LinkCheckFault {
     /// The fault's short name, K1 to K7.
-    pub fn code(&self) -> &'static str {
+    pub fn code(&self) -> &'static str
+        ensures { result.now ≡ code_of self.now.rule }
+    {
         match self.rule {
             LinkRule::NoSource => "K1",
             LinkRule::Disjoint => "K2",
@@ -94,7 +98,9 @@ impl From<AllocError> for AcceptError {
 }
 
 /// A fault of what is looked at itself.
-pub(crate) fn refused(alloc: Global, rule: LinkRule) -> AcceptError {
+pub(crate) fn refused(alloc: Global, rule: LinkRule) -> AcceptError
+    ensures { IsErrorOf (itself rule) result }
+{
     AcceptError::Refused(LinkCheckFault {
         rule,
         place: Items::new(alloc),
@@ -102,7 +108,9 @@ pub(crate) fn refused(alloc: Global, rule: LinkRule) -> AcceptError {
 }
 
 /// The fault of what is inside the step, input or output of that id.
-pub(crate) fn inside(alloc: Global, id: &Text, error: AcceptError) -> AcceptError {
+pub(crate) fn inside(alloc: Global, id: &Text, error: AcceptError) -> AcceptError
+    ensures { IsInside id.now error result }
+{
     match error {
         AcceptError::OutOfMemory => AcceptError::OutOfMemory,
         AcceptError::Refused(fault) => match put_first(alloc, id, fault) {
@@ -112,11 +120,9 @@ pub(crate) fn inside(alloc: Global, id: &Text, error: AcceptError) -> AcceptErro
     }
 }
 
-fn put_first(
-    alloc: Global,
-    id: &Text,
-    fault: LinkCheckFault,
-) -> Result<LinkCheckFault, AllocError> {
+fn put_first(alloc: Global, id: &Text, fault: LinkCheckFault) -> Result<LinkCheckFault, AllocError>
+    ensures { IfOk result (λ put. put ≡ put_first id.now fault) }
+{
     let LinkCheckFault { rule, place } = fault;
     let first = id.copied(alloc)?;
     let mut ids = place.into_vec();

@@ -1,4 +1,9 @@
 //! Whole processes: inner workflows before the outer one.
+ghost use Rattle.std.specs.Prelude.{◌≡◌, None, OnOk, IfErr};
+ghost use Rattle.workflow_check.specs.Checked.{fault_in, fault_of_step, fault_of_workflow};
+ghost use Rattle.workflow_check.specs.Faults.{IsErrorOf, first_of, inside};
+ghost use Rattle.workflow_check.specs.Scope.{file_type};
+
 use crate::fault::{AcceptError, inside};
 use crate::linking::{check_outputs, check_steps};
 use crate::order::check_order;
@@ -16,7 +21,11 @@ pub(crate) fn check_process(
     alloc: Global,
     file: &Items<MemberType>,
     process: &Process,
-) -> Result<(), AcceptError> {
+) -> Result<(), AcceptError>
+    requires { file.now ≡ file_type }
+    ensures ok { OnOk result (fault_in process.now ≡ None) }
+    ensures err { IfErr result (IsErrorOf (fault_in process.now)) }
+{
     match process {
         Process::Tool(_) => Ok(()),
         Process::Workflow(workflow) => check_workflow(alloc, file, workflow),
@@ -28,7 +37,11 @@ fn check_workflow(
     alloc: Global,
     file: &Items<MemberType>,
     workflow: &Workflow,
-) -> Result<(), AcceptError> {
+) -> Result<(), AcceptError>
+    requires { file.now ≡ file_type }
+    ensures ok { OnOk result (fault_of_workflow workflow.now ≡ None) }
+    ensures err { IfErr result (IsErrorOf (fault_of_workflow workflow.now)) }
+{
     check_inner(alloc, file, &workflow.steps)?;
     check_shapes(alloc, &workflow.steps)?;
     let scope = Scope {
@@ -46,7 +59,11 @@ fn check_inner(
     alloc: Global,
     file: &Items<MemberType>,
     steps: &Entries<Step>,
-) -> Result<(), AcceptError> {
+) -> Result<(), AcceptError>
+    requires { file.now ≡ file_type }
+    ensures ok { OnOk result (first_of (λ e. inside e.0 (fault_of_step e.1)) steps.now ≡ None) }
+    ensures err { IfErr result (IsErrorOf (first_of (λ e. inside e.0 (fault_of_step e.1)) steps.now)) }
+{
     for entry in steps.as_slice() {
         if let Err(error) = check_step(alloc, file, &entry.1) {
             return Err(inside(alloc, &entry.0, error));
@@ -56,6 +73,10 @@ fn check_inner(
 }
 
 #[cycle(levels)]
-fn check_step(alloc: Global, file: &Items<MemberType>, step: &Step) -> Result<(), AcceptError> {
+fn check_step(alloc: Global, file: &Items<MemberType>, step: &Step) -> Result<(), AcceptError>
+    requires { file.now ≡ file_type }
+    ensures ok { OnOk result (fault_of_step step.now ≡ None) }
+    ensures err { IfErr result (IsErrorOf (fault_of_step step.now)) }
+{
     check_process(alloc, file, &step.process)
 }

@@ -1,4 +1,9 @@
 //! Steps that wait for one another (K4).
+ghost use Rattle.std.specs.Prelude.{◌≡◌, None, OnOk, IfOk, IfErr, map};
+ghost use Rattle.workflow_check.specs.Faults.{IsErrorOf};
+ghost use Rattle.workflow_check.specs.Order.{is_cyclic, order_fault, some_lead, still_waiting, waits_on};
+ghost use Rattle.workflow_check.specs.inner.Seen.{lent};
+
 use crate::fault::{AcceptError, LinkRule, refused};
 use crate::finding::lists;
 use cwl_process::{Entries, StepInput};
@@ -7,7 +12,10 @@ use plain_data::{Items, Text};
 use std::alloc::{AllocError, Global};
 
 /// Looks whether the steps can be put in an order in which each comes after those that it is linked to.
-pub(crate) fn check_order(alloc: Global, steps: &Entries<Step>) -> Result<(), AcceptError> {
+pub(crate) fn check_order(alloc: Global, steps: &Entries<Step>) -> Result<(), AcceptError>
+    ensures ok { OnOk result (order_fault steps.now ≡ None) }
+    ensures err { IfErr result (IsErrorOf (order_fault steps.now)) }
+{
     if is_cyclic(alloc, steps)? {
         return Err(refused(alloc, LinkRule::Cycle));
     }
@@ -15,7 +23,9 @@ pub(crate) fn check_order(alloc: Global, steps: &Entries<Step>) -> Result<(), Ac
 }
 
 /// Takes out the steps that wait for none of those that are left, until none goes.
-fn is_cyclic(alloc: Global, steps: &Entries<Step>) -> Result<bool, AllocError> {
+fn is_cyclic(alloc: Global, steps: &Entries<Step>) -> Result<bool, AllocError>
+    ensures { IfOk result (λ cyclic. cyclic ≡ is_cyclic steps.now) }
+{
     let mut left = Vec::new(alloc);
     for entry in steps.as_slice() {
         left.push(entry)?;
@@ -29,7 +39,9 @@ fn is_cyclic(alloc: Global, steps: &Entries<Step>) -> Result<bool, AllocError> {
 fn still_waiting<'p>(
     alloc: Global,
     left: &[&'p (Text, Step)],
-) -> Result<Vec<&'p (Text, Step)>, AllocError> {
+) -> Result<Vec<&'p (Text, Step)>, AllocError>
+    ensures { IfOk result (λ kept. map lent kept.items ≡ still_waiting (map lent left.now)) }
+{
     let mut kept = Vec::new(alloc);
     for entry in left {
         if waits(left, &entry.1.inputs) {
@@ -39,14 +51,18 @@ fn still_waiting<'p>(
     Ok(kept)
 }
 
-fn waits(left: &[&(Text, Step)], inputs: &Entries<StepInput>) -> bool {
+fn waits(left: &[&(Text, Step)], inputs: &Entries<StepInput>) -> bool
+    ensures { result ≡ waits_on (map lent left.now) inputs.now }
+{
     inputs
         .as_slice()
         .iter()
         .any(|entry| waits_for_source(left, &entry.1))
 }
 
-fn waits_for_source(left: &[&(Text, Step)], input: &StepInput) -> bool {
+fn waits_for_source(left: &[&(Text, Step)], input: &StepInput) -> bool
+    ensures { result ≡ some_lead (map lent left.now) input.now.links.sources }
+{
     match &input.links.sources {
         None => false,
         Some(sources) => sources.as_slice().iter().any(|source| match &source.step {

@@ -1,5 +1,14 @@
 //! Whether what links give may be of a type.
-use crate::scope::{Given, Scope, source_given};
+ghost use Rattle.std.specs.Prelude.{◌≡◌, [], ◌∷◌, None, map};
+ghost use Rattle.std.specs.List.{flat_map, list_any};
+ghost use Rattle.cwl_types.specs.Types.{array_of};
+ghost use Rattle.type_check.specs.Overlaps.{members_overlap, overlaps};
+ghost use Rattle.workflow_check.specs.Links.{may_carry};
+ghost use Rattle.workflow_check.specs.Scope.{file_type, gift};
+ghost use Rattle.workflow_check.specs.Types.{base, form_of, gift_type, in_arrays, kept_type, opened_type, part, part_of};
+ghost use Rattle.workflow_check.specs.inner.Seen.{around, gift_seen, sink_seen};
+
+use crate::scope::{Given, Scope, is_null, source_given};
 use cwl_process::{Links, Merge, Pick, Source};
 use cwl_types::{MemberType, PlainType};
 use plain_data::Items;
@@ -17,7 +26,9 @@ pub(crate) struct Form {
 }
 
 /// What becomes of the sources' types.
-pub(crate) fn form_of(merge: Option<Merge>, pick: Option<Pick>, is_one: bool) -> Form {
+pub(crate) fn form_of(merge: Option<Merge>, pick: Option<Pick>, is_one: bool) -> Form
+    ensures { result ≡ form_of merge pick is_one }
+{
     let flattened = matches!(merge, Some(Merge::Flattened));
     let listed = merge.is_some() || !is_one;
     match pick {
@@ -34,203 +45,235 @@ pub(crate) fn form_of(merge: Option<Merge>, pick: Option<Pick>, is_one: bool) ->
     }
 }
 
+/// What links give a value to: a type, or where it is scattered a list of it.
+#[derive(Clone, Copy, Drop)]
+pub(crate) struct Sink<'p> {
+    pub scattered: bool,
+    pub kind: &'p Items<MemberType>,
+}
+
 /// Whether what the links give may be what is asked for, where each of the sources is there.
 pub(crate) fn links_overlap(
     scope: Scope<'_>,
     links: &Links,
     sources: &[Source],
-    scattered: bool,
-    kind: &Items<MemberType>,
-) -> bool {
+    sink: Sink<'_>,
+) -> bool
+    requires { scope.file.now ≡ file_type }
+    ensures { result ≡ may_carry (around scope.entry) links.now sources.now sink.entry.scattered sink.entry.kind.now }
+{
     let form = form_of(links.merge, links.pick, sources.len() == 1);
-    if form.in_array {
-        if scattered {
-            union_overlaps(scope, sources, form, kind)
-        } else {
-            list_overlaps(scope, sources, form, kind)
-        }
-    } else if scattered {
-        union_meets_list(scope, sources, form, kind)
-    } else {
-        union_overlaps(scope, sources, form, kind)
+    if !form.in_array {
+        return union_overlaps(scope, sources, form, sink);
+    }
+    if sink.scattered {
+        let items = Sink {
+            scattered: false,
+            kind: sink.kind,
+        };
+        return union_overlaps(scope, sources, form, items);
+    }
+    list_overlaps(scope, sources, form, sink.kind)
+}
+
+/// Whether what one of the sources gives may be of the type.
+fn union_overlaps(scope: Scope<'_>, sources: &[Source], form: Form, sink: Sink<'_>) -> bool
+    requires { scope.file.now ≡ file_type }
+    ensures { result ≡ list_any (λ source. overlaps
+        (part_of form (gift scope.entry.inputs.now scope.entry.steps.now source))
+        (sink_seen sink.entry)) sources.now }
+{
+    sources
+        .iter()
+        .any(|source| source_overlaps(scope, source, form, sink))
+}
+
+fn source_overlaps(scope: Scope<'_>, source: &Source, form: Form, sink: Sink<'_>) -> bool
+    requires { scope.file.now ≡ file_type }
+    ensures { result ≡ overlaps
+        (part_of form (gift scope.entry.inputs.now scope.entry.steps.now source.now))
+        (sink_seen sink.entry) }
+{
+    match source_given(scope, source) {
+        None => false,
+        Some(given) => given_overlaps(given, form, sink),
     }
 }
 
-fn union_overlaps(
-    scope: Scope<'_>,
-    sources: &[Source],
-    form: Form,
-    kind: &Items<MemberType>,
-) -> bool {
-    for source in sources {
-        if let Some(given) = source_given(scope, source) {
-            if given_overlaps(given, form, kind) {
-                return true;
-            }
-        }
-    }
-    false
+/// Whether a list of what the sources give may be of the type.
+fn list_overlaps(scope: Scope<'_>, sources: &[Source], form: Form, kind: &Items<MemberType>) -> bool
+    requires { scope.file.now ≡ file_type }
+    ensures { result ≡ list_any (members_overlap (array_of (flat_map (part_of form)
+        (map (gift scope.entry.inputs.now scope.entry.steps.now) sources.now)) None)) kind.now }
+{
+    kind.as_slice()
+        .iter()
+        .any(|member| list_meets(scope, sources, form, member))
 }
 
-fn list_overlaps(
-    scope: Scope<'_>,
-    sources: &[Source],
-    form: Form,
-    kind: &Items<MemberType>,
-) -> bool {
-    for member in kind.as_slice() {
-        match member {
-            MemberType::Plain(PlainType::Any) => return true,
-            MemberType::Array(array) => {
-                if union_overlaps(scope, sources, form, &array.items) {
-                    return true;
-                }
-            }
-            _ => {}
+fn list_meets(scope: Scope<'_>, sources: &[Source], form: Form, member: &MemberType) -> bool
+    requires { scope.file.now ≡ file_type }
+    ensures { result ≡ members_overlap (array_of (flat_map (part_of form)
+        (map (gift scope.entry.inputs.now scope.entry.steps.now) sources.now)) None) member.now }
+{
+    match member {
+        MemberType::Plain(kind) => matches!(kind, PlainType::Any),
+        MemberType::Enum(_) => false,
+        MemberType::Array(array) => {
+            let items = Sink {
+                scattered: false,
+                kind: &array.items,
+            };
+            union_overlaps(scope, sources, form, items)
         }
     }
-    false
-}
-
-fn union_meets_list(
-    scope: Scope<'_>,
-    sources: &[Source],
-    form: Form,
-    items: &Items<MemberType>,
-) -> bool {
-    for source in sources {
-        if let Some(given) = source_given(scope, source) {
-            if given_meets_list(given, form, items) {
-                return true;
-            }
-        }
-    }
-    false
 }
 
 /// Whether what a source gives may be of the type.
-fn given_overlaps(given: Given<'_>, form: Form, kind: &Items<MemberType>) -> bool {
+fn given_overlaps(given: Given<'_>, form: Form, sink: Sink<'_>) -> bool
+    ensures { result ≡ overlaps (part form (gift_type (gift_seen given.entry)))
+        (sink_seen sink.entry) }
+{
     if given.arrays == 0 {
-        return base_overlaps(given, form.opened, form.without_null, kind);
+        return base_overlaps(given, form.opened, form.without_null, sink);
     }
     if !form.opened {
-        return arrays_overlap(given.arrays, given, kind);
+        return arrays_overlap(given.arrays, given, sink);
     }
     if given.arrays == 1 {
-        return base_overlaps(given, false, form.without_null, kind);
+        return base_overlaps(given, false, form.without_null, sink);
     }
-    arrays_overlap(given.arrays - 1, given, kind)
+    arrays_overlap(given.arrays - 1, given, sink)
 }
 
 /// Whether what is in so many arrays may be of the type.
-fn arrays_overlap(arrays: usize, given: Given<'_>, kind: &Items<MemberType>) -> bool {
+#[cycle(arrays)]
+fn arrays_overlap(arrays: usize, given: Given<'_>, sink: Sink<'_>) -> bool
+    ensures { result ≡ overlaps (in_arrays arrays (base (gift_seen given.entry)))
+        (sink_seen sink.entry) }
+{
     if arrays == 0 {
-        return base_overlaps(given, false, false, kind);
+        return base_overlaps(given, false, false, sink);
     }
+    if sink.scattered {
+        let items = Sink {
+            scattered: false,
+            kind: sink.kind,
+        };
+        return arrays_overlap(arrays - 1, given, items);
+    }
+    some_array_meets(arrays - 1, given, sink.kind)
+}
+
+#[cycle(arrays)]
+fn some_array_meets(arrays: usize, given: Given<'_>, kind: &Items<MemberType>) -> bool
+    ensures { result ≡ list_any (members_overlap
+        (array_of (in_arrays arrays (base (gift_seen given.entry))) None)) kind.now }
+{
     for member in kind.as_slice() {
-        match member {
-            MemberType::Plain(PlainType::Any) => return true,
-            MemberType::Array(array) => {
-                if arrays_overlap(arrays - 1, given, &array.items) {
-                    return true;
-                }
-            }
-            _ => {}
+        if array_meets(arrays, given, member) {
+            return true;
         }
     }
     false
+}
+
+/// Whether an array of what is in so many arrays may be of the type.
+#[cycle(arrays)]
+fn array_meets(arrays: usize, given: Given<'_>, member: &MemberType) -> bool
+    ensures { result ≡ members_overlap
+        (array_of (in_arrays arrays (base (gift_seen given.entry))) None) member.now }
+{
+    match member {
+        MemberType::Plain(kind) => matches!(kind, PlainType::Any),
+        MemberType::Enum(_) => false,
+        MemberType::Array(array) => {
+            let items = Sink {
+                scattered: false,
+                kind: &array.items,
+            };
+            arrays_overlap(arrays, given, items)
+        }
+    }
 }
 
 /// Whether what is in no array may be of the type.
-fn base_overlaps(
-    given: Given<'_>,
+fn base_overlaps(given: Given<'_>, opened: bool, without_null: bool, sink: Sink<'_>) -> bool
+    ensures { result ≡ overlaps (kept_type without_null
+        (opened_type opened (base (gift_seen given.entry)))) (sink_seen sink.entry) }
+{
+    if given.or_null {
+        let null = MemberType::Plain(PlainType::Null);
+        if part_overlaps(&null, opened, without_null, sink) {
+            return true;
+        }
+    }
+    some_part_overlaps(given.members, opened, without_null, sink)
+}
+
+fn some_part_overlaps(
+    members: &Items<MemberType>,
     opened: bool,
     without_null: bool,
-    kind: &Items<MemberType>,
-) -> bool {
-    if given.or_null && !without_null {
-        if member_overlaps(&MemberType::Plain(PlainType::Null), kind) {
-            return true;
-        }
-    }
-    for member in given.members.as_slice() {
-        if part_overlaps(member, opened, without_null, kind) {
-            return true;
-        }
-    }
-    false
+    sink: Sink<'_>,
+) -> bool
+    ensures { result ≡ list_any (λ member. overlaps (kept_type without_null
+        (opened_type opened (member ∷ []))) (sink_seen sink.entry)) members.now }
+{
+    members
+        .as_slice()
+        .iter()
+        .any(|member| part_overlaps(member, opened, without_null, sink))
 }
 
-fn part_overlaps(
-    member: &MemberType,
-    opened: bool,
-    without_null: bool,
-    kind: &Items<MemberType>,
-) -> bool {
-    match member {
-        MemberType::Array(array) => {
-            if opened {
-                some_overlap(&array.items, without_null, kind)
-            } else {
-                member_overlaps(member, kind)
-            }
-        }
-        MemberType::Plain(PlainType::Null) => !without_null && member_overlaps(member, kind),
-        _ => member_overlaps(member, kind),
-    }
-}
-
-fn some_overlap(members: &Items<MemberType>, without_null: bool, kind: &Items<MemberType>) -> bool {
-    for member in members.as_slice() {
-        if part_overlaps(member, false, without_null, kind) {
-            return true;
+fn part_overlaps(member: &MemberType, opened: bool, without_null: bool, sink: Sink<'_>) -> bool
+    ensures { result ≡ overlaps (kept_type without_null (opened_type opened (member.now ∷ [])))
+        (sink_seen sink.entry) }
+{
+    if opened {
+        if let MemberType::Array(array) = member {
+            return some_kept_overlaps(&array.items, without_null, sink);
         }
     }
-    false
+    kept_overlaps(member, without_null, sink)
 }
 
-/// Whether what a source gives may be a list of such items.
-fn given_meets_list(given: Given<'_>, form: Form, items: &Items<MemberType>) -> bool {
-    if given.arrays == 0 {
-        return base_meets_list(given.members, form.opened, items);
-    }
-    if !form.opened {
-        return arrays_overlap(given.arrays - 1, given, items);
-    }
-    if given.arrays == 1 {
-        return base_meets_list(given.members, false, items);
-    }
-    arrays_overlap(given.arrays - 2, given, items)
+fn some_kept_overlaps(members: &Items<MemberType>, without_null: bool, sink: Sink<'_>) -> bool
+    ensures { result ≡ list_any (λ member. overlaps (kept_type without_null (member ∷ []))
+        (sink_seen sink.entry)) members.now }
+{
+    members
+        .as_slice()
+        .iter()
+        .any(|member| kept_overlaps(member, without_null, sink))
 }
 
-fn base_meets_list(members: &Items<MemberType>, opened: bool, items: &Items<MemberType>) -> bool {
-    for member in members.as_slice() {
-        if part_meets_list(member, opened, items) {
-            return true;
-        }
+fn kept_overlaps(member: &MemberType, without_null: bool, sink: Sink<'_>) -> bool
+    ensures { result ≡ overlaps (kept_type without_null (member.now ∷ [])) (sink_seen sink.entry) }
+{
+    if without_null && is_null(member) {
+        return false;
     }
-    false
+    meets(member, sink)
 }
 
-fn part_meets_list(member: &MemberType, opened: bool, items: &Items<MemberType>) -> bool {
+fn meets(member: &MemberType, sink: Sink<'_>) -> bool
+    ensures { result ≡ overlaps (member.now ∷ []) (sink_seen sink.entry) }
+{
+    if sink.scattered {
+        meets_list(member, sink.kind)
+    } else {
+        member_overlaps(member, sink.kind)
+    }
+}
+
+/// Whether a member may be a list of such items.
+fn meets_list(member: &MemberType, items: &Items<MemberType>) -> bool
+    ensures { result ≡ members_overlap member.now (array_of items.now None) }
+{
     match member {
         MemberType::Plain(kind) => matches!(kind, PlainType::Any),
-        MemberType::Array(array) => {
-            if opened {
-                some_meet_list(&array.items, items)
-            } else {
-                overlaps(&array.items, items)
-            }
-        }
+        MemberType::Array(array) => overlaps(&array.items, items),
         MemberType::Enum(_) => false,
     }
-}
-
-fn some_meet_list(members: &Items<MemberType>, items: &Items<MemberType>) -> bool {
-    for member in members.as_slice() {
-        if part_meets_list(member, false, items) {
-            return true;
-        }
-    }
-    false
 }

@@ -1,7 +1,14 @@
 //! What processes take and give, and what the sources of a workflow lead to.
+ghost use Rattle.std.specs.Prelude.{◌≡◌, option_map};
+ghost use Rattle.std.specs.Option.{option_copied};
+ghost use Rattle.plain_data.specs.ByName.{value_at};
+ghost use Rattle.workflow_check.specs.Scope.{arrays_of, file_type, gift, gives, has, is_there, output_kind, step_gift, takes, tool_asked, workflow_asked};
+ghost use Rattle.workflow_check.specs.Types.{is_null};
+ghost use Rattle.workflow_check.specs.inner.Seen.{asked, gift_seen};
+
 use crate::finding::{find, has, lists};
 use cwl_process::{Entries, InputType, OutputType, Source, ToolInput, ToolOutput, WorkflowInput};
-use cwl_types::MemberType;
+use cwl_types::{MemberType, PlainType};
 use document_links::{Process, Step};
 use plain_data::{Items, Text};
 use scatter_shape::Method;
@@ -30,7 +37,10 @@ pub(crate) struct Given<'p> {
     pub arrays: usize,
 }
 
-pub(crate) fn tool_taken<'p>(input: &'p ToolInput, file: &'p Items<MemberType>) -> Taken<'p> {
+pub(crate) fn tool_taken<'p>(input: &'p ToolInput, file: &'p Items<MemberType>) -> Taken<'p>
+    requires { file.now ≡ file_type }
+    ensures { asked result ≡ tool_asked input.now }
+{
     Taken {
         kind: match &input.kind {
             InputType::Stdin => file,
@@ -40,7 +50,9 @@ pub(crate) fn tool_taken<'p>(input: &'p ToolInput, file: &'p Items<MemberType>) 
     }
 }
 
-pub(crate) fn workflow_taken(input: &WorkflowInput) -> Taken<'_> {
+pub(crate) fn workflow_taken(input: &WorkflowInput) -> Taken<'_>
+    ensures { asked result ≡ workflow_asked input.now }
+{
     Taken {
         kind: &input.kind,
         has_default: input.default.is_some(),
@@ -48,11 +60,15 @@ pub(crate) fn workflow_taken(input: &WorkflowInput) -> Taken<'_> {
 }
 
 /// What the process takes under an id.
+#[tactic(auto, using(crate::proofs::Named::value_of_map, crate::proofs::Named::has_of_map))]
 pub(crate) fn input_at<'p>(
     process: &'p Process,
     id: &Text,
     file: &'p Items<MemberType>,
-) -> Option<Taken<'p>> {
+) -> Option<Taken<'p>>
+    requires { file.now ≡ file_type }
+    ensures { option_map asked result ≡ value_at id.now (takes process.now) }
+{
     match process {
         Process::Tool(tool) => match find(&tool.inputs, id) {
             Some(input) => Some(tool_taken(input, file)),
@@ -65,7 +81,10 @@ pub(crate) fn input_at<'p>(
     }
 }
 
-fn tool_given<'p>(output: &'p ToolOutput, file: &'p Items<MemberType>) -> &'p Items<MemberType> {
+fn tool_given<'p>(output: &'p ToolOutput, file: &'p Items<MemberType>) -> &'p Items<MemberType>
+    requires { file.now ≡ file_type }
+    ensures { result.now ≡ output_kind output.now.kind }
+{
     match &output.kind {
         OutputType::Stdout => file,
         OutputType::Stderr => file,
@@ -74,11 +93,15 @@ fn tool_given<'p>(output: &'p ToolOutput, file: &'p Items<MemberType>) -> &'p It
 }
 
 /// The type of what the process gives under an id.
+#[tactic(auto, using(crate::proofs::Named::value_of_map, crate::proofs::Named::has_of_map))]
 pub(crate) fn output_at<'p>(
     process: &'p Process,
     id: &Text,
     file: &'p Items<MemberType>,
-) -> Option<&'p Items<MemberType>> {
+) -> Option<&'p Items<MemberType>>
+    requires { file.now ≡ file_type }
+    ensures { option_copied result ≡ value_at id.now (gives process.now) }
+{
     match process {
         Process::Tool(tool) => match find(&tool.outputs, id) {
             Some(output) => Some(tool_given(output, file)),
@@ -92,7 +115,10 @@ pub(crate) fn output_at<'p>(
 }
 
 /// Whether the process gives something under an id.
-pub(crate) fn gives(process: &Process, id: &Text) -> bool {
+#[tactic(auto, using(crate::proofs::Named::value_of_map, crate::proofs::Named::has_of_map))]
+pub(crate) fn gives(process: &Process, id: &Text) -> bool
+    ensures { result ≡ has id.now (gives process.now) }
+{
     match process {
         Process::Tool(tool) => has(&tool.outputs, id),
         Process::Workflow(workflow) => has(&workflow.outputs, id),
@@ -100,7 +126,10 @@ pub(crate) fn gives(process: &Process, id: &Text) -> bool {
 }
 
 /// Whether the source leads to something that is there.
-pub(crate) fn is_there(scope: Scope<'_>, source: &Source) -> bool {
+#[tactic(auto, using(crate::proofs::Named::value_of_map, crate::proofs::Named::has_of_map))]
+pub(crate) fn is_there(scope: Scope<'_>, source: &Source) -> bool
+    ensures { result ≡ is_there scope.entry.inputs.now scope.entry.steps.now source.now }
+{
     match &source.step {
         None => has(scope.inputs, &source.name),
         Some(id) => match find(scope.steps, id) {
@@ -111,7 +140,11 @@ pub(crate) fn is_there(scope: Scope<'_>, source: &Source) -> bool {
 }
 
 /// What the source gives, where it is there.
-pub(crate) fn source_given<'p>(scope: Scope<'p>, source: &Source) -> Option<Given<'p>> {
+#[tactic(auto, using(crate::proofs::Named::value_of_map, crate::proofs::Named::has_of_map))]
+pub(crate) fn source_given<'p>(scope: Scope<'p>, source: &Source) -> Option<Given<'p>>
+    requires { scope.file.now ≡ file_type }
+    ensures { option_map gift_seen result ≡ gift scope.entry.inputs.now scope.entry.steps.now source.now }
+{
     match &source.step {
         None => match find(scope.inputs, &source.name) {
             None => None,
@@ -128,7 +161,10 @@ pub(crate) fn source_given<'p>(scope: Scope<'p>, source: &Source) -> Option<Give
     }
 }
 
-fn step_given<'p>(step: &'p Step, name: &Text, file: &'p Items<MemberType>) -> Option<Given<'p>> {
+fn step_given<'p>(step: &'p Step, name: &Text, file: &'p Items<MemberType>) -> Option<Given<'p>>
+    requires { file.now ≡ file_type }
+    ensures { option_map gift_seen result ≡ step_gift name.now step.now }
+{
     match output_at(&step.process, name, file) {
         None => None,
         Some(members) => Some(Given {
@@ -140,9 +176,18 @@ fn step_given<'p>(step: &'p Step, name: &Text, file: &'p Items<MemberType>) -> O
 }
 
 /// In how many arrays the values of a scattered step are put.
-fn arrays(scattered: usize, method: Option<Method>) -> usize {
+fn arrays(scattered: usize, method: Option<Method>) -> usize
+    ensures { result ≡ arrays_of scattered method }
+{
     match method {
         Some(Method::NestedCrossproduct) => scattered,
         _ => { if scattered == 0 { 0 } else { 1 } }
     }
+}
+
+/// Whether a member is null alone.
+pub(crate) fn is_null(member: &MemberType) -> bool
+    ensures { result ≡ is_null member.now }
+{
+    matches!(member, MemberType::Plain(PlainType::Null))
 }
