@@ -1,2 +1,7 @@
+pub mod Carried
 pub mod Named
+pub mod Nested
+pub mod Overlap
 pub mod Rounds
+pub mod Variants
+pub mod Waiting

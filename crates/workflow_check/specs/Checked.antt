@@ -46,3 +46,6 @@ fault_of_workflow = para-Workflow Found Found Found process_step step_step workf
 
 abbrev pub fault_of_step : Step → Found
 fault_of_step = para-Step Found Found Found process_step step_step workflow_step
+
+abbrev pub fault_in_step : List ℕ × Step → Found
+fault_in_step e = inside e.0 (fault_of_step e.1)

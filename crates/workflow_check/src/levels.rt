@@ -1,7 +1,8 @@
 //! Whole processes: inner workflows before the outer one.
 ghost use Rattle.std.specs.Prelude.{◌≡◌, None, OnOk, IfErr};
-ghost use Rattle.workflow_check.specs.Checked.{fault_in, fault_of_step, fault_of_workflow};
-ghost use Rattle.workflow_check.specs.Faults.{IsErrorOf, first_of, inside};
+ghost use Rattle.document_links.specs.declared.process.Workflow.{out-Workflow};
+ghost use Rattle.workflow_check.specs.Checked.{fault_in, fault_in_step, fault_of_step, fault_of_workflow};
+ghost use Rattle.workflow_check.specs.Faults.{IsErrorOf, first_of};
 ghost use Rattle.workflow_check.specs.Scope.{file_type};
 
 use crate::fault::{AcceptError, inside};
@@ -9,7 +10,6 @@ use crate::linking::{check_outputs, check_steps};
 use crate::order::check_order;
 use crate::scope::Scope;
 use crate::shapes::check_shapes;
-use cwl_process::Entries;
 use cwl_types::MemberType;
 use document_links::{Process, Step, Workflow};
 use plain_data::Items;
@@ -42,7 +42,7 @@ fn check_workflow(
     ensures ok { OnOk result (fault_of_workflow workflow.now ≡ None) }
     ensures err { IfErr result (IsErrorOf (fault_of_workflow workflow.now)) }
 {
-    check_inner(alloc, file, &workflow.steps)?;
+    check_inner(alloc, file, workflow)?;
     check_shapes(alloc, &workflow.steps)?;
     let scope = Scope {
         inputs: &workflow.inputs,
@@ -58,13 +58,13 @@ fn check_workflow(
 fn check_inner(
     alloc: Global,
     file: &Items<MemberType>,
-    steps: &Entries<Step>,
+    workflow: &Workflow,
 ) -> Result<(), AcceptError>
     requires { file.now ≡ file_type }
-    ensures ok { OnOk result (first_of (λ e. inside e.0 (fault_of_step e.1)) steps.now ≡ None) }
-    ensures err { IfErr result (IsErrorOf (first_of (λ e. inside e.0 (fault_of_step e.1)) steps.now)) }
+    ensures ok { OnOk result (first_of fault_in_step (out-Workflow workflow.now).steps ≡ None) }
+    ensures err { IfErr result (IsErrorOf (first_of fault_in_step (out-Workflow workflow.now).steps)) }
 {
-    for entry in steps.as_slice() {
+    for entry in workflow.steps.as_slice() {
         if let Err(error) = check_step(alloc, file, &entry.1) {
             return Err(inside(alloc, &entry.0, error));
         }

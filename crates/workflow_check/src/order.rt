@@ -1,12 +1,13 @@
 //! Steps that wait for one another (K4).
 ghost use Rattle.std.specs.Prelude.{◌≡◌, None, OnOk, IfOk, IfErr, map};
+ghost use Rattle.std.specs.List.{list_any};
 ghost use Rattle.workflow_check.specs.Faults.{IsErrorOf};
-ghost use Rattle.workflow_check.specs.Order.{is_cyclic, order_fault, some_lead, still_waiting, waits_on};
+ghost use Rattle.workflow_check.specs.Order.{is_cyclic, is_of, leads_to, order_fault, some_lead, still_waiting, waits_on};
 ghost use Rattle.workflow_check.specs.inner.Seen.{lent};
 
 use crate::fault::{AcceptError, LinkRule, refused};
 use crate::finding::lists;
-use cwl_process::{Entries, StepInput};
+use cwl_process::{Entries, Source, StepInput};
 use document_links::Step;
 use plain_data::{Items, Text};
 use std::alloc::{AllocError, Global};
@@ -30,7 +31,7 @@ fn is_cyclic(alloc: Global, steps: &Entries<Step>) -> Result<bool, AllocError>
     for entry in steps.as_slice() {
         left.push(entry)?;
     }
-    for _ in 0..steps.len() {
+    'rounds: for round in 0..steps.len() {
         left = still_waiting(alloc, left.as_slice())?;
     }
     Ok(!left.is_empty())
@@ -65,9 +66,33 @@ fn waits_for_source(left: &[&(Text, Step)], input: &StepInput) -> bool
 {
     match &input.links.sources {
         None => false,
-        Some(sources) => sources.as_slice().iter().any(|source| match &source.step {
-            None => false,
-            Some(id) => left.iter().any(|entry| entry.0.as_str() == id.as_str()),
-        }),
+        Some(sources) => some_leads(left, sources.as_slice()),
     }
+}
+
+fn some_leads(left: &[&(Text, Step)], sources: &[Source]) -> bool
+    ensures { result ≡ list_any (λ source. leads_to (map lent left.now) source.step) sources.now }
+{
+    sources.iter().any(|source| leads(left, source))
+}
+
+fn leads(left: &[&(Text, Step)], source: &Source) -> bool
+    ensures { result ≡ leads_to (map lent left.now) source.now.step }
+{
+    match &source.step {
+        None => false,
+        Some(id) => is_one(left, id),
+    }
+}
+
+/// Whether one of the steps has that id.
+fn is_one(left: &[&(Text, Step)], id: &Text) -> bool
+    ensures { result ≡ is_of (map lent left.now) id.now }
+{
+    for entry in left {
+        if entry.0.as_str() == id.as_str() {
+            return true;
+        }
+    }
+    false
 }

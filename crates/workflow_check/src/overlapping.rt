@@ -2,7 +2,9 @@
 ghost use Rattle.std.specs.Prelude.{◌≡◌, [], ◌∷◌, None, map};
 ghost use Rattle.std.specs.List.{flat_map, list_any};
 ghost use Rattle.cwl_types.specs.Types.{array_of};
-ghost use Rattle.type_check.specs.Overlaps.{members_overlap, overlaps};
+ghost use Rattle.cwl_types.specs.declared.types.MemberType.TheVariants.{Plain};
+ghost use Rattle.cwl_types.specs.declared.types.PlainType.TheVariants.{Null};
+ghost use Rattle.type_check.specs.Overlaps.{has_lists, members_overlap, overlaps};
 ghost use Rattle.workflow_check.specs.Links.{may_carry};
 ghost use Rattle.workflow_check.specs.Scope.{file_type, gift};
 ghost use Rattle.workflow_check.specs.Types.{base, form_of, gift_type, in_arrays, kept_type, opened_type, part, part_of};
@@ -63,17 +65,17 @@ pub(crate) fn links_overlap(
     ensures { result ≡ may_carry (around scope.entry) links.now sources.now sink.entry.scattered sink.entry.kind.now }
 {
     let form = form_of(links.merge, links.pick, sources.len() == 1);
-    if !form.in_array {
-        return union_overlaps(scope, sources, form, sink);
+    if form.in_array {
+        if sink.scattered {
+            let items = Sink {
+                scattered: false,
+                kind: sink.kind,
+            };
+            return union_overlaps(scope, sources, form, items);
+        }
+        return list_overlaps(scope, sources, form, sink.kind);
     }
-    if sink.scattered {
-        let items = Sink {
-            scattered: false,
-            kind: sink.kind,
-        };
-        return union_overlaps(scope, sources, form, items);
-    }
-    list_overlaps(scope, sources, form, sink.kind)
+    union_overlaps(scope, sources, form, sink)
 }
 
 /// Whether what one of the sources gives may be of the type.
@@ -117,7 +119,7 @@ fn list_meets(scope: Scope<'_>, sources: &[Source], form: Form, member: &MemberT
         (map (gift scope.entry.inputs.now scope.entry.steps.now) sources.now)) None) member.now }
 {
     match member {
-        MemberType::Plain(kind) => matches!(kind, PlainType::Any),
+        MemberType::Plain(kind) => is_any(*kind),
         MemberType::Enum(_) => false,
         MemberType::Array(array) => {
             let items = Sink {
@@ -137,13 +139,13 @@ fn given_overlaps(given: Given<'_>, form: Form, sink: Sink<'_>) -> bool
     if given.arrays == 0 {
         return base_overlaps(given, form.opened, form.without_null, sink);
     }
-    if !form.opened {
-        return arrays_overlap(given.arrays, given, sink);
+    if form.opened {
+        if given.arrays == 1 {
+            return base_overlaps(given, false, form.without_null, sink);
+        }
+        return arrays_overlap(given.arrays - 1, given, sink);
     }
-    if given.arrays == 1 {
-        return base_overlaps(given, false, form.without_null, sink);
-    }
-    arrays_overlap(given.arrays - 1, given, sink)
+    arrays_overlap(given.arrays, given, sink)
 }
 
 /// Whether what is in so many arrays may be of the type.
@@ -185,7 +187,7 @@ fn array_meets(arrays: usize, given: Given<'_>, member: &MemberType) -> bool
         (array_of (in_arrays arrays (base (gift_seen given.entry))) None) member.now }
 {
     match member {
-        MemberType::Plain(kind) => matches!(kind, PlainType::Any),
+        MemberType::Plain(kind) => is_any(*kind),
         MemberType::Enum(_) => false,
         MemberType::Array(array) => {
             let items = Sink {
@@ -203,12 +205,20 @@ fn base_overlaps(given: Given<'_>, opened: bool, without_null: bool, sink: Sink<
         (opened_type opened (base (gift_seen given.entry)))) (sink_seen sink.entry) }
 {
     if given.or_null {
-        let null = MemberType::Plain(PlainType::Null);
-        if part_overlaps(&null, opened, without_null, sink) {
+        if null_overlaps(opened, without_null, sink) {
             return true;
         }
+        return some_part_overlaps(given.members, opened, without_null, sink);
     }
     some_part_overlaps(given.members, opened, without_null, sink)
+}
+
+fn null_overlaps(opened: bool, without_null: bool, sink: Sink<'_>) -> bool
+    ensures { result ≡ overlaps (kept_type without_null (opened_type opened (Plain Null ∷ [])))
+        (sink_seen sink.entry) }
+{
+    let null = MemberType::Plain(PlainType::Null);
+    part_overlaps(&null, opened, without_null, sink)
 }
 
 fn some_part_overlaps(
@@ -231,9 +241,11 @@ fn part_overlaps(member: &MemberType, opened: bool, without_null: bool, sink: Si
         (sink_seen sink.entry) }
 {
     if opened {
-        if let MemberType::Array(array) = member {
-            return some_kept_overlaps(&array.items, without_null, sink);
-        }
+        return match member {
+            MemberType::Array(array) => some_kept_overlaps(&array.items, without_null, sink),
+            MemberType::Plain(_) => kept_overlaps(member, without_null, sink),
+            MemberType::Enum(_) => kept_overlaps(member, without_null, sink),
+        };
     }
     kept_overlaps(member, without_null, sink)
 }
@@ -272,8 +284,15 @@ fn meets_list(member: &MemberType, items: &Items<MemberType>) -> bool
     ensures { result ≡ members_overlap member.now (array_of items.now None) }
 {
     match member {
-        MemberType::Plain(kind) => matches!(kind, PlainType::Any),
+        MemberType::Plain(kind) => is_any(*kind),
         MemberType::Array(array) => overlaps(&array.items, items),
         MemberType::Enum(_) => false,
     }
+}
+
+/// Whether a type by its name has lists.
+fn is_any(kind: PlainType) -> bool
+    ensures { result ≡ has_lists kind }
+{
+    matches!(kind, PlainType::Any)
 }

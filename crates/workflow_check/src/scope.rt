@@ -60,7 +60,6 @@ pub(crate) fn workflow_taken(input: &WorkflowInput) -> Taken<'_>
 }
 
 /// What the process takes under an id.
-#[tactic(auto, using(crate::proofs::Named::value_of_map, crate::proofs::Named::has_of_map))]
 pub(crate) fn input_at<'p>(
     process: &'p Process,
     id: &Text,
@@ -93,7 +92,6 @@ fn tool_given<'p>(output: &'p ToolOutput, file: &'p Items<MemberType>) -> &'p It
 }
 
 /// The type of what the process gives under an id.
-#[tactic(auto, using(crate::proofs::Named::value_of_map, crate::proofs::Named::has_of_map))]
 pub(crate) fn output_at<'p>(
     process: &'p Process,
     id: &Text,
@@ -115,7 +113,6 @@ pub(crate) fn output_at<'p>(
 }
 
 /// Whether the process gives something under an id.
-#[tactic(auto, using(crate::proofs::Named::value_of_map, crate::proofs::Named::has_of_map))]
 pub(crate) fn gives(process: &Process, id: &Text) -> bool
     ensures { result ≡ has id.now (gives process.now) }
 {
@@ -126,7 +123,6 @@ pub(crate) fn gives(process: &Process, id: &Text) -> bool
 }
 
 /// Whether the source leads to something that is there.
-#[tactic(auto, using(crate::proofs::Named::value_of_map, crate::proofs::Named::has_of_map))]
 pub(crate) fn is_there(scope: Scope<'_>, source: &Source) -> bool
     ensures { result ≡ is_there scope.entry.inputs.now scope.entry.steps.now source.now }
 {
@@ -140,7 +136,6 @@ pub(crate) fn is_there(scope: Scope<'_>, source: &Source) -> bool
 }
 
 /// What the source gives, where it is there.
-#[tactic(auto, using(crate::proofs::Named::value_of_map, crate::proofs::Named::has_of_map))]
 pub(crate) fn source_given<'p>(scope: Scope<'p>, source: &Source) -> Option<Given<'p>>
     requires { scope.file.now ≡ file_type }
     ensures { option_map gift_seen result ≡ gift scope.entry.inputs.now scope.entry.steps.now source.now }
