@@ -27,7 +27,7 @@ pub fn accept(alloc: Global, process: Process) -> Result<Accepted, AcceptError>
     ensures err { IfErr result (IsErrorOf (fault_in process)) }
 {
     let file = file_type(alloc)?;
-    match check_process(alloc, &file, &process) {
+    match check_process(alloc, &process, &file) {
         Ok(()) => Ok(Accepted { process }),
         Err(error) => Err(error),
     }

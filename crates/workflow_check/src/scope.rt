@@ -1,13 +1,15 @@
 //! What processes take and give, and what the sources of a workflow lead to.
 ghost use Rattle.std.specs.Prelude.{◌≡◌, option_map};
 ghost use Rattle.std.specs.Option.{option_copied};
-ghost use Rattle.plain_data.specs.ByName.{value_at};
+ghost use Rattle.plain_data.specs.ByName.{map_values, value_at};
 ghost use Rattle.workflow_check.specs.Scope.{arrays_of, file_type, gift, gives, has, is_there, output_kind, step_gift, takes, tool_asked, workflow_asked};
 ghost use Rattle.workflow_check.specs.Types.{is_null};
 ghost use Rattle.workflow_check.specs.inner.Seen.{asked, gift_seen};
 
 use crate::finding::{find, has, lists};
-use cwl_process::{Entries, InputType, OutputType, Source, ToolInput, ToolOutput, WorkflowInput};
+use cwl_process::{
+    Entries, InputType, OutputType, Source, ToolInput, ToolOutput, WorkflowInput, WorkflowOutput,
+};
 use cwl_types::{MemberType, PlainType};
 use document_links::{Process, Step};
 use plain_data::{Items, Text};
@@ -69,14 +71,31 @@ pub(crate) fn input_at<'p>(
     ensures { option_map asked result ≡ value_at id.now (takes process.now) }
 {
     match process {
-        Process::Tool(tool) => match find(&tool.inputs, id) {
-            Some(input) => Some(tool_taken(input, file)),
-            None => None,
-        },
-        Process::Workflow(workflow) => match find(&workflow.inputs, id) {
-            Some(input) => Some(workflow_taken(input)),
-            None => None,
-        },
+        Process::Tool(tool) => tool_input_at(&tool.inputs, id, file),
+        Process::Workflow(workflow) => workflow_input_at(&workflow.inputs, id),
+    }
+}
+
+fn tool_input_at<'p>(
+    inputs: &'p Entries<ToolInput>,
+    id: &Text,
+    file: &'p Items<MemberType>,
+) -> Option<Taken<'p>>
+    requires { file.now ≡ file_type }
+    ensures { option_map asked result ≡ value_at id.now (map_values tool_asked inputs.now) }
+{
+    match find(inputs, id) {
+        Some(input) => Some(tool_taken(input, file)),
+        None => None,
+    }
+}
+
+fn workflow_input_at<'p>(inputs: &'p Entries<WorkflowInput>, id: &Text) -> Option<Taken<'p>>
+    ensures { option_map asked result ≡ value_at id.now (map_values workflow_asked inputs.now) }
+{
+    match find(inputs, id) {
+        Some(input) => Some(workflow_taken(input)),
+        None => None,
     }
 }
 
@@ -92,7 +111,7 @@ fn tool_given<'p>(output: &'p ToolOutput, file: &'p Items<MemberType>) -> &'p It
 }
 
 /// The type of what the process gives under an id.
-pub(crate) fn output_at<'p>(
+fn output_at<'p>(
     process: &'p Process,
     id: &Text,
     file: &'p Items<MemberType>,
@@ -101,15 +120,42 @@ pub(crate) fn output_at<'p>(
     ensures { option_copied result ≡ value_at id.now (gives process.now) }
 {
     match process {
-        Process::Tool(tool) => match find(&tool.outputs, id) {
-            Some(output) => Some(tool_given(output, file)),
-            None => None,
-        },
-        Process::Workflow(workflow) => match find(&workflow.outputs, id) {
-            Some(output) => Some(&output.kind),
-            None => None,
-        },
+        Process::Tool(tool) => tool_output_at(&tool.outputs, id, file),
+        Process::Workflow(workflow) => workflow_output_at(&workflow.outputs, id),
     }
+}
+
+fn tool_output_at<'p>(
+    outputs: &'p Entries<ToolOutput>,
+    id: &Text,
+    file: &'p Items<MemberType>,
+) -> Option<&'p Items<MemberType>>
+    requires { file.now ≡ file_type }
+    ensures { option_copied result
+        ≡ value_at id.now (map_values (λ o. output_kind o.kind) outputs.now) }
+{
+    match find(outputs, id) {
+        Some(output) => Some(tool_given(output, file)),
+        None => None,
+    }
+}
+
+fn workflow_output_at<'p>(
+    outputs: &'p Entries<WorkflowOutput>,
+    id: &Text,
+) -> Option<&'p Items<MemberType>>
+    ensures { option_copied result ≡ value_at id.now (map_values (λ o. o.kind) outputs.now) }
+{
+    match find(outputs, id) {
+        Some(output) => Some(workflow_given(output)),
+        None => None,
+    }
+}
+
+fn workflow_given(output: &WorkflowOutput) -> &Items<MemberType>
+    ensures { result.now ≡ output.now.kind }
+{
+    &output.kind
 }
 
 /// Whether the process gives something under an id.
