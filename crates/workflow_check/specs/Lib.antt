@@ -5,5 +5,6 @@ pub mod Links
 pub mod Order
 pub mod Scope
 pub mod Shapes
+pub mod Sound
 pub mod Types
 pub mod inner

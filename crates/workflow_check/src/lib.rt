@@ -7,6 +7,7 @@
 mod accepted;
 mod fault;
 mod finding;
+mod laws;
 mod levels;
 mod linking;
 mod order;
@@ -16,3 +17,4 @@ mod shapes;
 
 pub use accepted::{Accepted, accept};
 pub use fault::{AcceptError, LinkCheckFault, LinkRule};
+pub use laws::steps_have_an_order;
