@@ -1,4 +1,5 @@
 pub mod Carried
+pub mod Facts
 pub mod Named
 pub mod Nested
 pub mod Ordered

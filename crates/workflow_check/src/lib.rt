@@ -17,4 +17,4 @@ mod shapes;
 
 pub use accepted::{Accepted, accept};
 pub use fault::{AcceptError, LinkCheckFault, LinkRule};
-pub use laws::steps_have_an_order;
+pub use laws::{accepted_workflows_are_sound, steps_have_an_order};
