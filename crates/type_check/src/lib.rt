@@ -10,4 +10,4 @@ mod fitting;
 mod overlapping;
 
 pub use fitting::{fits, fits_member};
-pub use overlapping::overlaps;
+pub use overlapping::{member_overlaps, overlaps};

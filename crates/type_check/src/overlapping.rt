@@ -16,16 +16,16 @@ pub fn overlaps(members: &Items<MemberType>, others: &Items<MemberType>) -> bool
     ensures { result ≡ overlaps_of members.now others.now }
 {
     for member in members.as_slice() {
-        if meets_one(member, others) {
+        if member_overlaps(member, others) {
             return true;
         }
     }
     false
 }
 
-/// Whether a member overlaps one of the others.
+/// Says whether a member of a type overlaps one of the others. Takes no memory.
 #[cycle(overlapping)]
-fn meets_one(member: &MemberType, others: &Items<MemberType>) -> bool
+pub fn member_overlaps(member: &MemberType, others: &Items<MemberType>) -> bool
     ensures { result ≡ list_any (members_overlap member.now) others.now }
 {
     for other in others.as_slice() {

@@ -1,0 +1,10 @@
+pub mod Checked
+pub mod Codes
+pub mod Faults
+pub mod Links
+pub mod Order
+pub mod Scope
+pub mod Shapes
+pub mod Sound
+pub mod Types
+pub mod inner

@@ -1,0 +1,20 @@
+//! Whole workflows that may be run: each link leads to something that is there and may carry a value, and no step waits for itself.
+//!
+//! `accept` takes a process exactly where nothing is wrong with its links, and else says what is wrong first (`specs/Checked.antt`).
+//! An `Accepted` is such a process.
+#![tactic(auto)]
+
+mod accepted;
+mod fault;
+mod finding;
+mod laws;
+mod levels;
+mod linking;
+mod order;
+mod overlapping;
+mod scope;
+mod shapes;
+
+pub use accepted::{Accepted, accept};
+pub use fault::{AcceptError, LinkCheckFault, LinkRule};
+pub use laws::{accepted_workflows_are_sound, steps_have_an_order};
