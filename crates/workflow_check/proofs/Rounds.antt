@@ -1,6 +1,6 @@
 -- One round of a loop that goes down a list: with a test of each element, or up to the first fault.
-use Rattle.std.proofs.Common.{◌≡◌, ◌∙◌, ℕ, ◌+◌, ◌<◌, ◌≤◌, Bool, true, false, List, [], ◌∷◌, length, drop, sym, ap, subst, refl}
-use Rattle.std.specs.Prelude.{◌||◌, Option, Some, None}
+use Rattle.std.proofs.Common.{◌≡◌, ◌∙◌, ℕ, ◌+◌, ◌≤◌, Bool, true, false, List, [], ◌∷◌, length, drop, sym, ap, subst}
+use Rattle.std.specs.Prelude.{◌||◌, Some, None}
 use Rattle.type_check.proofs.Rounds.{IsAt, left, none_left}
 use Rattle.workflow_check.specs.Faults.{Found, IsErrorOf, IsInside, first_of, inside, or_next}
 use Rattle.workflow_check.specs.declared.fault.AcceptError.{AcceptError}
