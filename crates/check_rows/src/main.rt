@@ -11,7 +11,7 @@ use std::alloc::Global;
 use std::io;
 use std::process::ExitCode;
 use url::Url;
-use workflow_check::{AcceptError, accept};
+use workflow_check::{AcceptError, Accepted, accept};
 
 struct Calls;
 
@@ -26,8 +26,15 @@ impl Answers for Calls {
 
 fn accepted(alloc: Global, row: &Row) -> Result<String, RowFault> {
     let process = process(alloc, row.json("document")?)?;
-    match accept(alloc, process) {
-        Ok(_accepted) => Ok(String::from_str(alloc, "accepted")?),
+    let answer = accept(alloc, process);
+    let text = told(alloc, &answer);
+    drop(answer);
+    text
+}
+
+fn told(alloc: Global, answer: &Result<Accepted, AcceptError>) -> Result<String, RowFault> {
+    match answer {
+        Ok(_) => Ok(String::from_str(alloc, "accepted")?),
         Err(AcceptError::Refused(fault)) => Ok(format!(in alloc; "{} {fault}", fault.code())?),
         Err(AcceptError::OutOfMemory) => Err(RowFault::OutOfMemory),
     }

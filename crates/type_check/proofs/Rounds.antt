@@ -15,11 +15,11 @@ module _ {X : Type 0} where
   left_at : (xs : List X) (i : ℕ) (x : X) → i < length xs → x ≡ get_or xs i x → drop i xs ≡ x ∷ drop (i + 1) xs
   left_at xs i x within is = rw (add-one, drop-cons xs i x) (ap (λ y. y ∷ drop (suc i) xs) (sym is))
 
-  pub left : (xs slice : List X) (i : ℕ) (x : X) → IsAt xs slice i x → drop i xs ≡ x ∷ drop (i + 1) xs
+  left : (xs slice : List X) (i : ℕ) (x : X) → IsAt xs slice i x → drop i xs ≡ x ∷ drop (i + 1) xs
   left xs slice i x at = left_at xs i x (subst (λ ys. i < length ys) at.same at.within) (at.is ∙ ap (λ ys. get_or ys i x) at.same)
 
   -- past the end nothing is left
-  pub none_left : (xs slice : List X) (i : ℕ) → slice ≡ xs → length slice ≤ i → drop i xs ≡ []
+  none_left : (xs slice : List X) (i : ℕ) → slice ≡ xs → length slice ≤ i → drop i xs ≡ []
   none_left xs slice i same past = drop_all i xs (subst (λ ys. length ys ≤ i) same past)
 
   module _ (p : X → Bool) (xs slice : List X) (i : ℕ) where

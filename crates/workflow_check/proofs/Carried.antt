@@ -1,6 +1,6 @@
 -- What is compared, where there are links.
-use Rattle.std.proofs.Common.{◌≡◌, ◌∙◌, ◌==◌, Bool, true, false, List, [], ◌∷◌, length, ap, sym, refl, subst}
-use Rattle.std.specs.Prelude.{None, not}
+use Rattle.std.proofs.Common.{◌≡◌, ◌==◌, Bool, false, List, [], ◌∷◌, length, ap}
+use Rattle.std.specs.Prelude.{not}
 use Rattle.cwl_types.specs.declared.types.MemberType.{MemberType}
 use Rattle.cwl_process.specs.declared.links.Links.{Links}
 use Rattle.cwl_process.specs.declared.links.Source.{Source}

@@ -1,17 +1,14 @@
 -- What no fault says.
-use Rattle.std.proofs.Common.{◌≡◌, ◌∙◌, ℕ, Bool, true, false, List, [], ◌∷◌, ap, sym, refl, length}
-use Rattle.std.specs.Prelude.{Option, Some, None, not, nat_lt, ◌&&◌, is_some}
+use Rattle.std.proofs.Common.{◌≡◌, ◌∙◌, ℕ, Bool, true, false, List, [], ◌∷◌, sym, refl}
+use Rattle.std.specs.Prelude.{Option, Some, None, not}
 use Rattle.cwl_process.specs.declared.links.Source.{Source}
-use Rattle.cwl_process.specs.declared.workflow.StepInput.{StepInput}
-use Rattle.cwl_process.specs.declared.workflow.WorkflowOutput.{WorkflowOutput}
 use Rattle.document_links.specs.declared.process.Process as process
 use Rattle.document_links.specs.declared.process.Step.{Step, out-Step}
 use Rattle.document_links.specs.declared.process.Workflow.{Workflow, out-Workflow}
 use Rattle.workflow_check.specs.Checked.{Level, around, fault_in, fault_in_step, fault_in_workflow, own_fault}
 use Rattle.workflow_check.specs.Faults.{Found, first_of, found_if, inside, or_next}
-use Rattle.workflow_check.specs.Links.{each_source, entry_in, output_fault as output_links, outputs_fault, source_fault, sources_fault, step_fault, steps_fault, taken_fault}
+use Rattle.workflow_check.specs.Links.{each_source, entry_in, output_fault as output_links, outputs_fault, source_fault, sources_fault, step_fault, steps_fault}
 use Rattle.workflow_check.specs.Order.{is_cyclic, order_fault}
-use Rattle.workflow_check.specs.Scope.{Named, gives, has}
 use Rattle.workflow_check.specs.Shapes.{method_fault, output_fault, scatter_fault, shape_fault, shapes_fault}
 use Rattle.workflow_check.specs.Sound.{AreThere, Each, IsSound, IsSoundStep}
 use Rattle.workflow_check.specs.declared.fault.LinkRule.{LinkRule}

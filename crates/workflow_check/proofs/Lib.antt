@@ -4,6 +4,5 @@ pub mod Named
 pub mod Nested
 pub mod Ordered
 pub mod Overlap
-pub mod Rounds
 pub mod Variants
 pub mod Waiting

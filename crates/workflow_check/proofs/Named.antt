@@ -1,6 +1,6 @@
 -- Look-ups among values under ids.
 use Rattle.std.proofs.Common.{◌≡◌, ℕ, List, ap, ◌∙◌, refl}
-use Rattle.std.specs.Prelude.{Option, Some, None, option_map, is_some, Bool}
+use Rattle.std.specs.Prelude.{Option, Some, None, option_map, is_some}
 use Rattle.std.specs.Str.{bytes_eq}
 use Rattle.std.proofs.lemmas.Map.Made.{lookup-map_values}
 use Rattle.plain_data.specs.ByName.{map_values, value_at}

@@ -1,6 +1,6 @@
 -- What is wrong first, level by level.
-use Rattle.std.proofs.Common.{◌≡◌, ◌∙◌, ℕ, List, [], ◌∷◌, map, ap, sym, refl}
-use Rattle.std.specs.Prelude.{Option, Some, None}
+use Rattle.std.proofs.Common.{◌≡◌, ◌∙◌, [], ◌∷◌, map, ap, sym, refl}
+use Rattle.std.specs.Prelude.{None}
 use Rattle.cwl_process.specs.declared.tool.Tool.{Tool}
 use Rattle.document_links.specs.declared.process.Process as process
 use Rattle.document_links.specs.declared.process.Process.TheVariants.{rolls-Tool, rolls-Workflow}

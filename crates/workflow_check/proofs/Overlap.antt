@@ -1,6 +1,6 @@
 -- Which types overlap, where one of them is put together.
 use Rattle.std.proofs.Common.{rules, ◌≡◌, ◌≢◌, ◌∙◌, ℕ, zero, suc, ◌-◌, Bool, true, false, List, [], ◌∷◌, ◌++◌, map, ap, sym, refl, arith, append-nil}
-use Rattle.std.specs.Prelude.{Option, Some, None, ◌||◌, not, if◌then◌else◌}
+use Rattle.std.specs.Prelude.{Option, None, ◌||◌, not, if◌then◌else◌}
 use Rattle.std.specs.List.{filter, flat_map, list_any}
 use Rattle.std.proofs.lemmas.List.Elements.{filter-append}
 use Rattle.cwl_types.specs.Types.{array_of}
@@ -12,7 +12,7 @@ use Rattle.cwl_types.specs.declared.types.PlainType.{PlainType}
 use Rattle.cwl_types.specs.declared.types.PlainType.TheVariants as plain
 use Rattle.type_check.specs.Overlaps.{members_overlap, overlaps}
 use Rattle.workflow_check.specs.Scope.{Gift}
-use Rattle.workflow_check.specs.Types.{base, in_array, in_arrays, is_null, items_or_itself, kept_type, link_type, opened_type, part, part_of, sink_type}
+use Rattle.workflow_check.specs.Types.{base, in_array, in_arrays, is_null, items_or_itself, kept_type, link_type, opened_type, part, part_of}
 use Rattle.workflow_check.specs.declared.overlapping.Form.{Form}
 use Rattle.workflow_check.proofs.Variants.{array_items, array_meets, enum_itself, plain_itself}
 

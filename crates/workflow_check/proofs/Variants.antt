@@ -1,5 +1,5 @@
 -- The definitions at each variant of a process and of a member of a type.
-use Rattle.std.proofs.Common.{rules, ◌≡◌, ◌∙◌, ℕ, Bool, true, false, List, [], ◌∷◌, map, ap, sym, refl}
+use Rattle.std.proofs.Common.{rules, ◌≡◌, ◌∙◌, ℕ, false, List, [], ◌∷◌, map, ap, sym}
 use Rattle.std.specs.Prelude.{None}
 use Rattle.plain_data.specs.ByName.{map_values}
 use Rattle.cwl_types.specs.Types.{array_of}

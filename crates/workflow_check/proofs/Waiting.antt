@@ -1,5 +1,5 @@
 -- Rounds in which steps go that wait for none that is left.
-use Rattle.std.proofs.Common.{◌≡◌, ◌∙◌, ℕ, zero, suc, ◌+◌, ◌-◌, ◌<◌, ap, refl, arith}
+use Rattle.std.proofs.Common.{◌≡◌, ℕ, zero, suc, ◌+◌, ◌-◌, ◌<◌, ap, refl, arith}
 use Rattle.workflow_check.specs.Order.{left_after, still_waiting}
 use Rattle.workflow_check.specs.Scope.{Named}
 use Rattle.document_links.specs.declared.process.Step.{Step}

@@ -1,8 +1,6 @@
 -- What is wrong with a process first: inner workflows before the outer one; then of a workflow how its steps are run, their links, its outputs,
 -- and steps that wait for one another (CWL v1.2, Workflow Description, "Workflow").
-use Rattle.std.specs.Prelude.{ℕ, List, Option, None, map}
-use Rattle.cwl_process.specs.declared.workflow.WorkflowInput.{WorkflowInput}
-use Rattle.cwl_process.specs.declared.workflow.WorkflowOutput.{WorkflowOutput}
+use Rattle.std.specs.Prelude.{ℕ, List, None, map}
 use Rattle.document_links.specs.declared.process.Process.{Process}
 use Rattle.document_links.specs.declared.process.Process.TheOpen.{Process-F, Workflow-F, Step-F}
 use Rattle.document_links.specs.declared.process.Process.TheFolds.{para-Process}

@@ -1,5 +1,5 @@
 -- The links of steps and of a workflow's outputs (CWL v1.2, Workflow Description, "WorkflowStepInput", "WorkflowOutputParameter"): K1, K3 and K2.
-use Rattle.std.specs.Prelude.{ℕ, List, [], ◌∷◌, length, map, Bool, true, false, Option, Some, None, if◌then◌else◌, is_some, not, ◌&&◌, ◌||◌, ◌==◌}
+use Rattle.std.specs.Prelude.{ℕ, List, [], ◌∷◌, length, map, Bool, false, Option, Some, None, if◌then◌else◌, is_some, not, ◌&&◌, ◌||◌, ◌==◌}
 use Rattle.std.specs.List.{list_any}
 use Rattle.plain_data.specs.ByName.{value_at}
 use Rattle.cwl_types.specs.declared.types.MemberType.{MemberType}

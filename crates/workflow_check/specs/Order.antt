@@ -1,7 +1,6 @@
 -- Steps that wait for one another (CWL v1.2, Workflow Description, "Workflow": no step may lead back to itself): K4.
-use Rattle.std.specs.Prelude.{ℕ, zero, suc, List, [], ◌∷◌, length, Bool, true, false, Option, Some, None, not, if◌then◌else◌}
+use Rattle.std.specs.Prelude.{ℕ, zero, suc, List, [], ◌∷◌, length, Bool, true, false, Option, Some, None}
 use Rattle.std.specs.List.{filter, list_any}
-use Rattle.std.specs.Option.{option_map_or}
 use Rattle.std.specs.Str.{bytes_eq}
 use Rattle.cwl_process.specs.declared.links.Source.{Source}
 use Rattle.cwl_process.specs.declared.workflow.StepInput.{StepInput}

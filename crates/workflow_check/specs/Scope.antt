@@ -1,8 +1,7 @@
 -- What processes take and give, and what the sources of a workflow lead to (CWL v1.2, Workflow Description, "WorkflowStepInput", `source`;
 -- "WorkflowStep", `out`).
-use Rattle.std.specs.Prelude.{ℕ, zero, suc, List, [], ◌∷◌, length, Bool, true, false, Option, Some, None, option_map, option_and_then, is_some, if◌then◌else◌}
+use Rattle.std.specs.Prelude.{ℕ, zero, suc, List, [], ◌∷◌, length, Bool, false, Option, Some, None, option_map, option_and_then, is_some}
 use Rattle.std.specs.List.{list_any}
-use Rattle.std.specs.Option.{option_map_or}
 use Rattle.std.specs.Str.{bytes_eq}
 use Rattle.plain_data.specs.ByName.{map_values, value_at}
 use Rattle.scatter_shape.specs.declared.shape.Method.{Method}
@@ -16,10 +15,7 @@ use Rattle.cwl_process.specs.declared.tool.InputType.TheVariants as input
 use Rattle.cwl_process.specs.declared.tool.OutputType.{OutputType}
 use Rattle.cwl_process.specs.declared.tool.OutputType.TheVariants as output
 use Rattle.cwl_process.specs.declared.tool.ToolInput.{ToolInput}
-use Rattle.cwl_process.specs.declared.tool.ToolOutput.{ToolOutput}
-use Rattle.cwl_process.specs.declared.workflow.StepInput.{StepInput}
 use Rattle.cwl_process.specs.declared.workflow.WorkflowInput.{WorkflowInput}
-use Rattle.cwl_process.specs.declared.workflow.WorkflowOutput.{WorkflowOutput}
 use Rattle.param_refs.specs.declared.template.Template.{Template}
 use Rattle.document_links.specs.declared.process.Process.{Process, out-Process}
 use Rattle.document_links.specs.declared.process.Process.TheOpen.{Process-F}

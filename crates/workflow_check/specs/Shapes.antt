@@ -1,5 +1,5 @@
 -- How a step is run (CWL v1.2, Workflow Description, "WorkflowStep"): K5, K6 and K7, in this order.
-use Rattle.std.specs.Prelude.{ℕ, List, [], ◌∷◌, Bool, true, false, Option, Some, None, if◌then◌else◌, is_some, not, ◌&&◌, nat_lt, length}
+use Rattle.std.specs.Prelude.{ℕ, List, Option, is_some, not, ◌&&◌, nat_lt, length}
 use Rattle.scatter_shape.specs.declared.shape.Method.{Method}
 use Rattle.cwl_process.specs.declared.workflow.StepInput.{StepInput}
 use Rattle.document_links.specs.declared.process.Process.{Process}

@@ -1,8 +1,7 @@
 -- The type of what links give, and that of what they give it to (CWL v1.2, Workflow Description, "WorkflowStepInput", "LinkMergeMethod",
 -- "PickValueMethod", "WorkflowStep", `scatter` and `when`).
-use Rattle.std.specs.Prelude.{ℕ, zero, suc, List, [], ◌∷◌, ◌++◌, Bool, true, false, Option, Some, None, if◌then◌else◌, ◌||◌, not}
+use Rattle.std.specs.Prelude.{ℕ, zero, suc, List, [], ◌∷◌, Bool, true, false, Option, Some, None, if◌then◌else◌, not}
 use Rattle.std.specs.List.{filter, flat_map}
-use Rattle.std.specs.Option.{option_map_or}
 use Rattle.cwl_types.specs.declared.types.ArrayType.{ArrayType, out-ArrayType}
 use Rattle.cwl_types.specs.declared.types.MemberType.{MemberType, out-MemberType}
 use Rattle.cwl_types.specs.declared.types.MemberType.TheOpen.{MemberType-F}

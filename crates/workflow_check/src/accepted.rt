@@ -45,11 +45,23 @@ pub fn accept(alloc: Global, process: Process) -> Result<Accepted, AcceptError>
     ensures sound { OnOk result (fault_in process ≡ None) }
     ensures err { IfErr result (IsErrorOf (fault_in process)) }
 {
-    let file = file_type(alloc)?;
-    match check_process(alloc, &process, &file) {
+    match check(alloc, &process) {
         Ok(()) => Ok(Accepted { process }),
-        Err(error) => Err(error),
+        Err(error) => {
+            drop(process);
+            Err(error)
+        }
     }
+}
+
+fn check(alloc: Global, process: &Process) -> Result<(), AcceptError>
+    ensures ok { OnOk result (fault_in process.now ≡ None) }
+    ensures err { IfErr result (IsErrorOf (fault_in process.now)) }
+{
+    let file = file_type(alloc)?;
+    let checked = check_process(alloc, process, &file);
+    drop(file);
+    checked
 }
 
 /// The type File.

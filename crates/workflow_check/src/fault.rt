@@ -108,15 +108,16 @@ pub(crate) fn refused(alloc: Global, rule: LinkRule) -> AcceptError
 }
 
 /// The fault of what is inside the step, input or output of that id.
-pub(crate) fn inside(alloc: Global, id: &Text, error: AcceptError) -> AcceptError
-    ensures { IsInside id.now error result }
+pub(crate) fn inside(
+    alloc: Global,
+    id: &Text,
+    error: AcceptError,
+) -> Result<AcceptError, AllocError>
+    ensures { IfOk result (λ put. IsInside id.now error put) }
 {
     match error {
-        AcceptError::OutOfMemory => AcceptError::OutOfMemory,
-        AcceptError::Refused(fault) => match put_first(alloc, id, fault) {
-            Ok(fault) => AcceptError::Refused(fault),
-            Err(_) => AcceptError::OutOfMemory,
-        },
+        AcceptError::Refused(fault) => Ok(AcceptError::Refused(put_first(alloc, id, fault)?)),
+        AcceptError::OutOfMemory => Err(AllocError),
     }
 }
 

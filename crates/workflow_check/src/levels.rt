@@ -59,7 +59,7 @@ fn check_inner(
 {
     for entry in workflow.steps.as_slice() {
         if let Err(error) = check_process(alloc, &entry.1.process, file) {
-            return Err(inside(alloc, &entry.0, error));
+            return Err(inside(alloc, &entry.0, error)?);
         }
     }
     Ok(())

@@ -26,7 +26,7 @@ pub(crate) fn check_steps(alloc: Global, scope: Scope<'_>) -> Result<(), AcceptE
 {
     for entry in scope.steps.as_slice() {
         if let Err(error) = check_step(alloc, scope, &entry.1) {
-            return Err(inside(alloc, &entry.0, error));
+            return Err(inside(alloc, &entry.0, error)?);
         }
     }
     Ok(())
@@ -50,7 +50,7 @@ fn check_entries(alloc: Global, scope: Scope<'_>, step: &Step) -> Result<(), Acc
         let asked_of = input_at(&step.process, &entry.0, scope.file);
         let scattered = lists(&step.scatter, &entry.0);
         if let Err(error) = check_entry(alloc, scope, &entry.1, asked_of, scattered) {
-            return Err(inside(alloc, &entry.0, error));
+            return Err(inside(alloc, &entry.0, error)?);
         }
     }
     Ok(())
@@ -229,7 +229,7 @@ fn check_other(
     }
     match check_unlinked(alloc, asked_of) {
         Ok(()) => Ok(()),
-        Err(error) => Err(inside(alloc, id, error)),
+        Err(error) => Err(inside(alloc, id, error)?),
     }
 }
 
@@ -245,7 +245,7 @@ pub(crate) fn check_outputs(
 {
     for entry in outputs.as_slice() {
         if let Err(error) = check_output(alloc, scope, &entry.1) {
-            return Err(inside(alloc, &entry.0, error));
+            return Err(inside(alloc, &entry.0, error)?);
         }
     }
     Ok(())

@@ -19,7 +19,7 @@ pub(crate) fn check_shapes(alloc: Global, steps: &Entries<Step>) -> Result<(), A
 {
     for entry in steps.as_slice() {
         if let Err(error) = check_shape(alloc, &entry.1) {
-            return Err(inside(alloc, &entry.0, error));
+            return Err(inside(alloc, &entry.0, error)?);
         }
     }
     Ok(())
@@ -44,7 +44,7 @@ fn check_scatter(
 {
     for name in scatter.as_slice() {
         if !has(inputs, name) {
-            return Err(inside(alloc, name, refused(alloc, LinkRule::ScatterNotInput)));
+            return Err(inside(alloc, name, refused(alloc, LinkRule::ScatterNotInput))?);
         }
     }
     Ok(())
@@ -70,7 +70,7 @@ fn check_outputs(alloc: Global, process: &Process, outputs: &Items<Text>) -> Res
 {
     for name in outputs.as_slice() {
         if !gives(process, name) {
-            return Err(inside(alloc, name, refused(alloc, LinkRule::OutputUnknown)));
+            return Err(inside(alloc, name, refused(alloc, LinkRule::OutputUnknown))?);
         }
     }
     Ok(())

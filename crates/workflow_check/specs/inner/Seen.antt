@@ -1,10 +1,10 @@
 -- For private clauses: what is lent, as the definitions speak of it.
 use Rattle.std.specs.Borrow.{Bor}
-use Rattle.std.specs.Prelude.{◌≡◌, ℕ, List, Option}
+use Rattle.std.specs.Prelude.{ℕ, List}
 use Rattle.cwl_types.specs.declared.types.MemberType.{MemberType}
 use Rattle.document_links.specs.declared.process.Step.{Step}
 use Rattle.workflow_check.specs.Links.{Around}
-use Rattle.workflow_check.specs.Scope.{Asked, Gift, file_type}
+use Rattle.workflow_check.specs.Scope.{Asked, Gift}
 use Rattle.workflow_check.specs.Types.{sink_type}
 use Rattle.workflow_check.specs.declared.overlapping.Sink.{Sink}
 use Rattle.workflow_check.specs.declared.scope.Given.{Given}

@@ -1,4 +1,4 @@
-use Rattle.std.proofs.Common.{◌∙◌, ◌-◌, ap, sym}
+use Rattle.std.proofs.Common.{◌∙◌, ap, sym}
 use Rattle.std.specs.Prelude.{None}
 use Rattle.cwl_types.specs.Types.{array_of}
 use Rattle.type_check.specs.Overlaps.{members_overlap, overlaps}

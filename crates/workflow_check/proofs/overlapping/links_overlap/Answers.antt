@@ -1,8 +1,8 @@
-use Rattle.std.proofs.Common.{◌∙◌, ◌==◌, ap, sym, length, map}
+use Rattle.std.proofs.Common.{◌∙◌, ap, sym, map}
 use Rattle.std.specs.List.{flat_map}
 use Rattle.type_check.specs.Overlaps.{overlaps}
 use Rattle.workflow_check.specs.Scope.{gift}
-use Rattle.workflow_check.specs.Types.{form_of, in_array, link_type, part_of, sink_type}
+use Rattle.workflow_check.specs.Types.{in_array, link_type, part_of, sink_type}
 use Rattle.workflow_check.specs.inner.Seen.{sink_seen}
 use Rattle.workflow_check.proofs.Overlap.{arrays_meet, listed, listed_in, not_listed, union_by_one}
 use Rattle.workflow_check.proofs.overlapping.links_overlap.Goals as goal

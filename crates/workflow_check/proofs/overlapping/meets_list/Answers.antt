@@ -2,7 +2,6 @@ use Rattle.std.proofs.Common.{◌∙◌, ap, sym}
 use Rattle.std.specs.Prelude.{None}
 use Rattle.cwl_types.specs.Types.{array_of}
 use Rattle.type_check.specs.Overlaps.{members_overlap}
-use Rattle.workflow_check.proofs.Overlap.{one}
 use Rattle.workflow_check.proofs.Variants.{array_meets_array, enum_meets_array, plain_meets_array}
 use Rattle.workflow_check.proofs.overlapping.meets_list.Goals as goal
 

@@ -1,4 +1,4 @@
-use Rattle.std.proofs.Common.{◌∙◌, ◌∷◌, [], true, false, ap, sym}
+use Rattle.std.proofs.Common.{◌∙◌, ◌∷◌, [], false, ap, sym}
 use Rattle.cwl_types.specs.declared.types.MemberType.TheVariants.{Plain, Array, Enum}
 use Rattle.type_check.specs.Overlaps.{overlaps}
 use Rattle.workflow_check.specs.Types.{kept_type, opened_type}

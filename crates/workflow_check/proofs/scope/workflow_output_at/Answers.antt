@@ -2,7 +2,6 @@ use Rattle.std.proofs.Common.{◌∙◌, ap, sym}
 use Rattle.std.specs.Prelude.{Some, option_map}
 use Rattle.std.specs.Option.{option_copied}
 use Rattle.workflow_check.proofs.Named.{value_of_map}
-use Rattle.workflow_check.specs.Scope.{output_kind}
 use Rattle.workflow_check.proofs.scope.workflow_output_at.Goals as goal
 
 pub returns-in-Some : goal.returns-in-Some
