@@ -1,0 +1,7 @@
+use Rattle.std.specs.Vec.Iter.{into_iter_items}
+use Rattle.input_files.proofs.Once.{loaded_by_name}
+use Rattle.input_files.proofs.contents.all_loaded.Goals as goal
+
+pub from_sorted-requires : goal.from_sorted-requires
+from_sorted-requires c =
+    loaded_by_name c.args.asked.now c.args.heads.now c.args.staged c.loop-name.yielded (into_iter_items c.loop-name.name-iterator) c.loop-name.named.items c.loop-name.invariant.whole ? c.loop-name.invariant.so_far ?
