@@ -1,10 +1,10 @@
 -- A job's inputs as they were measured, or the first fault in the order of the tool's inputs: a value that is not of the input's type, then
 -- a File or Directory that is not there, then a required file that is not beside its File (CWL v1.2, Command Line Tool,
 -- "CommandInputParameter": `default`, `type`, `secondaryFiles`; "File"; "Directory").
-use Rattle.std.specs.Prelude.{◌≡◌, Bool, not, if◌then◌else◌, List, [], ◌∷◌, Option, Some, None, Result, Ok, Err, map}
+use Rattle.std.specs.Prelude.{not, if◌then◌else◌, List, [], ◌∷◌, Option, Some, None, Result, Ok, Err, map}
 use Rattle.cwl_process.specs.declared.tool.SecondaryFile.{SecondaryFile}
 use Rattle.cwl_value.specs.declared.value.Value.{Value}
-use Rattle.input_files.specs.Given.{Name, Fields, NamedInput, input_value, fits_input, last_by_name}
+use Rattle.input_files.specs.Given.{Fields, NamedInput, input_value, fits_input, last_by_name}
 use Rattle.input_files.specs.Measured.{Measures, is_there, as_measured}
 use Rattle.input_files.specs.Beside.{lacks_required, all_beside}
 use Rattle.input_files.specs.declared.fault.InputFault.{InputFault}

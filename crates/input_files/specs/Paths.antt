@@ -1,7 +1,7 @@
 -- Which paths are measured before a run: those of every File and Directory of the input object and of the tool's defaults, at any depth,
 -- and those at which the files are looked for that an input declares and a File of it lacks (CWL v1.2, "CommandInputParameter":
 -- secondaryFiles).
-use Rattle.std.specs.Prelude.{Bool, if◌then◌else◌, List, [], ◌∷◌, ◌++◌, map, fold, bytes_eq}
+use Rattle.std.specs.Prelude.{if◌then◌else◌, List, [], ◌∷◌, ◌++◌, map, fold, bytes_eq}
 use Rattle.std.specs.List.{list_any, flat_map}
 use Rattle.std.specs.Option.{option_map_or}
 use Rattle.plain_data.specs.ByName.{map_values}
