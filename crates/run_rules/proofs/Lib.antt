@@ -1,1 +1,9 @@
-
+pub mod Lone
+pub mod Meaning
+pub mod OneJob
+pub mod Few
+pub mod TranscriptTells
+pub mod Known
+pub mod Measuring
+pub mod NothingFollows
+pub mod Leads
