@@ -2,10 +2,10 @@
 use Rattle.std.proofs.Common.{◌≡◌, ◌≢◌, ◌∙◌, List, [], ◌∷◌, reverse, Option, Some, None, Result, Ok, Err, refl, sym, ap, subst}
 use Rattle.cwl_process.specs.declared.process.Process as process
 use Rattle.cwl_process.specs.declared.tool.Tool.{Tool}
+use Rattle.input_files.specs.Measured.{Measures}
 use Rattle.run_rules.specs.declared.outcome.Cause.{Cause}
 use Rattle.run_rules.specs.Words.{Fields}
-use Rattle.run_rules.specs.Inputs.{inputs_for}
-use Rattle.run_rules.specs.Jobs.{Walker, tool_walk, walker}
+use Rattle.run_rules.specs.Jobs.{Walker, inputs_of, tool_walk, walker}
 use Rattle.run_rules.specs.Unfold.{Fault, fault_at, too_many_jobs, Resolved, fault_after, unfolded}
 use Rattle.run_rules.proofs.Lone.{walker_tool}
 use Rattle.run_rules.proofs.OneJob.{one_job}
@@ -22,7 +22,8 @@ few_by : (tool : Tool) (inputs : Result Fields Cause) (known : List Resolved) �
 few_by tool (Ok inputs) known many = let never : None ≡ Some too_many_jobs = sym (no_fault tool inputs known) ∙ many in cc
 few_by tool (Err cause) known many = let never : Some (fault_at [] cause) ≡ Some too_many_jobs = sym (misfit_fault tool cause known) ∙ many in cc
 
-pub few : (tool : Tool) (given : Fields) (known : List Resolved) → (unfolded (walker (process.Tool tool) given) known).fault ≢ Some too_many_jobs
-few tool given known =
-    subst (λ (walks : Walker). (unfolded walks known).fault ≢ Some too_many_jobs) (sym (walker_tool tool given))
-    (few_by tool (inputs_for tool.inputs given) (reverse known))
+pub few : (tool : Tool) (given : Fields) (measures : Measures) (known : List Resolved) →
+    (unfolded (walker (process.Tool tool) given measures) known).fault ≢ Some too_many_jobs
+few tool given measures known =
+    subst (λ (walks : Measures → Walker). (unfolded (walks measures) known).fault ≢ Some too_many_jobs) (sym (walker_tool tool given))
+    (few_by tool (inputs_of tool given measures) (reverse known))

@@ -12,12 +12,16 @@ use Rattle.cwl_value.specs.declared.value.Value.TheOpen.{Value-F, FileVal-F, Dir
 use Rattle.cwl_value.specs.declared.value.FileVal.{FileVal, roll-FileVal, fold-FileVal}
 use Rattle.cwl_value.specs.declared.value.DirVal.{DirVal, roll-DirVal, fold-DirVal}
 use Rattle.cwl_value.proofs.Induction.{Cases, induction}
-use Rattle.proc_host.specs.declared.found.Found.{Found}
+use Rattle.staging.specs.declared.plan.StagePlan.{StagePlan}
 use Rattle.run_rules.specs.Words.{Name, Fields, last_by_name}
-use Rattle.run_rules.specs.Collected.{file_at}
 use Rattle.run_rules.specs.Made.{value_moved, file_moved, dir_moved, fields_moved}
-use Rattle.run_rules.specs.Delivered.{located, location_place, object_of}
-use Rattle.run_rules.proofs.Gathered.{file_fields}
+use Rattle.run_rules.specs.Delivered.{located, location_place, object_of, source_place, sources}
+use Rattle.run_rules.specs.Events.{Event, number_at}
+use Rattle.run_rules.specs.EndsSo.{IsDelivered, no_file, copied}
+use Rattle.run_rules.specs.Scene.{Scene}
+use Rattle.staging.proofs.Erasing.{all_same}
+use Rattle.staging.specs.Plan.{folder_path}
+use Rattle.staging.specs.Groups.{FolderOf}
 
 -- Values without their places, level by level
 
@@ -138,12 +142,6 @@ module _ (move : Place → Place) where
       ap (λ (x : Value). (e.0, x) ∷ fields_erased (fields_moved move es)) (erased_moved e.1)
       ∙ ap (λ (xs : Fields). (e.0, erased e.1) ∷ xs) (fields_erased_moved es)
 
--- a file without its place
-pub file_erases : (place : Place) (found : Found) → erased (file_at place found) ≡ file_at Place.Nowhere found
-file_erases place found =
-    fold-roll-Value Value DirVal FileVal roll-Value placeless_dir placeless_file (Value-F.FileVal (roll-FileVal (file_fields place found)))
-    ∙ ap (λ (f : FileVal). roll-Value (Value-F.FileVal f)) (erased-file (file_fields place found))
-
 -- The order of names looks at no value
 
 module _ {X Y : Type 0} (f : X → Y) where
@@ -173,8 +171,25 @@ module _ {X Y : Type 0} (f : X → Y) where
 erased-object : (es : Fields) → erased (roll-Value (Value-F.Fields es)) ≡ roll-Value (Value-F.Fields (fields_erased es))
 erased-object es = search (rules, the_lemmas)
 
-pub keeps_the_value : (outdir : Name) (outputs : Fields) → erased (located outdir outputs) ≡ object_of (fields_erased outputs)
-keeps_the_value outdir outputs =
-    erased-object (last_by_name (fields_moved (location_place outdir) outputs))
-    ∙ ap (λ (es : Fields). roll-Value (Value-F.Fields es))
-    (map_by_name erased (fields_moved (location_place outdir) outputs) ∙ ap last_by_name (fields_erased_moved (location_place outdir) outputs))
+-- in the order of names, and without places
+erased_by_name : (es : Fields) → fields_erased (last_by_name es) ≡ last_by_name (fields_erased es)
+erased_by_name es = map_by_name erased es
+
+as_told : (delivered : Fields) → erased (located delivered) ≡ roll-Value (Value-F.Fields (fields_erased delivered))
+as_told delivered =
+    erased-object (fields_moved location_place delivered) ∙ ap (λ (es : Fields). roll-Value (Value-F.Fields es)) (fields_erased_moved location_place delivered)
+
+module _ (s : Scene) (es : List Event) (outputs : Fields) where
+  sources_erased : fields_erased (sources (number_at es) s.options.work outputs) ≡ last_by_name (fields_erased outputs)
+  sources_erased =
+      erased_by_name (fields_moved (source_place (number_at es) s.options.work) outputs)
+      ∙ ap last_by_name (fields_erased_moved (source_place (number_at es) s.options.work) outputs)
+
+  pub keeps_the_value : (delivered : Fields) → IsDelivered s es outputs delivered → erased (located delivered) ≡ object_of (fields_erased outputs)
+  keeps_the_value delivered (no_file none only) =
+      as_told (last_by_name outputs) ∙ ap (λ (fields : Fields). roll-Value (Value-F.Fields fields)) (erased_by_name outputs)
+  keeps_the_value delivered (copied plan is delivery) =
+      as_told plan.value ∙ ap (λ (fields : Fields). roll-Value (Value-F.Fields fields))
+      (ap fields_erased delivery.value
+      ∙ all_same (λ group. folder_path true s.options.outdir (delivery.number group)) (sources (number_at es) s.options.work outputs)
+      ∙ sources_erased)

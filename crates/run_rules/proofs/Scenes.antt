@@ -1,6 +1,6 @@
 -- The scenes of runs: those of a tool, and those of a workflow, of which nothing is known and in which nothing is asked.
 use Rattle.std.specs.Prelude.{Contains}
-use Rattle.std.proofs.Common.{◌≡◌, ◌∙◌, ℕ, List, [], ◌∷◌, find, reverse, Option, Some, None, Result, refl, sym, ap, subst, cond, unwrap_or}
+use Rattle.std.proofs.Common.{◌≡◌, ◌∙◌, ℕ, true, false, List, [], ◌∷◌, find, reverse, Option, Some, None, Result, refl, sym, ap, subst, cond, unwrap_or}
 use Rattle.std.specs.Map.{keys_of}
 use Rattle.cwl_process.specs.declared.process.Process.{Process, out-Process}
 use Rattle.cwl_process.specs.declared.process.Process.TheOpen.{Process-F}
@@ -10,36 +10,31 @@ use Rattle.cwl_process.specs.declared.workflow.Step.{Step}
 use Rattle.cwl_process.specs.declared.workflow.Workflow.{Workflow, out-Workflow}
 use Rattle.plan_checker.specs.declared.plan.Mark.{Mark}
 use Rattle.proc_host.specs.declared.call.HostRequest.{HostRequest}
-use Rattle.proc_host.specs.declared.plan.StagePlan.{StagePlan}
+use Rattle.staging.specs.declared.plan.StagePlan.{StagePlan}
 use Rattle.run_rules.specs.declared.outcome.Cause.{Cause}
 use Rattle.run_rules.specs.declared.request.Pair.{Pair}
 use Rattle.run_rules.specs.declared.request.Request.{Request}
 use Rattle.run_rules.specs.declared.setting.Options.{Options}
 use Rattle.run_rules.specs.declared.setting.Setting.{Setting}
 use Rattle.run_rules.specs.Words.{Name, Fields, JobPlace}
-use Rattle.run_rules.specs.Inputs.{inputs_for}
-use Rattle.run_rules.specs.Jobs.{tool_walk, workflow_walk, walker_at, all_named, outs_of}
+use Rattle.run_rules.specs.Jobs.{workflow_walk, all_named, outs_of}
+use Rattle.run_rules.specs.Delivered.{any_file}
 use Rattle.run_rules.specs.Unfold.{Resolved, is_at, jobs_after, fault_after, or_else}
 use Rattle.run_rules.specs.Events.{Event, Progress, at_first, resolved, unfolding_at, job_at}
-use Rattle.run_rules.specs.End.{End, fault_end, settled, delivery_at}
+use Rattle.run_rules.specs.End.{End, fault_end, settled}
 use Rattle.run_rules.specs.Allowed.{Allowed, MayDeliver}
 use Rattle.run_rules.specs.Run.{Goes, begins, asks}
 use Rattle.run_rules.specs.Scene.{Scene, scene_of}
+use Rattle.run_rules.proofs.Lone.{scene_at, scene_by}
 use Rattle.run_rules.proofs.TranscriptTells.{none_in}
 
-abbrev pub scene_by : Tool → Options → Result Fields Cause → Scene
-scene_by tool options inputs = record { walker = tool_walk tool [] inputs; options = options }
-
 abbrev pub unknown : Workflow → Options → Scene
-unknown workflow options = record { walker = workflow_walk workflow; options = options }
-
-abbrev scene_at : Process-F Process Run Step Workflow → Setting → Scene
-scene_at q setting = record { walker = walker_at q setting.inputs; options = setting.options }
+unknown workflow options = record { walker = λ measures. workflow_walk workflow; paths = []; options = options }
 
 -- what holds of each scene of a tool and of each of a workflow holds of each run's
-pub by_process : (setting : Setting) (P : Scene → Type 0) → ((tool : Tool) → P (scene_by tool setting.options (inputs_for tool.inputs setting.inputs))) →
+pub by_process : (setting : Setting) (P : Scene → Type 0) → ((tool : Tool) → P (scene_by tool setting.inputs setting.options)) →
     ((workflow : Workflow) → P (unknown workflow setting.options)) → P (scene_of setting)
-by_process setting P of_tool of_workflow = elim (out-Process setting.process) as (λ q. P (scene_at q setting)) [
+by_process setting P of_tool of_workflow = elim (out-Process setting.process) as (λ q. P (scene_at q setting.inputs setting.options)) [
   | Process-F.Tool tool ↦ of_tool tool
   | Process-F.Workflow workflow ↦ of_workflow workflow
 ]
@@ -63,17 +58,19 @@ module _ (workflow : Workflow) (options : Options) where
   no_fault [] = refl
   no_fault (r ∷ earlier) = rw (no_fault earlier) refl
 
-  no_delivery : (outputs : Fields) (plan : StagePlan) → outputs ≡ [] → delivery_at s [] outputs ≡ Some plan → ⊥
-  no_delivery outputs plan none is = let never : None ≡ Some plan = sym (ap (delivery_at s []) none) ∙ is in cc
+  no_delivery : (outputs : Fields) → outputs ≡ [] → any_file outputs ≡ true → ⊥
+  no_delivery outputs none files = let never : false ≡ true = sym (ap any_file none) ∙ files in cc
 
   nothing_asked : (marks : List Mark) (request : Request) → Allowed s at_first marks request → ⊥
+  nothing_asked marks (Request.Host place (HostRequest.Measure path)) may = none_in path may.known
   nothing_asked marks (Request.Host place (HostRequest.Stage plan number)) may =
       let none : None ≡ Some may.job = sym (ap (find (is_at place)) (no_jobs [])) ∙ may.known in cc
   nothing_asked marks (Request.Host place (HostRequest.Start launch)) may = cc
   nothing_asked marks (Request.Host place HostRequest.Collect) may = none_in may.flying.0 may.flying.1
   nothing_asked marks (Request.Host place (HostRequest.Scan folder)) may = cc
+  nothing_asked marks (Request.Host place (HostRequest.Head path limit)) may = cc
   nothing_asked marks (Request.Host place (HostRequest.Deliver plan)) may =
-      no_delivery may.outputs plan (none_named (keys_of (out-Workflow workflow).outputs) may.outputs may.result) may.delivered
+      no_delivery may.outputs (none_named (keys_of (out-Workflow workflow).outputs) may.outputs may.result) may.files
   nothing_asked marks Request.Finished may = cc
 
   -- so nothing happens

@@ -10,22 +10,24 @@ use Rattle.cwl_value.specs.declared.place.Segment.{Segment}
 use Rattle.run_rules.specs.declared.outcome.Cause.{Cause}
 use Rattle.run_rules.specs.declared.request.Pair.{Pair}
 use Rattle.run_rules.specs.declared.setting.Setting.{Setting}
-use Rattle.run_rules.specs.Words.{Fields, JobPlace, is_same_place, segment_eq}
-use Rattle.run_rules.specs.Inputs.{inputs_for}
-use Rattle.run_rules.specs.Jobs.{Job, Made, Met, met_job, Walker, tool_walk, result, all_named, is_well}
+use Rattle.run_rules.specs.Words.{Name, Fields, JobPlace, is_same_place, segment_eq}
+use Rattle.input_files.specs.Paths.{input_paths}
+use Rattle.run_rules.specs.declared.setting.Options.{Options}
+use Rattle.run_rules.specs.Jobs.{Job, Made, Met, met_job, Walker, inputs_of, tool_walk, result, all_named, is_well}
 use Rattle.run_rules.specs.Made.{fields_made}
 use Rattle.run_rules.specs.Unfold.{Fault, fault_at, too_many_jobs, Resolved, made_by, or_else, jobs_after}
 use Rattle.run_rules.specs.Scene.{Scene, scene_of}
-use Rattle.run_rules.specs.Events.{Event, job_staged, job_started, child_exited, job_succeeded, job_failed, child_signalled, result_delivered, host_failed, collect_failed, Progress, resolved, unfolding_at}
+use Rattle.run_rules.specs.Events.{Event, file_measured, job_staged, job_started, child_exited, job_succeeded, job_failed, job_failed_for_now, result_delivered, host_failed, collect_failed, Progress, measures, are_measured, resolved, unfolding_at, job_at}
 use Rattle.run_rules.specs.End.{End, succeeds_with, fails_permanently, fails_temporarily, fault_end, gives_up, settled_by, unfold_end, settled_from, settled}
-use Rattle.run_rules.specs.EndsSo.{EndsSo, fails, succeeds}
+use Rattle.run_rules.specs.EndsSo.{EndsSo, IsDelivered, fails, succeeds}
 use Rattle.plan_checker.specs.declared.plan.Mark.{Mark}
 use Rattle.run_rules.specs.Plans.{LoadsHeld}
 use Rattle.run_rules.specs.Run.{Ends, IsRun}
 use Rattle.run_rules.specs.RanWell.{RanWell}
-use Rattle.run_rules.proofs.TranscriptTells.{knows, none_in, only_in}
-use Rattle.run_rules.proofs.Scenes.{scene_by, by_process, no_jobs}
-use Rattle.run_rules.proofs.OneJob.{job as its_job, one_job, no_job}
+use Rattle.run_rules.proofs.Lone.{InputsBy, lone}
+use Rattle.run_rules.proofs.Known.{known_job, met_if_known, result_known}
+use Rattle.run_rules.proofs.TranscriptTells.{knows, none_in}
+use Rattle.run_rules.proofs.Scenes.{by_process, no_jobs}
 
 left_true : (a b : Bool) → (a && b) ≡ true → a ≡ true
 left_true true b both = refl
@@ -38,7 +40,7 @@ right_true false b both = absurd cc
 -- Failures alone settle an end
 
 abbrev pub IsNoSuccess : Option End → Type 0
-IsNoSuccess (Some (succeeds_with outputs)) = ⊥
+IsNoSuccess (Some (succeeds_with outputs delivered)) = ⊥
 IsNoSuccess _ = Unit {0}
 
 or_neither : (a b : Option End) → IsNoSuccess a → IsNoSuccess b → IsNoSuccess (or_else a b)
@@ -56,13 +58,14 @@ cond_is_none false place = tt
 
 module _ (s : Scene) where
   settled_by_failure : (es : List Event) (e : Event) → IsNoSuccess (settled_by s es e)
-  settled_by_failure es (child_signalled place) = cond_is_none (nat_lt (length (filter (gives_up place) es)) s.options.retries) place
+  settled_by_failure es (job_failed_for_now place) = cond_is_none (nat_lt (length (filter (gives_up place) es)) s.options.retries) place
+  settled_by_failure es (file_measured path measure) = tt
   settled_by_failure es (job_staged place number) = tt
-  settled_by_failure es (job_started place launch ticket) = tt
+  settled_by_failure es (job_started place inputs launch ticket) = tt
   settled_by_failure es (child_exited ticket) = tt
   settled_by_failure es (job_succeeded place outputs) = tt
   settled_by_failure es (job_failed place cause) = tt
-  settled_by_failure es result_delivered = tt
+  settled_by_failure es (result_delivered plan) = tt
   settled_by_failure es (host_failed place fault) = tt
   settled_by_failure es collect_failed = tt
 
@@ -77,10 +80,16 @@ module _ (s : Scene) where
   settled_failure es = or_neither (unfold_end s []) (settled_from s [] es) (fault_is_none (unfolding_at s []).fault) (settled_later [] es)
 
   -- so a success is the result
-  pub success_is_result : {f : Progress} {marks : List Mark} (outputs : Fields) → EndsSo s f marks (succeeds_with outputs) →
+  pub success_is_result : {f : Progress} {marks : List Mark} (outputs delivered : Fields) → EndsSo s f marks (succeeds_with outputs delivered) →
       (unfolding_at s f.events).result ≡ Some outputs
-  success_is_result {f = f} outputs (fails end idle collects landed settles) = absurd (subst IsNoSuccess settles (settled_failure f.events))
-  success_is_result outputs (succeeds its_outputs busy landed result delivered) = result
+  success_is_result {f = f} outputs delivered (fails end idle collects landed settles) = absurd (subst IsNoSuccess settles (settled_failure f.events))
+  success_is_result outputs delivered (succeeds its_outputs its_delivered busy landed result is) = result
+
+  -- as it was delivered
+  pub success_is_delivered : {f : Progress} {marks : List Mark} (outputs delivered : Fields) → EndsSo s f marks (succeeds_with outputs delivered) →
+      IsDelivered s f.events outputs delivered
+  success_is_delivered {f = f} outputs delivered (fails end idle collects landed settles) = absurd (subst IsNoSuccess settles (settled_failure f.events))
+  success_is_delivered outputs delivered (succeeds its_outputs its_delivered busy landed result is) = is
 
   -- and a permanent failure has settled the end
   pub failure_settles : {f : Progress} {marks : List Mark} (place : JobPlace) (cause : Cause) → EndsSo s f marks (fails_permanently place cause) →
@@ -123,12 +132,13 @@ by_place at place outputs es false same is rest = further (job_succeeded at outp
 where_collected : (es : List Event) (place : JobPlace) → is_some (find (λ (r : Resolved). is_same_place r.place place) (resolved es)) ≡ true → IsCollected es place
 where_collected [] place is = absurd cc
 where_collected (job_succeeded at outputs ∷ es) place is = by_place at place outputs es (is_same_place at place) refl is (where_collected es place)
+where_collected (file_measured path measure ∷ es) place is = further _ es place (where_collected es place is)
 where_collected (job_staged at number ∷ es) place is = further _ es place (where_collected es place is)
-where_collected (job_started at launch ticket ∷ es) place is = further _ es place (where_collected es place is)
+where_collected (job_started at inputs launch ticket ∷ es) place is = further _ es place (where_collected es place is)
 where_collected (child_exited ticket ∷ es) place is = further _ es place (where_collected es place is)
 where_collected (job_failed at cause ∷ es) place is = further _ es place (where_collected es place is)
-where_collected (child_signalled at ∷ es) place is = further _ es place (where_collected es place is)
-where_collected (result_delivered ∷ es) place is = further _ es place (where_collected es place is)
+where_collected (job_failed_for_now at ∷ es) place is = further _ es place (where_collected es place is)
+where_collected (result_delivered plan ∷ es) place is = further _ es place (where_collected es place is)
 where_collected (host_failed at fault ∷ es) place is = further _ es place (where_collected es place is)
 where_collected (collect_failed ∷ es) place is = further _ es place (where_collected es place is)
 
@@ -153,27 +163,30 @@ met_collected walks es outputs job is there =
 
 -- A lone tool's known jobs are those that its walk meets
 
-known_is_met : (tool : Tool) (inputs : Result Fields Cause) (made : Made) (known : List Resolved) (job : Job) →
-    Contains (jobs_after (tool_walk tool [] inputs) known) job → Contains (tool_walk tool [] inputs made).met (met_job job)
-known_is_met tool (Ok inputs) made known job there =
-    let one : Contains (its_job tool inputs ∷ []) job = subst (λ (jobs : List Job). Contains jobs job) (one_job tool inputs known) there in
-    (0, omega arith, ap met_job (only_in _ job one))
-known_is_met tool (Err cause) made known job there = absurd (none_in job (subst (λ (jobs : List Job). Contains jobs job) (no_job tool cause known) there))
+module _ (tool : Tool) (inputs_by : InputsBy) (paths : List Name) (options : Options) where
+  abbrev s : Scene
+  s = lone tool inputs_by paths options
 
-ran_if_met : (s : Scene) (t : List Pair) (outputs : Fields) (run : Ends s (LoadsHeld s) t (succeeds_with outputs)) (job : Job) →
-    Contains (s.walker (made_by (resolved run.happened.events))).met (met_job job) → RanWell t job.place
-ran_if_met s t outputs run job met =
-    let es : List Event = run.happened.events in
-    let collected_it : IsCollected es job.place = met_collected s.walker es outputs job (success_is_result s outputs run.ended) met in
-    (knows s (LoadsHeld s) run.goes).success job.place collected_it.outputs collected_it.there
+  its_codes : (es : List Event) (place : JobPlace) (job : Job) → job_at s es place ≡ Some job → job.tool.exit_codes ≡ tool.exit_codes
+  its_codes es place job is =
+      ap (λ (j : Job). j.tool.exit_codes) (known_job tool (are_measured s es) (inputs_by (measures es)) (resolved es) place job is).is
 
-pub success_ran : (setting : Setting) (t : List Pair) (outputs : Fields) (run : IsRun setting t (succeeds_with outputs)) (job : Job) →
-    Contains (unfolding_at (scene_of setting) run.happened.events).jobs job → RanWell t job.place
-success_ran setting t outputs run job there =
-    by_process setting (λ (x : Scene). (its_run : Ends x (LoadsHeld x) t (succeeds_with outputs)) → Contains (unfolding_at x its_run.happened.events).jobs job → RanWell t job.place)
-    (λ tool its_run its_there. let inputs : Result Fields Cause = inputs_for tool.inputs setting.inputs in
-    let known : List Resolved = resolved its_run.happened.events in
-    ran_if_met (scene_by tool setting.options inputs) t outputs its_run job (known_is_met tool inputs (made_by known) (reverse known) job its_there))
+  pub ran_if_known : (t : List Pair) (outputs delivered : Fields) (run : Ends s (LoadsHeld s) t (succeeds_with outputs delivered)) (job : Job) →
+      Contains (unfolding_at s run.happened.events).jobs job → RanWell t job.place job.tool.exit_codes
+  ran_if_known t outputs delivered run job there =
+      let es : List Event = run.happened.events in
+      let walks : Walker = tool_walk tool [] (inputs_by (measures es)) in
+      let met = met_if_known tool (are_measured s es) (inputs_by (measures es)) (made_by (resolved es)) (resolved es) job there in
+      let result_is = result_known (are_measured s es) walks (resolved es) outputs (success_is_result s outputs delivered run.ended) in
+      let collected_it : IsCollected es job.place = met_collected walks es outputs job result_is.1 met.0 in
+      subst (λ (its : Tool). RanWell t job.place its.exit_codes) (sym met.1)
+      ((knows (λ place. tool.exit_codes) s its_codes (LoadsHeld s) run.goes).success job.place collected_it.outputs collected_it.there)
+
+pub success_ran : (setting : Setting) (t : List Pair) (outputs delivered : Fields) (run : IsRun setting t (succeeds_with outputs delivered)) (job : Job) →
+    Contains (unfolding_at (scene_of setting) run.happened.events).jobs job → RanWell t job.place job.tool.exit_codes
+success_ran setting t outputs delivered run job there =
+    by_process setting (λ (x : Scene). (its_run : Ends x (LoadsHeld x) t (succeeds_with outputs delivered)) → Contains (unfolding_at x its_run.happened.events).jobs job → RanWell t job.place job.tool.exit_codes)
+    (λ tool its_run its_there. ran_if_known tool (inputs_of tool setting.inputs) (input_paths tool.inputs setting.inputs) setting.options t outputs delivered its_run job its_there)
     (λ workflow its_run its_there. absurd (none_in job
     (subst (λ (jobs : List Job). Contains jobs job) (no_jobs workflow setting.options (reverse (resolved its_run.happened.events))) its_there)))
     run there
