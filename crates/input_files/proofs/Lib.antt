@@ -1,3 +1,4 @@
+mod Fileless
 mod Heads
 mod Once
 mod Slashes

@@ -2,6 +2,7 @@ pub mod Beside
 pub mod Contents
 pub mod Given
 pub mod Inputs
+pub mod Laws
 pub mod Listing
 pub mod Measured
 pub mod Paths

@@ -5,6 +5,7 @@
 //! - `inputs_for` gives exactly the inputs of `specs/Inputs.antt`, each File and Directory as it was measured, or exactly the first fault.
 //! - `heads_wanted` gives exactly the paths of `specs/Contents.antt` whose first bytes are read, each once, and `with_contents` exactly the
 //!   inputs with these as contents, or exactly the first fault.
+//! - `values_without_files_stay` is a law: a value without Files and Directories stays as it is.
 //!
 //! Each call that allocates may also fail as out of memory.
 #![tactic(auto)]
@@ -15,6 +16,7 @@ mod fault;
 mod files;
 mod given;
 mod inputs;
+mod laws;
 mod listing;
 mod measured;
 mod names;
@@ -24,4 +26,5 @@ mod there;
 pub use contents::{MOST_CONTENTS, heads_wanted, with_contents};
 pub use fault::{ContentsError, ContentsFault, InputError, InputFault};
 pub use inputs::inputs_for;
+pub use laws::values_without_files_stay;
 pub use paths::input_paths;
