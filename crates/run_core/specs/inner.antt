@@ -2,3 +2,4 @@ pub mod Given
 pub mod Lone
 pub mod Machine
 pub mod Standing
+pub mod Places

@@ -14,6 +14,7 @@ mod inputs;
 mod location;
 mod moves;
 mod outputs;
+mod places;
 mod runner;
 mod state;
 mod steps;
