@@ -1,5 +1,5 @@
 -- What a host that answers from a script answers.
-use Rattle.std.specs.Prelude.{◌≡◌, ◌≤◌, ℕ, ◌+◌, ◌==◌, nat_le, Bool, true, false, ◌&&◌, if◌then◌else◌, List, [], ◌∷◌, ◌++◌, Option, Some, None, length, drop, slice_get}
+use Rattle.std.specs.Prelude.{◌≡◌, ◌≤◌, ℕ, ◌+◌, ◌==◌, nat_le, Bool, ◌&&◌, if◌then◌else◌, List, [], ◌∷◌, ◌++◌, Option, Some, None, length, drop, slice_get}
 use Rattle.std.specs.List.{list_any}
 use Rattle.proc_host.specs.declared.call.Entry.{Entry}
 use Rattle.proc_host.specs.declared.call.HostAnswer.{HostAnswer}
@@ -27,6 +27,8 @@ can_end state ending = list_any (λ n. n == ending.ticket) state.running && nat_
 
 -- the answer to a request where the script says this next
 abbrev pub answer_by : ScriptState → HostRequest → Option Reply → HostAnswer
+answer_by state (requests.Measure path) (Some (replies.Measure measure)) = answers.Measured measure
+answer_by state (requests.Measure path) _ = answers.Failed faults.Measure
 answer_by state (requests.Stage plan number) (Some replies.Stage) = answers.Done
 answer_by state (requests.Stage plan number) _ = answers.Failed faults.Stage
 answer_by state (requests.Start launch) (Some replies.Start) = answers.Started (state.started + 1)
@@ -35,6 +37,8 @@ answer_by state requests.Collect (Some (replies.Collect ending)) = if can_end st
 answer_by state requests.Collect _ = answers.Failed faults.Collect
 answer_by state (requests.Scan folder) (Some (replies.Scan found)) = answers.Listed found
 answer_by state (requests.Scan folder) _ = answers.Failed faults.Scan
+answer_by state (requests.Head path limit) (Some (replies.Head bytes)) = if nat_le (length bytes) limit then answers.FirstBytes bytes else answers.Failed faults.Head
+answer_by state (requests.Head path limit) _ = answers.Failed faults.Head
 answer_by state (requests.Deliver plan) (Some replies.Deliver) = answers.Done
 answer_by state (requests.Deliver plan) _ = answers.Failed faults.Deliver
 

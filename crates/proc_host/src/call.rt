@@ -2,9 +2,10 @@ ghost use Rattle.std.specs.Prelude.{◌≡◌};
 ghost use Rattle.proc_host.specs.Faults.{code_of};
 ghost use Rattle.proc_host.specs.declared.call.HostError.TheVariants.{OutOfMemory};
 
-use crate::{ChildEnd, Found, StagePlan};
+use crate::ChildEnd;
 use command_line::Launch;
 use plain_data::{Items, Text};
+use staging::{Found, Measure, StagePlan};
 use std::alloc::{AllocError, AllocFailed};
 use std::error::Error;
 use std::fmt;
@@ -12,12 +13,16 @@ use std::fmt;
 /// What was asked of a host.
 #[derive(Drop)]
 pub enum HostRequest {
+    /// To say what stands at a path.
+    Measure(Text),
     /// To lay out the folder of a job, by its number, from 1.
     Stage(StagePlan, u64),
     Start(Launch),
     Collect,
     /// To list a folder.
     Scan(Text),
+    /// To read the first bytes of a file, at most so many.
+    Head(Text, u64),
     Deliver(StagePlan),
 }
 
@@ -25,10 +30,13 @@ pub enum HostRequest {
 #[derive(Drop)]
 pub enum HostAnswer {
     Done,
+    Measured(Measure),
     /// The number of the new child's ticket.
     Started(u64),
     Ended(ChildEnd),
     Listed(Items<Found>),
+    /// The first bytes of a file.
+    FirstBytes(Items<u8>),
     Failed(HostFault),
 }
 

@@ -1,6 +1,7 @@
 ghost use Rattle.std.specs.Prelude.{◌≡◌};
-ghost use Rattle.proc_host.specs.ExitClass.{class_of};
+ghost use Rattle.proc_host.specs.ExitClass.{class_of, has as has_code, unlisted as unlisted_class};
 
+use cwl_process::ExitCodes;
 use std::marker::Model;
 
 /// The right to a started child. It can't be dropped: it has to be spent, by `Host::close`.
@@ -48,8 +49,7 @@ pub struct ChildEnd {
     pub millis: u64,
 }
 
-/// What an end means for the job, at a tool that lists no codes of its own (CWL v1.2, CommandLineTool:
-/// successCodes, temporaryFailCodes and permanentFailCodes).
+/// What an end means for the job (CWL v1.2, CommandLineTool: successCodes, temporaryFailCodes and permanentFailCodes).
 #[derive(Clone, Copy, Debug, PartialEq, Eq)]
 pub enum ExitClass {
     Success,
@@ -57,13 +57,36 @@ pub enum ExitClass {
     Permanent,
 }
 
-/// The class of an end: `Temporary` by a signal, `Success` at 0, and `Permanent` at every other code.
-pub fn exit_class(code: Option<i32>) -> ExitClass
-    ensures { result ≡ class_of code }
+/// The class of an end: `Temporary` by a signal; else that of the first of the tool's lists that has the code, in the
+/// order success, temporary, permanent; else `Success` at 0 and `Permanent` at every other code.
+pub fn classify(codes: &ExitCodes, code: Option<i32>) -> ExitClass
+    ensures { result ≡ class_of codes.now code }
+{
+    let Some(code) = code else {
+        return ExitClass::Temporary;
+    };
+    if has(codes.success.as_slice(), code) {
+        ExitClass::Success
+    } else if has(codes.temporary.as_slice(), code) {
+        ExitClass::Temporary
+    } else if has(codes.permanent.as_slice(), code) {
+        ExitClass::Permanent
+    } else {
+        unlisted(code)
+    }
+}
+
+fn has(codes: &[i32], code: i32) -> bool
+    ensures { result ≡ has_code code codes.now }
+{
+    codes.contains(&code)
+}
+
+fn unlisted(code: i32) -> ExitClass
+    ensures { result ≡ unlisted_class code }
 {
     match code {
-        None => ExitClass::Temporary,
-        Some(0) => ExitClass::Success,
-        Some(_) => ExitClass::Permanent,
+        0 => ExitClass::Success,
+        _ => ExitClass::Permanent,
     }
 }

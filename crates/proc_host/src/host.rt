@@ -1,12 +1,13 @@
-ghost use Rattle.std.specs.Prelude.{◌≡◌, ◌≢◌, ◌+◌, ◌++◌, List, ℕ, [], IfOk, Contains};
+ghost use Rattle.std.specs.Prelude.{◌≡◌, ◌≢◌, ◌≤◌, ◌+◌, ◌++◌, List, ℕ, [], length, IfOk, Contains};
 ghost use Rattle.proc_host.specs.declared.call.Entry.{Entry};
 ghost use Rattle.proc_host.specs.Answers.{fault_of};
 ghost use Rattle.proc_host.specs.Log.{answer_behind, entries_of, starts, FailsOnlyBy};
 ghost use Rattle.proc_host.specs.Tickets.{IsFresh, running_after, without};
 
-use crate::{ChildEnd, Found, HostAnswer, HostError, HostFault, HostRequest, StagePlan, Ticket};
+use crate::{ChildEnd, HostAnswer, HostError, HostFault, HostRequest, Ticket};
 use command_line::Launch;
 use plain_data::{Items, Text};
+use staging::{Found, Measure, StagePlan};
 
 /// The world of a run: its files and its children.
 ///
@@ -19,7 +20,14 @@ pub trait Host {
     /// The tickets that were started and not closed yet.
     ghost running: { Self → List ℕ };
 
-    /// Lays out the folder of a job: each move copies a file to its target.
+    /// Says what stands at a path. A link is taken as what it points to.
+    fn measure(&mut self, path: &Text) -> Result<Measure, HostError>
+        ensures logged { log self.new ≡ log self.old
+            ++ entries_of (HostRequest.Measure path.now) (answer_behind (λ measure. HostAnswer.Measured measure) result) }
+        ensures own { FailsOnlyBy (fault_of (HostRequest.Measure path.now)) result }
+        ensures running { running self.new ≡ running self.old };
+
+    /// Lays out the folder of a job: each move copies a file or a folder to its target.
     fn stage(&mut self, plan: &StagePlan, number: u64) -> Result<(), HostError>
         ensures logged { log self.new ≡ log self.old
             ++ entries_of (HostRequest.Stage plan.now number) (answer_behind (λ _. HostAnswer.Done) result) }
@@ -49,6 +57,14 @@ pub trait Host {
         ensures logged { log self.new ≡ log self.old
             ++ entries_of (HostRequest.Scan folder.now) (answer_behind (λ found. HostAnswer.Listed found) result) }
         ensures own { FailsOnlyBy (fault_of (HostRequest.Scan folder.now)) result }
+        ensures running { running self.new ≡ running self.old };
+
+    /// Reads the first bytes of a file, at most `limit`.
+    fn head(&mut self, path: &Text, limit: u64) -> Result<Items<u8>, HostError>
+        ensures logged { log self.new ≡ log self.old
+            ++ entries_of (HostRequest.Head path.now limit) (answer_behind (λ bytes. HostAnswer.FirstBytes bytes) result) }
+        ensures own { FailsOnlyBy (fault_of (HostRequest.Head path.now limit)) result }
+        ensures within { IfOk result (λ bytes. length bytes ≤ limit) }
         ensures running { running self.new ≡ running self.old };
 
     /// Copies a run's outputs to where they are wanted.

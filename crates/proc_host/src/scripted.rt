@@ -1,17 +1,15 @@
-ghost use Rattle.std.specs.Prelude.{◌≡◌, ◌+◌, ◌++◌, ◌∷◌, ◌↔◌, List, [], IfOk, OnOk, OnErr, IfSome, IfNone, IsTrue, slice_get, Contains};
+ghost use Rattle.std.specs.Prelude.{◌≡◌, ◌≤◌, ◌+◌, ◌++◌, ◌∷◌, ◌↔◌, ℕ, List, [], IfOk, OnOk, OnErr, IfSome, IfNone, IsTrue, length, nat_le, slice_get, Contains};
 ghost use Rattle.proc_host.specs.Log.{answer_behind, answer_behind_error, entries_of, starts, FailsOnlyBy, IsOnly};
 ghost use Rattle.proc_host.specs.Tickets.{IsFresh, running_after, without};
 ghost use Rattle.proc_host.specs.Script.{Answers, after, can_end};
 ghost use Rattle.proc_host.specs.declared.child.ChildEnd.{ChildEnd};
-ghost use Rattle.proc_host.specs.declared.found.Found.{Found};
+ghost use Rattle.staging.specs.declared.found.Found.{Found};
+ghost use Rattle.staging.specs.declared.measure.Measure.{Measure};
 
-use crate::found::listing_in;
-use crate::{
-    ChildEnd, Entry, Found, Host, HostAnswer, HostError, HostFault, HostRequest, Reply, StagePlan,
-    Ticket,
-};
+use crate::{ChildEnd, Entry, Host, HostAnswer, HostError, HostFault, HostRequest, Reply, Ticket};
 use command_line::Launch;
 use plain_data::{Items, Text};
+use staging::{Found, Measure, StagePlan, listing_in};
 use std::alloc::{AllocError, Global};
 use std::marker::Model;
 
@@ -127,6 +125,33 @@ impl Scripted {
         Ok(Some(listing_in(self.alloc, found)?))
     }
 
+    // What the script next says that there is.
+    fn next_measure(&self) -> Result<Option<Measure>, AllocError>
+        ensures told { IfOk result (λ next. IfSome next (λ measure. slice_get self.now.script 0 ≡ Some (Reply.Measure measure))) }
+        ensures none { IfOk result (λ next. IfNone next ((measure : Measure) → slice_get self.now.script 0 ≡ Some (Reply.Measure measure) → ⊥)) }
+    {
+        let Some(Reply::Measure(measure)) = self.script.get(self.given) else {
+            return Ok(None);
+        };
+        Ok(Some(measure.clone_in(self.alloc)?))
+    }
+
+    // The first bytes that the script tells next, where they are no more than were asked for.
+    fn next_head(&self, limit: u64) -> Result<Option<Items<u8>>, AllocError>
+        ensures told { IfOk result (λ next. IfSome next (λ bytes. slice_get self.now.script 0 ≡ Some (Reply.Head bytes))) }
+        ensures within { IfOk result (λ next. IfSome next (λ bytes. length bytes ≤ limit)) }
+        ensures none { IfOk result (λ next. IfNone next ((bytes : List ℕ) → slice_get self.now.script 0 ≡ Some (Reply.Head bytes)
+            → IsTrue (nat_le (length bytes) limit) → ⊥)) }
+    {
+        let Some(Reply::Head(bytes)) = self.script.get(self.given) else {
+            return Ok(None);
+        };
+        if bytes.len() as u64 > limit {
+            return Ok(None);
+        }
+        Ok(Some(bytes_in(self.alloc, bytes)?))
+    }
+
     // Notes that a call failed.
     fn refuse(&mut self, request: HostRequest, fault: HostFault) -> HostError
         ensures refused { self.new ≡ after self.old request (answer_behind_error result) }
@@ -163,6 +188,47 @@ fn note_start(
     Ok(())
 }
 
+// Notes in the log what stands at a path.
+fn note_measure(
+    alloc: Global,
+    log: &mut Vec<Entry>,
+    path: &Text,
+    measure: &Measure,
+) -> Result<(), AllocError>
+    ensures log { OnOk result (log.new.items ≡ log.old.items
+        ++ record { request = HostRequest.Measure path.now; answer = HostAnswer.Measured measure.now } ∷ []) }
+    ensures err { OnErr result (log.new.items ≡ log.old.items) }
+{
+    let request = HostRequest::Measure(path.copied(alloc)?);
+    let answer = HostAnswer::Measured(measure.clone_in(alloc)?);
+    log.push(Entry { request, answer })?;
+    Ok(())
+}
+
+// Notes first bytes in the log.
+fn note_head(
+    alloc: Global,
+    log: &mut Vec<Entry>,
+    path: &Text,
+    limit: u64,
+    bytes: &Items<u8>,
+) -> Result<(), AllocError>
+    ensures log { OnOk result (log.new.items ≡ log.old.items
+        ++ record { request = HostRequest.Head path.now limit; answer = HostAnswer.FirstBytes bytes.now } ∷ []) }
+    ensures err { OnErr result (log.new.items ≡ log.old.items) }
+{
+    let request = HostRequest::Head(path.copied(alloc)?, limit);
+    let answer = HostAnswer::FirstBytes(bytes_in(alloc, bytes)?);
+    log.push(Entry { request, answer })?;
+    Ok(())
+}
+
+fn bytes_in(alloc: Global, bytes: &Items<u8>) -> Result<Items<u8>, AllocError>
+    ensures { IfOk result (λ copy. copy ≡ bytes.now) }
+{
+    Ok(Items::from_vec(Vec::from_slice(alloc, bytes.as_slice())?))
+}
+
 // Notes a listing in the log.
 fn note_scan(
     alloc: Global,
@@ -191,6 +257,22 @@ impl Host for Scripted {
     ghost log = { λ state. state.log };
 
     ghost running = { λ state. state.running };
+
+    fn measure(&mut self, path: &Text) -> Result<Measure, HostError>
+        ensures logged { self.new.log ≡ self.old.log
+            ++ entries_of (HostRequest.Measure path.now) (answer_behind (λ measure. HostAnswer.Measured measure) result) }
+        ensures own { FailsOnlyBy HostFault.Measure result }
+        ensures running { self.new.running ≡ self.old.running }
+        ensures scripted { Answers self.old (HostRequest.Measure path.now) (answer_behind (λ measure. HostAnswer.Measured measure) result) self.new }
+    {
+        let Some(measure) = self.next_measure()? else {
+            let request = HostRequest::Measure(path.copied(self.alloc)?);
+            return Err(self.refuse(request, HostFault::Measure));
+        };
+        note_measure(self.alloc, &mut self.log, path, &measure)?;
+        self.given += 1;
+        Ok(measure)
+    }
 
     fn stage(&mut self, plan: &StagePlan, number: u64) -> Result<(), HostError>
         ensures logged { self.new.log ≡ self.old.log
@@ -264,6 +346,23 @@ impl Host for Scripted {
         note_scan(self.alloc, &mut self.log, folder, &listed)?;
         self.given += 1;
         Ok(listed)
+    }
+
+    fn head(&mut self, path: &Text, limit: u64) -> Result<Items<u8>, HostError>
+        ensures logged { self.new.log ≡ self.old.log
+            ++ entries_of (HostRequest.Head path.now limit) (answer_behind (λ bytes. HostAnswer.FirstBytes bytes) result) }
+        ensures own { FailsOnlyBy HostFault.Head result }
+        ensures within { IfOk result (λ bytes. length bytes ≤ limit) }
+        ensures running { self.new.running ≡ self.old.running }
+        ensures scripted { Answers self.old (HostRequest.Head path.now limit) (answer_behind (λ bytes. HostAnswer.FirstBytes bytes) result) self.new }
+    {
+        let Some(bytes) = self.next_head(limit)? else {
+            let request = HostRequest::Head(path.copied(self.alloc)?, limit);
+            return Err(self.refuse(request, HostFault::Head));
+        };
+        note_head(self.alloc, &mut self.log, path, limit, &bytes)?;
+        self.given += 1;
+        Ok(bytes)
     }
 
     fn deliver(&mut self, plan: &StagePlan) -> Result<(), HostError>

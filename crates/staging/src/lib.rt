@@ -9,6 +9,7 @@
 
 mod bracket;
 mod characters;
+mod copying;
 mod fault;
 mod found;
 mod group;
@@ -16,6 +17,7 @@ mod groups;
 mod item;
 mod laws;
 mod matching;
+mod measure;
 mod moves;
 mod moving;
 mod pattern;
@@ -25,6 +27,7 @@ mod reading;
 mod syntax;
 mod targets;
 
+pub use copying::listing_in;
 pub use fault::{GlobError, GlobFault};
 pub use found::Found;
 pub use group::{Member, Placed};
@@ -33,6 +36,7 @@ pub use laws::{
     hidden_by_a_period_alone, same_components, sources_never_meet, targets_never_meet,
     text_matches_itself_alone,
 };
+pub use measure::Measure;
 pub use pattern::Pattern;
 pub use placing::place_groups;
 pub use plan::{Move, StagePlan, deliver_plan, stage_plan};

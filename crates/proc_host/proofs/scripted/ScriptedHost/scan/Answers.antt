@@ -1,6 +1,6 @@
 use Rattle.std.proofs.Common.{◌≡◌, List, Option, Some, IfSome, slice_get, subst}
 use Rattle.std.proofs.lemmas.List.{drop-drop}
-use Rattle.proc_host.specs.declared.found.Found.{Found}
+use Rattle.staging.specs.declared.found.Found.{Found}
 use Rattle.proc_host.specs.declared.reply.Reply.TheVariants as replies
 use Rattle.proc_host.proofs.Told.{scan_told}
 use Rattle.proc_host.proofs.scripted.ScriptedHost.scan.Goals as goal

@@ -1,5 +1,5 @@
 use Rattle.std.proofs.Common.{◌≡◌, take}
-use Rattle.proc_host.proofs.found.listing_in.Given as goal
+use Rattle.staging.proofs.copying.listing_in.Given as goal
 
 -- the front of the listing is copied
 abbrev pub invariant-loop-found : goal.invariant-loop-found

@@ -1,5 +1,5 @@
 use Rattle.std.proofs.Common.{◌≡◌, take}
-use Rattle.proc_host.proofs.plan.StagePlan.clone_in.Given as goal
+use Rattle.staging.proofs.plan.StagePlan.clone_in.Given as goal
 
 -- the front of the moves is copied
 abbrev pub invariant-loop-planned : goal.invariant-loop-planned

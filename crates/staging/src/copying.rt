@@ -1,24 +1,25 @@
+//! Plans and listings, copied in memory of their own.
 ghost use Rattle.std.specs.Prelude.{◌≡◌, IfOk};
 
-use cwl_value::{Value, copy_fields};
-use plain_data::{Items, Keyed, Text};
+use crate::found::Found;
+use crate::plan::{Move, StagePlan};
+use cwl_value::copy_fields;
+use plain_data::Items;
 use std::alloc::{AllocError, Global};
 
-/// A file to copy: from one path to another.
-#[derive(Drop)]
-pub struct Move {
-    pub source: Text,
-    pub target: Text,
-}
-
-/// Files to copy, and the values that name them by their new paths.
-#[derive(Drop)]
-pub struct StagePlan {
-    pub moves: Items<Move>,
-    pub value: Keyed<Value>,
+/// A copy of a listing in memory of its own.
+pub fn listing_in(alloc: Global, listing: &Items<Found>) -> Result<Items<Found>, AllocError>
+    ensures { IfOk result (λ copy. copy ≡ listing.now) }
+{
+    let mut copies = Vec::new(alloc);
+    for found in listing.as_slice() {
+        copies.push(found.clone_in(alloc)?)?;
+    }
+    Ok(Items::from_vec(copies))
 }
 
 impl Move {
+    /// A copy in memory of its own.
     pub fn clone_in(&self, alloc: Global) -> Result<Move, AllocError>
         ensures { IfOk result (λ copy. copy ≡ self.now) }
     {
@@ -30,6 +31,7 @@ impl Move {
 }
 
 impl StagePlan {
+    /// A copy in memory of its own.
     pub fn clone_in(&self, alloc: Global) -> Result<StagePlan, AllocError>
         ensures { IfOk result (λ copy. copy ≡ self.now) }
     {
