@@ -1,5 +1,5 @@
-pub mod Given
 pub mod Lone
 pub mod Machine
-pub mod Standing
 pub mod Places
+pub mod Standing
+pub mod Turns

@@ -1,11 +1,12 @@
 //! Values whose files stand elsewhere.
 ghost use Rattle.std.specs.Prelude.{◌≡◌, [], IfOk, map};
+ghost use Rattle.run_rules.specs.Delivered.{location_place, made_path};
 ghost use Rattle.run_rules.specs.Made.{value_moved, fields_moved, made_place};
-ghost use Rattle.run_core.specs.inner.Places.{file_elsewhere, dir_elsewhere, file_with, left_place, located_place, number_of, path_below, place_by};
+ghost use Rattle.run_core.specs.inner.Places.{file_elsewhere, dir_elsewhere, file_with, left_place, number_of, place_by};
 
 use crate::folders::{out_folder, path_in};
-use crate::location::location_of;
 use cwl_value::{DirVal, FileVal, JobPlace, Place, Value};
+use file_values::path_to_location;
 use plain_data::{Items, Keyed, Text};
 use std::alloc::{AllocError, Global};
 
@@ -165,7 +166,7 @@ fn number_of(job: &JobPlace) -> u64
 
 /// The path of what has this name below a folder; `.` is the folder itself.
 fn path_below(alloc: Global, folder: &Text, name: &Text) -> Result<Text, AllocError>
-    ensures { IfOk result (λ path. path ≡ path_below folder.now name.now) }
+    ensures { IfOk result (λ path. path ≡ made_path folder.now name.now) }
 {
     if name.as_str() == "." {
         return folder.copied(alloc);
@@ -175,10 +176,13 @@ fn path_below(alloc: Global, folder: &Text, name: &Text) -> Result<Text, AllocEr
 
 /// A path becomes its location.
 fn located_place(alloc: Global, place: &Place) -> Result<Place, AllocError>
-    ensures { IfOk result (λ found. found ≡ located_place place.now) }
+    ensures { IfOk result (λ found. found ≡ location_place place.now) }
 {
     match place {
-        Place::Path(path) => Ok(Place::Url(location_of(alloc, path.as_str())?)),
+        Place::Path(path) => {
+            let location = path_to_location(alloc, path.as_str())?;
+            Ok(Place::Url(Text::from_string(location)))
+        }
         _ => place.clone_in(alloc),
     }
 }

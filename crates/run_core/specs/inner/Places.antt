@@ -1,12 +1,11 @@
 -- Where the files of values go: from names in an output folder to the job that made them, from there to paths, and to locations.
-use Rattle.std.specs.Prelude.{ℕ, cond, bytes_eq, codes, List, [], ◌∷◌, ◌++◌}
+use Rattle.std.specs.Prelude.{ℕ, List, [], ◌∷◌}
 use Rattle.cwl_value.specs.declared.place.Place.{Place}
 use Rattle.cwl_value.specs.declared.value.Value.{Value, roll-Value}
 use Rattle.cwl_value.specs.declared.value.FileVal.{FileVal, fold-FileVal, out-FileVal, roll-FileVal}
 use Rattle.cwl_value.specs.declared.value.DirVal.{DirVal, fold-DirVal}
 use Rattle.run_rules.specs.Words.{Name, JobPlace}
-use Rattle.run_rules.specs.Folders.{out_folder}
-use Rattle.run_rules.specs.Location.{location_of}
+use Rattle.run_rules.specs.Delivered.{source_place, location_place}
 use Rattle.run_rules.specs.Made.{file_moved, dir_moved, made_place}
 use Rattle.run_core.specs.declared.places.Way.{Way}
 use Rattle.run_core.specs.declared.places.Way.TheVariants as way
@@ -28,21 +27,11 @@ abbrev pub number_of : JobPlace → ℕ
 number_of [] = 1
 number_of (segment ∷ place) = 0
 
--- the path of what has this name below a folder; `.` is the folder itself
-abbrev pub path_below : Name → Name → Name
-path_below folder name = cond (bytes_eq name (codes ".")) folder (folder ++ codes "/" ++ name)
-
 -- what a job made is at its path
 abbrev pub left_place : Name → Place → Place
-left_place work (Place.Made job name) = Place.Path (path_below (out_folder work (number_of job)) name)
-left_place work place = place
-
--- a path is a location
-abbrev pub located_place : Place → Place
-located_place (Place.Path path) = Place.Url (location_of path)
-located_place place = place
+left_place work place = source_place number_of work place
 
 abbrev pub place_by : Way → Place → Place
 place_by way.Made place = made_place [] place
 place_by (way.Left work) place = left_place work.now place
-place_by way.Located place = located_place place
+place_by way.Located place = location_place place
