@@ -1,16 +1,3 @@
 pub mod Loops
-pub mod Lone
-pub mod Advance
-pub mod Answered
-pub mod Listed
-pub mod Next
-pub mod Outcomes
-pub mod Blamed
-pub mod TakeSteps
-pub mod RunTools
-pub mod Beginning
-pub mod Files
-pub mod Picks
+pub mod Shifted
 pub mod Holding
-pub mod Asking
-pub mod Seats

@@ -14,7 +14,6 @@ use Rattle.collected_outputs.specs.Contents.{Heads}
 use Rattle.collected_outputs.specs.Listing.{listing_of}
 use Rattle.collected_outputs.specs.Outputs.{Left}
 use Rattle.collected_outputs.specs.Patterns.{runtime}
-use Rattle.collected_outputs.specs.Wanted.{AreWanted}
 use Rattle.input_files.specs.Contents.{heads_wanted, with_contents}
 use Rattle.input_files.specs.Inputs.{inputs_for}
 use Rattle.input_files.specs.Measured.{Measures}
@@ -50,6 +49,7 @@ use Rattle.run_core.specs.declared.state.Reading.{Reading}
 use Rattle.run_core.specs.declared.state.State.{State}
 use Rattle.run_rules.specs.Words.{Name, Fields, last_by_name, null, value_under}
 use Rattle.run_rules.specs.CollectsOn.{most_of}
+use Rattle.run_rules.specs.Wanted.{AreWanted}
 use Rattle.run_rules.specs.Delivered.{any_file, located}
 use Rattle.run_rules.specs.Folders.{in_folder, out_folder, runtime_of}
 use Rattle.run_rules.specs.Jobs.{input_cause}
