@@ -1,3 +1,11 @@
 pub mod Loops
 pub mod Shifted
+pub mod Advance
+pub mod Lone
+pub mod Answered
+pub mod LoneResults
+pub mod Phases
+pub mod Collecting
+pub mod Next
 pub mod Holding
+pub mod Seats

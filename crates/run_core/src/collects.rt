@@ -1,22 +1,21 @@
 //! What the machine waits for once the job's output folder is listed.
 ghost use Rattle.std.specs.Prelude.{◌≡◌, [], true, unwrap_or, IfOk, OnOk};
-ghost use Rattle.run_core.specs.inner.Machine.{Delivers, DeliversFiles, Gathers, IsFirst, Lists, ReadsOn, TakesHead, delivered_in, ends, head_of, kept_in, reading_in, result_of};
+ghost use Rattle.run_core.specs.inner.Machine.{Delivers, DeliversFiles, Gathers, IsFirst, Lists, ReadsOn, TakesHead, delivered_in, ends, head_of, kept_in, outputs_made, reading_in, result_of};
 ghost use Rattle.run_core.specs.inner.Places.{left_place};
 ghost use Rattle.run_core.specs.inner.Turns.{PutsNext};
 ghost use Rattle.run_rules.specs.CollectsOn.{most_of};
-ghost use Rattle.run_rules.specs.Delivered.{located};
+ghost use Rattle.run_rules.specs.Delivered.{any_file, located};
 ghost use Rattle.run_rules.specs.Made.{fields_moved};
 ghost use Rattle.run_rules.specs.Reports.{reported};
 ghost use Rattle.staging.specs.Plan.{IsPlan};
 
 use crate::folders::{out_folder, path_in};
 use crate::places::{Way, moved_fields};
-use crate::results::outputs_made;
+use crate::results::{Outputs, outputs_made};
 use crate::state::{
     Kept, Lone, Phase, Reading, State, ended, failed_for_good, kept_in, reading_in, reported,
     waiting,
 };
-use crate::today::fields_have_file;
 use crate::turns::{last_first, put_next};
 use crate::{Cause, Options, Outcome, Request};
 use collected_outputs::{
@@ -190,23 +189,20 @@ fn gathered(
 
 /// The result's files are to be copied to their targets, where it has some.
 fn delivered(alloc: Global, lone: &Lone, named: Keyed<Value>) -> Result<State, AllocError>
-    ensures { IfOk result (λ state. Delivers lone.now (result_of lone.now named) state) }
+    ensures { IfOk result (λ state. Delivers lone.now named state) }
 {
     let outputs = result_of(alloc, lone, named)?;
-    if fields_have_file(&outputs) {
-        return delivering(alloc, &lone.options, outputs);
+    if outputs.has_file {
+        return delivering(alloc, &lone.options, outputs.values);
     }
-    let located = located(alloc, outputs)?;
+    let located = located(alloc, outputs.values)?;
     Ok(ended(alloc, reported(alloc, Outcome::Success(located))))
 }
 
 /// The result: each output of the tool with its value, as the job made it.
-fn result_of(
-    alloc: Global,
-    lone: &Lone,
-    named: Keyed<Value>,
-) -> Result<Keyed<Value>, AllocError>
-    ensures { IfOk result (λ outputs. outputs ≡ result_of lone.now named) }
+fn result_of(alloc: Global, lone: &Lone, named: Keyed<Value>) -> Result<Outputs, AllocError>
+    ensures values { IfOk result (λ outputs. outputs.values ≡ result_of lone.now named) }
+    ensures has_file { IfOk result (λ outputs. outputs.has_file ≡ any_file (outputs_made lone.now.tool.outputs named)) }
 {
     outputs_made(alloc, lone.tool.outputs.as_slice(), &named)
 }

@@ -1,6 +1,6 @@
 //! Which processes are run so far.
 ghost use Rattle.std.specs.Prelude.{◌≡◌, ◌↔◌, IsTrue, map};
-ghost use Rattle.run_rules.specs.Delivered.{any_file, has_file};
+ghost use Rattle.run_rules.specs.Delivered.{has_file};
 ghost use Rattle.run_rules.specs.Made.{some_true};
 ghost use Rattle.run_rules.specs.RunsToday.{RunsToday};
 
@@ -18,7 +18,7 @@ pub fn runs_today(process: &Process, inputs: &Keyed<Value>) -> bool
 
 /// Whether a value is a File or Directory, or holds one at any depth.
 #[cycle(holding)]
-fn has_file(value: &Value) -> bool
+pub(crate) fn has_file(value: &Value) -> bool
     ensures { result ≡ has_file value.now }
 {
     match value {
@@ -41,10 +41,9 @@ fn items_have_file(values: &Items<Value>) -> bool
     false
 }
 
-/// Whether one of the fields is a File or Directory, or holds one at any depth.
 #[cycle(holding)]
-pub(crate) fn fields_have_file(fields: &Keyed<Value>) -> bool
-    ensures { result ≡ any_file fields.now }
+fn fields_have_file(fields: &Keyed<Value>) -> bool
+    ensures { result ≡ some_true (map (λ field. has_file field.1) fields.now) }
 {
     for field in fields.as_slice() {
         if has_file(&field.1) {

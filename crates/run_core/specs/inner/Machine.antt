@@ -242,14 +242,14 @@ pub record DeliversFiles (options : Options) (outputs : Fields) (state : State) 
   pub is : state ≡ delivers_by plan
 
 -- the result is delivered, where it has files
-pub data Delivers (lone : Lone) (outputs : Fields) : State → Type 0 where
-  delivers_none : any_file outputs ≡ false → Delivers lone outputs (ends (reported (Outcome.Success (located outputs))))
-  delivers_files : (state : State) → any_file outputs ≡ true → DeliversFiles lone.options outputs state → Delivers lone outputs state
+pub data Delivers (lone : Lone) (named : Fields) : State → Type 0 where
+  delivers_none : any_file (outputs_made lone.tool.outputs named) ≡ false → Delivers lone named (ends (reported (Outcome.Success (located (result_of lone named)))))
+  delivers_files : (state : State) → any_file (outputs_made lone.tool.outputs named) ≡ true → DeliversFiles lone.options (result_of lone named) state → Delivers lone named state
 
 -- the outputs are collected, or there is a cause why there are none
 pub data Gathers (lone : Lone) (kept : Kept) (found : List Found) (heads : Heads) : State → Type 0 where
   gathers : (named : Fields) (state : State) → IsCollected (left_behind kept found heads) lone.tool.outputs (Ok named) →
-      Delivers lone (result_of lone named) state → Gathers lone kept found heads state
+      Delivers lone named state → Gathers lone kept found heads state
   refuses : (fault : OutputFault) → IsCollected (left_behind kept found heads) lone.tool.outputs (Err fault) →
       Gathers lone kept found heads (fails_for_good (Cause.Collect fault))
 

@@ -27,7 +27,7 @@ use Rattle.plan_checker.specs.declared.plan.Mark.TheVariants.{Load, Compute}
 use Rattle.run_rules.specs.Scene.{scene_of}
 use Rattle.run_rules.specs.Reports.{report_of}
 use Rattle.run_core.specs.inner.Lone.{setting_in}
-use Rattle.run_core.specs.inner.Machine.{waits, ends, stages_by, starts, after_ticket, kept_of, scans, delivers_by, contents_of, head_of, result_of}
+use Rattle.run_core.specs.inner.Machine.{waits, ends, stages_by, starts, after_ticket, kept_of, scans, delivers_by, contents_of, head_of, outputs_made, result_of}
 use Rattle.run_core.specs.inner.Measured.{AreMeasures}
 use Rattle.run_core.specs.inner.Places.{left_place}
 use Rattle.run_core.specs.Limits.{IsWithinLimits}
@@ -86,7 +86,7 @@ pub data IsAt (lone : Lone) : Progress → List Mark → State → Type 0 where
       IsAt lone (after ms (when_reading own launch ticket reading.found (reverse reading.left) reading.heads)) (Load ∷ [])
       (waits (head_of lone.options.work name) (Phase.Reading (kept_of own launch) reading))
   delivering : (inputs : Fields) (ms : List Event) (own : Fields) (launch : Launch) (ticket : ℕ) (named : Fields) (plan : StagePlan) → IsLone lone inputs ms →
-      any_file (result_of lone named) ≡ true → IsPlan true lone.options.outdir (fields_moved (left_place lone.options.work) (result_of lone named)) plan →
+      any_file (outputs_made lone.tool.outputs named) ≡ true → IsPlan true lone.options.outdir (fields_moved (left_place lone.options.work) (result_of lone named)) plan →
       IsAt lone (after ms (when_gathered own launch ticket named)) (Load ∷ []) (delivers_by plan)
   ended : (f : Progress) (marks : List Mark) (end : End) → EndsSo (scene_of (setting_in lone)) f marks end →
       IsAt lone f marks (ends (report_of end))
