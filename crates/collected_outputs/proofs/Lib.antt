@@ -1,7 +1,12 @@
+pub mod Adding
 pub mod Bound
 pub mod Every
+pub mod Gathering
 pub mod Giving
+pub mod Levels
 pub mod Listings
 pub mod Matching
+pub mod ObjectRead
+pub mod Placing
 pub mod Readings
 pub mod Slashes

@@ -2,11 +2,14 @@ pub mod Beside
 pub mod ByType
 pub mod Checked
 pub mod Codes
+pub mod Collected
 pub mod Contents
 pub mod Gives
 pub mod Listing
 pub mod Matched
+pub mod Object
 pub mod Outputs
 pub mod Patterns
+pub mod Readable
 pub mod Values
 pub mod inner

@@ -84,10 +84,13 @@ unchecked left (Members members) binding names = value_of_binding left members b
 abbrev pub checked : Listing → OutputType → Value → Gives Value
 checked listing kind v = (if is_typed kind v then (if all_found listing v then Ok (bare v) else Err NameOutside) else Err NotTyped)
 
+-- with the files beside it
+abbrev pub value_beside : Left → ToolOutput → List Name → Gives Value
+value_beside left output names = and_then (unchecked left output.kind output.binding names) (all_beside left.listing output.secondary_files)
+
 -- the value of an output, of the names that its patterns match
 abbrev pub output_value : Left → ToolOutput → List Name → Gives Value
-output_value left output names =
-    and_then (unchecked left output.kind output.binding names) (λ v. and_then (all_beside left.listing output.secondary_files v) (checked left.listing output.kind))
+output_value left output names = and_then (value_beside left output names) (checked left.listing output.kind)
 
 pub record HasValue (left : Left) (output : ToolOutput) (given : Gives Value) : Type 0 where
   pub names : Gives (List Name)

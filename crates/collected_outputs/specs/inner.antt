@@ -3,3 +3,4 @@ pub mod Matches
 pub mod Names
 pub mod Readings
 pub mod Steps
+pub mod Written

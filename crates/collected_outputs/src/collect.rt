@@ -1,37 +1,39 @@
 //! The outputs of a job.
+ghost use Rattle.std.specs.Option.{option_copied};
 ghost use Rattle.std.specs.Prelude.{◌≡◌, ◌∷◌, [], false, is_some, Ok, Some, IfOk, IfErr, OnOk};
 ghost use Rattle.cwl_types.specs.declared.types.MemberType as member;
 ghost use Rattle.cwl_types.specs.declared.types.PlainType.TheVariants as plain;
-ghost use Rattle.cwl_value.specs.declared.value.Value.{out-Value};
-ghost use Rattle.collected_outputs.specs.Checked.{is_file_level, is_typed};
+ghost use Rattle.collected_outputs.specs.Collected.{IsCollected, IsFault, AreGathered, object_entry};
 ghost use Rattle.collected_outputs.specs.Gives.{Refuses};
 ghost use Rattle.collected_outputs.specs.Outputs as spec;
-ghost use Rattle.collected_outputs.specs.Outputs.{AreNames, AreOutputs, HasValue, globs_in, has_object};
+ghost use Rattle.collected_outputs.specs.Outputs.{AreNames, AreOutputs, HasValue, globs_in, has_object, value_beside};
 ghost use Rattle.collected_outputs.specs.Listing.{listing_of};
 ghost use Rattle.collected_outputs.specs.Patterns.{runtime};
-ghost use Rattle.collected_outputs.specs.inner.Steps.{left_of, texts_in, texts_by, HasNone, NoNames, NoOutputs, BindsOutput, BindsNone, error_at};
+ghost use Rattle.collected_outputs.specs.Readable.{is_readable};
+ghost use Rattle.collected_outputs.specs.inner.Steps.{left_of, texts_in, texts_by, HasNone, NoNames, NoOutputs, BindsOutput, BindsNone};
+ghost use Rattle.collected_outputs.specs.inner.Written.{GathersNone};
 
-use crate::bare::bare;
 use crate::by_type::value_by_type;
+use crate::checked::checked;
 use crate::classes::fields_have_class;
 use crate::contents::load_all;
 use crate::evaluation::{Speaks, runtime_of, value_in};
-use crate::fault::{CollectError, CollectFault, OutputFault, Stop};
-use crate::found::all_found;
+use crate::fault::{CollectError, CollectFault, Stop};
 use crate::listing::{Entry, listing_of};
 use crate::matches::matched_names;
-use crate::object::{OUTPUT_OBJECT, object_of, placed};
+use crate::nesting::{MOST_NESTING, fields_within};
+use crate::object::OUTPUT_OBJECT;
 use crate::patterns::{read_patterns, texts_of};
 use crate::secondary::with_secondary;
 use crate::values::{push_value, values_of};
+use crate::written::{at_output, from_object, put_output, whole};
 use cwl_process::{OutputBinding, OutputType, Tool, ToolOutput};
 use cwl_types::{MemberType, PlainType};
-use cwl_value::{Value, ValueRefusal, copy_fields, from_json, to_json};
+use cwl_value::Value;
 use param_refs::Template;
 use plain_data::{Items, Keyed, Text};
 use staging::Found;
 use std::alloc::{AllocError, Global};
-use type_check::fits;
 
 /// The files that took a command's streams, by their names in the output folder; empty where a stream was discarded.
 #[derive(Clone, Copy, Drop)]
@@ -62,12 +64,31 @@ pub fn collect_outputs(
     found: &[Found],
     heads: &Keyed<Items<u8>>,
 ) -> Result<Keyed<Value>, CollectError>
-    ensures { IfOk result (λ outputs. has_object (listing_of found.now) ≡ false → AreOutputs (record { listing = listing_of found.now; heads = heads.now; stdout = streams.entry.stdout.now; stderr = streams.entry.stderr.now; inputs = inputs.now; runtime = runtime }) tool.now.outputs (Ok outputs)) }
+    ensures bindings { IfOk result (λ outputs. has_object (listing_of found.now) ≡ false → AreOutputs (record { listing = listing_of found.now; heads = heads.now; stdout = streams.entry.stdout.now; stderr = streams.entry.stderr.now; inputs = inputs.now; runtime = runtime }) tool.now.outputs (Ok outputs)) }
+    ensures ok { IfOk result (λ outputs. IsCollected (record { listing = listing_of found.now; heads = heads.now; stdout = streams.entry.stdout.now; stderr = streams.entry.stderr.now; inputs = inputs.now; runtime = runtime }) tool.now.outputs (Ok outputs)) }
+    ensures err { IfErr result (IsFault (record { listing = listing_of found.now; heads = heads.now; stdout = streams.entry.stdout.now; stderr = streams.entry.stderr.now; inputs = inputs.now; runtime = runtime }) tool.now.outputs) }
 {
     let listing = listing_of(alloc, found)?;
+    let collected = collect_from(alloc, tool, inputs, streams, &listing, heads);
+    drop(listing);
+    collected
+}
+
+fn collect_from(
+    alloc: Global,
+    tool: &Tool,
+    inputs: &Keyed<Value>,
+    streams: StreamNames<'_>,
+    listing: &Keyed<Entry>,
+    heads: &Keyed<Items<u8>>,
+) -> Result<Keyed<Value>, CollectError>
+    ensures bindings { IfOk result (λ outputs. has_object listing.now ≡ false → AreOutputs (record { listing = listing.now; heads = heads.now; stdout = streams.entry.stdout.now; stderr = streams.entry.stderr.now; inputs = inputs.now; runtime = runtime }) tool.now.outputs (Ok outputs)) }
+    ensures ok { IfOk result (λ outputs. IsCollected (record { listing = listing.now; heads = heads.now; stdout = streams.entry.stdout.now; stderr = streams.entry.stderr.now; inputs = inputs.now; runtime = runtime }) tool.now.outputs (Ok outputs)) }
+    ensures err { IfErr result (IsFault (record { listing = listing.now; heads = heads.now; stdout = streams.entry.stdout.now; stderr = streams.entry.stderr.now; inputs = inputs.now; runtime = runtime }) tool.now.outputs) }
+{
     let runtime = runtime_of(alloc)?;
     let folder = Folder {
-        listing: &listing,
+        listing,
         heads,
         streams,
         speaks: Speaks {
@@ -75,25 +96,51 @@ pub fn collect_outputs(
             runtime: &runtime,
         },
     };
+    let collected = readable_outputs(alloc, tool, folder);
+    drop(runtime);
+    collected
+}
+
+// The outputs, where their JSON can be read back as these values.
+fn readable_outputs(
+    alloc: Global,
+    tool: &Tool,
+    folder: Folder<'_>,
+) -> Result<Keyed<Value>, CollectError>
+    ensures bindings { IfOk result (λ outputs. has_object folder.entry.listing.now ≡ false → AreOutputs (left_of folder.entry) tool.now.outputs (Ok outputs)) }
+    ensures ok { IfOk result (λ outputs. IsCollected (left_of folder.entry) tool.now.outputs (Ok outputs)) }
+    ensures err { IfErr result (IsFault (left_of folder.entry) tool.now.outputs) }
+{
     let outputs = outputs_of(alloc, tool, folder)?;
-    checked_object(alloc, outputs)
+    if is_readable(&outputs) {
+        Ok(outputs)
+    } else {
+        drop(outputs);
+        Err(whole(Stop::Refused(CollectFault::NotTyped)))
+    }
+}
+
+fn is_readable(outputs: &Keyed<Value>) -> bool
+    ensures { result ≡ is_readable outputs.now }
+{
+    !fields_have_class(outputs) && fields_within(outputs, MOST_NESTING - 1)
 }
 
 fn outputs_of(alloc: Global, tool: &Tool, folder: Folder<'_>) -> Result<Keyed<Value>, CollectError>
-    ensures { IfOk result (λ outputs. spec.has_object folder.entry.listing.now ≡ false → spec.AreOutputs (left_of folder.entry) tool.now.outputs (Ok outputs)) }
+    ensures bindings { IfOk result (λ outputs. spec.has_object folder.entry.listing.now ≡ false → spec.AreOutputs (left_of folder.entry) tool.now.outputs (Ok outputs)) }
+    ensures ok { IfOk result (λ outputs. AreGathered (left_of folder.entry) tool.now.outputs (Ok outputs)) }
+    ensures err { IfErr result (GathersNone (left_of folder.entry) tool.now.outputs) }
 {
     match object_entry(folder.listing) {
         None => from_bindings(alloc, tool, folder),
-        Some(entry) => match object_of(alloc, entry, folder.heads) {
-            Ok(object) => from_object(alloc, tool, folder, &object),
-            Err(stop) => Err(whole(stop)),
-        },
+        Some(entry) => from_object(alloc, tool, folder.listing, folder.heads, entry),
     }
 }
 
 // The file that is the whole output object, where it is found.
 fn object_entry(listing: &Keyed<Entry>) -> Option<&Entry>
-    ensures { is_some result ≡ spec.has_object listing.now }
+    ensures there { is_some result ≡ spec.has_object listing.now }
+    ensures entry { option_copied result ≡ object_entry listing.now }
 {
     let entry = listing.get(OUTPUT_OBJECT)?;
     if entry.is_dir { None } else { Some(entry) }
@@ -125,83 +172,9 @@ fn bind_output(
     ensures err { IfErr result (BindsNone (left_of folder.entry) id.now output.now) }
 {
     match bound_value(alloc, output, folder) {
-        Ok(value) => {
-            drop(outputs.insert(id.copied(alloc)?, value)?);
-            Ok(())
-        }
+        Ok(value) => Ok(put_output(alloc, id, value, outputs)?),
         Err(stop) => Err(at_output(alloc, id, stop)?),
     }
-}
-
-// The fault, with the output that it is met at.
-fn at_output(alloc: Global, id: &Text, stop: Stop) -> Result<CollectError, AllocError>
-    ensures { IfOk result (λ e. e ≡ error_at id.now stop) }
-{
-    match stop {
-        Stop::Refused(fault) => Ok(CollectError::Refused(OutputFault {
-            output: Some(id.copied(alloc)?),
-            fault,
-        })),
-        Stop::OutOfMemory => Ok(CollectError::OutOfMemory),
-    }
-}
-
-fn from_object(
-    alloc: Global,
-    tool: &Tool,
-    folder: Folder<'_>,
-    object: &Keyed<Value>,
-) -> Result<Keyed<Value>, CollectError> {
-    let mut outputs = Keyed::new(alloc);
-    for output in tool.outputs.as_slice() {
-        let written = written_value(alloc, &output.0, &output.1, folder, object);
-        add_output(alloc, &output.0, written, &mut outputs)?;
-    }
-    Ok(outputs)
-}
-
-fn add_output(
-    alloc: Global,
-    id: &Text,
-    value: Result<Value, Stop>,
-    outputs: &mut Keyed<Value>,
-) -> Result<(), CollectError> {
-    match value {
-        Ok(value) => {
-            drop(outputs.insert(id.copied(alloc)?, value)?);
-            Ok(())
-        }
-        Err(Stop::Refused(fault)) => Err(CollectError::Refused(OutputFault {
-            output: Some(id.copied(alloc)?),
-            fault,
-        })),
-        Err(Stop::OutOfMemory) => Err(CollectError::OutOfMemory),
-    }
-}
-
-fn whole(stop: Stop) -> CollectError {
-    match stop {
-        Stop::Refused(fault) => CollectError::Refused(OutputFault {
-            output: None,
-            fault,
-        }),
-        Stop::OutOfMemory => CollectError::OutOfMemory,
-    }
-}
-
-// The value that the output object has for an output, or null.
-fn written_value(
-    alloc: Global,
-    id: &Text,
-    output: &ToolOutput,
-    folder: Folder<'_>,
-    object: &Keyed<Value>,
-) -> Result<Value, Stop> {
-    let value = match object.get(id.as_str()) {
-        None => Value::Null,
-        Some(written) => placed(alloc, folder.listing, written)?,
-    };
-    checked(alloc, folder.listing, &output.kind, value)
 }
 
 // The value of an output by its type and binding.
@@ -222,10 +195,28 @@ fn output_value(
     ensures ok { IfOk result (λ v. spec.output_value (left_of folder.entry) output.now names.now ≡ Ok v) }
     ensures err { IfErr result (Refuses (spec.output_value (left_of folder.entry) output.now names.now)) }
 {
+    let value = value_beside(alloc, output, folder, names)?;
+    let checked = checked(alloc, folder.listing, &output.kind, &value);
+    drop(value);
+    checked
+}
+
+fn value_beside(
+    alloc: Global,
+    output: &ToolOutput,
+    folder: Folder<'_>,
+    names: &[Text],
+) -> Result<Value, Stop>
+    ensures ok { IfOk result (λ v. value_beside (left_of folder.entry) output.now names.now ≡ Ok v) }
+    ensures err { IfErr result (Refuses (value_beside (left_of folder.entry) output.now names.now)) }
+{
     let value = unchecked_value(alloc, output, folder, names)?;
-    let declared = output.secondary_files.as_slice();
-    let value = with_secondary(alloc, folder.listing, declared, value)?;
-    checked(alloc, folder.listing, &output.kind, value)
+    with_secondary(
+        alloc,
+        folder.listing,
+        output.secondary_files.as_slice(),
+        value,
+    )
 }
 
 // The names that the output's patterns match.
@@ -349,71 +340,5 @@ fn matched_values(
         load_all(alloc, folder.heads, values)
     } else {
         Ok(values)
-    }
-}
-
-// The value without contents, where it fits the type and holds only what was found.
-fn checked(
-    alloc: Global,
-    listing: &Keyed<Entry>,
-    kind: &OutputType,
-    value: Value,
-) -> Result<Value, Stop>
-    ensures ok { IfOk result (λ v. spec.checked listing.now kind.now value ≡ Ok v) }
-    ensures err { IfErr result (Refuses (spec.checked listing.now kind.now value)) }
-{
-    if !is_typed(&value, kind) {
-        return Err(Stop::Refused(CollectFault::NotTyped));
-    }
-    if !all_found(listing, &value) {
-        return Err(Stop::Refused(CollectFault::NameOutside));
-    }
-    Ok(bare(alloc, &value)?)
-}
-
-fn is_typed(value: &Value, kind: &OutputType) -> bool
-    ensures { result ≡ is_typed kind.now value.now }
-{
-    match kind {
-        OutputType::Members(members) => fits(value, members),
-        _ => is_file(value),
-    }
-}
-
-fn is_file(value: &Value) -> bool
-    ensures { result ≡ is_file_level (out-Value value.now) }
-{
-    matches!(value, Value::FileVal(_))
-}
-
-// The outputs, where their JSON can be read back as these values.
-fn checked_object(alloc: Global, outputs: Keyed<Value>) -> Result<Keyed<Value>, CollectError>
-    ensures { IfOk result (λ same. same ≡ outputs) }
-{
-    if fields_have_class(&outputs) {
-        drop(outputs);
-        return Err(not_typed());
-    }
-    if nests_deep(alloc, &outputs)? {
-        drop(outputs);
-        return Err(not_typed());
-    }
-    Ok(outputs)
-}
-
-fn not_typed() -> CollectError {
-    CollectError::Refused(OutputFault {
-        output: None,
-        fault: CollectFault::NotTyped,
-    })
-}
-
-fn nests_deep(alloc: Global, outputs: &Keyed<Value>) -> Result<bool, CollectError> {
-    let object = Value::Fields(copy_fields(alloc, outputs)?);
-    let json = to_json(alloc, &object)?;
-    match from_json(alloc, &json) {
-        Err(ValueRefusal::TooDeep) => Ok(true),
-        Err(ValueRefusal::OutOfMemory) => Err(CollectError::OutOfMemory),
-        _ => Ok(false),
     }
 }

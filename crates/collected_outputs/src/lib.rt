@@ -3,6 +3,7 @@
 
 mod bare;
 mod by_type;
+mod checked;
 mod classes;
 mod collect;
 mod contents;
@@ -11,10 +12,13 @@ mod fault;
 mod found;
 mod listing;
 mod matches;
+mod nesting;
 mod object;
 mod patterns;
+mod placed;
 mod secondary;
 mod values;
+mod written;
 
 pub use collect::{StreamNames, collect_outputs};
 pub use contents::MOST_CONTENTS;

@@ -4,7 +4,7 @@ ghost use Rattle.std.specs.Option.{option_copied, option_to_list};
 ghost use Rattle.cwl_value.specs.declared.value.FileVal.{out-FileVal};
 ghost use Rattle.collected_outputs.specs.Beside as spec;
 ghost use Rattle.collected_outputs.specs.Values.{value_under};
-ghost use Rattle.collected_outputs.specs.inner.Names.{name_at, names_at};
+ghost use Rattle.collected_outputs.specs.inner.Names.{name_at, names_at, wanted_at, is_absent};
 ghost use Rattle.collected_outputs.specs.Gives.{Refuses, all_given};
 
 use crate::fault::{CollectFault, Stop};
@@ -91,20 +91,46 @@ fn add_secondary(
     ensures ok { IfOk result (λ f. spec.added_at listing.now file declared.now (out-FileVal file).place ≡ Ok f) }
     ensures err { IfErr result (Refuses (spec.added_at listing.now file declared.now (out-FileVal file).place)) }
 {
+    match wanted_beside(alloc, listing, declared, &file) {
+        Ok(None) => Ok(file),
+        Ok(Some(path)) => Ok(with_beside(alloc, listing, path.as_str(), file)?),
+        Err(stop) => {
+            drop(file);
+            Err(stop)
+        }
+    }
+}
+
+// Where the file stands that is to be added; none where none is.
+fn wanted_beside(
+    alloc: Global,
+    listing: &Keyed<Entry>,
+    declared: &SecondaryFile,
+    file: &FileVal,
+) -> Result<Option<Text>, Stop>
+    ensures ok { IfOk result (λ path. wanted_at listing.now file.now declared.now (out-FileVal file.now).place ≡ Ok path) }
+    ensures err { IfErr result (Refuses (wanted_at listing.now file.now declared.now (out-FileVal file.now).place)) }
+{
     let Some((name, path)) = names_beside(alloc, declared, &file.place)? else {
-        return Ok(file);
+        return Ok(None);
     };
     if !may_name(name.as_str()) || !listing.contains(path.as_str()) {
-        return if declared.required {
-            Err(Stop::Refused(CollectFault::SecondaryAbsent))
-        } else {
-            Ok(file)
-        };
+        return absent(declared.required);
     }
-    if stands(&name, &file) {
-        return Ok(file);
+    if stands(&name, file) {
+        return Ok(None);
     }
-    Ok(with_beside(alloc, listing, path.as_str(), file)?)
+    Ok(Some(path))
+}
+
+fn absent(required: bool) -> Result<Option<Text>, Stop>
+    ensures { result ≡ is_absent required }
+{
+    if required {
+        Err(Stop::Refused(CollectFault::SecondaryAbsent))
+    } else {
+        Ok(None)
+    }
 }
 
 fn with_beside(

@@ -1,16 +1,1 @@
-pub mod Lone
-pub mod Meaning
-pub mod Gathered
-pub mod TranscriptTells
-pub mod SuccessCollects
-pub mod OneJob
-pub mod NothingFollows
-pub mod Scenes
-pub mod Few
-pub mod RootPlace
-pub mod RightEnds
-pub mod PlacesErased
-pub mod Leads
-pub mod Rows
-pub mod Reported
-pub mod TwoJobs
+

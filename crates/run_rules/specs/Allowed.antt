@@ -1,14 +1,19 @@
 -- What may be asked, over what has happened so far.
-use Rattle.std.specs.Prelude.{ℕ, ◌+◌, ◌<◌, ◌≡◌, false, List, [], Option, Some, None, length, filter, Contains}
+use Rattle.std.specs.Prelude.{ℕ, ◌+◌, ◌<◌, ◌≡◌, true, false, List, [], ◌∷◌, Option, Some, None, length, filter, Contains}
 use Rattle.std.specs.List.{list_any}
 use Rattle.proc_host.specs.declared.call.HostRequest.{HostRequest}
-use Rattle.proc_host.specs.declared.plan.StagePlan.{StagePlan}
+use Rattle.staging.specs.Groups.{path_in}
+use Rattle.staging.specs.Plan.{IsPlan}
+use Rattle.staging.specs.declared.plan.StagePlan.{StagePlan}
+use Rattle.input_files.specs.declared.contents.TheConstants.{MOST_CONTENTS}
 use Rattle.run_rules.specs.declared.request.Request.{Request}
-use Rattle.run_rules.specs.Words.{Fields, JobPlace}
-use Rattle.run_rules.specs.Folders.{out_folder}
+use Rattle.run_rules.specs.Words.{Name, Fields, JobPlace}
+use Rattle.run_rules.specs.Folders.{out_folder, in_folder}
 use Rattle.run_rules.specs.Jobs.{Job}
-use Rattle.run_rules.specs.Events.{Event, Work, nothing_due, start_due, scan_due, Progress, in_flight, is_held, is_staging, number_at, unfolding_at, job_at}
-use Rattle.run_rules.specs.End.{settled, delivery_at, is_delivery, is_lost_collect}
+use Rattle.run_rules.specs.Delivered.{any_file}
+use Rattle.run_rules.specs.Events.{Event, Work, nothing_due, input_heads_due, start_due, scan_due, output_heads_due, Progress, in_flight, is_held, is_measured, is_staging, are_measured, number_at, delivered_at, unfolding_at, job_at}
+use Rattle.run_rules.specs.CollectsOn.{most_of}
+use Rattle.run_rules.specs.End.{settled, IsDelivery, is_lost_collect}
 use Rattle.plan_checker.specs.declared.plan.Mark.{Mark}
 use Rattle.plan_checker.specs.declared.plan.Mark.TheVariants.{Compute}
 use Rattle.run_rules.specs.Plans.{mark_at}
@@ -16,12 +21,24 @@ use Rattle.run_rules.specs.Scene.{Scene}
 
 module _ (s : Scene) where
   -- nothing is due, no collect has failed, and the end is not settled
-  pub record IsFree (f : Progress) : Type 0 where
+  pub record IsOpen (f : Progress) : Type 0 where
     pub idle : f.work ≡ nothing_due
     pub collects : list_any is_lost_collect f.events ≡ false
     pub unsettled : settled s f.events ≡ None
 
-  -- a job is staged that the plan computes and that is not held, where a slot is free; there is nothing to copy yet
+  -- an input file is measured once, before anything else is asked
+  pub record MayMeasure (f : Progress) (place : JobPlace) (path : Name) : Type 0 where
+    pub at_root : place ≡ []
+    pub still : IsOpen f
+    pub known : Contains s.paths path
+    pub unmeasured : is_measured f.events path ≡ false
+
+  -- and each input file is measured
+  pub record IsFree (f : Progress) : Type 0 where
+    pub still : IsOpen f
+    pub measured : are_measured s f.events ≡ true
+
+  -- a job is staged that the plan computes and that is not held, where a slot is free: its input files are copied to its own folder
   pub record MayStage (f : Progress) (marks : List Mark) (place : JobPlace) (plan : StagePlan) (number : ℕ) : Type 0 where
     pub free : IsFree f
     pub job : Job
@@ -29,8 +46,8 @@ module _ (s : Scene) where
     pub computed : mark_at s marks f.events place ≡ Compute
     pub not_held : is_held f.events place ≡ false
     pub slot : length (in_flight f.events) < s.options.slots
-    pub staged : plan ≡ record { moves = []; value = job.inputs }
     pub next_number : number ≡ length (filter is_staging f.events) + 1
+    pub staged : IsPlan false (in_folder s.options.work number) job.inputs plan
 
   -- nothing more can be staged
   pub record IsBusy (f : Progress) (marks : List Mark) : Type 0 where
@@ -46,27 +63,38 @@ module _ (s : Scene) where
     pub flying : (flight : ℕ × JobPlace) × Contains (in_flight f.events) flight
     pub busy : settled s f.events ≡ None → IsBusy f marks
 
-  -- the result's files are delivered once, when nothing is left to be done
+  -- the result's files are delivered once, where it has any, when nothing is left to be done
   pub record MayDeliver (f : Progress) (marks : List Mark) (place : JobPlace) (plan : StagePlan) : Type 0 where
     pub at_root : place ≡ []
     pub busy : IsBusy f marks
     pub landed : in_flight f.events ≡ []
     pub outputs : Fields
     pub result : (unfolding_at s f.events).result ≡ Some outputs
-    pub delivered : delivery_at s f.events outputs ≡ Some plan
-    pub only : list_any is_delivery f.events ≡ false
+    pub files : any_file outputs ≡ true
+    pub only : delivered_at f.events ≡ None
+    pub delivery : IsDelivery s f.events outputs plan
 
-  -- the request for the work that is due: a job's launch is started, and its output folder is listed
+  -- the output folder of the job at a place
+  abbrev pub folder_at : List Event → JobPlace → Name
+  folder_at es place = out_folder s.options.work (number_at es place)
+
+  -- the request for the work that is due: first bytes are read, a job's launch is started, and its output folder is listed
   abbrev pub due_in : List Event → Work → Option Request
   due_in es nothing_due = None
-  due_in es (start_due place launch) = Some (Request.Host place (HostRequest.Start launch))
-  due_in es (scan_due place millis) = Some (Request.Host place (HostRequest.Scan (out_folder s.options.work (number_at es place))))
+  due_in es (input_heads_due place staged [] read) = None
+  due_in es (input_heads_due place staged (path ∷ todo) read) = Some (Request.Host place (HostRequest.Head path MOST_CONTENTS))
+  due_in es (start_due place inputs launch) = Some (Request.Host place (HostRequest.Start launch))
+  due_in es (scan_due place millis) = Some (Request.Host place (HostRequest.Scan (folder_at es place)))
+  due_in es (output_heads_due place found [] read) = None
+  due_in es (output_heads_due place found (name ∷ todo) read) =
+      Some (Request.Host place (HostRequest.Head (path_in (folder_at es place) name) (most_of name)))
 
   abbrev pub due : Progress → Option Request
   due f = due_in f.events f.work
 
   -- each request where its rule allows it; what has no rule of its own is asked where it is due, and only then
   abbrev pub Allowed : Progress → List Mark → Request → Type 0
+  Allowed f marks (Request.Host place (HostRequest.Measure path)) = MayMeasure f place path
   Allowed f marks (Request.Host place (HostRequest.Stage plan number)) = MayStage f marks place plan number
   Allowed f marks (Request.Host place HostRequest.Collect) = MayCollect f marks place
   Allowed f marks (Request.Host place (HostRequest.Deliver plan)) = MayDeliver f marks place plan

@@ -1,21 +1,22 @@
 -- Which ends there are, and which failure settles one: the first, whatever comes after it.
-use Rattle.std.specs.Prelude.{ℕ, ◌==◌, Bool, true, false, cond, List, [], ◌∷◌, ◌++◌, Option, Some, None, length, filter, nat_lt}
+use Rattle.std.specs.Prelude.{ℕ, Bool, true, false, cond, List, [], ◌∷◌, ◌++◌, Option, Some, None, length, filter, nat_lt}
 use Rattle.std.specs.List.{list_any}
 use Rattle.proc_host.specs.declared.call.HostFault.{HostFault}
-use Rattle.proc_host.specs.declared.plan.StagePlan.{StagePlan}
+use Rattle.staging.specs.Plan.{IsPlan}
+use Rattle.staging.specs.declared.plan.StagePlan.{StagePlan}
 use Rattle.run_rules.specs.declared.outcome.Cause.{Cause}
 use Rattle.run_rules.specs.Words.{Fields, JobPlace, is_same_place}
 use Rattle.run_rules.specs.Unfold.{Fault, fault_at, too_many_jobs, or_else}
-use Rattle.run_rules.specs.Delivered.{delivery}
-use Rattle.run_rules.specs.Events.{Event, job_failed, child_signalled, result_delivered, host_failed, collect_failed, number_at, unfolding_at}
+use Rattle.run_rules.specs.Delivered.{sources}
+use Rattle.run_rules.specs.Events.{Event, job_failed, job_failed_for_now, host_failed, collect_failed, number_at, unfolding_at}
 use Rattle.run_rules.specs.Scene.{Scene}
 
 pub data End : Type 0 where
-  -- with these named outputs, before they are delivered
-  succeeds_with : (outputs : Fields) → End
+  -- with these named outputs, and as they were delivered
+  succeeds_with : (outputs delivered : Fields) → End
   -- the job or the equation at this place fails, and would fail again
   fails_permanently : (place : JobPlace) (cause : Cause) → End
-  -- a signal ended the child of the job at this place
+  -- the job at this place fails, and might not if it were started again
   fails_temporarily : (place : JobPlace) → End
   -- there are more jobs than the limits allow
   beyond_limits : End
@@ -28,15 +29,10 @@ fault_end None = None
 fault_end (Some (fault_at place cause)) = Some (fails_permanently place cause)
 fault_end (Some too_many_jobs) = Some beyond_limits
 
--- whether an event is that a signal ended the child of the job at a place
+-- whether an event is that the job at a place failed for now
 abbrev pub gives_up : JobPlace → Event → Bool
-gives_up place (child_signalled p) = is_same_place p place
+gives_up place (job_failed_for_now p) = is_same_place p place
 gives_up place _ = false
-
--- whether it is that the result's files were delivered
-abbrev pub is_delivery : Event → Bool
-is_delivery result_delivered = true
-is_delivery _ = false
 
 -- whether it is that a collect failed
 abbrev pub is_lost_collect : Event → Bool
@@ -44,10 +40,10 @@ is_lost_collect collect_failed = true
 is_lost_collect _ = false
 
 module _ (s : Scene) where
-  -- the end that an event is, after these: a child's end by a signal is none while its job may be started again
+  -- the end that an event is, after these: a failure for now is none while the job may be started again
   abbrev pub settled_by : List Event → Event → Option End
   settled_by es (job_failed place cause) = Some (fails_permanently place cause)
-  settled_by es (child_signalled place) =
+  settled_by es (job_failed_for_now place) =
       cond (nat_lt (length (filter (gives_up place) es)) s.options.retries) None (Some (fails_temporarily place))
   settled_by es (host_failed place fault) = Some (ended_by_host fault [])
   settled_by es _ = None
@@ -66,10 +62,6 @@ module _ (s : Scene) where
   abbrev pub settled : List Event → Option End
   settled es = or_else (unfold_end []) (settled_from [] es)
 
-  -- a plan, where it has something to copy
-  abbrev pub if_any : StagePlan → Option StagePlan
-  if_any plan = cond (length plan.moves == 0) None (Some plan)
-
-  -- the copies of a result's files, where it has some
-  abbrev pub delivery_at : List Event → Fields → Option StagePlan
-  delivery_at es outputs = if_any (delivery (number_at es) s.options.work s.options.outdir outputs)
+  -- a plan that puts the files of a result where they are wanted
+  abbrev pub IsDelivery : List Event → Fields → StagePlan → Type 0
+  IsDelivery es outputs plan = IsPlan true s.options.outdir (sources (number_at es) s.options.work outputs) plan

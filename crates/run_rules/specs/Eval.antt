@@ -2,6 +2,7 @@
 use Rattle.std.specs.Prelude.{Option, option_map}
 use Rattle.cwl_value.specs.Erased.{fields_erased}
 use Rattle.cwl_process.specs.declared.process.Process.{Process}
+use Rattle.input_files.specs.Measured.{Measures}
 use Rattle.run_rules.specs.Words.{Fields}
 use Rattle.run_rules.specs.Key.{Key, key}
 use Rattle.run_rules.specs.Jobs.{Made, Walker, walker, result}
@@ -19,6 +20,6 @@ made_in world job = option_map (fields_made job.place) (world (key job.tool job.
 abbrev pub eval_by : World → Walker → Option Fields
 eval_by world walks = option_map fields_erased (result walks (made_in world))
 
--- the outputs of a process on its inputs, without places; none where a job or an equation fails
-abbrev pub eval : World → Process → Fields → Option Fields
-eval world process given = eval_by world (walker process given)
+-- the outputs of a process on its inputs, whose files were measured so, without places; none where a job or an equation fails
+abbrev pub eval : World → Process → Fields → Measures → Option Fields
+eval world process given measures = eval_by world (walker process given measures)

@@ -1,29 +1,36 @@
 -- What has happened in a transcript, and what is read off it.
-use Rattle.std.specs.Prelude.{ℕ, ◌==◌, ◌||◌, not, Bool, true, false, cond, List, [], ◌∷◌, ◌++◌, Option, Some, None, filter, filter_map, find, fold, map}
-use Rattle.std.specs.List.{list_any}
+use Rattle.std.specs.Prelude.{ℕ, ◌==◌, ◌||◌, not, Bool, true, false, cond, List, [], ◌∷◌, ◌++◌, Option, Some, None, filter, filter_map, find, fold, map, bytes_eq}
+use Rattle.std.specs.List.{list_all, list_any}
 use Rattle.command_line.specs.declared.launch.Launch.{Launch}
+use Rattle.input_files.specs.Measured.{Measures}
+use Rattle.plain_data.specs.ByName.{with_value}
 use Rattle.proc_host.specs.declared.call.HostFault.{HostFault}
+use Rattle.staging.specs.declared.found.Found.{Found}
+use Rattle.staging.specs.declared.measure.Measure.{Measure}
+use Rattle.staging.specs.declared.plan.StagePlan.{StagePlan}
 use Rattle.run_rules.specs.declared.outcome.Cause.{Cause}
-use Rattle.run_rules.specs.Words.{Fields, JobPlace, is_same_place}
+use Rattle.run_rules.specs.Words.{Name, Fields, Heads, JobPlace, is_same_place}
 use Rattle.run_rules.specs.Jobs.{Job}
-use Rattle.run_rules.specs.Unfold.{Resolved, Unfolded, unfolded, is_at}
+use Rattle.run_rules.specs.Unfold.{Resolved, Unfolded, unfolded, nothing_known, is_at}
 use Rattle.run_rules.specs.Scene.{Scene}
 
 pub data Event : Type 0 where
+  -- this stands at the path of an input file
+  file_measured : (path : Name) (measure : Measure) → Event
   -- the job's folders, of this number, are made
   job_staged : (place : JobPlace) (number : ℕ) → Event
-  -- its child runs, started by this launch
-  job_started : (place : JobPlace) (launch : Launch) (ticket : ℕ) → Event
+  -- its child runs, started by this launch, on these inputs: staged, with contents
+  job_started : (place : JobPlace) (inputs : Fields) (launch : Launch) (ticket : ℕ) → Event
   -- the child has ended
   child_exited : (ticket : ℕ) → Event
   -- the job's named outputs were collected
   job_succeeded : (place : JobPlace) (outputs : Fields) → Event
   -- the job gives no outputs
   job_failed : (place : JobPlace) (cause : Cause) → Event
-  -- its child was ended by a signal
-  child_signalled : (place : JobPlace) → Event
+  -- the job gives no outputs, and might if it were started again: a signal ended its child, or a code that its tool calls temporary
+  job_failed_for_now : (place : JobPlace) → Event
   -- the result's files are copied to where they are wanted
-  result_delivered : Event
+  result_delivered : (plan : StagePlan) → Event
   -- a call for the job at this place, other than a collect, failed; the root's where it is for the whole run
   host_failed : (place : JobPlace) (fault : HostFault) → Event
   -- a collect failed
@@ -33,10 +40,14 @@ pub data Event : Type 0 where
 pub data Work : Type 0 where
   -- none
   nothing_due : Work
-  -- the staged job is started, by this launch
-  start_due : (place : JobPlace) (launch : Launch) → Work
+  -- first bytes of the staged job's inputs are read: of the files at these paths, where these were read
+  input_heads_due : (place : JobPlace) (staged : Fields) (todo : List Name) (read : Heads) → Work
+  -- the staged job is started, by this launch, on these inputs: staged, with contents
+  start_due : (place : JobPlace) (inputs : Fields) (launch : Launch) → Work
   -- the job's output folder is scanned, its child having ended well after so long
   scan_due : (place : JobPlace) (millis : ℕ) → Work
+  -- first bytes of what was found there are read: of the files of these names, where these were read
+  output_heads_due : (place : JobPlace) (found : List Found) (todo : List Name) (read : Heads) → Work
 
 -- what a transcript has brought about: what is due next, and what has happened
 pub record Progress : Type 0 where
@@ -44,6 +55,23 @@ pub record Progress : Type 0 where
   pub events : List Event
 
 -- Read off the events
+
+-- what was measured after one more event
+abbrev pub measures_after : Measures → Event → Measures
+measures_after known (file_measured path measure) = with_value path measure known
+measures_after known _ = known
+
+-- what was measured, by path
+abbrev pub measures : List Event → Measures
+measures es = fold measures_after [] es
+
+-- whether an event is the measure of a path
+abbrev pub measures_path : Name → Event → Bool
+measures_path path (file_measured p measure) = bytes_eq p path
+measures_path path _ = false
+
+abbrev pub is_measured : List Event → Name → Bool
+is_measured es path = list_any (measures_path path) es
 
 -- the place that an event resolves, with its outputs
 abbrev pub resolves : Event → Option Resolved
@@ -56,7 +84,7 @@ resolved es = filter_map resolves es
 
 -- the children in flight after one more event
 abbrev pub flight_after : List (ℕ × JobPlace) → Event → List (ℕ × JobPlace)
-flight_after flying (job_started place launch ticket) = flying ++ (ticket, place) ∷ []
+flight_after flying (job_started place inputs launch ticket) = flying ++ (ticket, place) ∷ []
 flight_after flying (child_exited ticket) = filter (λ f. not (f.0 == ticket)) flying
 flight_after flying _ = flying
 
@@ -90,14 +118,28 @@ number_if place n _ = n
 abbrev pub number_at : List Event → JobPlace → ℕ
 number_at es place = fold (number_if place) 0 es
 
--- the launch of a place's child after one more event, where it was this one
-abbrev pub launch_if : JobPlace → Option Launch → Event → Option Launch
-launch_if place last (job_started p launch ticket) = cond (is_same_place p place) (Some launch) last
-launch_if place last _ = last
+-- what a child was started by
+pub record Started : Type 0 where
+  pub inputs : Fields
+  pub launch : Launch
 
--- the launch that the job's child was started by last; none where it never was
-abbrev pub launch_at : List Event → JobPlace → Option Launch
-launch_at es place = fold (launch_if place) None es
+-- how a place's child was started after one more event, where it was so
+abbrev pub started_if : JobPlace → Option Started → Event → Option Started
+started_if place last (job_started p inputs launch ticket) = cond (is_same_place p place) (Some (record { inputs = inputs; launch = launch })) last
+started_if place last _ = last
+
+-- how the job's child was started last; none where it never was
+abbrev pub started_at : List Event → JobPlace → Option Started
+started_at es place = fold (started_if place) None es
+
+-- the plan that the result's files were copied by, after one more event
+abbrev pub delivered_if : Option StagePlan → Event → Option StagePlan
+delivered_if last (result_delivered plan) = Some plan
+delivered_if last _ = last
+
+-- the plan that the result's files were copied by; none where they were not
+abbrev pub delivered_at : List Event → Option StagePlan
+delivered_at es = fold delivered_if None es
 
 -- whether folders were made
 abbrev pub is_staging : Event → Bool
@@ -105,9 +147,13 @@ is_staging (job_staged place number) = true
 is_staging _ = false
 
 module _ (s : Scene) where
-  -- what is known
+  -- whether each input file is measured
+  abbrev pub are_measured : List Event → Bool
+  are_measured es = list_all (is_measured es) s.paths
+
+  -- what is known: nothing before each input file is measured
   abbrev pub unfolding_at : List Event → Unfolded
-  unfolding_at es = unfolded s.walker (resolved es)
+  unfolding_at es = cond (are_measured es) (unfolded (s.walker (measures es)) (resolved es)) nothing_known
 
   -- the known job at a place
   abbrev pub job_at : List Event → JobPlace → Option Job

@@ -12,6 +12,10 @@ job_folder work n = work ++ codes "/j" ++ decimal n
 abbrev pub out_folder : Name → ℕ → Name
 out_folder work n = job_folder work n ++ codes "/out"
 
+-- its input files are copied to the numbered folders in this one
+abbrev pub in_folder : Name → ℕ → Name
+in_folder work n = job_folder work n ++ codes "/in"
+
 abbrev pub tmp_folder : Name → ℕ → Name
 tmp_folder work n = job_folder work n ++ codes "/tmp"
 

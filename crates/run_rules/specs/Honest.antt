@@ -1,6 +1,7 @@
 -- A run is honest in a world where each end of a job is what the world says of it.
 use Rattle.std.specs.Prelude.{◌≡◌, List, [], ◌∷◌, ◌++◌, Some, None}
 use Rattle.cwl_value.specs.Erased.{fields_erased}
+use Rattle.input_files.specs.Measured.{Measures}
 use Rattle.run_rules.specs.declared.setting.Setting.{Setting}
 use Rattle.run_rules.specs.Jobs.{Job}
 use Rattle.run_rules.specs.Key.{key}
@@ -26,9 +27,9 @@ module _ (s : Scene) where
 abbrev pub IsHonest : Setting → World → List Event → Type 0
 IsHonest setting world events = AgreesFrom (scene_of setting) world [] events
 
--- what an end says of computing every job
-abbrev pub Means : Setting → World → End → Type 0
-Means setting world (succeeds_with outputs) =
-    eval world setting.process setting.inputs ≡ Some (fields_erased outputs)
-Means setting world (fails_permanently place cause) = eval world setting.process setting.inputs ≡ None
-Means setting world _ = Unit {0}
+-- what an end says of computing every job, where the input files were measured so
+abbrev pub Means : Setting → Measures → World → End → Type 0
+Means setting measures world (succeeds_with outputs delivered) =
+    eval world setting.process setting.inputs measures ≡ Some (fields_erased outputs)
+Means setting measures world (fails_permanently place cause) = eval world setting.process setting.inputs measures ≡ None
+Means setting measures world _ = Unit {0}

@@ -12,7 +12,10 @@ use Rattle.cwl_process.specs.declared.workflow.Step.{Step}
 use Rattle.cwl_process.specs.declared.workflow.Workflow.{Workflow, out-Workflow}
 use Rattle.run_rules.specs.declared.outcome.Cause.{Cause}
 use Rattle.run_rules.specs.Words.{Name, Fields, JobPlace, value_under}
-use Rattle.run_rules.specs.Inputs.{inputs_for}
+use Rattle.input_files.specs.Inputs.{inputs_for}
+use Rattle.input_files.specs.Paths.{input_paths}
+use Rattle.input_files.specs.Measured.{Measures}
+use Rattle.input_files.specs.declared.fault.InputFault.{InputFault}
 
 -- a job: a tool at a place, with its inputs
 pub record Job : Type 0 where
@@ -29,6 +32,20 @@ pub data Met : Type 0 where
 pub record Walk : Type 0 where
   pub met : List Met
   pub outs : List (Name × Option Value)
+
+-- why a job has no inputs, as the cause of its failure
+abbrev pub input_cause : InputFault → Cause
+input_cause (InputFault.Kind param) = Cause.Kind param
+input_cause (InputFault.Missing param) = Cause.Missing param
+input_cause (InputFault.Secondary param) = Cause.Secondary param
+
+abbrev pub or_cause : Result Fields InputFault → Result Fields Cause
+or_cause (Ok inputs) = Ok inputs
+or_cause (Err fault) = Err (input_cause fault)
+
+-- the inputs of a tool's job, as they were measured, or the cause why there are none
+abbrev pub inputs_of : Tool → Fields → Measures → Result Fields Cause
+inputs_of tool given measures = or_cause (inputs_for tool.inputs given measures)
 
 -- the outputs of jobs, where they are known
 abbrev pub Made : Type 0
@@ -62,13 +79,22 @@ tool_walk tool place (Ok inputs) made =
 abbrev pub workflow_walk : Workflow → Walker
 workflow_walk workflow made = record { met = []; outs = outs_of (keys_of (out-Workflow workflow).outputs) None }
 
-abbrev pub walker_at : Process-F Process Run Step Workflow → Fields → Walker
-walker_at (Process-F.Tool tool) given = tool_walk tool [] (inputs_for tool.inputs given)
-walker_at (Process-F.Workflow workflow) given = workflow_walk workflow
+abbrev pub walker_at : Process-F Process Run Step Workflow → Fields → Measures → Walker
+walker_at (Process-F.Tool tool) given measures = tool_walk tool [] (inputs_of tool given measures)
+walker_at (Process-F.Workflow workflow) given measures = workflow_walk workflow
 
--- the walk from the root
-abbrev pub walker : Process → Fields → Walker
+-- the walk from the root, where this was measured
+abbrev pub walker : Process → Fields → Measures → Walker
 walker process given = walker_at (out-Process process) given
+
+-- Which paths are measured before anything else: those of the input files
+
+abbrev pub paths_at : Process-F Process Run Step Workflow → Fields → List Name
+paths_at (Process-F.Tool tool) given = input_paths tool.inputs given
+paths_at (Process-F.Workflow workflow) given = []
+
+abbrev pub paths : Process → Fields → List Name
+paths process given = paths_at (out-Process process) given
 
 -- The result: where each job's outputs are known, no equation fails and each output has a value
 

@@ -1,17 +1,17 @@
 pub mod Words
-pub mod Inputs
 pub mod Jobs
 pub mod Made
 pub mod RunsToday
 pub mod Unfold
 pub mod Key
 pub mod Eval
-pub mod Collected
 pub mod Folders
-pub mod Location
 pub mod Delivered
 pub mod Scene
 pub mod Events
+pub mod StartsOn
+pub mod Wanted
+pub mod CollectsOn
 pub mod Steps
 pub mod End
 pub mod EndsSo
@@ -23,4 +23,3 @@ pub mod Reports
 pub mod RanWell
 pub mod Answers
 pub mod Blame
-pub mod Codes

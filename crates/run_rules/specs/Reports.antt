@@ -12,9 +12,10 @@ use Rattle.run_rules.specs.declared.setting.Options.{Options}
 use Rattle.run_rules.specs.declared.setting.Setting.{Setting}
 use Rattle.run_rules.specs.Words.{Fields}
 use Rattle.cwl_value.specs.Erased.{erased}
+use Rattle.input_files.specs.Measured.{Measures}
 use Rattle.run_rules.specs.Delivered.{located, object_of}
 use Rattle.run_rules.specs.Eval.{World, eval}
-use Rattle.run_rules.specs.Events.{Progress}
+use Rattle.run_rules.specs.Events.{Progress, measures}
 use Rattle.run_rules.specs.End.{End, succeeds_with, fails_permanently, fails_temporarily, beyond_limits, ended_by_host}
 use Rattle.plan_checker.specs.declared.plan.Mark.{Mark}
 use Rattle.run_rules.specs.Run.{IsRunSoFar, IsRun}
@@ -36,24 +37,24 @@ abbrev pub reported : Outcome → Result Report RunFault
 reported outcome = Ok (record { outcome = outcome; plans = []; notes = [] })
 
 -- what is reported of an end
-abbrev pub report_of : Options → End → Result Report RunFault
-report_of options (succeeds_with outputs) = reported (Outcome.Success (located options.outdir outputs))
-report_of options (fails_permanently place cause) = reported (Outcome.PermanentFail place cause)
-report_of options (fails_temporarily place) = reported (Outcome.TemporaryFail place)
-report_of options beyond_limits = Err RunFault.TooManyJobs
-report_of options (ended_by_host fault running) = Err (RunFault.Host fault running)
+abbrev pub report_of : End → Result Report RunFault
+report_of (succeeds_with outputs delivered) = reported (Outcome.Success (located delivered))
+report_of (fails_permanently place cause) = reported (Outcome.PermanentFail place cause)
+report_of (fails_temporarily place) = reported (Outcome.TemporaryFail place)
+report_of beyond_limits = Err RunFault.TooManyJobs
+report_of (ended_by_host fault running) = Err (RunFault.Host fault running)
 
--- what an outcome says of computing every job: a success is its value, both without places, and where a job fails
--- permanently there is none
-abbrev pub IsRightOutcome : Setting → World → Outcome → Type 0
-IsRightOutcome setting world (Outcome.Success value) =
-    option_map object_of (eval world setting.process setting.inputs) ≡ Some (erased value)
-IsRightOutcome setting world (Outcome.PermanentFail place cause) = eval world setting.process setting.inputs ≡ None
-IsRightOutcome setting world (Outcome.TemporaryFail place) = Unit {0}
+-- what an outcome says of computing every job, where the input files were measured so: a success is its value, both without
+-- places, and where a job fails permanently there is none
+abbrev pub IsRightOutcome : Setting → Measures → World → Outcome → Type 0
+IsRightOutcome setting measures world (Outcome.Success value) =
+    option_map object_of (eval world setting.process setting.inputs measures) ≡ Some (erased value)
+IsRightOutcome setting measures world (Outcome.PermanentFail place cause) = eval world setting.process setting.inputs measures ≡ None
+IsRightOutcome setting measures world (Outcome.TemporaryFail place) = Unit {0}
 
-abbrev pub IsRight : Setting → World → Result Report RunFault → Type 0
-IsRight setting world (Ok report) = IsRightOutcome setting world report.outcome
-IsRight setting world (Err fault) = Unit {0}
+abbrev pub IsRight : Setting → Measures → World → Result Report RunFault → Type 0
+IsRight setting measures world (Ok report) = IsRightOutcome setting measures world report.outcome
+IsRight setting measures world (Err fault) = Unit {0}
 
 -- how a transcript is reported
 pub data Concludes (setting : Setting) (t : List Pair) : Result Report RunFault → Type 0 where
@@ -61,8 +62,8 @@ pub data Concludes (setting : Setting) (t : List Pair) : Result Report RunFault 
   lost : (f : Progress) (marks : List Mark) → IsRunSoFar setting t f marks → Concludes setting t (Err RunFault.OutOfMemory)
   -- it is a whole run, its end is reported, and in each world where it is honest the report is right
   whole : (end : End) (run : IsRun setting t end) →
-      ((world : World) → IsHonest setting world run.happened.events → IsRight setting world (report_of setting.options end)) →
-      Concludes setting t (report_of setting.options end)
+      ((world : World) → IsHonest setting world run.happened.events → IsRight setting (measures run.happened.events) world (report_of end)) →
+      Concludes setting t (report_of end)
 
 -- a host's log gained these entries by a run of this process, which is reported so
 pub record GainsRun (process : Process) (inputs : Fields) (options : Options) (gained : List Entry) (result : Result Report RunFault) : Type 0 where

@@ -1,8 +1,8 @@
 -- What an answer brings about: the events that it adds, and the work that is due after it. A rule for each kind of answer.
-use Rattle.std.specs.Prelude.{◌≡◌, ℕ, List, [], ◌∷◌, ◌++◌, Some, Ok, Err, Contains}
-use Rattle.command_line.specs.Launch.{IsLaunch, IsRefused}
-use Rattle.command_line.specs.declared.fault.BuildFault.{BuildFault}
-use Rattle.command_line.specs.declared.launch.Launch.{Launch}
+use Rattle.std.specs.Prelude.{◌≡◌, ℕ, List, [], ◌∷◌, ◌++◌, Some, Contains}
+use Rattle.run_rules.specs.Wanted.{AreWanted}
+use Rattle.input_files.specs.Contents.{heads_wanted}
+use Rattle.plain_data.specs.ByName.{with_value}
 use Rattle.proc_host.specs.Answers.{fault_of}
 use Rattle.proc_host.specs.ExitClass.{class_of}
 use Rattle.proc_host.specs.declared.call.HostAnswer.{HostAnswer}
@@ -10,17 +10,19 @@ use Rattle.proc_host.specs.declared.call.HostFault.{HostFault}
 use Rattle.proc_host.specs.declared.call.HostRequest.{HostRequest}
 use Rattle.proc_host.specs.declared.child.ChildEnd.{ChildEnd}
 use Rattle.proc_host.specs.declared.child.ExitClass.{ExitClass}
-use Rattle.proc_host.specs.declared.found.Found.{Found}
-use Rattle.proc_host.specs.declared.plan.StagePlan.{StagePlan}
+use Rattle.command_line.specs.declared.launch.Launch.{Launch}
+use Rattle.staging.specs.declared.found.Found.{Found}
+use Rattle.staging.specs.declared.measure.Measure.{Measure}
+use Rattle.staging.specs.declared.plan.StagePlan.{StagePlan}
 use Rattle.run_rules.specs.declared.outcome.Cause.{Cause}
 use Rattle.run_rules.specs.declared.request.Answer.{Answer}
 use Rattle.run_rules.specs.declared.request.Pair.{Pair}
 use Rattle.run_rules.specs.declared.request.Request.{Request}
-use Rattle.run_rules.specs.Words.{Name, Fields, JobPlace}
-use Rattle.run_rules.specs.Collected.{collected}
-use Rattle.run_rules.specs.Folders.{runtime_of}
+use Rattle.run_rules.specs.Words.{Name, Fields, Heads, JobPlace}
 use Rattle.run_rules.specs.Jobs.{Job}
-use Rattle.run_rules.specs.Events.{Event, job_staged, job_started, child_exited, job_succeeded, job_failed, child_signalled, result_delivered, host_failed, collect_failed, Work, nothing_due, start_due, scan_due, Progress, in_flight, launch_at, job_at}
+use Rattle.run_rules.specs.Events.{Event, file_measured, job_staged, job_started, child_exited, job_failed, job_failed_for_now, result_delivered, host_failed, collect_failed, Work, nothing_due, input_heads_due, start_due, scan_due, output_heads_due, Progress, Started, in_flight, number_at, started_at, job_at}
+use Rattle.run_rules.specs.StartsOn.{StartsOn}
+use Rattle.run_rules.specs.CollectsOn.{CollectsOn, left_of}
 use Rattle.run_rules.specs.Scene.{Scene}
 
 -- a call of the host's, for the job at this place, and its answer
@@ -33,31 +35,41 @@ progress_with f work new = record { work = work; events = f.events ++ new }
 
 module _ (s : Scene) where
   pub data Steps (f : Progress) : Pair → Work → List Event → Type 0 where
-    -- a job is staged: it is started next where it has a launch, and fails where it has none
-    has_launch : (place : JobPlace) (plan : StagePlan) (number : ℕ) (job : Job) (launch : Launch) → job_at s f.events place ≡ Some job →
-        IsLaunch job.tool job.inputs (runtime_of s.options number) launch →
-        Steps f (call place (HostRequest.Stage plan number) HostAnswer.Done) (start_due place launch) (job_staged place number ∷ [])
-    has_no_launch : (place : JobPlace) (plan : StagePlan) (number : ℕ) (job : Job) (fault : BuildFault) → job_at s f.events place ≡ Some job →
-        IsRefused job.tool job.inputs (runtime_of s.options number) fault →
-        Steps f (call place (HostRequest.Stage plan number) HostAnswer.Done) nothing_due (job_staged place number ∷ job_failed place (Cause.Build fault) ∷ [])
-    starts : (place : JobPlace) (launch : Launch) (ticket : ℕ) →
-        Steps f (call place (HostRequest.Start launch) (HostAnswer.Started ticket)) nothing_due (job_started place launch ticket ∷ [])
+    measures_file : (path : Name) (measure : Measure) →
+        Steps f (call [] (HostRequest.Measure path) (HostAnswer.Measured measure)) nothing_due (file_measured path measure ∷ [])
+    -- a job is staged: first bytes of its inputs are read next, or it is started, or it fails
+    stages : (place : JobPlace) (plan : StagePlan) (number : ℕ) (job : Job) (work : Work) (more : List Event) → job_at s f.events place ≡ Some job →
+        StartsOn s.options place job number plan.value [] (heads_wanted job.tool.inputs plan.value) work more →
+        Steps f (call place (HostRequest.Stage plan number) HostAnswer.Done) work (job_staged place number ∷ more)
+    -- and the same where one was read
+    reads_input : (place : JobPlace) (path : Name) (limit : ℕ) (bytes : List ℕ) (staged : Fields) (todo : List Name) (read : Heads) (job : Job)
+        (work : Work) (more : List Event) → f.work ≡ input_heads_due place staged (path ∷ todo) read → job_at s f.events place ≡ Some job →
+        StartsOn s.options place job (number_at f.events place) staged (with_value path bytes read) todo work more →
+        Steps f (call place (HostRequest.Head path limit) (HostAnswer.FirstBytes bytes)) work more
+    starts : (place : JobPlace) (inputs : Fields) (launch : Launch) (ticket : ℕ) → f.work ≡ start_due place inputs launch →
+        Steps f (call place (HostRequest.Start launch) (HostAnswer.Started ticket)) nothing_due (job_started place inputs launch ticket ∷ [])
     -- a child in flight has ended: a success is scanned next
-    exits_well : (place : JobPlace) (e : ChildEnd) → Contains (in_flight f.events) (e.ticket, place) → class_of e.code ≡ ExitClass.Success →
+    exits_well : (place : JobPlace) (e : ChildEnd) (job : Job) → Contains (in_flight f.events) (e.ticket, place) → job_at s f.events place ≡ Some job →
+        class_of job.tool.exit_codes e.code ≡ ExitClass.Success →
         Steps f (call [] HostRequest.Collect (HostAnswer.Ended e)) (scan_due place e.millis) (child_exited e.ticket ∷ [])
-    exits_by_signal : (place : JobPlace) (e : ChildEnd) → Contains (in_flight f.events) (e.ticket, place) → class_of e.code ≡ ExitClass.Temporary →
-        Steps f (call [] HostRequest.Collect (HostAnswer.Ended e)) nothing_due (child_exited e.ticket ∷ child_signalled place ∷ [])
-    exits_badly : (place : JobPlace) (e : ChildEnd) → Contains (in_flight f.events) (e.ticket, place) → class_of e.code ≡ ExitClass.Permanent →
+    exits_for_now : (place : JobPlace) (e : ChildEnd) (job : Job) → Contains (in_flight f.events) (e.ticket, place) → job_at s f.events place ≡ Some job →
+        class_of job.tool.exit_codes e.code ≡ ExitClass.Temporary →
+        Steps f (call [] HostRequest.Collect (HostAnswer.Ended e)) nothing_due (child_exited e.ticket ∷ job_failed_for_now place ∷ [])
+    exits_badly : (place : JobPlace) (e : ChildEnd) (job : Job) → Contains (in_flight f.events) (e.ticket, place) → job_at s f.events place ≡ Some job →
+        class_of job.tool.exit_codes e.code ≡ ExitClass.Permanent →
         Steps f (call [] HostRequest.Collect (HostAnswer.Ended e)) nothing_due (child_exited e.ticket ∷ job_failed place (Cause.Exit e.code) ∷ [])
-    -- its outputs are collected from its listed folder, by its child's launch, or there is a cause why there are none
-    collects : (place : JobPlace) (folder : Name) (found : List Found) (job : Job) (launch : Launch) (outputs : Fields) → job_at s f.events place ≡ Some job →
-        launch_at f.events place ≡ Some launch → collected job.tool.outputs launch found ≡ Ok outputs →
-        Steps f (call place (HostRequest.Scan folder) (HostAnswer.Listed found)) nothing_due (job_succeeded place outputs ∷ [])
-    collects_none : (place : JobPlace) (folder : Name) (found : List Found) (job : Job) (launch : Launch) (cause : Cause) → job_at s f.events place ≡ Some job →
-        launch_at f.events place ≡ Some launch → collected job.tool.outputs launch found ≡ Err cause →
-        Steps f (call place (HostRequest.Scan folder) (HostAnswer.Listed found)) nothing_due (job_failed place cause ∷ [])
+    -- its folder is listed: first bytes of what was found are read next, or its outputs are collected, or there are none
+    scans : (place : JobPlace) (folder : Name) (found : List Found) (job : Job) (started : Started) (wanted : List Name) (work : Work) (more : List Event) →
+        job_at s f.events place ≡ Some job → started_at f.events place ≡ Some started → AreWanted (left_of started found []) job.tool.outputs wanted →
+        CollectsOn place job started found [] wanted work more →
+        Steps f (call place (HostRequest.Scan folder) (HostAnswer.Listed found)) work more
+    -- and the same where one was read
+    reads_output : (place : JobPlace) (path : Name) (limit : ℕ) (bytes : List ℕ) (found : List Found) (name : Name) (todo : List Name) (read : Heads) (job : Job)
+        (started : Started) (work : Work) (more : List Event) → f.work ≡ output_heads_due place found (name ∷ todo) read → job_at s f.events place ≡ Some job →
+        started_at f.events place ≡ Some started → CollectsOn place job started found (with_value name bytes read) todo work more →
+        Steps f (call place (HostRequest.Head path limit) (HostAnswer.FirstBytes bytes)) work more
     delivers : (place : JobPlace) (plan : StagePlan) →
-        Steps f (call place (HostRequest.Deliver plan) HostAnswer.Done) nothing_due (result_delivered ∷ [])
+        Steps f (call place (HostRequest.Deliver plan) HostAnswer.Done) nothing_due (result_delivered plan ∷ [])
     -- a call fails, by its own fault
     loses_collect : Steps f (call [] HostRequest.Collect (HostAnswer.Failed HostFault.Collect)) nothing_due (collect_failed ∷ [])
     call_fails : (place : JobPlace) (request : HostRequest) → (request ≡ HostRequest.Collect → ⊥) →

@@ -83,6 +83,10 @@ pub record Unfolded : Type 0 where
   pub fault : Option Fault
   pub result : Option Fields
 
+-- what is known before the input files are measured
+abbrev pub nothing_known : Unfolded
+nothing_known = record { jobs = []; fault = None; result = None }
+
 -- what is known, for resolved places in the order learned
 abbrev pub unfolded : Walker → List Resolved → Unfolded
 unfolded walks resolved = record {

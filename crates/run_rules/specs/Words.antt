@@ -13,6 +13,10 @@ Name = List ℕ
 abbrev pub Fields : Type 0
 Fields = List (Name × Value)
 
+-- the first bytes of files, by name
+abbrev pub Heads : Type 0
+Heads = List (Name × List ℕ)
+
 -- the place of a job: the steps that lead to it, none for the job at the root (`main`)
 abbrev pub JobPlace : Type 0
 JobPlace = List Segment

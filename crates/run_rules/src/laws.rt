@@ -6,14 +6,15 @@ ghost use Rattle.run_rules.specs.declared.request.Request.{Request};
 ghost use Rattle.run_rules.specs.declared.setting.Setting.{Setting};
 ghost use Rattle.cwl_process.specs.declared.process.Process as process;
 ghost use Rattle.cwl_process.specs.declared.tool.Tool.{Tool};
+ghost use Rattle.input_files.specs.Measured.{Measures};
 ghost use Rattle.cwl_value.specs.Erased.{erased, fields_erased};
-ghost use Rattle.run_rules.specs.Words.{Name, Fields};
+ghost use Rattle.run_rules.specs.Words.{Fields};
 ghost use Rattle.run_rules.specs.Allowed.{Allowed};
 ghost use Rattle.run_rules.specs.Delivered.{located, object_of};
 ghost use Rattle.run_rules.specs.End.{End, succeeds_with};
-ghost use Rattle.run_rules.specs.EndsSo.{EndsSo};
+ghost use Rattle.run_rules.specs.EndsSo.{EndsSo, IsDelivered};
 ghost use Rattle.run_rules.specs.Eval.{World};
-ghost use Rattle.run_rules.specs.Events.{Progress, unfolding_at};
+ghost use Rattle.run_rules.specs.Events.{Event, Progress, measures, unfolding_at};
 ghost use Rattle.run_rules.specs.Honest.{IsHonest, Means};
 ghost use Rattle.run_rules.specs.Jobs.{Job, walker};
 ghost use Rattle.plan_checker.specs.declared.plan.Mark.{Mark};
@@ -25,8 +26,8 @@ ghost use Rattle.run_rules.specs.Unfold.{Resolved, too_many_jobs, unfolded};
 
 /// In a run that ends in success each known job ran well: a child was started for the job at its place, and it ended well.
 pub fn success_ran_each_job()
-    ensures { (setting : Setting) (t : List Pair) (outputs : Fields) (run : IsRun setting t (succeeds_with outputs)) (job : Job)
-        → Contains (unfolding_at (scene_of setting) run.happened.events).jobs job → RanWell t job.place }
+    ensures { (setting : Setting) (t : List Pair) (outputs delivered : Fields) (run : IsRun setting t (succeeds_with outputs delivered)) (job : Job)
+        → Contains (unfolding_at (scene_of setting) run.happened.events).jobs job → RanWell t job.place job.tool.exit_codes }
 {}
 
 /// Of any scene: a run comes to one end.
@@ -44,25 +45,26 @@ pub fn nothing_follows_the_end()
 
 /// A lone tool is one job without parents, so no run of it has too many jobs.
 pub fn a_lone_tool_is_within_limits()
-    ensures { (tool : Tool) (given : Fields) (known : List Resolved)
-        → (unfolded (walker (process.Tool tool) given) known).fault ≢ Some too_many_jobs }
+    ensures { (tool : Tool) (given : Fields) (measures : Measures) (known : List Resolved)
+        → (unfolded (walker (process.Tool tool) given measures) known).fault ≢ Some too_many_jobs }
 {}
 
 /// In each world where all that happened in a run is as the world says, its end is right: a success is the value of
-/// the process there, and where it failed permanently the process has none.
+/// the process there, on the input files as they were measured, and where it failed permanently the process has none.
 pub fn an_honest_run_ends_rightly()
     ensures { (setting : Setting) (t : List Pair) (end : End) (run : IsRun setting t end) (world : World)
-        → IsHonest setting world run.happened.events → Means setting world end }
+        → IsHonest setting world run.happened.events → Means setting (measures run.happened.events) world end }
 {}
 
 /// And so is what is reported of it: without places, the output object of a success is the value of the process.
 pub fn an_honest_run_is_reported_rightly()
     ensures { (setting : Setting) (t : List Pair) (end : End) (run : IsRun setting t end) (world : World)
-        → IsHonest setting world run.happened.events → IsRight setting world (report_of setting.options end) }
+        → IsHonest setting world run.happened.events → IsRight setting (measures run.happened.events) world (report_of end) }
 {}
 
-/// What is reported of a success is its value: without their places, the outputs as they are delivered are the outputs,
+/// What is reported of a success is its value: without their places, the outputs as they were delivered are the outputs,
 /// in the order of their names.
 pub fn delivery_keeps_the_value()
-    ensures { (outdir : Name) (outputs : Fields) → erased (located outdir outputs) ≡ object_of (fields_erased outputs) }
+    ensures { (s : Scene) (es : List Event) (outputs delivered : Fields)
+        → IsDelivered s es outputs delivered → erased (located delivered) ≡ object_of (fields_erased outputs) }
 {}

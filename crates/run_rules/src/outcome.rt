@@ -1,43 +1,27 @@
-ghost use Rattle.std.specs.Prelude.{◌≡◌};
-ghost use Rattle.run_rules.specs.Codes.{code_of};
-
+use collected_outputs::OutputFault;
 use command_line::BuildFault;
 use cwl_value::{JobPlace, Value};
+use input_files::ContentsFault;
 use plain_data::{Items, Text};
 use proc_host::HostFault;
 
 /// Why a job gives no outputs, and would give none if it were started again.
 #[derive(Drop)]
 pub enum Cause {
+    /// A File or Directory of this input is absent, or something of the other kind stands there.
+    Missing(Text),
     /// The value of this input does not fit its type.
     Kind(Text),
+    /// A File of this input lacks a secondary file that it has to have.
+    Secondary(Text),
+    /// The contents of an input are refused.
+    Contents(ContentsFault),
     /// There is no launch for it.
     Build(BuildFault),
     /// Its child ended with this code.
     Exit(Option<i32>),
     /// What its child left is no output object.
-    Collect(CollectFault),
-}
-
-/// Why a scanned folder gives no output object; each has the id of the output.
-#[derive(Drop)]
-pub enum CollectFault {
-    /// No file has the name.
-    NoMatch(Text),
-    /// What has the name is no file.
-    NotTyped(Text),
-}
-
-impl CollectFault {
-    /// The refusal's short name, which no other refusal has.
-    pub fn code(&self) -> &'static str
-        ensures { result.now ≡ code_of self.now }
-    {
-        match self {
-            CollectFault::NoMatch(_) => "G2",
-            CollectFault::NotTyped(_) => "G5",
-        }
-    }
+    Collect(OutputFault),
 }
 
 /// What came of a process (CWL v1.2, "Process status": success, permanentFailure, temporaryFailure).

@@ -1,0 +1,72 @@
+-- Which paths are measured before a run: those of every File and Directory of the input object and of the tool's defaults, at any depth,
+-- and those at which the files are looked for that an input declares and a File of it lacks (CWL v1.2, "CommandInputParameter":
+-- secondaryFiles).
+use Rattle.std.specs.Prelude.{Bool, if◌then◌else◌, List, [], ◌∷◌, ◌++◌, map, fold, bytes_eq}
+use Rattle.std.specs.List.{list_any, flat_map}
+use Rattle.std.specs.Option.{option_map_or}
+use Rattle.cwl_value.specs.declared.place.Place.{Place}
+use Rattle.cwl_value.specs.declared.place.Place.TheVariants as place
+use Rattle.cwl_value.specs.declared.value.Value.{Value, fold-Value}
+use Rattle.cwl_value.specs.declared.value.Value.TheOpen.{Value-F, FileVal-F, DirVal-F}
+use Rattle.cwl_value.specs.declared.value.FileVal.{FileVal, fold-FileVal}
+use Rattle.cwl_value.specs.declared.value.DirVal.{DirVal, fold-DirVal}
+use Rattle.input_files.specs.Given.{Name, Fields, NamedInput, value_under}
+use Rattle.input_files.specs.Beside.{looked_for}
+
+abbrev pub Paths : Type 0
+Paths = List Name
+
+abbrev pub own_path : Place → Paths
+own_path (place.Path path) = path ∷ []
+own_path _ = []
+
+abbrev pub joined : List Paths → Paths
+joined several = flat_map (λ paths. paths) several
+
+abbrev pub file_paths : FileVal-F Paths Paths Paths → Paths
+file_paths f = own_path f.place ++ joined f.secondary
+
+abbrev pub dir_paths : DirVal-F Paths Paths Paths → Paths
+dir_paths d = own_path d.place ++ option_map_or joined d.listing []
+
+abbrev pub value_paths : Value-F Paths Paths Paths → Paths
+value_paths (Value-F.FileVal paths) = paths
+value_paths (Value-F.DirVal paths) = paths
+value_paths (Value-F.List several) = joined several
+value_paths (Value-F.Fields several) = joined (map (λ e. e.1) several)
+value_paths _ = []
+
+-- the paths of the Files and Directories of a value, at any depth
+abbrev pub paths_of : Value → Paths
+paths_of = fold-Value Paths Paths Paths value_paths dir_paths file_paths
+
+abbrev pub paths_of_file : FileVal → Paths
+paths_of_file = fold-FileVal Paths Paths Paths value_paths dir_paths file_paths
+
+abbrev pub paths_of_dir : DirVal → Paths
+paths_of_dir = fold-DirVal Paths Paths Paths value_paths dir_paths file_paths
+
+abbrev pub paths_of_items : List Value → Paths
+paths_of_items vs = flat_map paths_of vs
+
+abbrev pub paths_of_fields : Fields → Paths
+paths_of_fields fields = flat_map (λ e. paths_of e.1) fields
+
+abbrev pub default_paths : NamedInput → Value → Paths
+default_paths input v = paths_of v ++ looked_for input.1.secondary_files v
+
+-- what an input adds to the paths of what is given
+abbrev pub input_adds : Fields → NamedInput → Paths
+input_adds given input =
+    looked_for input.1.secondary_files (value_under input.0 given) ++ option_map_or (default_paths input) input.1.default []
+
+abbrev pub with_new : Paths → Name → Paths
+with_new kept name = (if list_any (bytes_eq name) kept then kept else kept ++ name ∷ [])
+
+-- each name once, where it stands first
+abbrev pub each_once : Paths → Paths
+each_once names = fold with_new [] names
+
+-- the paths that are measured
+abbrev pub input_paths : List NamedInput → Fields → Paths
+input_paths inputs given = each_once (paths_of_fields given ++ flat_map (input_adds given) inputs)

@@ -1,0 +1,124 @@
+//! A job's inputs, as they were measured.
+ghost use Rattle.std.specs.Prelude.{◌≡◌, IfOk, IfErr, OnOk, Ok};
+ghost use Rattle.plain_data.specs.ByName.{with_value};
+ghost use Rattle.input_files.specs.Inputs as spec;
+ghost use Rattle.input_files.specs.Refusals.{RefusesInputs};
+
+use crate::beside::{all_beside, lacks_required};
+use crate::fault::{InputError, InputFault};
+use crate::given::{input_value, is_misfit};
+use crate::measured::as_measured;
+use crate::there::is_there;
+use cwl_process::ToolInput;
+use cwl_value::Value;
+use plain_data::{Keyed, Text};
+use staging::Measure;
+use std::alloc::{AllocError, Global};
+use std::mem;
+
+/// The value of each input of a tool under the input's id: what is given, or the default in place of null, each File
+/// and Directory as it was measured, with the files that were found beside each File.
+///
+/// # Errors
+///
+/// The first fault in the order of the tool's inputs, and of one input the first of `Kind`, `Missing` and `Secondary`;
+/// `OutOfMemory`.
+pub fn inputs_for(
+    alloc: Global,
+    inputs: &[(Text, ToolInput)],
+    given: &Keyed<Value>,
+    measures: &Keyed<Measure>,
+) -> Result<Keyed<Value>, InputError>
+    ensures ok { IfOk result (λ named. spec.inputs_for inputs.now given.now measures.now ≡ Ok named) }
+    ensures err { IfErr result (RefusesInputs (spec.inputs_for inputs.now given.now measures.now)) }
+{
+    match first_fault(alloc, inputs, given, measures)? {
+        Some(fault) => Err(InputError::Refused(fault)),
+        None => Ok(measured_inputs(alloc, inputs, given, measures)?),
+    }
+}
+
+fn first_fault(
+    alloc: Global,
+    inputs: &[(Text, ToolInput)],
+    given: &Keyed<Value>,
+    measures: &Keyed<Measure>,
+) -> Result<Option<InputFault>, AllocError>
+    ensures { IfOk result (λ fault. fault ≡ spec.first_fault measures.now given.now inputs.now) }
+{
+    for input in inputs {
+        let fault = fault_of(alloc, given, measures, input)?;
+        if fault.is_some() {
+            return Ok(fault);
+        }
+    }
+    Ok(None)
+}
+
+// What is wrong with an input first.
+fn fault_of(
+    alloc: Global,
+    given: &Keyed<Value>,
+    measures: &Keyed<Measure>,
+    input: &(Text, ToolInput),
+) -> Result<Option<InputFault>, AllocError>
+    ensures { IfOk result (λ fault. fault ≡ spec.fault_of measures.now given.now input.now) }
+{
+    let null = Value::Null;
+    let value = input_value(given, input).unwrap_or(&null);
+    if is_misfit(input, value) {
+        return Ok(Some(InputFault::Kind(input.0.copied(alloc)?)));
+    }
+    if !is_there(measures, value) {
+        return Ok(Some(InputFault::Missing(input.0.copied(alloc)?)));
+    }
+    if lacks_required(alloc, measures, input.1.secondary_files.as_slice(), value)? {
+        return Ok(Some(InputFault::Secondary(input.0.copied(alloc)?)));
+    }
+    Ok(None)
+}
+
+fn measured_inputs(
+    alloc: Global,
+    inputs: &[(Text, ToolInput)],
+    given: &Keyed<Value>,
+    measures: &Keyed<Measure>,
+) -> Result<Keyed<Value>, AllocError>
+    ensures { IfOk result (λ named. named ≡ spec.measured_inputs measures.now inputs.now given.now) }
+{
+    let mut named = Keyed::new(alloc);
+    for input in inputs {
+        let value = measured_value(alloc, given, measures, input)?;
+        put(alloc, &mut named, &input.0, value)?;
+    }
+    Ok(named)
+}
+
+// The value of an input as it was measured, with the files beside its Files.
+fn measured_value(
+    alloc: Global,
+    given: &Keyed<Value>,
+    measures: &Keyed<Measure>,
+    input: &(Text, ToolInput),
+) -> Result<Value, AllocError>
+    ensures { IfOk result (λ value. value ≡ spec.measured_value measures.now given.now input.now) }
+{
+    let null = Value::Null;
+    let value = input_value(given, input).unwrap_or(&null);
+    let measured = as_measured(alloc, measures, value)?;
+    all_beside(
+        alloc,
+        measures,
+        input.1.secondary_files.as_slice(),
+        measured,
+    )
+}
+
+// Puts a value under a copy of a name.
+fn put(alloc: Global, named: &mut Keyed<Value>, name: &Text, value: Value) -> Result<(), AllocError>
+    ensures { OnOk result (named.new ≡ with_value name.now value named.old) }
+{
+    let name = name.copied(alloc)?;
+    mem::drop(named.insert(name, value)?);
+    Ok(())
+}
