@@ -1,8 +1,8 @@
 use Rattle.std.proofs.Common.{◌≡◌, ◌+◌, length, sym, subst, take, arith}
 use Rattle.document_links.specs.Library.{AreReadAs, IsReadAs, seen}
-use Rattle.document_links.specs.inner.Sound.{AllProcesses}
+use Rattle.document_links.specs.inner.Sound.{AllSound}
 use Rattle.document_links.proofs.Made.{AreMade, all_made, all_sound, by_name, found_in, made_next}
-use Rattle.document_links.proofs.library.read_library.Goals as goal
+use Rattle.document_links.proofs.library.read_all.Goals as goal
 
 pub loop-entry-preserved : goal.loop-entry-preserved
 loop-entry-preserved c =
@@ -29,5 +29,5 @@ pub returns-clause-processes : goal.returns-clause-processes
 returns-clause-processes c =
     let docs = c.as_slice-entry-items.result.now in
     let whole : c.loop-entry.entry-index ≡ length docs = omega arith in
-    subst AllProcesses (sym c.from_sorted.ensures)
+    subst AllSound (sym c.from_sorted.ensures)
     (all_sound docs c.loop-entry.entries.items (all_made docs c.loop-entry.entries.items c.loop-entry.entry-index whole c.loop-entry.invariant))
