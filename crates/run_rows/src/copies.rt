@@ -1,9 +1,9 @@
 use crate::list::List;
 use crate::script::{listing_of, text_at};
 use plain_data::{Items, Keyed};
-use proc_host::{Found, Move, StagePlan, listing_in};
 use row_io::{Row, RowFault, quoted};
 use serde_json::Value as Json;
+use staging::{Found, Move, StagePlan, listing_in};
 use std::alloc::Global;
 
 /// A copy of the row's listing.

@@ -4,8 +4,9 @@ use crate::requests::requests;
 use crate::script::script_of;
 use command_line::Launch;
 use plain_data::{Items, Keyed, Text};
-use proc_host::{ChildEnd, Host, HostError, Scripted, StagePlan, Ticket};
+use proc_host::{ChildEnd, Host, HostError, Scripted, Ticket};
 use row_io::{Row, RowFault, quoted};
+use staging::StagePlan;
 use std::alloc::{AllocError, Global};
 
 /// What a scripted host answers to the row's calls, one after the other: `stage`, `start`, `collect`, `scan`, `deliver`,

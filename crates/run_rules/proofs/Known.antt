@@ -1,6 +1,6 @@
 -- What is known of a lone tool: its one job, once each input file is measured and its inputs are there.
 use Rattle.std.specs.Prelude.{Contains}
-use Rattle.std.proofs.Common.{◌≡◌, ◌∙◌, Bool, true, false, cond, List, [], ◌∷◌, find, reverse, Option, Some, None, Result, Ok, Err, refl, sym, ap, subst, arith}
+use Rattle.std.proofs.Common.{◌≡◌, ◌∙◌, Bool, true, false, cond, List, [], ◌∷◌, find, reverse, Some, None, Result, Ok, Err, refl, sym, ap, subst, arith}
 use Rattle.cwl_process.specs.declared.tool.Tool.{Tool}
 use Rattle.run_rules.specs.declared.outcome.Cause.{Cause}
 use Rattle.run_rules.specs.Words.{Fields, JobPlace}
@@ -44,7 +44,7 @@ module _ (tool : Tool) where
       Contains (known_by tool measured inputs known).jobs job → Contains (tool_walk tool [] inputs made).met (met_job job) × (job.tool ≡ tool)
   met_if_known true (Ok inputs) made known job there =
       let one : its_job tool inputs ≡ job =
-          only_in _ job (subst (λ (jobs : List Job). Contains jobs job) (one_job tool inputs (reverse known)) there) in
+      only_in _ job (subst (λ (jobs : List Job). Contains jobs job) (one_job tool inputs (reverse known)) there) in
       ((0, omega arith, ap met_job one), ap (λ (j : Job). j.tool) (sym one))
   met_if_known true (Err cause) made known job there =
       absurd (none_in job (subst (λ (jobs : List Job). Contains jobs job) (no_job tool cause (reverse known)) there))

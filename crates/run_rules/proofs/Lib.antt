@@ -7,3 +7,10 @@ pub mod Known
 pub mod Measuring
 pub mod NothingFollows
 pub mod Leads
+pub mod Scenes
+pub mod SuccessCollects
+pub mod PlacesErased
+pub mod RightEnds
+pub mod Reported
+pub mod TwoJobs
+pub mod MeasuredFile

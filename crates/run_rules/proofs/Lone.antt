@@ -1,5 +1,5 @@
 -- The scene of a lone tool, by any inputs that it has for what was measured.
-use Rattle.std.proofs.Common.{◌≡◌, ◌∙◌, List, [], Ok, Result, sym, ap}
+use Rattle.std.proofs.Common.{◌≡◌, ◌∙◌, List, [], Result, sym, ap}
 use Rattle.cwl_process.specs.declared.process.Process.{Process, out-Process, out-roll-Process}
 use Rattle.cwl_process.specs.declared.process.Process.TheOpen.{Process-F}
 use Rattle.cwl_process.specs.declared.process.Process.TheVariants.{rolls-Tool}
@@ -14,7 +14,7 @@ use Rattle.run_rules.specs.declared.outcome.Cause.{Cause}
 use Rattle.run_rules.specs.declared.setting.Options.{Options}
 use Rattle.run_rules.specs.declared.setting.Setting.{Setting}
 use Rattle.run_rules.specs.Words.{Name, Fields}
-use Rattle.run_rules.specs.Jobs.{Walker, inputs_of, paths_at, tool_walk, walker, walker_at}
+use Rattle.run_rules.specs.Jobs.{inputs_of, paths_at, tool_walk, walker, walker_at}
 use Rattle.run_rules.specs.Scene.{Scene, scene_of}
 
 -- what a tool's inputs are, by what was measured, or why it has none

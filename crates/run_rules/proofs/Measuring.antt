@@ -1,14 +1,12 @@
 -- Once each input file is measured, nothing is measured any more; and of each end of a job, the job is known.
 use Rattle.std.specs.Prelude.{◌&&◌, ◌||◌, Contains}
-use Rattle.std.specs.List.{list_all, list_any, cons_option}
-use Rattle.std.proofs.Common.{◌≡◌, ℕ, ◌∙◌, Bool, true, false, cond, List, [], ◌∷◌, ◌++◌, filter_map, append-nil, find, fold, Option, Some, None, refl, sym, ap, subst, bytes_eq}
+use Rattle.std.specs.List.{list_all, cons_option}
+use Rattle.std.proofs.Common.{◌≡◌, ℕ, ◌∙◌, Bool, true, false, cond, List, [], ◌∷◌, ◌++◌, filter_map, append-nil, find, fold, Option, Some, None, refl, sym, ap, subst}
 use Rattle.std.proofs.lemmas.List.{append_assoc}
 use Rattle.std.proofs.lemmas.List.Elements.{All-contains}
 use Rattle.std.proofs.lemmas.List.Sums.{fold-append, AllPass-from_list_all}
-use Rattle.proc_host.specs.declared.call.HostRequest.{HostRequest}
 use Rattle.input_files.specs.Measured.{Measures}
 use Rattle.staging.specs.declared.found.Found.{Found}
-use Rattle.run_rules.specs.declared.outcome.Cause.{Cause}
 use Rattle.run_rules.specs.declared.request.Pair.{Pair}
 use Rattle.run_rules.specs.Words.{Name, Fields, Heads, JobPlace}
 use Rattle.run_rules.specs.Jobs.{Job}
@@ -147,14 +145,16 @@ module _ (s : Scene) where
   not_measured : (es : List Event) (path : Name) → Contains s.paths path → is_measured es path ≡ false → are_measured s es ≡ true → ⊥
   not_measured es path there none all =
       let is : is_measured es path ≡ true =
-          All-contains (λ (p : Name). is_measured es p ≡ true) s.paths path (AllPass-from_list_all (is_measured es) s.paths all) there in
+      All-contains (λ (p : Name). is_measured es p ≡ true) s.paths path (AllPass-from_list_all (is_measured es) s.paths all) there in
       let never : true ≡ false = sym is ∙ none in cc
 
   step_fits : (f : Progress) (marks : List Mark) {p : Pair} {work : Work} {new : List Event} → Allowed s f marks p.request → Steps s f p work new → Fits f.events new
   step_fits f marks may (measures_file path measure) = ((λ all. not_measured f.events path may.known may.unmeasured all), tt)
-  step_fits f marks may (stages place plan number job work more known on) =
-      (tt, starts_fit (f.events ++ job_staged place number ∷ []) place job
-          (known_later f.events (job_staged place number) place job (λ p. refl) refl refl known) on)
+  step_fits f marks may (stages place plan number job work more known on) = (
+    tt,
+    starts_fit (f.events ++ job_staged place number ∷ []) place job
+        (known_later f.events (job_staged place number) place job (λ p. refl) refl refl known) on,
+  )
   step_fits f marks may (reads_input place path limit bytes staged todo read job work more is known on) =
       starts_fit f.events place job (record { job = job; known = known }) on
   step_fits f marks may (starts place inputs launch ticket is) = (tt, tt)

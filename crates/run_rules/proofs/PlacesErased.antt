@@ -1,5 +1,5 @@
 -- Where a value's files stand is no part of the value without its places.
-use Rattle.std.proofs.Common.{◌≡◌, ◌∙◌, ℕ, ℤ, Bool, List, [], ◌∷◌, map, Option, Some, None, option_map, fold, Ordering, Less, Equal, Greater, refl, sym, ap, rules}
+use Rattle.std.proofs.Common.{◌≡◌, ◌∙◌, ℕ, ℤ, Bool, true, List, [], ◌∷◌, map, Option, Some, None, option_map, fold, Ordering, Less, Equal, Greater, refl, sym, ap, rules}
 use Rattle.std.specs.List.{AllByRecursion}
 use Rattle.std.specs.Option.{IfSome}
 use Rattle.std.specs.Ordering.{match_ordering}
@@ -12,7 +12,6 @@ use Rattle.cwl_value.specs.declared.value.Value.TheOpen.{Value-F, FileVal-F, Dir
 use Rattle.cwl_value.specs.declared.value.FileVal.{FileVal, roll-FileVal, fold-FileVal}
 use Rattle.cwl_value.specs.declared.value.DirVal.{DirVal, roll-DirVal, fold-DirVal}
 use Rattle.cwl_value.proofs.Induction.{Cases, induction}
-use Rattle.staging.specs.declared.plan.StagePlan.{StagePlan}
 use Rattle.run_rules.specs.Words.{Name, Fields, last_by_name}
 use Rattle.run_rules.specs.Made.{value_moved, file_moved, dir_moved, fields_moved}
 use Rattle.run_rules.specs.Delivered.{located, location_place, object_of, source_place, sources}
@@ -21,7 +20,6 @@ use Rattle.run_rules.specs.EndsSo.{IsDelivered, no_file, copied}
 use Rattle.run_rules.specs.Scene.{Scene}
 use Rattle.staging.proofs.Erasing.{all_same}
 use Rattle.staging.specs.Plan.{folder_path}
-use Rattle.staging.specs.Groups.{FolderOf}
 
 -- Values without their places, level by level
 

@@ -1,28 +1,23 @@
 -- The scenes of runs: those of a tool, and those of a workflow, of which nothing is known and in which nothing is asked.
-use Rattle.std.specs.Prelude.{Contains}
-use Rattle.std.proofs.Common.{◌≡◌, ◌∙◌, ℕ, true, false, List, [], ◌∷◌, find, reverse, Option, Some, None, Result, refl, sym, ap, subst, cond, unwrap_or}
+use Rattle.std.proofs.Common.{◌≡◌, ◌∙◌, true, false, List, [], ◌∷◌, find, Option, Some, None, refl, sym, ap, subst, unwrap_or}
 use Rattle.std.specs.Map.{keys_of}
-use Rattle.cwl_process.specs.declared.process.Process.{Process, out-Process}
+use Rattle.cwl_process.specs.declared.process.Process.{out-Process}
 use Rattle.cwl_process.specs.declared.process.Process.TheOpen.{Process-F}
-use Rattle.cwl_process.specs.declared.process.Run.{Run}
 use Rattle.cwl_process.specs.declared.tool.Tool.{Tool}
-use Rattle.cwl_process.specs.declared.workflow.Step.{Step}
 use Rattle.cwl_process.specs.declared.workflow.Workflow.{Workflow, out-Workflow}
 use Rattle.plan_checker.specs.declared.plan.Mark.{Mark}
 use Rattle.proc_host.specs.declared.call.HostRequest.{HostRequest}
-use Rattle.staging.specs.declared.plan.StagePlan.{StagePlan}
-use Rattle.run_rules.specs.declared.outcome.Cause.{Cause}
 use Rattle.run_rules.specs.declared.request.Pair.{Pair}
 use Rattle.run_rules.specs.declared.request.Request.{Request}
 use Rattle.run_rules.specs.declared.setting.Options.{Options}
 use Rattle.run_rules.specs.declared.setting.Setting.{Setting}
-use Rattle.run_rules.specs.Words.{Name, Fields, JobPlace}
+use Rattle.run_rules.specs.Words.{Name, Fields}
 use Rattle.run_rules.specs.Jobs.{workflow_walk, all_named, outs_of}
 use Rattle.run_rules.specs.Delivered.{any_file}
 use Rattle.run_rules.specs.Unfold.{Resolved, is_at, jobs_after, fault_after, or_else}
-use Rattle.run_rules.specs.Events.{Event, Progress, at_first, resolved, unfolding_at, job_at}
+use Rattle.run_rules.specs.Events.{Progress, at_first}
 use Rattle.run_rules.specs.End.{End, fault_end, settled}
-use Rattle.run_rules.specs.Allowed.{Allowed, MayDeliver}
+use Rattle.run_rules.specs.Allowed.{Allowed}
 use Rattle.run_rules.specs.Run.{Goes, begins, asks}
 use Rattle.run_rules.specs.Scene.{Scene, scene_of}
 use Rattle.run_rules.proofs.Lone.{scene_at, scene_by}

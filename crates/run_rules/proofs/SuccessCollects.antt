@@ -2,7 +2,7 @@
 use Rattle.std.specs.Prelude.{nat_lt, is_some, bytes_eq, ◌&&◌, Contains}
 use Rattle.std.specs.Cmp.Lexicographic.{bytes_decides}
 use Rattle.std.specs.List.{list_all}
-use Rattle.std.proofs.Common.{◌≡◌, suc, Bool, true, false, cond, List, [], ◌∷◌, ◌++◌, length, filter, find, reverse, Option, Some, None, Result, Ok, Err, option_map, refl, sym, ap, subst, arith}
+use Rattle.std.proofs.Common.{◌≡◌, suc, Bool, true, false, cond, List, [], ◌∷◌, ◌++◌, length, filter, find, reverse, Option, Some, None, option_map, refl, sym, ap, subst, arith}
 use Rattle.std.proofs.lemmas.List.Elements.{All-contains}
 use Rattle.std.proofs.lemmas.List.Sums.{AllPass-from_list_all}
 use Rattle.cwl_process.specs.declared.tool.Tool.{Tool}
@@ -15,7 +15,7 @@ use Rattle.input_files.specs.Paths.{input_paths}
 use Rattle.run_rules.specs.declared.setting.Options.{Options}
 use Rattle.run_rules.specs.Jobs.{Job, Made, Met, met_job, Walker, inputs_of, tool_walk, result, all_named, is_well}
 use Rattle.run_rules.specs.Made.{fields_made}
-use Rattle.run_rules.specs.Unfold.{Fault, fault_at, too_many_jobs, Resolved, made_by, or_else, jobs_after}
+use Rattle.run_rules.specs.Unfold.{Fault, fault_at, too_many_jobs, Resolved, made_by, or_else}
 use Rattle.run_rules.specs.Scene.{Scene, scene_of}
 use Rattle.run_rules.specs.Events.{Event, file_measured, job_staged, job_started, child_exited, job_succeeded, job_failed, job_failed_for_now, result_delivered, host_failed, collect_failed, Progress, measures, are_measured, resolved, unfolding_at, job_at}
 use Rattle.run_rules.specs.End.{End, succeeds_with, fails_permanently, fails_temporarily, fault_end, gives_up, settled_by, unfold_end, settled_from, settled}

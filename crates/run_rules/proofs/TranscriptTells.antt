@@ -1,6 +1,6 @@
 -- What has happened in a run, its transcript tells, of each job.
 use Rattle.std.specs.Prelude.{Contains}
-use Rattle.std.proofs.Common.{◌≡◌, ◌⊎◌, inl, inr, ℕ, zero, suc, ◌==◌, Bool, not, List, [], ◌∷◌, ◌++◌, filter, fold, Some, refl, ap, subst, arith}
+use Rattle.std.proofs.Common.{◌≡◌, ◌⊎◌, inl, inr, ℕ, zero, suc, ◌==◌, Bool, not, List, [], ◌∷◌, ◌++◌, filter, fold, Some, refl, subst, arith}
 use Rattle.std.proofs.lemmas.List.Elements.{Contains-append_left, Contains-append_cases, Contains-push, Contains-push_cases, All-contains, All-filter, All-contains_itself}
 use Rattle.std.proofs.lemmas.List.Sums.{fold-append}
 use Rattle.command_line.specs.declared.launch.Launch.{Launch}
