@@ -81,7 +81,7 @@ module _ (tool : Tool) (inputs : Fields) (options : Options) (walks : Measures �
     free_up : IsFree lone f → IsFree own (after ms f)
     free_up free = record { still = open_up free.still; measured = measured_past tool inputs options walks paths ms p f.events }
 
-    stage_up : (marks : List Mark) (place : JobPlace) (plan : StagePlan) (number : ℕ) → MayStage lone f marks place plan number → MayStage own (after ms f) marks place plan number
+    pub stage_up : (marks : List Mark) (place : JobPlace) (plan : StagePlan) (number : ℕ) → MayStage lone f marks place plan number → MayStage own (after ms f) marks place plan number
     stage_up marks place plan number may = record {
       free = free_up may.free;
       job = may.job;
@@ -105,7 +105,7 @@ module _ (tool : Tool) (inputs : Fields) (options : Options) (walks : Measures �
       staged = may.staged;
     }
 
-    busy_up : (marks : List Mark) → IsBusy lone f marks → IsBusy own (after ms f) marks
+    pub busy_up : (marks : List Mark) → IsBusy lone f marks → IsBusy own (after ms f) marks
     busy_up marks busy = record { free = free_up busy.free; no_stage = λ place plan number may. busy.no_stage place plan number (stage_down marks place plan number may) }
 
     pub collect_up : (marks : List Mark) (place : JobPlace) → MayCollect lone f marks place → MayCollect own (after ms f) marks place
