@@ -1,5 +1,5 @@
 -- A File with the file that is to be added beside it.
-use Rattle.std.proofs.Common.{◌≡◌, ℕ, Bool, true, false, List, Option, Some, None, Ok, Err, refl, sym, ap, ◌∙◌}
+use Rattle.std.proofs.Common.{◌≡◌, Bool, true, false, Option, Some, None, Ok, refl, sym, ap, ◌∙◌}
 use Rattle.std.specs.Option.{option_to_list}
 use Rattle.cwl_process.specs.declared.tool.SecondaryFile.{SecondaryFile}
 use Rattle.cwl_value.specs.declared.place.Place.{Place}
@@ -7,7 +7,7 @@ use Rattle.cwl_value.specs.declared.place.Place.TheVariants.{Nowhere, Url, Path,
 use Rattle.cwl_value.specs.declared.value.FileVal.{FileVal}
 use Rattle.file_values.specs.Names.{secondary_name}
 use Rattle.collected_outputs.specs.Beside.{added, added_at, is_there, stands, with_beside}
-use Rattle.collected_outputs.specs.Gives.{Gives, and_map, Refuses}
+use Rattle.collected_outputs.specs.Gives.{and_map}
 use Rattle.collected_outputs.specs.Listing.{Listing}
 use Rattle.collected_outputs.specs.Matched.{Name}
 use Rattle.collected_outputs.specs.Values.{value_under, basename_of}

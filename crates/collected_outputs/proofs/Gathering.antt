@@ -1,12 +1,11 @@
 -- Outputs that are gathered by their bindings, or by the object.
-use Rattle.std.proofs.Common.{◌≡◌, Bool, true, false, true≢false, List, Option, Some, None, is_some, Result, Ok, Err, IfOk, IfErr, refl, sym, ap, subst, ◌∙◌}
+use Rattle.std.proofs.Common.{◌≡◌, false, List, Some, Result, Ok, Err, IfOk, IfErr, sym, ap, subst}
 use Rattle.cwl_process.specs.declared.tool.ToolOutput.{ToolOutput}
-use Rattle.collected_outputs.specs.declared.fault.CollectFault.{CollectFault}
 use Rattle.collected_outputs.specs.declared.fault.CollectError.{CollectError}
 use Rattle.collected_outputs.specs.declared.fault.CollectError.TheVariants as error
 use Rattle.collected_outputs.specs.declared.fault.OutputFault.{OutputFault}
 use Rattle.collected_outputs.specs.declared.listing.Entry.{Entry}
-use Rattle.collected_outputs.specs.Collected.{Collected, AreGathered, object_entry, by_object, fault_of}
+use Rattle.collected_outputs.specs.Collected.{AreGathered, object_entry, by_object, fault_of}
 use Rattle.collected_outputs.specs.Matched.{Name}
 use Rattle.collected_outputs.specs.Object.{Named, object_of}
 use Rattle.collected_outputs.specs.Outputs.{Left, has_object, AreOutputs}

@@ -1,6 +1,7 @@
 pub mod Adding
 pub mod Bound
 pub mod Every
+pub mod Existing
 pub mod Gathering
 pub mod Giving
 pub mod Levels
@@ -10,3 +11,4 @@ pub mod ObjectRead
 pub mod Placing
 pub mod Readings
 pub mod Slashes
+pub mod Wanting

@@ -1,5 +1,5 @@
 -- What the bytes of the output object read as.
-use Rattle.std.proofs.Common.{◌≡◌, ◌≢◌, ℕ, Bool, true, false, true≢false, List, Option, Some, None, Ok, Err, IsUtf8, refl, sym, ap, ◌∙◌}
+use Rattle.std.proofs.Common.{◌≡◌, ◌≢◌, ℕ, Bool, true, false, true≢false, List, Ok, Err, refl, sym, ap, ◌∙◌}
 use Rattle.std.specs.Str.{is_utf8}
 use Rattle.std.proofs.lemmas.Str.{IsUtf8-from_is_utf8, is_utf8-from_IsUtf8}
 use Rattle.cwl_value.specs.Reading.{Reads}
@@ -7,10 +7,8 @@ use Rattle.cwl_value.specs.Texts.{ReadsAs, as_json, not_json}
 use Rattle.cwl_value.specs.declared.refusal.ValueRefusal.{ValueRefusal}
 use Rattle.cwl_value.specs.declared.refusal.ValueRefusal.TheVariants as refusal
 use Rattle.cwl_value.specs.declared.value.Value.{Value}
-use Rattle.serde_json.specs.Data.{Data}
-use Rattle.serde_json.specs.Read as json
 use Rattle.collected_outputs.specs.Gives.{Refuses}
-use Rattle.collected_outputs.specs.Object.{Named, bytes_read, data_read, fields_in}
+use Rattle.collected_outputs.specs.Object.{bytes_read, fields_in}
 use Rattle.collected_outputs.specs.inner.Written.{stop_of}
 
 read_by : (bytes : List ℕ) (b : Bool) (r : Reads Value) → is_utf8 bytes ≡ b → ReadsAs bytes r → r ≡ bytes_read bytes

@@ -5,6 +5,8 @@ pub mod Codes
 pub mod Collected
 pub mod Contents
 pub mod Gives
+pub mod HeadsWanted
+pub mod Laws
 pub mod Listing
 pub mod Matched
 pub mod Object

@@ -1,10 +1,7 @@
 -- The output object that a command wrote itself (CWL v1.2, Command Line Tool, "Output binding": cwl.output.json).
-use Rattle.std.specs.Prelude.{ℕ, Bool, not, ◌&&◌, ◌==◌, nat_lt, if◌then◌else◌, List, [], ◌∷◌, ◌++◌, map, codes, bytes_eq, Option, Some, None, Result, Ok, Err}
-use Rattle.std.specs.List.{list_any}
+use Rattle.std.specs.Prelude.{ℕ, ◌&&◌, ◌==◌, nat_lt, if◌then◌else◌, List, [], ◌∷◌, map, codes, bytes_eq, Option, Some, None, Ok, Err}
 use Rattle.std.specs.Str.{is_utf8}
 use Rattle.plain_data.specs.ByName.{value_at}
-use Rattle.cwl_process.specs.declared.tool.OutputType.{OutputType}
-use Rattle.cwl_process.specs.declared.tool.ToolOutput.{ToolOutput}
 use Rattle.cwl_value.specs.Reading.{Reads, reading}
 use Rattle.cwl_value.specs.Secondary.{is_new, are_distinct}
 use Rattle.cwl_value.specs.declared.refusal.ValueRefusal.TheVariants.{NotJson}

@@ -4,3 +4,4 @@ pub mod Names
 pub mod Readings
 pub mod Steps
 pub mod Written
+pub mod Wanted

@@ -42,13 +42,13 @@ pub struct StreamNames<'a> {
     pub stderr: &'a str,
 }
 
-// What outputs are collected from.
+/// What outputs are collected from.
 #[derive(Clone, Copy, Drop)]
-struct Folder<'a> {
-    listing: &'a Keyed<Entry>,
-    heads: &'a Keyed<Items<u8>>,
-    streams: StreamNames<'a>,
-    speaks: Speaks<'a>,
+pub(crate) struct Folder<'a> {
+    pub(crate) listing: &'a Keyed<Entry>,
+    pub(crate) heads: &'a Keyed<Items<u8>>,
+    pub(crate) streams: StreamNames<'a>,
+    pub(crate) speaks: Speaks<'a>,
 }
 
 /// Collects the outputs of a job whose command has ended well (CWL v1.2, CommandLineTool, "Output binding").
@@ -137,8 +137,8 @@ fn outputs_of(alloc: Global, tool: &Tool, folder: Folder<'_>) -> Result<Keyed<Va
     }
 }
 
-// The file that is the whole output object, where it is found.
-fn object_entry(listing: &Keyed<Entry>) -> Option<&Entry>
+/// The file that is the whole output object, where it is found.
+pub(crate) fn object_entry(listing: &Keyed<Entry>) -> Option<&Entry>
     ensures there { is_some result ≡ spec.has_object listing.now }
     ensures entry { option_copied result ≡ object_entry listing.now }
 {
@@ -219,8 +219,12 @@ fn value_beside(
     )
 }
 
-// The names that the output's patterns match.
-fn names_of(alloc: Global, output: &ToolOutput, folder: Folder<'_>) -> Result<Items<Text>, Stop>
+/// The names that the output's patterns match.
+pub(crate) fn names_of(
+    alloc: Global,
+    output: &ToolOutput,
+    folder: Folder<'_>,
+) -> Result<Items<Text>, Stop>
     ensures ok { IfOk result (λ names. AreNames folder.entry.listing.now (texts_by folder.entry output.now) (Ok names)) }
     ensures err { IfErr result (NoNames folder.entry.listing.now (texts_by folder.entry output.now)) }
 {

@@ -67,7 +67,8 @@ fn push_found(
     Ok(())
 }
 
-fn without_repeats(alloc: Global, names: &[Text]) -> Result<Items<Text>, AllocError>
+/// Each name once, where it stands first.
+pub(crate) fn without_repeats(alloc: Global, names: &[Text]) -> Result<Items<Text>, AllocError>
     ensures { IfOk result (λ once. once ≡ without_repeats names.now) }
 {
     let mut seen = BTreeSet::new(alloc);

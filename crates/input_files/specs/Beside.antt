@@ -1,6 +1,6 @@
 -- The files beside an input's Files (CWL v1.2, "CommandInputParameter": secondaryFiles; "SecondaryFileSchema").
-use Rattle.std.specs.Prelude.{Bool, false, true, not, ◌||◌, ◌&&◌, if◌then◌else◌, List, [], ◌∷◌, ◌++◌, fold, is_some, bytes_eq, Option, Some, None, unwrap_or}
-use Rattle.std.specs.Option.{option_map_or, option_to_list}
+use Rattle.std.specs.Prelude.{Bool, false, true, ◌||◌, ◌&&◌, if◌then◌else◌, List, [], ◌∷◌, ◌++◌, fold, bytes_eq, Option, Some, None, unwrap_or}
+use Rattle.std.specs.Option.{option_map_or}
 use Rattle.std.specs.List.{list_any, before_last, after_last, flat_map}
 use Rattle.plain_data.specs.ByName.{value_at}
 use Rattle.cwl_process.specs.declared.tool.SecondaryFile.{SecondaryFile}

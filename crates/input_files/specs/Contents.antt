@@ -1,7 +1,7 @@
 -- The contents of the Files of inputs that ask for them (CWL v1.2, "CommandInputParameter" and "CommandLineBinding": loadContents): the
 -- whole file as text, where it has at most 65,536 bytes.
-use Rattle.std.specs.Prelude.{ℕ, nat_lt, Bool, true, false, ◌&&◌, if◌then◌else◌, List, [], ◌∷◌, ◌++◌, map, Option, Some, None, Result, Ok, Err, unwrap_or, bytes_eq}
-use Rattle.std.specs.List.{list_any, flat_map}
+use Rattle.std.specs.Prelude.{ℕ, nat_lt, Bool, true, false, if◌then◌else◌, List, [], ◌∷◌, map, Option, Some, None, Result, Ok, Err, unwrap_or}
+use Rattle.std.specs.List.{flat_map}
 use Rattle.std.specs.Str.{is_utf8}
 use Rattle.plain_data.specs.ByName.{value_at}
 use Rattle.cwl_value.specs.declared.place.Place.{Place}

@@ -1,21 +1,25 @@
 -- A job's inputs as they were measured, or the first fault in the order of the tool's inputs: a value that is not of the input's type, then
 -- a File or Directory that is not there, then a required file that is not beside its File (CWL v1.2, Command Line Tool,
 -- "CommandInputParameter": `default`, `type`, `secondaryFiles`; "File"; "Directory").
-use Rattle.std.specs.Prelude.{◌≡◌, Bool, not, if◌then◌else◌, List, [], ◌∷◌, Option, Some, None, Result, Ok, Err, map}
+use Rattle.std.specs.Prelude.{not, if◌then◌else◌, List, [], ◌∷◌, Option, Some, None, Result, Ok, Err, map}
+use Rattle.cwl_process.specs.declared.tool.SecondaryFile.{SecondaryFile}
 use Rattle.cwl_value.specs.declared.value.Value.{Value}
-use Rattle.input_files.specs.Given.{Name, Fields, NamedInput, input_value, is_misfit, last_by_name}
+use Rattle.input_files.specs.Given.{Fields, NamedInput, input_value, fits_input, last_by_name}
 use Rattle.input_files.specs.Measured.{Measures, is_there, as_measured}
 use Rattle.input_files.specs.Beside.{lacks_required, all_beside}
 use Rattle.input_files.specs.declared.fault.InputFault.{InputFault}
 use Rattle.input_files.specs.declared.fault.InputFault.TheVariants as fault
 
--- what is wrong with an input first
-abbrev pub fault_of : Measures → Fields → NamedInput → Option InputFault
-fault_of measures given input =
-    (if is_misfit given input then Some (fault.Kind input.0)
-    else if not (is_there measures (input_value given input)) then Some (fault.Missing input.0)
-    else if lacks_required measures input.1.secondary_files (input_value given input) then Some (fault.Secondary input.0)
+-- what is wrong with an input of this value first
+abbrev pub fault_in : Measures → NamedInput → Value → Option InputFault
+fault_in measures input v =
+    (if not (fits_input input.1.kind v) then Some (fault.Kind input.0)
+    else if not (is_there measures v) then Some (fault.Missing input.0)
+    else if lacks_required measures input.1.secondary_files v then Some (fault.Secondary input.0)
     else None)
+
+abbrev pub fault_of : Measures → Fields → NamedInput → Option InputFault
+fault_of measures given input = fault_in measures input (input_value given input)
 
 abbrev pub or_else : {X : Type 0} → Option X → Option X → Option X
 or_else None other = other
@@ -25,9 +29,12 @@ abbrev pub first_fault : Measures → Fields → List NamedInput → Option Inpu
 first_fault measures given [] = None
 first_fault measures given (input ∷ more) = or_else (fault_of measures given input) (first_fault measures given more)
 
--- the value of an input as it was measured, with the files that were found beside its Files
+-- a value as it was measured, with the files that were found beside its Files
+abbrev pub with_measures : Measures → List SecondaryFile → Value → Value
+with_measures measures declared v = all_beside measures declared (as_measured measures v)
+
 abbrev pub measured_value : Measures → Fields → NamedInput → Value
-measured_value measures given input = all_beside measures input.1.secondary_files (as_measured measures (input_value given input))
+measured_value measures given input = with_measures measures input.1.secondary_files (input_value given input)
 
 -- each input under its id
 abbrev pub measured_inputs : Measures → List NamedInput → Fields → Fields

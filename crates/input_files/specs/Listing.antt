@@ -1,11 +1,11 @@
 -- What stands below a measured folder, as values (CWL v1.2, "File", "Directory"). Each stands at its path below the folder's.
-use Rattle.std.specs.Prelude.{ℕ, suc, zero, Bool, ◌==◌, if◌then◌else◌, List, [], ◌∷◌, ◌++◌, length, map, filter, codes, Some, None, bytes_eq}
+use Rattle.std.specs.Prelude.{ℕ, suc, zero, Bool, if◌then◌else◌, List, [], ◌∷◌, ◌++◌, length, map, filter, codes, Some, None, bytes_eq}
 use Rattle.std.specs.List.{before_last, after_last}
 use Rattle.cwl_value.specs.declared.place.Place.TheVariants.{Path}
 use Rattle.cwl_value.specs.declared.value.Value.{Value}
 use Rattle.cwl_value.specs.declared.value.Value as value
-use Rattle.cwl_value.specs.declared.value.FileVal.{FileVal, roll-FileVal}
-use Rattle.cwl_value.specs.declared.value.DirVal.{DirVal, roll-DirVal}
+use Rattle.cwl_value.specs.declared.value.FileVal.{roll-FileVal}
+use Rattle.cwl_value.specs.declared.value.DirVal.{roll-DirVal}
 use Rattle.file_values.specs.Names.{is_slash, without_last_slashes}
 use Rattle.staging.specs.declared.found.Found.{Found}
 use Rattle.input_files.specs.Given.{Name}

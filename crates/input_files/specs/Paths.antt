@@ -1,9 +1,10 @@
 -- Which paths are measured before a run: those of every File and Directory of the input object and of the tool's defaults, at any depth,
 -- and those at which the files are looked for that an input declares and a File of it lacks (CWL v1.2, "CommandInputParameter":
 -- secondaryFiles).
-use Rattle.std.specs.Prelude.{Bool, if◌then◌else◌, List, [], ◌∷◌, ◌++◌, map, fold, bytes_eq}
+use Rattle.std.specs.Prelude.{if◌then◌else◌, List, [], ◌∷◌, ◌++◌, map, fold, bytes_eq}
 use Rattle.std.specs.List.{list_any, flat_map}
 use Rattle.std.specs.Option.{option_map_or}
+use Rattle.plain_data.specs.ByName.{map_values}
 use Rattle.cwl_value.specs.declared.place.Place.{Place}
 use Rattle.cwl_value.specs.declared.place.Place.TheVariants as place
 use Rattle.cwl_value.specs.declared.value.Value.{Value, fold-Value}
@@ -47,10 +48,10 @@ abbrev pub paths_of_dir : DirVal → Paths
 paths_of_dir = fold-DirVal Paths Paths Paths value_paths dir_paths file_paths
 
 abbrev pub paths_of_items : List Value → Paths
-paths_of_items vs = flat_map paths_of vs
+paths_of_items vs = joined (map paths_of vs)
 
 abbrev pub paths_of_fields : Fields → Paths
-paths_of_fields fields = flat_map (λ e. paths_of e.1) fields
+paths_of_fields fields = joined (map (λ e. e.1) (map_values paths_of fields))
 
 abbrev pub default_paths : NamedInput → Value → Paths
 default_paths input v = paths_of v ++ looked_for input.1.secondary_files v

@@ -1,8 +1,9 @@
 //! The contents of the Files of inputs that ask for them.
-ghost use Rattle.std.specs.Prelude.{◌≡◌, ◌++◌, Ok, IfOk, IfErr, OnOk, map};
+ghost use Rattle.std.specs.Prelude.{◌≡◌, ◌++◌, Ok, Some, IfOk, IfErr, OnOk, map};
 ghost use Rattle.std.specs.List.{flat_map};
 ghost use Rattle.std.specs.Option.{option_copied};
-ghost use Rattle.input_files.specs.Given.{with_file, with_files, files_in};
+ghost use Rattle.std.specs.Str.{is_utf8};
+ghost use Rattle.input_files.specs.Given.{with_file, files_in};
 ghost use Rattle.input_files.specs.Contents as spec;
 ghost use Rattle.input_files.specs.Refusals.{RefusesContents};
 
@@ -180,19 +181,18 @@ fn file_fault(
     if is_too_long(file) {
         return Ok(Some(ContentsFault::TooLong(name.copied(alloc)?)));
     }
-    if is_text(head_of(heads, &file.place)) {
-        Ok(None)
-    } else {
-        Ok(Some(ContentsFault::NotUtf8(name.copied(alloc)?)))
+    match head_of(heads, &file.place) {
+        Some(bytes) if !is_text(bytes) => Ok(Some(ContentsFault::NotUtf8(name.copied(alloc)?))),
+        _ => Ok(None),
     }
 }
 
-fn is_text(head: Option<&[u8]>) -> bool
-    ensures { result ≡ spec.is_text (option_copied head.entry) }
+fn is_text(bytes: &[u8]) -> bool
+    ensures { result ≡ is_utf8 bytes.now }
 {
-    match head {
-        None => true,
-        Some(bytes) => str::from_utf8(bytes).is_ok(),
+    match str::from_utf8(bytes) {
+        Ok(_) => true,
+        Err(_) => false,
     }
 }
 
@@ -272,18 +272,29 @@ fn file_loaded(
 ) -> Result<FileVal, AllocError>
     ensures { IfOk result (λ f. f ≡ spec.file_loaded heads.now file) }
 {
-    let contents = text_of(alloc, head_of(heads, &file.place))?;
+    let contents = contents_of(alloc, heads, &file.place)?;
     let mut file = file;
     file.contents = contents;
     Ok(file)
 }
 
-fn text_of(alloc: Global, head: Option<&[u8]>) -> Result<Option<Text>, AllocError>
-    ensures { IfOk result (λ text. text ≡ spec.text_of (option_copied head.entry)) }
+fn contents_of(
+    alloc: Global,
+    heads: &Keyed<Items<u8>>,
+    place: &Place,
+) -> Result<Option<Text>, AllocError>
+    ensures { IfOk result (λ text. text ≡ spec.text_of (spec.head_at heads.now place.now)) }
 {
-    let Some(bytes) = head else {
-        return Ok(None);
-    };
+    match head_of(heads, place) {
+        None => Ok(None),
+        Some(bytes) => text_of(alloc, bytes),
+    }
+}
+
+// The text of a head; none where it is no text.
+fn text_of(alloc: Global, bytes: &[u8]) -> Result<Option<Text>, AllocError>
+    ensures { IfOk result (λ text. text ≡ spec.text_of (Some bytes.now)) }
+{
     match str::from_utf8(bytes) {
         Ok(text) => Ok(Some(Text::from_text(alloc, text)?)),
         Err(_) => Ok(None),

@@ -22,18 +22,11 @@ pub(crate) fn input_value<'a>(
 }
 
 /// Whether a value is of an input's type.
-fn fits_input(kind: &InputType, value: &Value) -> bool
+pub(crate) fn fits_input(kind: &InputType, value: &Value) -> bool
     ensures { result ≡ spec.fits_input kind.now value.now }
 {
     match kind {
         InputType::Stdin => matches!(value, Value::FileVal(_)),
         InputType::Members(members) => fits(value, members),
     }
-}
-
-/// Whether the value of an input is not of its type.
-pub(crate) fn is_misfit(input: &(Text, ToolInput), value: &Value) -> bool
-    ensures { (given : spec.Fields) → value.now ≡ spec.input_value given input.now → result ≡ spec.is_misfit given input.now }
-{
-    !fits_input(&input.1.kind, value)
 }

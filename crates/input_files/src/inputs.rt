@@ -6,10 +6,10 @@ ghost use Rattle.input_files.specs.Refusals.{RefusesInputs};
 
 use crate::beside::{all_beside, lacks_required};
 use crate::fault::{InputError, InputFault};
-use crate::given::{input_value, is_misfit};
+use crate::given::{fits_input, input_value};
 use crate::measured::as_measured;
 use crate::there::is_there;
-use cwl_process::ToolInput;
+use cwl_process::{SecondaryFile, ToolInput};
 use cwl_value::Value;
 use plain_data::{Keyed, Text};
 use staging::Measure;
@@ -64,9 +64,21 @@ fn fault_of(
 ) -> Result<Option<InputFault>, AllocError>
     ensures { IfOk result (λ fault. fault ≡ spec.fault_of measures.now given.now input.now) }
 {
-    let null = Value::Null;
-    let value = input_value(given, input).unwrap_or(&null);
-    if is_misfit(input, value) {
+    match input_value(given, input) {
+        None => fault_in(alloc, measures, input, &Value::Null),
+        Some(value) => fault_in(alloc, measures, input, value),
+    }
+}
+
+fn fault_in(
+    alloc: Global,
+    measures: &Keyed<Measure>,
+    input: &(Text, ToolInput),
+    value: &Value,
+) -> Result<Option<InputFault>, AllocError>
+    ensures { IfOk result (λ fault. fault ≡ spec.fault_in measures.now input.now value.now) }
+{
+    if !fits_input(&input.1.kind, value) {
         return Ok(Some(InputFault::Kind(input.0.copied(alloc)?)));
     }
     if !is_there(measures, value) {
@@ -94,7 +106,7 @@ fn measured_inputs(
     Ok(named)
 }
 
-// The value of an input as it was measured, with the files beside its Files.
+// The value of an input as it was measured.
 fn measured_value(
     alloc: Global,
     given: &Keyed<Value>,
@@ -103,15 +115,24 @@ fn measured_value(
 ) -> Result<Value, AllocError>
     ensures { IfOk result (λ value. value ≡ spec.measured_value measures.now given.now input.now) }
 {
-    let null = Value::Null;
-    let value = input_value(given, input).unwrap_or(&null);
+    let declared = input.1.secondary_files.as_slice();
+    match input_value(given, input) {
+        None => with_measures(alloc, measures, declared, &Value::Null),
+        Some(value) => with_measures(alloc, measures, declared, value),
+    }
+}
+
+// A value as it was measured, with the files beside its Files.
+fn with_measures(
+    alloc: Global,
+    measures: &Keyed<Measure>,
+    declared: &[SecondaryFile],
+    value: &Value,
+) -> Result<Value, AllocError>
+    ensures { IfOk result (λ v. v ≡ spec.with_measures measures.now declared.now value.now) }
+{
     let measured = as_measured(alloc, measures, value)?;
-    all_beside(
-        alloc,
-        measures,
-        input.1.secondary_files.as_slice(),
-        measured,
-    )
+    all_beside(alloc, measures, declared, measured)
 }
 
 // Puts a value under a copy of a name.

@@ -1,5 +1,5 @@
 //! Values whose Files and Directories are as they were measured.
-ghost use Rattle.std.specs.Prelude.{◌≡◌, IfOk, map, option_map};
+ghost use Rattle.std.specs.Prelude.{◌≡◌, IfOk, map};
 ghost use Rattle.plain_data.specs.ByName.{map_values};
 ghost use Rattle.cwl_value.specs.declared.value.FileVal.{out-FileVal};
 ghost use Rattle.input_files.specs.Measured as spec;
@@ -63,7 +63,10 @@ fn measured_dir(
 {
     let listing = match found_listing(alloc, measures, &dir.place)? {
         Some(found) => Some(found),
-        None => measured_listing(alloc, measures, &dir.listing)?,
+        None => match &dir.listing {
+            None => None,
+            Some(items) => Some(measured_items(alloc, measures, items)?),
+        },
     };
     let basename = copy_if_any(alloc, &dir.basename)?;
     Ok(DirVal {
@@ -71,20 +74,6 @@ fn measured_dir(
         basename,
         listing,
     })
-}
-
-#[cycle(measured)]
-fn measured_listing(
-    alloc: Global,
-    measures: &Keyed<Measure>,
-    listing: &Option<Items<Value>>,
-) -> Result<Option<Items<Value>>, AllocError>
-    ensures { IfOk result (λ vs. vs ≡ option_map (map (spec.as_measured measures.now)) listing.now) }
-{
-    match listing {
-        None => Ok(None),
-        Some(items) => Ok(Some(measured_items(alloc, measures, items)?)),
-    }
 }
 
 #[cycle(measured)]

@@ -1,6 +1,6 @@
 //! Names and paths as texts.
-ghost use Rattle.std.specs.Prelude.{◌≡◌, ◌++◌, ◌∷◌, IfOk, string_bytes};
-ghost use Rattle.std.specs.List.{before_last, after_last};
+ghost use Rattle.std.specs.Prelude.{◌≡◌, ◌==◌, IfOk};
+ghost use Rattle.std.specs.List.{before_last, after_last, list_any};
 ghost use Rattle.cwl_value.specs.Reading.{is_name};
 ghost use Rattle.file_values.specs.Names.{is_slash, without_last_slashes as trimmed};
 ghost use Rattle.input_files.specs.Beside.{beside};
@@ -66,10 +66,13 @@ fn without_last_slashes(path: &str) -> &str
 pub(crate) fn is_name(name: &str) -> bool
     ensures { result ≡ is_name name.now }
 {
-    !(name.is_empty()
-        || name == "."
-        || name == ".."
-        || name.as_bytes().iter().any(|byte| *byte == b'/'))
+    !(name.is_empty() || name == "." || name == ".." || has_slash(name))
+}
+
+fn has_slash(name: &str) -> bool
+    ensures { result ≡ list_any (λ c. c == 47) name.now }
+{
+    name.as_bytes().iter().any(|byte| *byte == b'/')
 }
 
 /// Each name once, where it stands first.

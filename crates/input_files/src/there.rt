@@ -1,7 +1,7 @@
 //! Whether all Files and Directories of a value are there.
 ghost use Rattle.std.specs.Prelude.{◌≡◌, map};
-ghost use Rattle.std.specs.List.{list_all};
 ghost use Rattle.std.specs.Option.{option_copied};
+ghost use Rattle.plain_data.specs.ByName.{map_values};
 ghost use Rattle.input_files.specs.Measured as spec;
 
 use cwl_value::{DirVal, FileVal, Place, Value};
@@ -47,7 +47,7 @@ fn is_dir_there(measures: &Keyed<Measure>, dir: &DirVal) -> bool
 
 #[cycle(there)]
 fn are_there(measures: &Keyed<Measure>, items: &Items<Value>) -> bool
-    ensures { result ≡ list_all (spec.is_there measures.now) items.now }
+    ensures { result ≡ spec.all_true (map (spec.is_there measures.now) items.now) }
 {
     for item in items.as_slice() {
         if !is_there(measures, item) {
@@ -59,7 +59,7 @@ fn are_there(measures: &Keyed<Measure>, items: &Items<Value>) -> bool
 
 #[cycle(there)]
 fn are_fields_there(measures: &Keyed<Measure>, fields: &Keyed<Value>) -> bool
-    ensures { result ≡ list_all (λ e. spec.is_there measures.now e.1) fields.now }
+    ensures { result ≡ spec.all_true (map (λ e. e.1) (map_values (spec.is_there measures.now) fields.now)) }
 {
     for field in fields.as_slice() {
         if !is_there(measures, &field.1) {

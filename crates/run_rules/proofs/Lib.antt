@@ -1,1 +1,14 @@
-
+pub mod Lone
+pub mod Meaning
+pub mod OneJob
+pub mod Few
+pub mod TranscriptTells
+pub mod Known
+pub mod Measuring
+pub mod NothingFollows
+pub mod Leads
+pub mod Scenes
+pub mod SuccessCollects
+pub mod PlacesErased
+pub mod RightEnds
+pub mod Reported

@@ -2,6 +2,7 @@
 use Rattle.std.specs.Prelude.{ℕ, ◌+◌, ◌<◌, ◌≡◌, true, false, List, [], ◌∷◌, Option, Some, None, length, filter, Contains}
 use Rattle.std.specs.List.{list_any}
 use Rattle.proc_host.specs.declared.call.HostRequest.{HostRequest}
+use Rattle.collected_outputs.specs.HeadsWanted.{limit_of}
 use Rattle.staging.specs.Groups.{path_in}
 use Rattle.staging.specs.Plan.{IsPlan}
 use Rattle.staging.specs.declared.plan.StagePlan.{StagePlan}
@@ -12,7 +13,6 @@ use Rattle.run_rules.specs.Folders.{out_folder, in_folder}
 use Rattle.run_rules.specs.Jobs.{Job}
 use Rattle.run_rules.specs.Delivered.{any_file}
 use Rattle.run_rules.specs.Events.{Event, Work, nothing_due, input_heads_due, start_due, scan_due, output_heads_due, Progress, in_flight, is_held, is_measured, is_staging, are_measured, number_at, delivered_at, unfolding_at, job_at}
-use Rattle.run_rules.specs.CollectsOn.{most_of}
 use Rattle.run_rules.specs.End.{settled, IsDelivery, is_lost_collect}
 use Rattle.plan_checker.specs.declared.plan.Mark.{Mark}
 use Rattle.plan_checker.specs.declared.plan.Mark.TheVariants.{Compute}
@@ -87,7 +87,7 @@ module _ (s : Scene) where
   due_in es (scan_due place millis) = Some (Request.Host place (HostRequest.Scan (folder_at es place)))
   due_in es (output_heads_due place found [] read) = None
   due_in es (output_heads_due place found (name ∷ todo) read) =
-      Some (Request.Host place (HostRequest.Head (path_in (folder_at es place) name) (most_of name)))
+      Some (Request.Host place (HostRequest.Head (path_in (folder_at es place) name) (limit_of name)))
 
   abbrev pub due : Progress → Option Request
   due f = due_in f.events f.work

@@ -1,13 +1,11 @@
 -- What comes once a job's output folder is listed: first bytes of what was found are read, one file after another, where the outputs ask for
 -- them; then the outputs are collected, or there is a fault why there are none (CWL v1.2, Command Line Tool, "Output binding").
-use Rattle.std.specs.Prelude.{ℕ, Bool, if◌then◌else◌, List, [], ◌∷◌, Option, unwrap_or, Ok, Err, codes, bytes_eq}
+use Rattle.std.specs.Prelude.{List, [], ◌∷◌, unwrap_or, Ok, Err}
 use Rattle.collected_outputs.specs.Collected.{IsCollected}
 use Rattle.collected_outputs.specs.Listing.{listing_of}
 use Rattle.collected_outputs.specs.Outputs.{Left}
 use Rattle.collected_outputs.specs.Patterns.{runtime}
-use Rattle.collected_outputs.specs.declared.contents.TheConstants.{MOST_CONTENTS}
 use Rattle.collected_outputs.specs.declared.fault.OutputFault.{OutputFault}
-use Rattle.collected_outputs.specs.declared.object.TheConstants.{MOST_OBJECT}
 use Rattle.staging.specs.declared.found.Found.{Found}
 use Rattle.run_rules.specs.declared.outcome.Cause.{Cause}
 use Rattle.run_rules.specs.Words.{Name, Fields, Heads, JobPlace}
@@ -24,10 +22,6 @@ left_of started found read = record {
   inputs = started.inputs;
   runtime = runtime;
 }
-
--- how many bytes are read of a file of this name
-abbrev pub most_of : Name → ℕ
-most_of name = if bytes_eq name (codes "cwl.output.json") then MOST_OBJECT else MOST_CONTENTS
 
 -- the job at a place, whose child was started so, with what was found, where these first bytes were read and those of these names are not
 pub data CollectsOn (place : JobPlace) (job : Job) (started : Started) (found : List Found) (read : Heads) : List Name → Work → List Event → Type 0 where

@@ -1,6 +1,5 @@
 -- Which ends there are, and which failure settles one: the first, whatever comes after it.
 use Rattle.std.specs.Prelude.{ℕ, Bool, true, false, cond, List, [], ◌∷◌, ◌++◌, Option, Some, None, length, filter, nat_lt}
-use Rattle.std.specs.List.{list_any}
 use Rattle.proc_host.specs.declared.call.HostFault.{HostFault}
 use Rattle.staging.specs.Plan.{IsPlan}
 use Rattle.staging.specs.declared.plan.StagePlan.{StagePlan}

@@ -10,7 +10,6 @@ pub mod Delivered
 pub mod Scene
 pub mod Events
 pub mod StartsOn
-pub mod Wanted
 pub mod CollectsOn
 pub mod Steps
 pub mod End

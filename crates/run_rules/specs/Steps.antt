@@ -1,6 +1,7 @@
 -- What an answer brings about: the events that it adds, and the work that is due after it. A rule for each kind of answer.
 use Rattle.std.specs.Prelude.{◌≡◌, ℕ, List, [], ◌∷◌, ◌++◌, Some, Contains}
-use Rattle.run_rules.specs.Wanted.{AreWanted}
+use Rattle.collected_outputs.specs.HeadsWanted.{AreHeadsWanted}
+use Rattle.collected_outputs.specs.Listing.{listing_of}
 use Rattle.input_files.specs.Contents.{heads_wanted}
 use Rattle.plain_data.specs.ByName.{with_value}
 use Rattle.proc_host.specs.Answers.{fault_of}
@@ -22,7 +23,7 @@ use Rattle.run_rules.specs.Words.{Name, Fields, Heads, JobPlace}
 use Rattle.run_rules.specs.Jobs.{Job}
 use Rattle.run_rules.specs.Events.{Event, file_measured, job_staged, job_started, child_exited, job_failed, job_failed_for_now, result_delivered, host_failed, collect_failed, Work, nothing_due, input_heads_due, start_due, scan_due, output_heads_due, Progress, Started, in_flight, number_at, started_at, job_at}
 use Rattle.run_rules.specs.StartsOn.{StartsOn}
-use Rattle.run_rules.specs.CollectsOn.{CollectsOn, left_of}
+use Rattle.run_rules.specs.CollectsOn.{CollectsOn}
 use Rattle.run_rules.specs.Scene.{Scene}
 
 -- a call of the host's, for the job at this place, and its answer
@@ -60,7 +61,7 @@ module _ (s : Scene) where
         Steps f (call [] HostRequest.Collect (HostAnswer.Ended e)) nothing_due (child_exited e.ticket ∷ job_failed place (Cause.Exit e.code) ∷ [])
     -- its folder is listed: first bytes of what was found are read next, or its outputs are collected, or there are none
     scans : (place : JobPlace) (folder : Name) (found : List Found) (job : Job) (started : Started) (wanted : List Name) (work : Work) (more : List Event) →
-        job_at s f.events place ≡ Some job → started_at f.events place ≡ Some started → AreWanted (left_of started found []) job.tool.outputs wanted →
+        job_at s f.events place ≡ Some job → started_at f.events place ≡ Some started → AreHeadsWanted (listing_of found) started.inputs job.tool.outputs wanted →
         CollectsOn place job started found [] wanted work more →
         Steps f (call place (HostRequest.Scan folder) (HostAnswer.Listed found)) work more
     -- and the same where one was read

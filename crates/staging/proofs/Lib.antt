@@ -1,4 +1,5 @@
 pub mod Copies
+pub mod Decided
 pub mod Erasing
 pub mod Greedy
 pub mod Moved

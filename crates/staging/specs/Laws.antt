@@ -1,5 +1,5 @@
 -- What holds of all patterns and names, in the words of the standard.
-use Rattle.std.specs.Prelude.{◌≡◌, ℕ, ◌<◌, ◌^◌, length, ◌==◌, Bool, true, false, List, ◌∷◌, map, count_by, Contains}
+use Rattle.std.specs.Prelude.{◌≡◌, ℕ, ◌<◌, ◌^◌, length, ◌==◌, Bool, true, false, List, ◌∷◌, map, count_by, Contains, ◌⊎◌, Result}
 use Rattle.std.specs.List.{list_any}
 use Rattle.cwl_value.specs.declared.value.Value.{Value}
 use Rattle.staging.specs.Glob.{Glob}
@@ -7,6 +7,8 @@ use Rattle.staging.specs.Groups.{groups_of_fields}
 use Rattle.staging.specs.Plan.{IsPlan, folder_path, move_to}
 use Rattle.staging.specs.declared.plan.Move.{Move}
 use Rattle.staging.specs.declared.plan.StagePlan.{StagePlan}
+use Rattle.staging.specs.Reading.{IsReading}
+use Rattle.staging.specs.declared.fault.GlobFault.{GlobFault}
 use Rattle.staging.specs.Placing.{ArePlaced}
 use Rattle.staging.specs.declared.group.Member.{Member}
 use Rattle.staging.specs.declared.group.Placed.{Placed}
@@ -32,6 +34,14 @@ SameComponents = (pattern : List PatternItem) (name : List ℕ) → Glob true pa
 -- a name that begins with a period is matched only by a pattern that begins with one
 abbrev pub HiddenByPeriodAlone : Type 0
 HiddenByPeriodAlone = (pattern : List PatternItem) (name : List ℕ) → Glob true pattern (46 ∷ name) → (rest : List PatternItem) × (pattern ≡ Literal 46 ∷ rest)
+
+-- each text reads as a pattern, or has a fault
+abbrev pub EachTextIsRead : Type 0
+EachTextIsRead = (text : List ℕ) → (read : Result (List PatternItem) GlobFault) × IsReading text read
+
+-- each name is matched, or it isn't
+abbrev pub EachNameIsTold : Type 0
+EachNameIsTold = (pattern : List PatternItem) (name : List ℕ) → Glob true pattern name ⊎ (Glob true pattern name → ⊥)
 
 -- the files of a group have different names
 abbrev pub NamesDiffer : List Member → Type 0

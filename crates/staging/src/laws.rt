@@ -1,6 +1,6 @@
 //! What holds of all patterns, names and folders: each law is the contract of a function that does nothing.
 
-ghost use Rattle.staging.specs.Laws.{TextMatchesItself, TextMatchesNoOther, SameComponents, HiddenByPeriodAlone, SourcesNeverMeet, EachGroupIsPlaced, OneGroupOneFolder, TargetsNeverMeet, EachFileIsCopied};
+ghost use Rattle.staging.specs.Laws.{TextMatchesItself, TextMatchesNoOther, SameComponents, HiddenByPeriodAlone, EachTextIsRead, EachNameIsTold, SourcesNeverMeet, EachGroupIsPlaced, OneGroupOneFolder, TargetsNeverMeet, EachFileIsCopied};
 
 /// A pattern without `*`, `?` and brackets matches its own text and no other name.
 pub fn text_matches_itself_alone()
@@ -16,6 +16,12 @@ pub fn same_components()
 /// A name that begins with a period is matched only by a pattern that begins with one.
 pub fn hidden_by_a_period_alone()
     ensures { HiddenByPeriodAlone }
+{}
+
+/// Each text reads as a pattern or has a fault, and each name is one that a pattern matches or isn't.
+pub fn each_text_and_name_is_told()
+    ensures texts { EachTextIsRead }
+    ensures names { EachNameIsTold }
 {}
 
 /// Each group that is placed has one folder, which groups with the same places and names share, and in one folder no

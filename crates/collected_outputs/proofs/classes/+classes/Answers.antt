@@ -1,5 +1,4 @@
-use Rattle.std.proofs.Common.{sym, ap, ◌∙◌}
-use Rattle.plain_data.specs.ByName.{map_values}
+use Rattle.std.proofs.Common.{sym, ◌∙◌}
 use Rattle.cwl_value.specs.declared.value.Value.{Value}
 use Rattle.collected_outputs.specs.Matched.{Name}
 use Rattle.collected_outputs.specs.Readable.{Seen, seen, has_class}

@@ -1,4 +1,4 @@
-use Rattle.std.proofs.Common.{◌≡◌, true, not, ◌&&◌, sym, ap, ◌∙◌, refl, map}
+use Rattle.std.proofs.Common.{◌≡◌, true, not, sym, ap, ◌∙◌, refl, map}
 use Rattle.std.specs.List.{list_any}
 use Rattle.plain_data.specs.ByName.{map_values}
 use Rattle.cwl_value.specs.declared.value.Value.{Value}

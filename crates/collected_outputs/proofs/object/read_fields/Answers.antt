@@ -1,4 +1,3 @@
-use Rattle.std.proofs.Common.{sym, ◌∙◌}
 use Rattle.collected_outputs.proofs.ObjectRead.{value_fields, no_fields}
 use Rattle.collected_outputs.proofs.object.read_fields.Goals as goal
 

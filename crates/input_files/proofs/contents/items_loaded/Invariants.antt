@@ -1,0 +1,11 @@
+use Rattle.std.proofs.Common.{◌≡◌, ◌++◌, map}
+use Rattle.std.specs.Vec.Iter.{into_iter_items}
+use Rattle.input_files.specs.Given.{with_file}
+use Rattle.input_files.specs.Contents.{file_loaded}
+use Rattle.input_files.proofs.contents.items_loaded.Given as goal
+
+abbrev pub invariant-loop-value : goal.invariant-loop-value
+invariant-loop-value l = record {
+  whole : l.fn.values ≡ l.yielded ++ into_iter_items l.value-iterator;
+  so_far : l.loaded ≡ map (with_file (file_loaded l.heads)) l.yielded;
+}

@@ -1,0 +1,19 @@
+-- A lone tool is one job, whatever is known.
+use Rattle.std.proofs.Common.{◌≡◌, List, [], ◌∷◌, Ok, Err, refl}
+use Rattle.cwl_process.specs.declared.tool.Tool.{Tool}
+use Rattle.run_rules.specs.declared.outcome.Cause.{Cause}
+use Rattle.run_rules.specs.Words.{Fields}
+use Rattle.run_rules.specs.Jobs.{Job, tool_walk}
+use Rattle.run_rules.specs.Unfold.{Resolved, jobs_after}
+
+module _ (tool : Tool) (inputs : Fields) where
+  abbrev pub job : Job
+  job = record { place = []; tool = tool; inputs = inputs }
+
+  pub one_job : (known : List Resolved) → jobs_after (tool_walk tool [] (Ok inputs)) known ≡ job ∷ []
+  one_job [] = refl
+  one_job (r ∷ earlier) = rw (one_job earlier) refl
+
+pub no_job : (tool : Tool) (cause : Cause) (known : List Resolved) → jobs_after (tool_walk tool [] (Err cause)) known ≡ []
+no_job tool cause [] = refl
+no_job tool cause (r ∷ earlier) = rw (no_job tool cause earlier) refl

@@ -1,0 +1,237 @@
+-- What has happened in a run, its transcript tells, of each job.
+use Rattle.std.specs.Prelude.{Contains}
+use Rattle.std.proofs.Common.{◌≡◌, ◌⊎◌, inl, inr, ℕ, zero, suc, ◌==◌, Bool, not, List, [], ◌∷◌, ◌++◌, filter, fold, Some, refl, subst, arith}
+use Rattle.std.proofs.lemmas.List.Elements.{Contains-append_left, Contains-append_cases, Contains-push, Contains-push_cases, All-contains, All-filter, All-contains_itself}
+use Rattle.std.proofs.lemmas.List.Sums.{fold-append}
+use Rattle.command_line.specs.declared.launch.Launch.{Launch}
+use Rattle.proc_host.specs.Answers.{fault_of}
+use Rattle.proc_host.specs.declared.call.HostAnswer.{HostAnswer}
+use Rattle.proc_host.specs.declared.call.HostRequest.{HostRequest}
+use Rattle.proc_host.specs.declared.child.ChildEnd.{ChildEnd}
+use Rattle.proc_host.specs.declared.child.ExitClass.{ExitClass}
+use Rattle.proc_host.specs.ExitClass.{class_of}
+use Rattle.run_rules.specs.declared.outcome.Cause.{Cause}
+use Rattle.run_rules.specs.declared.request.Request.{Request}
+use Rattle.run_rules.specs.declared.request.Pair.{Pair}
+use Rattle.cwl_process.specs.declared.tool.ExitCodes.{ExitCodes}
+use Rattle.staging.specs.declared.found.Found.{Found}
+use Rattle.run_rules.specs.Words.{Name, Fields, Heads, JobPlace}
+use Rattle.run_rules.specs.Jobs.{Job}
+use Rattle.run_rules.specs.Scene.{Scene}
+use Rattle.run_rules.specs.Events.{Event, file_measured, job_staged, job_started, child_exited, job_succeeded, job_failed, job_failed_for_now, result_delivered, host_failed, collect_failed, Work, nothing_due, input_heads_due, start_due, scan_due, output_heads_due, Progress, Started, flight_after, in_flight, job_at}
+use Rattle.run_rules.specs.StartsOn.{StartsOn, reads_on as starts_reading, has_launch, has_no_launch, has_no_contents}
+use Rattle.run_rules.specs.CollectsOn.{CollectsOn, reads_on as collects_reading, collects, collects_none}
+use Rattle.run_rules.specs.Steps.{Steps, measures_file, stages, reads_input, starts, exits_well, exits_for_now, exits_badly, scans, reads_output, delivers, loses_collect, call_fails, call, progress_with}
+use Rattle.plan_checker.specs.declared.plan.Mark.{Mark}
+use Rattle.run_rules.specs.Allowed.{Allowed, due_in}
+use Rattle.run_rules.specs.Run.{Goes, begins, asks}
+use Rattle.run_rules.specs.RanWell.{RanWell}
+
+pub none_in : {X : Type 0} (x : X) → Contains [] x → ⊥
+none_in x (k, within, is) = omega arith
+
+pub only_in : {X : Type 0} (x y : X) → Contains (x ∷ []) y → x ≡ y
+only_in x y (zero, within, is) = is
+only_in x y (suc k, within, is) = absurd (omega arith)
+
+abbrev pub Flight : Type 0
+Flight = ℕ × JobPlace
+
+-- a child was started for the job at a place, under a ticket
+pub record WasStarted (t : List Pair) (flight : Flight) : Type 0 where
+  pub launch : Launch
+  pub there : Contains t (call flight.1 (HostRequest.Start launch) (HostAnswer.Started flight.0))
+
+was_there : (p : Flight → Bool) (flying : List Flight) (x : Flight) → Contains (filter p flying) x → Contains flying x
+was_there p flying x there = All-contains (Contains flying) (filter p flying) x (All-filter p (Contains flying) flying (All-contains_itself flying)) there
+
+either_in : {X : Type 0} (x z y : X) → Contains (x ∷ z ∷ []) y → (x ≡ y) ⊎ (z ≡ y)
+either_in x z y (zero, within, is) = inl is
+either_in x z y (suc k, within, is) = inr (only_in z y (k, omega arith, is))
+
+not_first : {X : Type 0} (x y : X) (xs : List X) → Contains (x ∷ xs) y → (x ≡ y → ⊥) → Contains xs y
+not_first x y xs (zero, within, is) other = absurd (other is)
+not_first x y xs (suc k, within, is) other = (k, omega (arith, within), is)
+
+-- What is told, where the jobs at a place have these exit codes
+
+module _ (codes : JobPlace → ExitCodes) where
+  -- a job whose folder is listed or read next ran well
+  abbrev pub WorkTold : List Pair → Work → Type 0
+  WorkTold t (scan_due place millis) = RanWell t place (codes place)
+  WorkTold t (output_heads_due place found todo read) = RanWell t place (codes place)
+  WorkTold t _ = Unit {0}
+
+  -- and the children in flight were started, and each job that succeeded ran well
+  pub record Knows (t : List Pair) (f : Progress) : Type 0 where
+    pub flights : (x : Flight) → Contains (in_flight f.events) x → WasStarted t x
+    pub work : WorkTold t f.work
+    pub success : (place : JobPlace) (outputs : Fields) → Contains f.events (job_succeeded place outputs) → RanWell t place (codes place)
+
+  -- what a step may bring about, where this was told
+  record IsTold (t : List Pair) (flying : List Flight) (work : Work) (new : List Event) : Type 0 where
+    pub flights : (x : Flight) → Contains (fold flight_after flying new) x → Contains flying x ⊎ WasStarted t x
+    pub next : WorkTold t work
+    pub success : (place : JobPlace) (outputs : Fields) → Contains new (job_succeeded place outputs) → RanWell t place (codes place)
+
+  later : (t : List Pair) (f : Progress) (work : Work) (new : List Event) → Knows t f → IsTold t (in_flight f.events) work new → Knows t (progress_with f work new)
+  later t f work new knows told = record {
+    flights = λ x there. elim (told.flights x (subst (λ (xs : List Flight). Contains xs x) (fold-append flight_after [] f.events new) there)) [
+      | inl before ↦ knows.flights x before
+      | inr now ↦ now
+    ];
+    work = told.next;
+    success = λ place outputs there. elim (Contains-append_cases f.events new (job_succeeded place outputs) there) [
+      | inl before ↦ knows.success place outputs before
+      | inr now ↦ told.success place outputs now
+    ];
+  }
+
+  -- Still told with one pair more
+
+  module _ (t : List Pair) (p : Pair) where
+    still : (q : Pair) → Contains t q → Contains (t ++ p ∷ []) q
+    still q there = Contains-append_left t (p ∷ []) q there
+
+    ran_still : (place : JobPlace) → RanWell t place (codes place) → RanWell (t ++ p ∷ []) place (codes place)
+    ran_still place ran = record { launch = ran.launch; ending = ran.ending; started = still _ ran.started; ended = still _ ran.ended; well = ran.well }
+
+    work_still : (work : Work) → WorkTold t work → WorkTold (t ++ p ∷ []) work
+    work_still nothing_due told = tt
+    work_still (input_heads_due place staged todo read) told = tt
+    work_still (start_due place inputs launch) told = tt
+    work_still (scan_due place millis) told = ran_still place told
+    work_still (output_heads_due place found todo read) told = ran_still place told
+
+    knows_still : (f : Progress) → Knows t f → Knows (t ++ p ∷ []) f
+    knows_still f knows = record {
+      flights = λ x there. let was : WasStarted t x = knows.flights x there in record { launch = was.launch; there = still _ was.there };
+      work = work_still f.work knows.work;
+      success = λ place outputs there. ran_still place (knows.success place outputs there);
+    }
+
+  -- Each kind of step
+
+  -- what is due is a scan of this job's, so it ran well
+  scanned : (t : List Pair) (s : Scene) (es : List Event) (work : Work) (place : JobPlace) (folder : Name) → WorkTold t work →
+      due_in s es work ≡ Some (Request.Host place (HostRequest.Scan folder)) → RanWell t place (codes place)
+  scanned t s es nothing_due place folder told is = absurd cc
+  scanned t s es (input_heads_due at staged [] read) place folder told is = absurd cc
+  scanned t s es (input_heads_due at staged (path ∷ todo) read) place folder told is = absurd cc
+  scanned t s es (start_due at inputs launch) place folder told is = absurd cc
+  scanned t s es (scan_due at millis) place folder told is = let same : at ≡ place = cc in subst (λ (p : JobPlace). RanWell t p (codes p)) same told
+  scanned t s es (output_heads_due at found [] read) place folder told is = absurd cc
+  scanned t s es (output_heads_due at found (name ∷ todo) read) place folder told is = absurd cc
+
+  module _ (t : List Pair) (s : Scene) (its_codes : (es : List Event) (place : JobPlace) (job : Job) → job_at s es place ≡ Some job → job.tool.exit_codes ≡ codes place)
+      (f : Progress) (marks : List Mark) (knows : Knows t f) where
+    abbrev flying : List Flight
+    flying = in_flight f.events
+
+    quiet_one : (e : Event) → fold flight_after flying (e ∷ []) ≡ flying → ((place : JobPlace) (outputs : Fields) → e ≡ job_succeeded place outputs → ⊥) →
+        IsTold t flying nothing_due (e ∷ [])
+    quiet_one e stays no_success = record {
+      flights = λ x there. inl (subst (λ (xs : List Flight). Contains xs x) stays there);
+      next = tt;
+      success = λ place outputs there. absurd (no_success place outputs (only_in e _ there));
+    }
+
+    no_event : (work : Work) → WorkTold t work → IsTold t flying work []
+    no_event work told = record {
+      flights = λ x there. inl there;
+      next = told;
+      success = λ place outputs there. absurd (none_in _ there);
+    }
+
+    -- a child of this job's ended well
+    ran : (place : JobPlace) (e : ChildEnd) (job : Job) → Contains flying (e.ticket, place) → job_at s f.events place ≡ Some job →
+        class_of job.tool.exit_codes e.code ≡ ExitClass.Success →
+        Contains t (call [] HostRequest.Collect (HostAnswer.Ended e)) → RanWell t place (codes place)
+    ran place e job there known well ended =
+        let was : WasStarted t (e.ticket, place) = knows.flights (e.ticket, place) there in
+        record {
+          launch = was.launch;
+          ending = e;
+          started = was.there;
+          ended = ended;
+          well = subst (λ (c : ExitCodes). class_of c e.code ≡ ExitClass.Success) (its_codes f.events place job known) well;
+        }
+
+    landed : (ticket : ℕ) (x : Flight) → Contains (filter (λ (y : Flight). not (y.0 == ticket)) flying) x → Contains flying x
+    landed ticket x there = was_there (λ (y : Flight). not (y.0 == ticket)) flying x there
+
+    exits : (ticket : ℕ) (e : Event) → fold flight_after flying (child_exited ticket ∷ e ∷ []) ≡ filter (λ (y : Flight). not (y.0 == ticket)) flying →
+        ((place : JobPlace) (outputs : Fields) → e ≡ job_succeeded place outputs → ⊥) → IsTold t flying nothing_due (child_exited ticket ∷ e ∷ [])
+    exits ticket e stays no_success = record {
+      flights = λ x there. inl (landed ticket x (subst (λ (xs : List Flight). Contains xs x) stays there));
+      next = tt;
+      success = λ place outputs there. elim (either_in (child_exited ticket) e _ there) [
+        | inl first ↦ absurd cc
+        | inr second ↦ absurd (no_success place outputs second)
+      ];
+    }
+
+    -- before the job is started, or collected, there is no success
+    staged : (place : JobPlace) (number : ℕ) (work : Work) (more : List Event) → IsTold t flying work more → IsTold t flying work (job_staged place number ∷ more)
+    staged place number work more told = record {
+      flights = told.flights;
+      next = told.next;
+      success = λ at outputs there. told.success at outputs (not_first (job_staged place number) (job_succeeded at outputs) more there (λ is. cc));
+    }
+
+    starts_told : {place : JobPlace} {job : Job} {number : ℕ} {its_inputs : Fields} {read : Heads} {todo : List Name} {work : Work} {more : List Event} →
+        StartsOn s.options place job number its_inputs read todo work more → IsTold t flying work more
+    starts_told (starts_reading path rest) = no_event _ tt
+    starts_told (has_launch inputs launch with_them is) = no_event _ tt
+    starts_told (has_no_launch inputs fault with_them is) = quiet_one _ refl (λ at outputs same. cc)
+    starts_told (has_no_contents fault is) = quiet_one _ refl (λ at outputs same. cc)
+
+    collects_told : {place : JobPlace} {job : Job} {started : Started} {found : List Found} {read : Heads} {todo : List Name} {work : Work} {more : List Event} →
+        RanWell t place (codes place) → CollectsOn place job started found read todo work more → IsTold t flying work more
+    collects_told its (collects_reading name rest) = no_event _ its
+    collects_told {place = place} its (collects outputs is) = record {
+      flights = λ x there. inl there;
+      next = tt;
+      success = λ at others there. let same : job_succeeded place outputs ≡ job_succeeded at others = only_in _ _ there in
+          let here : place ≡ at = cc in subst (λ (p : JobPlace). RanWell t p (codes p)) here its;
+    }
+    collects_told its (collects_none fault is) = quiet_one _ refl (λ at outputs same. cc)
+
+    step_told : {p : Pair} {work : Work} {new : List Event} → Contains t p → Allowed s f marks p.request → Steps s f p work new → IsTold t flying work new
+    step_told now may (measures_file path measure) = quiet_one (file_measured path measure) refl (λ at outputs is. cc)
+    step_told now may (stages place plan number job work more known on) = staged place number work more (starts_told on)
+    step_told now may (reads_input place path limit bytes its_inputs todo read job work more is known on) = starts_told on
+    step_told now may (starts place inputs launch ticket is) = record {
+      flights = λ x there. elim (Contains-push_cases flying (ticket, place) x there) [
+        | inl before ↦ inl before
+        | inr same ↦ inr (subst (WasStarted t) same (record { launch = launch; there = now }))
+      ];
+      next = tt;
+      success = λ at outputs there. let never : job_started place inputs launch ticket ≡ job_succeeded at outputs = only_in _ _ there in absurd cc;
+    }
+    step_told now may (exits_well place e job there known well) = record {
+      flights = λ x in_air. inl (landed e.ticket x in_air);
+      next = ran place e job there known well now;
+      success = λ at outputs in_new. let never : child_exited e.ticket ≡ job_succeeded at outputs = only_in _ _ in_new in absurd cc;
+    }
+    step_told now may (exits_for_now place e job there known class) = exits e.ticket (job_failed_for_now place) refl (λ at outputs is. cc)
+    step_told now may (exits_badly place e job there known class) = exits e.ticket (job_failed place (Cause.Exit e.code)) refl (λ at outputs is. cc)
+    step_told now may (scans place folder found job started wanted work more known was wants on) =
+        collects_told (scanned t s f.events f.work place folder knows.work may) on
+    step_told now may (reads_output place path limit bytes found name todo read job started work more is known was on) =
+        collects_told (subst (WorkTold t) is knows.work) on
+    step_told now may (delivers place plan) = quiet_one (result_delivered plan) refl (λ at outputs is. cc)
+    step_told now may loses_collect = quiet_one collect_failed refl (λ at outputs is. cc)
+    step_told now may (call_fails place request other) = quiet_one (host_failed place (fault_of request)) refl (λ at outputs is. cc)
+
+  module _ (s : Scene) (its_codes : (es : List Event) (place : JobPlace) (job : Job) → job_at s es place ≡ Some job → job.tool.exit_codes ≡ codes place)
+      (Plans : Progress → List Mark → Type 0) where
+    pub knows : {t : List Pair} {f : Progress} {marks : List Mark} → Goes s Plans t f marks → Knows t f
+    knows (begins marks plans) = record {
+      flights = λ x there. absurd (none_in x there);
+      work = tt;
+      success = λ place outputs there. absurd (none_in _ there);
+    }
+    knows (asks t f old p work new marks goes allowed steps plans) =
+        let before : Knows (t ++ p ∷ []) f = knows_still t p f (knows goes) in
+        later (t ++ p ∷ []) f work new before (step_told (t ++ p ∷ []) s its_codes f old before (Contains-push t p) allowed steps)
