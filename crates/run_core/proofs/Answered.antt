@@ -1,248 +1,117 @@
 -- What each answer leads to.
 use Rattle.std.specs.Prelude.{Contains}
-use Rattle.std.proofs.Common.{◌≡◌, ℕ, zero, suc, List, [], ◌∷◌, ◌++◌, Option, Some, None, Ok, Err, refl, sym, subst, arith, lit<}
+use Rattle.std.proofs.Common.{◌≡◌, ◌≢◌, ◌∙◌, ℕ, zero, suc, ◌<◌, ◌^◌, true, false, List, [], ◌∷◌, ◌++◌, length, reverse, Option, Some, None, Ok, Err, refl, sym, ap, subst, arith, lit<, append_assoc, append-nil}
+use Rattle.plain_data.specs.ByName.{with_value}
+use Rattle.cwl_process.specs.declared.process.Process.{Process}
+use Rattle.cwl_process.specs.declared.process.Process as process
 use Rattle.cwl_process.specs.declared.tool.Tool.{Tool}
+use Rattle.collected_outputs.specs.Collected.{IsCollected}
+use Rattle.collected_outputs.specs.declared.fault.OutputFault.{OutputFault}
+use Rattle.command_line.specs.declared.fault.BuildFault.{BuildFault}
+use Rattle.command_line.specs.declared.launch.Launch.{Launch}
+use Rattle.command_line.specs.Launch.{IsLaunch, IsRefused}
+use Rattle.input_files.specs.Measured.{Measures}
 use Rattle.proc_host.specs.declared.call.HostAnswer.{HostAnswer}
 use Rattle.proc_host.specs.declared.call.HostRequest.{HostRequest}
 use Rattle.proc_host.specs.declared.call.HostFault.{HostFault}
 use Rattle.proc_host.specs.declared.child.ChildEnd.{ChildEnd}
 use Rattle.proc_host.specs.declared.child.ExitClass.{ExitClass}
-use Rattle.proc_host.specs.declared.found.Found.{Found}
-use Rattle.proc_host.specs.declared.plan.StagePlan.{StagePlan}
 use Rattle.proc_host.specs.ExitClass.{class_of}
-use Rattle.command_line.specs.declared.launch.Launch.{Launch}
+use Rattle.staging.specs.declared.found.Found.{Found}
+use Rattle.staging.specs.declared.plan.StagePlan.{StagePlan}
+use Rattle.staging.specs.Plan.{IsPlan}
 use Rattle.run_rules.specs.declared.outcome.Cause.{Cause}
 use Rattle.run_rules.specs.declared.request.Answer.{Answer}
 use Rattle.run_rules.specs.declared.request.Request.{Request}
 use Rattle.run_rules.specs.declared.request.Pair.{Pair}
 use Rattle.run_rules.specs.declared.setting.Options.{Options}
 use Rattle.run_core.specs.declared.state.Lone.{Lone}
-use Rattle.run_core.specs.declared.state.Phase.{Phase}
 use Rattle.run_core.specs.declared.state.State.{State}
-use Rattle.run_rules.specs.Words.{Fields}
-use Rattle.run_rules.specs.Folders.{out_folder}
-use Rattle.run_rules.specs.Delivered.{located}
-use Rattle.run_rules.specs.Events.{job_staged, job_started, child_exited, job_succeeded, job_failed, child_signalled, result_delivered, host_failed, collect_failed, nothing_due, start_due, scan_due, Progress, at_first, in_flight, unfolding_at}
-use Rattle.run_rules.specs.Steps.{has_launch as a_launch, has_no_launch as no_launch, starts, exits_well, exits_by_signal, exits_badly, collects, collects_none, delivers, loses_collect, call_fails}
-use Rattle.run_rules.specs.Collected.{collected}
-use Rattle.run_rules.specs.Scene.{Scene}
-use Rattle.run_rules.specs.End.{succeeds_with, fails_permanently, fails_temporarily, ended_by_host, delivery_at}
-use Rattle.run_rules.specs.EndsSo.{IsDelivered, lost as collect_lost, fails, succeeds}
+use Rattle.run_rules.specs.Words.{Name, Fields, Heads}
+use Rattle.run_rules.specs.Folders.{in_folder, out_folder, runtime_of}
+use Rattle.run_rules.specs.Events.{Event, Work, job_staged, job_started, child_exited, job_succeeded, job_failed, job_failed_for_now, result_delivered, host_failed, collect_failed, nothing_due, input_heads_due, start_due, scan_due, output_heads_due, Progress, at_first, in_flight}
+use Rattle.run_rules.specs.StartsOn.{StartsOn}
+use Rattle.run_rules.specs.CollectsOn.{CollectsOn}
+use Rattle.run_rules.specs.Steps.{Steps, progress_with, call, stages, reads_input, starts, exits_well, exits_for_now, exits_badly, scans, reads_output, delivers, loses_collect, call_fails}
+use Rattle.run_rules.specs.Scene.{Scene, scene_of}
+use Rattle.run_rules.specs.End.{End, succeeds_with, fails_permanently, fails_temporarily, ended_by_host}
+use Rattle.run_rules.specs.EndsSo.{EndsSo, lost as collect_lost, fails, succeeds}
+use Rattle.plan_checker.specs.declared.plan.Mark.{Mark}
 use Rattle.plan_checker.specs.declared.plan.Mark.TheVariants.{Load, Compute}
-use Rattle.run_rules.specs.Run.{IsRunSoFar}
+use Rattle.run_rules.specs.Plans.{LoadsHeld}
+use Rattle.run_rules.specs.Allowed.{Allowed}
+use Rattle.run_rules.specs.Run.{IsRunSoFar, Replans, asks}
 use Rattle.run_rules.specs.Reports.{report_of}
-use Rattle.run_core.specs.inner.Machine.{waits, ends, fails_for_good, host_fails, after_ticket, after_class, after_exit, names_of, Launches, has_launch, has_none}
-use Rattle.run_rules.specs.Jobs.{Job}
+use Rattle.run_rules.specs.Jobs.{Job, Walker, walker, walker_at, paths, tool_walk, inputs_of}
+use Rattle.cwl_process.specs.declared.process.Process.{out-Process, out-roll-Process}
+use Rattle.cwl_process.specs.declared.process.Process.TheOpen.{Process-F}
+use Rattle.cwl_process.specs.declared.process.Process.TheVariants.{rolls-Tool}
+use Rattle.run_core.specs.inner.Machine.{ends, host_fails, fails_for_good}
 use Rattle.run_core.specs.inner.Lone.{setting_in}
-use Rattle.run_core.specs.inner.Standing.{IsLone, starting, running, scanning, delivering, when_staged, when_running, when_back, when_gathered}
-use Rattle.run_core.proofs.Lone.{may_stage, may_collect, may_deliver, landed, when_delivered, busy_gathered, busy_delivered}
-use Rattle.run_core.proofs.Advance.{Advances, its_scene, same, step_at, end_at}
+use Rattle.run_core.specs.inner.Measured.{NoMeasures}
+use Rattle.run_core.specs.inner.Standing.{IsLone, IsAt, ended, after}
+use Rattle.run_core.proofs.Shifted.{S, L, IsPast}
+use Rattle.run_core.proofs.Advance.{steps_up, ends_up, replans_up}
 
 abbrev pub pair : Request → HostAnswer → Pair
 pair request answer = record { request = request; answer = Answer.Host answer }
-
-abbrev pub plan_of : Fields → StagePlan
-plan_of inputs = record { moves = []; value = inputs }
 
 -- the one child in flight is the one that ended
 pub only_ticket : (ticket n : ℕ) → Contains (ticket ∷ []) n → ticket ≡ n
 only_ticket ticket n (zero, within, is) = is
 only_ticket ticket n (suc k, within, is) = absurd (omega arith)
 
-module _ (run : Lone) (inputs : Fields) (l : IsLone run inputs) (t : List Pair) where
-  abbrev pub tool : Tool
-  tool = run.tool
+-- a longer run
+pub record GoesOn (run : Lone) (t : List Pair) : Type 0 where
+  pub happened : Progress
+  pub marks : List Mark
+  pub goes : IsRunSoFar (setting_in run) t happened marks
 
-  abbrev pub o : Options
-  o = run.options
+-- a longer run, in which the machine stands
+pub record Advances (run : Lone) (t : List Pair) (next : State) : Type 0 where
+  pub happened : Progress
+  pub marks : List Mark
+  pub goes : IsRunSoFar (setting_in run) t happened marks
+  pub at : IsAt run happened marks next
 
-  -- Staging
+walker_tool : (tool : Tool) (given : Fields) (known : Measures) → walker (process.Tool tool) given known ≡ tool_walk tool [] (inputs_of tool given known)
+walker_tool tool given known = ap (λ q. walker_at q given known) (ap out-Process (sym (rolls-Tool tool)) ∙ out-roll-Process (Process-F.Tool tool))
 
-  abbrev pub stage_request : Request
-  stage_request = Request.Host [] (HostRequest.Stage (plan_of inputs) 1)
+module _ (run : Lone) (inputs : Fields) (ms : List Event) (l : IsLone run inputs ms) where
+  abbrev pub walks : Measures → Walker
+  walks = walker (process.Tool run.tool) run.inputs
 
-  abbrev pub its_job : Job
-  its_job = record { place = []; tool = tool; inputs = inputs }
+  abbrev pub its_paths : List Name
+  its_paths = paths (process.Tool run.tool) run.inputs
 
-  pub launches : (next : State) → IsRunSoFar (setting_in run) t at_first (Compute ∷ []) → Launches run inputs next →
-      Advances run (t ++ pair stage_request HostAnswer.Done ∷ []) next
-  launches next goes (has_launch launch is) = record {
-    happened = when_staged launch;
-    marks = Compute ∷ [];
-    goes = step_at run inputs l t at_first (Compute ∷ []) (pair stage_request HostAnswer.Done) (start_due [] launch) (job_staged [] 1 ∷ []) (Compute ∷ [])
-        goes (may_stage tool inputs o l.limits) (a_launch [] (plan_of inputs) 1 its_job launch refl is) refl;
-    at = starting inputs launch l is;
+  pub past : IsPast run.tool inputs run.options walks its_paths ms
+  past = record {
+    are = l.are;
+    measured = l.measured;
+    fit = walker_tool run.tool run.inputs _ ∙ ap (λ r. tool_walk run.tool [] r) l.fit;
+    still = l.still;
   }
-  launches next goes (has_none fault refused) =
-      end_at run inputs l (t ++ pair stage_request HostAnswer.Done ∷ [])
-      (record { work = nothing_due; events = job_staged [] 1 ∷ job_failed [] (Cause.Build fault) ∷ [] }) (Compute ∷ [])
-      (fails_permanently [] (Cause.Build fault))
-      (step_at run inputs l t at_first (Compute ∷ []) (pair stage_request HostAnswer.Done) nothing_due (job_staged [] 1 ∷ job_failed [] (Cause.Build fault) ∷ []) (Compute ∷ [])
-      goes (may_stage tool inputs o l.limits) (no_launch [] (plan_of inputs) 1 its_job fault refl refused) refl)
-      (fails _ refl refl refl refl)
 
-  pub stage_fails : IsRunSoFar (setting_in run) t at_first (Compute ∷ []) →
-      Advances run (t ++ pair stage_request (HostAnswer.Failed HostFault.Stage) ∷ []) (host_fails HostFault.Stage [])
-  stage_fails goes =
-      end_at run inputs l (t ++ pair stage_request (HostAnswer.Failed HostFault.Stage) ∷ []) (record { work = nothing_due; events = host_failed [] HostFault.Stage ∷ [] })
-      (Compute ∷ []) (ended_by_host HostFault.Stage [])
-      (step_at run inputs l t at_first (Compute ∷ []) (pair stage_request (HostAnswer.Failed HostFault.Stage)) nothing_due (host_failed [] HostFault.Stage ∷ []) (Compute ∷ [])
-      goes (may_stage tool inputs o l.limits) (call_fails [] (HostRequest.Stage (plan_of inputs) 1) (λ is. cc)) refl)
-      (fails _ refl refl refl refl)
+  abbrev pub own : Scene
+  own = S run.tool inputs run.options walks its_paths ms
 
-  -- Starting
+  abbrev pub lone : Scene
+  lone = L run.tool inputs run.options walks its_paths ms
 
-  module _ (launch : Launch) (goes : IsRunSoFar (setting_in run) t (when_staged launch) (Compute ∷ [])) where
-    abbrev start_request : Request
-    start_request = Request.Host [] (HostRequest.Start launch)
+  -- one pair more
+  pub step_at : (t : List Pair) (f : Progress) (marks : List Mark) (p : Pair) (work : Work) (new : List Event) (later : List Mark) →
+      NoMeasures f.events → NoMeasures (f.events ++ new) → IsRunSoFar (setting_in run) t (after ms f) marks → Allowed own (after ms f) marks p.request →
+      Steps lone f p work new → Replans lone (LoadsHeld lone) (progress_with f work new) marks later →
+      IsRunSoFar (setting_in run) (t ++ p ∷ []) (after ms (progress_with f work new)) later
+  step_at t f marks p work new later none none_new goes allowed steps plans =
+      let longer : (ms ++ f.events) ++ new ≡ ms ++ (f.events ++ new) = append_assoc ms f.events new in
+      subst (λ (es : List Event). IsRunSoFar (setting_in run) (t ++ p ∷ []) (record { work = work; events = es }) later) longer
+      (asks t (after ms f) marks p work new later goes allowed (steps_up run.tool inputs run.options walks its_paths ms past f none steps)
+      (subst (λ (es : List Event). Replans own (LoadsHeld own) (record { work = work; events = es }) marks later) (sym longer)
+      (replans_up run.tool inputs run.options walks its_paths ms past (progress_with f work new) none_new marks later plans)))
 
-    pub began : (ticket : ℕ) → Advances run (t ++ pair start_request (HostAnswer.Started ticket) ∷ []) (after_ticket ticket (names_of launch))
-    began ticket = record {
-      happened = when_running launch ticket;
-      marks = Load ∷ [];
-      goes = step_at run inputs l t (when_staged launch) (Compute ∷ []) (pair start_request (HostAnswer.Started ticket)) nothing_due (job_started [] launch ticket ∷ []) (Load ∷ [])
-          goes refl (starts [] launch ticket) refl;
-      at = running inputs launch ticket l;
-    }
-
-    pub start_fails : Advances run (t ++ pair start_request (HostAnswer.Failed HostFault.Start) ∷ []) (host_fails HostFault.Start [])
-    start_fails =
-        end_at run inputs l (t ++ pair start_request (HostAnswer.Failed HostFault.Start) ∷ [])
-        (record { work = nothing_due; events = job_staged [] 1 ∷ host_failed [] HostFault.Start ∷ [] }) (Compute ∷ []) (ended_by_host HostFault.Start [])
-        (step_at run inputs l t (when_staged launch) (Compute ∷ []) (pair start_request (HostAnswer.Failed HostFault.Start)) nothing_due (host_failed [] HostFault.Start ∷ []) (Compute ∷ [])
-        goes refl (call_fails [] (HostRequest.Start launch) (λ is. cc)) refl)
-        (fails _ refl refl refl refl)
-
-  -- Running
-
-  abbrev collect_request : Request
-  collect_request = Request.Host [] HostRequest.Collect
-
-  pub collect_fails : (launch : Launch) (ticket : ℕ) → IsRunSoFar (setting_in run) t (when_running launch ticket) (Load ∷ []) →
-      Advances run (t ++ pair collect_request (HostAnswer.Failed HostFault.Collect) ∷ []) (host_fails HostFault.Collect (ticket ∷ []))
-  collect_fails launch ticket goes =
-      end_at run inputs l (t ++ pair collect_request (HostAnswer.Failed HostFault.Collect) ∷ [])
-      (record { work = nothing_due; events = job_staged [] 1 ∷ job_started [] launch ticket ∷ collect_failed ∷ [] }) (Load ∷ [])
-      (ended_by_host HostFault.Collect (ticket ∷ []))
-      (step_at run inputs l t (when_running launch ticket) (Load ∷ []) (pair collect_request (HostAnswer.Failed HostFault.Collect)) nothing_due (collect_failed ∷ []) (Load ∷ [])
-      goes (may_collect tool inputs o l.limits launch ticket) loses_collect refl)
-      (collect_lost refl refl)
-
-  module _ (launch : Launch) (e : ChildEnd) (goes : IsRunSoFar (setting_in run) t (when_running launch e.ticket) (Load ∷ [])) where
-    abbrev pub back : Pair
-    back = pair collect_request (HostAnswer.Ended e)
-
-    flies : Contains (in_flight (when_running launch e.ticket).events) (e.ticket, [])
-    flies = (0, lit< tt, refl)
-
-    comes_back : (class : ExitClass) → class_of e.code ≡ class → Advances run (t ++ back ∷ []) (after_class o (names_of launch) e.code class)
-    comes_back ExitClass.Success is = record {
-      happened = when_back launch e.ticket e.millis;
-      marks = Load ∷ [];
-      goes = step_at run inputs l t (when_running launch e.ticket) (Load ∷ []) back (scan_due [] e.millis) (child_exited e.ticket ∷ []) (Load ∷ [])
-          goes (may_collect tool inputs o l.limits launch e.ticket) (exits_well [] e flies is) refl;
-      at = scanning inputs launch e.ticket e.millis l;
-    }
-    comes_back ExitClass.Temporary is =
-        let never : o.retries ≡ 0 = l.limits.retries in
-        end_at run inputs l (t ++ back ∷ [])
-        (record { work = nothing_due; events = job_staged [] 1 ∷ job_started [] launch e.ticket ∷ child_exited e.ticket ∷ child_signalled [] ∷ [] }) (Load ∷ []) (fails_temporarily [])
-        (step_at run inputs l t (when_running launch e.ticket) (Load ∷ []) back nothing_due (child_exited e.ticket ∷ child_signalled [] ∷ []) (Load ∷ [])
-        goes (may_collect tool inputs o l.limits launch e.ticket) (exits_by_signal [] e flies is) (rw never refl))
-        (fails _ refl refl (landed e.ticket) (rw never refl))
-    comes_back ExitClass.Permanent is =
-        end_at run inputs l (t ++ back ∷ [])
-        (record { work = nothing_due; events = job_staged [] 1 ∷ job_started [] launch e.ticket ∷ child_exited e.ticket ∷ job_failed [] (Cause.Exit e.code) ∷ [] }) (Load ∷ [])
-        (fails_permanently [] (Cause.Exit e.code))
-        (step_at run inputs l t (when_running launch e.ticket) (Load ∷ []) back nothing_due (child_exited e.ticket ∷ job_failed [] (Cause.Exit e.code) ∷ []) (Load ∷ [])
-        goes (may_collect tool inputs o l.limits launch e.ticket) (exits_badly [] e flies is) refl)
-        (fails _ refl refl (landed e.ticket) refl)
-
-  pub collected_one : (launch : Launch) (ticket : ℕ) (e : ChildEnd) → Contains (ticket ∷ []) e.ticket → IsRunSoFar (setting_in run) t (when_running launch ticket) (Load ∷ []) →
-      Advances run (t ++ pair (Request.Host [] HostRequest.Collect) (HostAnswer.Ended e) ∷ []) (after_exit o (names_of launch) e.code)
-  collected_one launch ticket e flying goes =
-      let there : IsRunSoFar (setting_in run) t (when_running launch e.ticket) (Load ∷ []) =
-      subst (λ (n : ℕ). IsRunSoFar (setting_in run) t (when_running launch n) (Load ∷ [])) (only_ticket ticket e.ticket flying) goes
-      in comes_back launch e there (class_of e.code) refl
-
-  -- Scanning
-
-  module _ (launch : Launch) (ticket millis : ℕ) (goes : IsRunSoFar (setting_in run) t (when_back launch ticket millis) (Load ∷ [])) where
-    abbrev pub scan_request : Request
-    scan_request = Request.Host [] (HostRequest.Scan (out_folder o.work 1))
-
-    pub scan_fails : Advances run (t ++ pair scan_request (HostAnswer.Failed HostFault.Scan) ∷ []) (host_fails HostFault.Scan [])
-    scan_fails =
-        end_at run inputs l (t ++ pair scan_request (HostAnswer.Failed HostFault.Scan) ∷ [])
-        (record { work = nothing_due; events = job_staged [] 1 ∷ job_started [] launch ticket ∷ child_exited ticket ∷ host_failed [] HostFault.Scan ∷ [] }) (Load ∷ [])
-        (ended_by_host HostFault.Scan [])
-        (step_at run inputs l t (when_back launch ticket millis) (Load ∷ []) (pair scan_request (HostAnswer.Failed HostFault.Scan)) nothing_due (host_failed [] HostFault.Scan ∷ []) (Load ∷ [])
-        goes refl (call_fails [] (HostRequest.Scan (out_folder o.work 1)) (λ is. cc)) refl)
-        (fails _ refl refl (landed ticket) refl)
-
-    module _ (found : List Found) where
-      abbrev pub scan : Pair
-      scan = pair scan_request (HostAnswer.Listed found)
-
-      pub scan_breaks : (cause : Cause) → collected tool.outputs launch found ≡ Err cause → Advances run (t ++ scan ∷ []) (fails_for_good cause)
-      scan_breaks cause is =
-          end_at run inputs l (t ++ scan ∷ [])
-          (record { work = nothing_due; events = job_staged [] 1 ∷ job_started [] launch ticket ∷ child_exited ticket ∷ job_failed [] cause ∷ [] }) (Load ∷ []) (fails_permanently [] cause)
-          (step_at run inputs l t (when_back launch ticket millis) (Load ∷ []) scan nothing_due (job_failed [] cause ∷ []) (Load ∷ [])
-          goes refl (collects_none [] (out_folder o.work 1) found its_job launch cause refl refl is) refl)
-          (fails _ refl refl (landed ticket) refl)
-
-      scanned : (named : Fields) → collected tool.outputs launch found ≡ Ok named → IsRunSoFar (setting_in run) (t ++ scan ∷ []) (when_gathered launch ticket named) (Load ∷ [])
-      scanned named is =
-          step_at run inputs l t (when_back launch ticket millis) (Load ∷ []) scan nothing_due (job_succeeded [] named ∷ []) (Load ∷ [])
-          goes refl (collects [] (out_folder o.work 1) found its_job launch named refl refl is) refl
-
-      -- with files to deliver
-      pub scan_delivers : (named outputs : Fields) (plan : StagePlan) → collected tool.outputs launch found ≡ Ok named →
-          (unfolding_at (its_scene run inputs) (when_gathered launch ticket named).events).result ≡ Some outputs →
-          delivery_at (its_scene run inputs) (when_gathered launch ticket named).events outputs ≡ Some plan →
-          Advances run (t ++ scan ∷ []) (waits (Request.Host [] (HostRequest.Deliver plan)) (Phase.Delivering (located o.outdir outputs)))
-      scan_delivers named outputs plan is result delivery = record {
-        happened = when_gathered launch ticket named;
-        marks = Load ∷ [];
-        goes = scanned named is;
-        at = delivering inputs launch ticket named outputs plan l
-            (subst (λ (x : Scene). (unfolding_at x (when_gathered launch ticket named).events).result ≡ Some outputs) (sym (same run inputs l)) result)
-            (subst (λ (x : Scene). delivery_at x (when_gathered launch ticket named).events outputs ≡ Some plan) (sym (same run inputs l)) delivery);
-      }
-
-      -- without
-      pub scan_ends : (named outputs : Fields) → collected tool.outputs launch found ≡ Ok named →
-          (unfolding_at (its_scene run inputs) (when_gathered launch ticket named).events).result ≡ Some outputs →
-          delivery_at (its_scene run inputs) (when_gathered launch ticket named).events outputs ≡ None →
-          Advances run (t ++ scan ∷ []) (ends (report_of o (succeeds_with outputs)))
-      scan_ends named outputs is result none =
-          end_at run inputs l (t ++ scan ∷ []) (when_gathered launch ticket named) (Load ∷ []) (succeeds_with outputs) (scanned named is)
-          (succeeds outputs (busy_gathered tool inputs o l.limits launch ticket named) (landed ticket) result
-          (subst (λ (p : Option StagePlan). IsDelivered (when_gathered launch ticket named) p) (sym none) tt))
-
-  -- Delivering
-
-  module _ (launch : Launch) (ticket : ℕ) (named outputs : Fields) (plan : StagePlan)
-      (goes : IsRunSoFar (setting_in run) t (when_gathered launch ticket named) (Load ∷ []))
-      (result : (unfolding_at (its_scene run inputs) (when_gathered launch ticket named).events).result ≡ Some outputs)
-      (delivery : delivery_at (its_scene run inputs) (when_gathered launch ticket named).events outputs ≡ Some plan) where
-    abbrev deliver_request : Request
-    deliver_request = Request.Host [] (HostRequest.Deliver plan)
-
-    pub delivers_well : Advances run (t ++ pair deliver_request HostAnswer.Done ∷ []) (ends (report_of o (succeeds_with outputs)))
-    delivers_well =
-        end_at run inputs l (t ++ pair deliver_request HostAnswer.Done ∷ []) (when_delivered launch ticket named) (Load ∷ []) (succeeds_with outputs)
-        (step_at run inputs l t (when_gathered launch ticket named) (Load ∷ []) (pair deliver_request HostAnswer.Done) nothing_due (result_delivered ∷ []) (Load ∷ [])
-        goes (may_deliver tool inputs o l.limits launch ticket named outputs plan result delivery) (delivers [] plan) refl)
-        (succeeds outputs (busy_delivered tool inputs o l.limits launch ticket named) (landed ticket) result
-        (subst (λ (p : Option StagePlan). IsDelivered (when_delivered launch ticket named) p) (sym delivery) refl))
-
-    pub deliver_fails : Advances run (t ++ pair deliver_request (HostAnswer.Failed HostFault.Deliver) ∷ []) (host_fails HostFault.Deliver [])
-    deliver_fails =
-        end_at run inputs l (t ++ pair deliver_request (HostAnswer.Failed HostFault.Deliver) ∷ [])
-        (record { work = nothing_due; events = job_staged [] 1 ∷ job_started [] launch ticket ∷ child_exited ticket ∷ job_succeeded [] named ∷ host_failed [] HostFault.Deliver ∷ [] })
-        (Load ∷ []) (ended_by_host HostFault.Deliver [])
-        (step_at run inputs l t (when_gathered launch ticket named) (Load ∷ []) (pair deliver_request (HostAnswer.Failed HostFault.Deliver)) nothing_due (host_failed [] HostFault.Deliver ∷ []) (Load ∷ [])
-        goes (may_deliver tool inputs o l.limits launch ticket named outputs plan result delivery) (call_fails [] (HostRequest.Deliver plan) (λ is. cc)) refl)
-        (fails _ refl refl (landed ticket) refl)
+  -- an end
+  pub end_at : (t : List Pair) (f : Progress) (marks : List Mark) (end : End) → NoMeasures f.events → IsRunSoFar (setting_in run) t (after ms f) marks →
+      EndsSo lone f marks end → Advances run t (ends (report_of end))
+  end_at t f marks end none goes so =
+      record { happened = after ms f; marks = marks; goes = goes; at = ended (after ms f) marks end (ends_up run.tool inputs run.options walks its_paths ms past f none marks end so) }

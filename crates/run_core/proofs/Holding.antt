@@ -5,7 +5,7 @@ use Rattle.cwl_value.specs.declared.value.Value.{Value, the_lemmas}
 use Rattle.cwl_value.specs.declared.value.Value as value
 use Rattle.run_rules.specs.Words.{Fields}
 use Rattle.run_rules.specs.Made.{some_true}
-use Rattle.run_rules.specs.RunsToday.{has_file}
+use Rattle.run_rules.specs.Delivered.{has_file}
 
 fields_file : (fields : Fields) → has_file (value.Fields fields) ≡ some_true (map (λ f. f.1) (map_values has_file fields))
 fields_file fields = search (rules, the_lemmas)

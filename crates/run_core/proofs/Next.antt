@@ -1,63 +1,227 @@
 -- Whatever it is answered, the machine stands in a longer run.
-use Rattle.std.proofs.Common.{◌≡◌, ℕ, List, [], ◌∷◌, ◌++◌, Some, sym, subst}
+use Rattle.std.specs.Prelude.{Contains}
+use Rattle.std.proofs.Common.{◌≡◌, ◌∙◌, ℕ, ◌<◌, ◌^◌, true, false, List, [], ◌∷◌, ◌++◌, length, reverse, Option, Some, None, Ok, Err, refl, sym, ap, subst, lit<}
+use Rattle.std.proofs.lemmas.List.{reverse-reverse}
+use Rattle.std.proofs.Math.Path.{fun_ext}
+use Rattle.plain_data.specs.ByName.{with_value}
+use Rattle.command_line.specs.declared.launch.Launch.{Launch}
+use Rattle.command_line.specs.Launch.{IsLaunch}
+use Rattle.input_files.specs.Contents.{heads_wanted}
 use Rattle.proc_host.specs.declared.call.HostAnswer.{HostAnswer}
 use Rattle.proc_host.specs.declared.call.HostRequest.{HostRequest}
-use Rattle.proc_host.specs.Answers.{is_staged, is_started, has_ended, is_listed, is_delivered, has_failed}
 use Rattle.proc_host.specs.declared.call.HostFault.{HostFault}
-use Rattle.run_rules.specs.declared.request.Answer.{Answer}
-use Rattle.run_rules.specs.declared.request.Request.{Request}
+use Rattle.proc_host.specs.declared.child.ChildEnd.{ChildEnd}
+use Rattle.proc_host.specs.declared.child.ExitClass.{ExitClass}
+use Rattle.proc_host.specs.ExitClass.{class_of}
+use Rattle.staging.specs.declared.found.Found.{Found}
+use Rattle.staging.specs.declared.plan.StagePlan.{StagePlan}
+use Rattle.staging.specs.Plan.{IsPlan}
+use Rattle.run_rules.specs.declared.outcome.Cause.{Cause}
 use Rattle.run_rules.specs.declared.request.Pair.{Pair}
+use Rattle.run_rules.specs.declared.request.Request.{Request}
+use Rattle.run_core.specs.declared.state.Filling.{Filling}
 use Rattle.run_core.specs.declared.state.Lone.{Lone}
-use Rattle.run_core.specs.inner.Lone.{setting_in}
+use Rattle.run_core.specs.declared.state.Phase.{Phase}
+use Rattle.run_core.specs.declared.state.Reading.{Reading}
 use Rattle.run_core.specs.declared.state.State.{State}
-use Rattle.run_rules.specs.Words.{Fields}
-use Rattle.run_rules.specs.Answers.{MayAnswer, by_host}
-use Rattle.run_rules.specs.Scene.{Scene}
-use Rattle.run_rules.specs.Events.{Progress, unfolding_at}
-use Rattle.run_rules.specs.End.{delivery_at}
+use Rattle.run_rules.specs.Words.{Name, Fields, Heads, JobPlace}
+use Rattle.run_rules.specs.CollectsOn.{CollectsOn}
+use Rattle.run_rules.specs.StartsOn.{StartsOn}
+use Rattle.run_rules.specs.Delivered.{any_file, sources}
+use Rattle.run_rules.specs.Folders.{in_folder, out_folder, runtime_of}
+use Rattle.run_rules.specs.Jobs.{Job}
+use Rattle.run_rules.specs.Made.{fields_moved}
+use Rattle.run_rules.specs.Events.{Event, Work, Started, job_staged, job_started, child_exited, job_succeeded, job_failed, job_failed_for_now, result_delivered, host_failed, collect_failed, nothing_due, input_heads_due, start_due, scan_due, output_heads_due, Progress, at_first, in_flight, number_at}
+use Rattle.run_rules.specs.Steps.{stages, reads_input, starts, exits_well, exits_for_now, exits_badly, scans, reads_output, delivers, loses_collect, call_fails}
+use Rattle.run_rules.specs.End.{succeeds_with, fails_permanently, fails_temporarily, ended_by_host}
+use Rattle.run_rules.specs.EndsSo.{lost as collect_lost, fails, succeeds, copied}
 use Rattle.plan_checker.specs.declared.plan.Mark.{Mark}
 use Rattle.plan_checker.specs.declared.plan.Mark.TheVariants.{Load, Compute}
-use Rattle.run_rules.specs.Run.{IsRunSoFar}
-use Rattle.run_core.specs.inner.Machine.{host_fails, FollowsFrom}
-use Rattle.run_core.specs.inner.Standing.{IsLone, IsAt, staging, starting, running, scanning, delivering, ended, lost, when_staged, when_running, when_gathered}
-use Rattle.run_core.proofs.Advance.{Advances, same}
-use Rattle.run_core.proofs.Answered.{launches, stage_fails, began, start_fails, collect_fails, collected_one, scan_fails, delivers_well, deliver_fails}
-use Rattle.run_core.proofs.Listed.{listed}
+use Rattle.run_rules.specs.Plans.{LoadsHeld}
+use Rattle.run_rules.specs.Run.{IsRunSoFar, Replans}
+use Rattle.run_rules.specs.Reports.{report_of}
+use Rattle.run_core.specs.inner.Lone.{setting_in}
+use Rattle.run_core.specs.inner.Machine.{ends, host_fails, fails_for_good, stages_by, kept_of, scans as scans_state, after_class, after_exit, after_ticket, delivers_by, contents_of, outputs_made, result_of, AfterStage, TakesContents, Lists, TakesHead}
+use Rattle.run_core.specs.inner.Measured.{NoMeasures}
+use Rattle.run_core.specs.inner.Places.{left_place, number_of}
+use Rattle.run_core.specs.inner.Turns.{PutsNext, no_turn, its_turn}
+use Rattle.run_core.specs.inner.Standing.{IsLone, IsAt, running as at_running, scanning as at_scanning, after, when_filling, when_staged, when_running, when_back, when_reading, when_gathered, events_back}
+use Rattle.run_core.proofs.Advance.{stage_up, collect_up, deliver_up, due_up}
+use Rattle.run_core.proofs.Answered.{pair, only_ticket, Advances, past, lone, own as its_scene, walks, its_paths, step_at, end_at}
+use Rattle.run_rules.specs.Allowed.{MayStage, MayCollect, MayDeliver, due_in}
+use Rattle.run_core.proofs.Lone.{landed, when_delivered, may_stage, may_collect, may_deliver, busy_delivered, result_delivered_too, outputs_of}
+use Rattle.run_core.proofs.LoneResults.{outputs_are, sources_are, first_number}
+use Rattle.run_core.proofs.Phases.{fills_on, turned}
+use Rattle.run_core.proofs.Collecting.{collects_on}
 
-module _ (run : Lone) (t : List Pair) where
-  abbrev with_pair : Request → Answer → List Pair
-  with_pair asks answer = t ++ record { request = asks; answer = answer } ∷ []
+module _ (run : Lone) (inputs : Fields) (ms : List Event) (l : IsLone run inputs ms) (t : List Pair) where
+  abbrev job : Job
+  job = record { place = []; tool = run.tool; inputs = inputs }
 
-  -- at a known next state
-  abbrev at_next : (asks : Request) (answer : Answer) (next known : State) → next ≡ known →
-      Advances run (with_pair asks answer) known → Advances run (with_pair asks answer) next
-  at_next asks answer next known is a = subst (λ (n : State). Advances run (with_pair asks answer) n) (sym is) a
+  -- a call that fails settles the end
+  abbrev So : Progress → List Mark → Type 0
+  So f marks = IsRunSoFar (setting_in run) t (after ms f) marks
 
-  pub advance : {f : Progress} {marks : List Mark} {state : State} {answer : Answer} (next : State) → IsAt run f marks state →
-      IsRunSoFar (setting_in run) t f marks → MayAnswer state.flying state.asks answer →
-      FollowsFrom run state.asks state.flying state.phase answer next → Advances run (with_pair state.asks answer) next
-  advance next (staging inputs l) goes (by_host place request answer (is_staged plan number)) follows = launches run inputs l t next goes follows
-  advance next (staging inputs l) goes (by_host place request answer (has_failed call)) follows =
-      at_next _ _ next _ follows (stage_fails run inputs l t goes)
-  advance next (starting inputs launch l is) goes (by_host place request answer (is_started its_launch ticket fresh)) follows =
-      at_next _ _ next _ follows (began run inputs l t launch goes ticket)
-  advance next (starting inputs launch l is) goes (by_host place request answer (has_failed call)) follows =
-      at_next _ _ next _ follows (start_fails run inputs l t launch goes)
-  advance next (running inputs launch ticket l) goes (by_host place request answer (has_ended e runs)) follows =
-      at_next _ _ next _ follows (collected_one run inputs l t launch ticket e runs goes)
-  advance next (running inputs launch ticket l) goes (by_host place request answer (has_failed call)) follows =
-      at_next _ _ next _ follows (collect_fails run inputs l t launch ticket goes)
-  advance next (scanning inputs launch ticket millis l) goes (by_host place request answer (is_listed folder found)) follows =
-      at_next _ _ next _ follows (listed run inputs l t launch ticket millis goes found)
-  advance next (scanning inputs launch ticket millis l) goes (by_host place request answer (has_failed call)) follows =
-      at_next _ _ next _ follows (scan_fails run inputs l t launch ticket millis goes)
-  advance next (delivering inputs launch ticket named outputs plan l result delivery) goes (by_host place request answer (is_delivered its_plan)) follows =
-      at_next _ _ next _ follows (delivers_well run inputs l t launch ticket named outputs plan goes
-      (subst (λ (s : Scene). (unfolding_at s (when_gathered launch ticket named).events).result ≡ Some outputs) (same run inputs l) result)
-      (subst (λ (s : Scene). delivery_at s (when_gathered launch ticket named).events outputs ≡ Some plan) (same run inputs l) delivery))
-  advance next (delivering inputs launch ticket named outputs plan l result delivery) goes (by_host place request answer (has_failed call)) follows =
-      at_next _ _ next _ follows (deliver_fails run inputs l t launch ticket named outputs plan goes
-      (subst (λ (s : Scene). (unfolding_at s (when_gathered launch ticket named).events).result ≡ Some outputs) (same run inputs l) result)
-      (subst (λ (s : Scene). delivery_at s (when_gathered launch ticket named).events outputs ≡ Some plan) (same run inputs l) delivery))
-  advance next (ended f marks end has) goes may follows = elim may [ ]
-  advance next (lost f marks) goes may follows = elim may [ ]
+  -- Staging
+
+  module _ (plan : StagePlan) (is_plan : IsPlan false (in_folder run.options.work 1) inputs plan) (goes : So at_first (Compute ∷ [])) where
+    abbrev stage_request : Request
+    stage_request = Request.Host [] (HostRequest.Stage plan 1)
+
+    allowed_stage : MayStage (its_scene run inputs ms l) (after ms at_first) (Compute ∷ []) [] plan 1
+    allowed_stage = stage_up run.tool inputs run.options (walks run inputs ms l) (its_paths run inputs ms l) ms (past run inputs ms l) at_first tt (Compute ∷ []) [] plan 1
+        (may_stage run.tool inputs run.options (walks run inputs ms l) (its_paths run inputs ms l) ms l.limits plan is_plan)
+
+    pub staged : (next : State) → AfterStage run plan.value next → Advances run (t ++ pair stage_request HostAnswer.Done ∷ []) next
+    staged next so =
+        let todo : reverse so.filling.left ≡ heads_wanted run.tool.inputs plan.value = ap reverse so.first.left ∙ reverse-reverse (heads_wanted run.tool.inputs plan.value) in
+        fills_on run inputs ms l (t ++ pair stage_request HostAnswer.Done ∷ []) so.filling
+        (λ work more none starts_on plans.
+        step_at run inputs ms l t at_first (Compute ∷ []) (pair stage_request HostAnswer.Done) work (job_staged [] 1 ∷ more) (Compute ∷ []) tt none goes allowed_stage
+        (stages [] plan 1 job work more refl
+        (subst (λ (names : List Name). StartsOn run.options [] job 1 plan.value [] names work more) todo
+        (subst (λ (heads : Heads). StartsOn run.options [] job 1 plan.value heads (reverse so.filling.left) work more) so.first.none_read
+        (subst (λ (staged : Fields). StartsOn run.options [] job 1 staged so.filling.heads (reverse so.filling.left) work more) so.first.all starts_on)))) plans)
+        next so.first.few so.on
+
+    pub stage_fails : Advances run (t ++ pair stage_request (HostAnswer.Failed HostFault.Stage) ∷ []) (host_fails HostFault.Stage [])
+    stage_fails =
+        end_at run inputs ms l (t ++ pair stage_request (HostAnswer.Failed HostFault.Stage) ∷ []) (record { work = nothing_due; events = host_failed [] HostFault.Stage ∷ [] })
+        (Compute ∷ []) (ended_by_host HostFault.Stage []) (refl, tt)
+        (step_at run inputs ms l t at_first (Compute ∷ []) (pair stage_request (HostAnswer.Failed HostFault.Stage)) nothing_due (host_failed [] HostFault.Stage ∷ []) (Compute ∷ [])
+        tt (refl, tt) goes allowed_stage (call_fails [] (HostRequest.Stage plan 1) (λ is. cc)) refl)
+        (fails _ refl refl refl refl)
+
+  -- Starting
+
+  module _ (own : Fields) (launch : Launch) (goes : So (when_staged own launch) (Compute ∷ [])) where
+    abbrev start_request : Request
+    start_request = Request.Host [] (HostRequest.Start launch)
+
+    allowed_start : due_in (its_scene run inputs ms l) (ms ++ (when_staged own launch).events) (start_due [] own launch) ≡ Some start_request
+    allowed_start = due_up run.tool inputs run.options (walks run inputs ms l) (its_paths run inputs ms l) ms (past run inputs ms l) (when_staged own launch) (refl, tt) (start_due [] own launch)
+
+    pub began : (ticket : ℕ) → Advances run (t ++ pair start_request (HostAnswer.Started ticket) ∷ []) (after_ticket ticket (kept_of own launch))
+    began ticket = record {
+      happened = after ms (when_running own launch ticket);
+      marks = Load ∷ [];
+      goes = step_at run inputs ms l t (when_staged own launch) (Compute ∷ []) (pair start_request (HostAnswer.Started ticket)) nothing_due (job_started [] own launch ticket ∷ []) (Load ∷ [])
+          (refl, tt) (refl, (refl, tt)) goes allowed_start (starts [] own launch ticket refl) refl;
+      at = at_running inputs ms own launch ticket l;
+    }
+
+    pub start_fails : Advances run (t ++ pair start_request (HostAnswer.Failed HostFault.Start) ∷ []) (host_fails HostFault.Start [])
+    start_fails =
+        end_at run inputs ms l (t ++ pair start_request (HostAnswer.Failed HostFault.Start) ∷ [])
+        (record { work = nothing_due; events = job_staged [] 1 ∷ host_failed [] HostFault.Start ∷ [] }) (Compute ∷ []) (ended_by_host HostFault.Start []) (refl, (refl, tt))
+        (step_at run inputs ms l t (when_staged own launch) (Compute ∷ []) (pair start_request (HostAnswer.Failed HostFault.Start)) nothing_due (host_failed [] HostFault.Start ∷ []) (Compute ∷ [])
+        (refl, tt) (refl, (refl, tt)) goes allowed_start (call_fails [] (HostRequest.Start launch) (λ is. cc)) refl)
+        (fails _ refl refl refl refl)
+
+  -- Running
+
+  abbrev collect_request : Request
+  collect_request = Request.Host [] HostRequest.Collect
+
+  allowed_collect : (own : Fields) (launch : Launch) (ticket : ℕ) → MayCollect (its_scene run inputs ms l) (after ms (when_running own launch ticket)) (Load ∷ []) []
+  allowed_collect own launch ticket =
+      collect_up run.tool inputs run.options (walks run inputs ms l) (its_paths run inputs ms l) ms (past run inputs ms l) (when_running own launch ticket) (refl, (refl, tt)) (Load ∷ []) []
+      (may_collect run.tool inputs run.options (walks run inputs ms l) (its_paths run inputs ms l) ms l.limits own launch ticket)
+
+  pub collect_fails : (own : Fields) (launch : Launch) (ticket : ℕ) → So (when_running own launch ticket) (Load ∷ []) →
+      Advances run (t ++ pair collect_request (HostAnswer.Failed HostFault.Collect) ∷ []) (host_fails HostFault.Collect (ticket ∷ []))
+  collect_fails own launch ticket goes =
+      end_at run inputs ms l (t ++ pair collect_request (HostAnswer.Failed HostFault.Collect) ∷ [])
+      (record { work = nothing_due; events = job_staged [] 1 ∷ job_started [] own launch ticket ∷ collect_failed ∷ [] }) (Load ∷ [])
+      (ended_by_host HostFault.Collect (ticket ∷ [])) (refl, (refl, (refl, tt)))
+      (step_at run inputs ms l t (when_running own launch ticket) (Load ∷ []) (pair collect_request (HostAnswer.Failed HostFault.Collect)) nothing_due (collect_failed ∷ []) (Load ∷ [])
+      (refl, (refl, tt)) (refl, (refl, (refl, tt))) goes (allowed_collect own launch ticket) loses_collect refl)
+      (collect_lost refl refl)
+
+  module _ (own : Fields) (launch : Launch) (e : ChildEnd) (goes : So (when_running own launch e.ticket) (Load ∷ [])) where
+    abbrev came_back : Pair
+    came_back = pair collect_request (HostAnswer.Ended e)
+
+    flies : Contains (in_flight (when_running own launch e.ticket).events) (e.ticket, [])
+    flies = (0, lit< tt, refl)
+
+    comes_back : (class : ExitClass) → class_of run.tool.exit_codes e.code ≡ class → Advances run (t ++ came_back ∷ []) (after_class run.options (kept_of own launch) e.code class)
+    comes_back ExitClass.Success is = record {
+      happened = after ms (when_back own launch e.ticket e.millis);
+      marks = Load ∷ [];
+      goes = step_at run inputs ms l t (when_running own launch e.ticket) (Load ∷ []) came_back (scan_due [] e.millis) (child_exited e.ticket ∷ []) (Load ∷ [])
+          (refl, (refl, tt)) (refl, (refl, (refl, tt))) goes (allowed_collect own launch e.ticket) (exits_well [] e job flies refl is) refl;
+      at = at_scanning inputs ms own launch e.ticket e.millis l;
+    }
+    comes_back ExitClass.Temporary is =
+        let never : run.options.retries ≡ 0 = l.limits.retries in
+        end_at run inputs ms l (t ++ came_back ∷ [])
+        (record { work = nothing_due; events = job_staged [] 1 ∷ job_started [] own launch e.ticket ∷ child_exited e.ticket ∷ job_failed_for_now [] ∷ [] }) (Load ∷ []) (fails_temporarily [])
+        (refl, (refl, (refl, (refl, tt))))
+        (step_at run inputs ms l t (when_running own launch e.ticket) (Load ∷ []) came_back nothing_due (child_exited e.ticket ∷ job_failed_for_now [] ∷ []) (Load ∷ [])
+        (refl, (refl, tt)) (refl, (refl, (refl, (refl, tt)))) goes (allowed_collect own launch e.ticket) (exits_for_now [] e job flies refl is) (rw never refl))
+        (fails _ refl refl (landed e.ticket) (rw never refl))
+    comes_back ExitClass.Permanent is =
+        end_at run inputs ms l (t ++ came_back ∷ [])
+        (record { work = nothing_due; events = job_staged [] 1 ∷ job_started [] own launch e.ticket ∷ child_exited e.ticket ∷ job_failed [] (Cause.Exit e.code) ∷ [] }) (Load ∷ [])
+        (fails_permanently [] (Cause.Exit e.code)) (refl, (refl, (refl, (refl, tt))))
+        (step_at run inputs ms l t (when_running own launch e.ticket) (Load ∷ []) came_back nothing_due (child_exited e.ticket ∷ job_failed [] (Cause.Exit e.code) ∷ []) (Load ∷ [])
+        (refl, (refl, tt)) (refl, (refl, (refl, (refl, tt)))) goes (allowed_collect own launch e.ticket) (exits_badly [] e job flies refl is) refl)
+        (fails _ refl refl (landed e.ticket) refl)
+
+  pub collected_one : (own : Fields) (launch : Launch) (ticket : ℕ) (e : ChildEnd) → Contains (ticket ∷ []) e.ticket → So (when_running own launch ticket) (Load ∷ []) →
+      Advances run (t ++ pair collect_request (HostAnswer.Ended e) ∷ []) (after_exit run (kept_of own launch) e.code)
+  collected_one own launch ticket e flying goes =
+      let there : So (when_running own launch e.ticket) (Load ∷ []) =
+      subst (λ (n : ℕ). So (when_running own launch n) (Load ∷ [])) (only_ticket ticket e.ticket flying) goes
+      in comes_back own launch e there (class_of run.tool.exit_codes e.code) refl
+
+  -- Delivering
+
+  module _ (own : Fields) (launch : Launch) (ticket : ℕ) (named : Fields) (plan : StagePlan) (goes : So (when_gathered own launch ticket named) (Load ∷ []))
+      (files : any_file (outputs_made run.tool.outputs named) ≡ true)
+      (is_plan : IsPlan true run.options.outdir (fields_moved (left_place run.options.work) (result_of run named)) plan) where
+    abbrev deliver_request : Request
+    deliver_request = Request.Host [] (HostRequest.Deliver plan)
+
+    abbrev outputs : Fields
+    outputs = outputs_of run.tool inputs run.options (walks run inputs ms l) (its_paths run inputs ms l) ms l.limits named
+
+    same : outputs ≡ outputs_made run.tool.outputs named
+    same = outputs_are run.tool.outputs named
+
+    by_sources : IsPlan true run.options.outdir (sources number_of run.options.work outputs) plan
+    by_sources =
+        subst (λ (fields : Fields). IsPlan true run.options.outdir fields plan)
+        (sym (ap (λ (o : Fields). sources number_of run.options.work o) same ∙ sources_are run.options.work (outputs_made run.tool.outputs named))) is_plan
+
+    numbers : number_at (when_gathered own launch ticket named).events ≡ number_of
+    numbers = fun_ext first_number
+
+    numbers_too : number_at (when_delivered own launch ticket named plan).events ≡ number_of
+    numbers_too = fun_ext first_number
+
+    allowed_deliver : MayDeliver (its_scene run inputs ms l) (after ms (when_gathered own launch ticket named)) (Load ∷ []) [] plan
+    allowed_deliver =
+        deliver_up run.tool inputs run.options (walks run inputs ms l) (its_paths run inputs ms l) ms (past run inputs ms l) (when_gathered own launch ticket named) (refl, (refl, (refl, (refl, tt)))) (Load ∷ []) [] plan
+        (may_deliver run.tool inputs run.options (walks run inputs ms l) (its_paths run inputs ms l) ms l.limits own launch ticket named plan (ap any_file same ∙ files) by_sources numbers)
+
+    pub delivers_well : Advances run (t ++ pair deliver_request HostAnswer.Done ∷ []) (ends (report_of (succeeds_with outputs plan.value)))
+    delivers_well =
+        end_at run inputs ms l (t ++ pair deliver_request HostAnswer.Done ∷ []) (when_delivered own launch ticket named plan) (Load ∷ []) (succeeds_with outputs plan.value)
+        (refl, (refl, (refl, (refl, (refl, tt)))))
+        (step_at run inputs ms l t (when_gathered own launch ticket named) (Load ∷ []) (pair deliver_request HostAnswer.Done) nothing_due (result_delivered plan ∷ []) (Load ∷ [])
+        (refl, (refl, (refl, (refl, tt)))) (refl, (refl, (refl, (refl, (refl, tt))))) goes allowed_deliver (delivers [] plan) refl)
+        (succeeds outputs plan.value
+        (busy_delivered run.tool inputs run.options (walks run inputs ms l) (its_paths run inputs ms l) ms l.limits own launch ticket named plan) (landed ticket)
+        (result_delivered_too run.tool inputs run.options (walks run inputs ms l) (its_paths run inputs ms l) ms l.limits own launch ticket named plan)
+        (copied plan refl (subst (λ (n : JobPlace → ℕ). IsPlan true run.options.outdir (sources n run.options.work outputs) plan) (sym numbers_too) by_sources)))
+
+    pub deliver_fails : Advances run (t ++ pair deliver_request (HostAnswer.Failed HostFault.Deliver) ∷ []) (host_fails HostFault.Deliver [])
+    deliver_fails =
+        end_at run inputs ms l (t ++ pair deliver_request (HostAnswer.Failed HostFault.Deliver) ∷ [])
+        (record { work = nothing_due; events = job_staged [] 1 ∷ job_started [] own launch ticket ∷ child_exited ticket ∷ job_succeeded [] named ∷ host_failed [] HostFault.Deliver ∷ [] })
+        (Load ∷ []) (ended_by_host HostFault.Deliver []) (refl, (refl, (refl, (refl, (refl, tt)))))
+        (step_at run inputs ms l t (when_gathered own launch ticket named) (Load ∷ []) (pair deliver_request (HostAnswer.Failed HostFault.Deliver)) nothing_due (host_failed [] HostFault.Deliver ∷ []) (Load ∷ [])
+        (refl, (refl, (refl, (refl, tt)))) (refl, (refl, (refl, (refl, (refl, tt))))) goes allowed_deliver (call_fails [] (HostRequest.Deliver plan) (λ is. cc)) refl)
+        (fails _ refl refl (landed ticket) refl)

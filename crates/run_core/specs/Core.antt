@@ -1,5 +1,5 @@
 -- What callers see of the machine.
-use Rattle.std.specs.Prelude.{◌≡◌, ◌≢◌, ℕ, ◌+◌, ◌<◌, ◌≤◌, List, [], ◌∷◌, ◌++◌, Result, Err, IfErr, OnOk, OnErr, vec_len, vec_capacity}
+use Rattle.std.specs.Prelude.{◌≡◌, ◌≢◌, ℕ, ◌+◌, ◌*◌, ◌^◌, ◌<◌, ◌≤◌, List, [], ◌∷◌, ◌++◌, length, Result, Err, IfErr, OnOk, OnErr, vec_len, vec_capacity}
 use Rattle.cwl_process.specs.declared.process.Process.{Process}
 use Rattle.run_rules.specs.declared.outcome.RunFault.{RunFault}
 use Rattle.run_rules.specs.declared.request.Answer.{Answer}
@@ -37,16 +37,30 @@ abbrev pub flying : RunCore → List ℕ
 flying core = core.state.flying
 
 abbrev pub steps_in : Phase → ℕ
-steps_in Phase.Staging = 5
-steps_in (Phase.Starting seat names) = 4
-steps_in (Phase.Running names) = 3
-steps_in (Phase.Scanning names) = 2
+steps_in (Phase.Measuring measuring) = 8
+steps_in Phase.Staging = 7
+steps_in (Phase.Filling filling) = 6
+steps_in (Phase.Starting seat kept) = 5
+steps_in (Phase.Running kept) = 4
+steps_in (Phase.Scanning kept) = 3
+steps_in (Phase.Reading kept reading) = 2
 steps_in (Phase.Delivering value) = 1
 steps_in (Phase.Ended result) = 0
 
+-- how many files are still to be looked at in a phase
+abbrev pub files_in : Phase → ℕ
+files_in (Phase.Measuring measuring) = length measuring.left
+files_in (Phase.Filling filling) = length filling.left
+files_in (Phase.Reading kept reading) = length reading.left
+files_in phase = 0
+
+-- a phase looks at fewer files than a list can have
+abbrev pub weight_of : Phase → ℕ
+weight_of phase = steps_in phase * 2 ^ 64 + files_in phase
+
 -- how many answers it takes at most
 abbrev pub steps_left : RunCore → ℕ
-steps_left core = steps_in core.state.phase
+steps_left core = weight_of core.state.phase
 
 abbrev pub IsEnded : Phase → Type 0
 IsEnded (Phase.Ended result) = Unit {0}

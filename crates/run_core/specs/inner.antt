@@ -1,4 +1,6 @@
-pub mod Given
 pub mod Lone
 pub mod Machine
+pub mod Measured
+pub mod Places
 pub mod Standing
+pub mod Turns

@@ -1,5 +1,5 @@
 ghost use Rattle.std.specs.Prelude.{◌≡◌, ◌++◌, IfOk, codes};
-ghost use Rattle.run_rules.specs.Folders.{out_folder, tmp_folder, runtime_of};
+ghost use Rattle.run_rules.specs.Folders.{in_folder, out_folder, tmp_folder, runtime_of};
 
 use crate::Options;
 use command_line::Runtime;
@@ -19,6 +19,14 @@ fn tmp_folder(alloc: Global, work: &Text, number: u64) -> Result<Text, AllocErro
 {
     let work = work.as_str();
     Ok(Text::from_string(format!(in alloc; "{work}/j{number}/tmp")?))
+}
+
+/// The folder that its input files are copied to.
+pub(crate) fn in_folder(alloc: Global, work: &Text, number: u64) -> Result<Text, AllocError>
+    ensures { IfOk result (λ folder. folder ≡ in_folder work.now number) }
+{
+    let work = work.as_str();
+    Ok(Text::from_string(format!(in alloc; "{work}/j{number}/in")?))
 }
 
 /// What the `number`-th job is given to run in.

@@ -8,21 +8,21 @@
 //! and what follows from it the other clauses say, so a reader may skip both.
 #![tactic(auto)]
 
+mod collects;
 mod fields;
 mod folders;
-mod inputs;
-mod location;
-mod moves;
-mod outputs;
+mod places;
+mod results;
 mod runner;
+mod starts;
 mod state;
 mod steps;
-mod targets;
 mod today;
+mod turns;
 
 pub use run_rules::{
-    Answer, Cause, CollectFault, Note, Options, Outcome, Pair, PlanNote, Report, Request, RunFault,
+    Answer, Cause, Note, Options, Outcome, Pair, PlanNote, Report, Request, RunFault,
     Setting,
 };
 pub use runner::RunCore;
-pub use today::{is_run_tool, runs_today};
+pub use today::runs_today;

@@ -7,7 +7,7 @@ ghost use Rattle.run_rules.specs.declared.request.Request.{Request};
 ghost use Rattle.run_core.specs.declared.state.Phase.{Phase};
 ghost use Rattle.run_core.specs.Core.{setting_of, transcript, asked, flying, IsLost, IsEnded, Stands, MayAsk, Begins, Took};
 ghost use Rattle.run_core.specs.inner.Lone.{IsTool};
-ghost use Rattle.run_core.specs.inner.Machine.{AsksIn, HasRoom, MakesRoom, Moves, at_start, pairs_wanted, told_of};
+ghost use Rattle.run_core.specs.inner.Machine.{AsksIn, HasRoom, MakesRoom, Moves, Begins as BeginsAt, pairs_wanted, told_of};
 ghost use Rattle.run_rules.specs.Answers.{MayAnswer};
 ghost use Rattle.run_rules.specs.Blame.{BlamesRightly};
 ghost use Rattle.run_rules.specs.RunsToday.{RunsToday};
@@ -15,8 +15,9 @@ ghost use Rattle.run_core.specs.Limits.{IsWithinLimits};
 ghost use Rattle.run_rules.specs.Words.{JobPlace};
 ghost use Rattle.run_rules.specs.Reports.{entries_of, Concludes};
 
+use crate::starts::begun;
 use crate::state::{Lone, Phase, State, ended};
-use crate::steps::{begun, follows};
+use crate::steps::{can_go_on, follows};
 use crate::{Answer, Options, Pair, Report, Request, RunFault};
 use cwl_process::{Process, Tool};
 use cwl_value::Value;
@@ -151,7 +152,7 @@ fn start(
     ensures items { pairs.new.items ≡ pairs.old.items }
     ensures ids { IsDistinct bytes_eq (keys_of lone.now.tool.outputs) }
     ensures room { OnOk result (vec_len pairs.new < vec_capacity pairs.new) }
-    ensures state { OnOk result (state.new ≡ at_start lone.now) }
+    ensures state { OnOk result (BeginsAt lone.now state.new) }
 {
     // That no two outputs have one id is a fact of their type.
     let _outputs = lone.tool.outputs.as_slice();
@@ -189,7 +190,10 @@ fn next_state(alloc: Global, lone: &Lone, state: &mut State, answer: &Answer) ->
         answer,
     ) {
         Ok(next) => next,
-        Err(AllocError) => ended(alloc, Err(RunFault::OutOfMemory)),
+        Err(AllocError) => {
+            can_go_on(lone);
+            ended(alloc, Err(RunFault::OutOfMemory))
+        }
     }
 }
 

@@ -1,4 +1,5 @@
 use crate::list::numbers;
+use collected_outputs::OutputFault;
 use cwl_value::{JobPlace, Value, canonical_text, place_text};
 use plain_data::Text;
 use row_io::{RowFault, quoted};
@@ -49,12 +50,23 @@ fn cause_json(alloc: Global, cause: &Cause) -> Result<String, RowFault> {
 
 fn cause_text(alloc: Global, cause: &Cause) -> Result<Text, AllocError> {
     Ok(Text::from_string(match cause {
+        Cause::Missing(input) => format!(in alloc; "Missing {}", input.as_str())?,
+        Cause::Secondary(input) => format!(in alloc; "Secondary {}", input.as_str())?,
         Cause::Kind(input) => format!(in alloc; "Kind {}", input.as_str())?,
         Cause::Build(fault) => format!(in alloc; "Build {}", fault.code())?,
         Cause::Exit(Some(code)) => format!(in alloc; "Exit {code}")?,
         Cause::Exit(None) => String::from_str(alloc, "Exit by a signal")?,
-        Cause::Collect(fault) => format!(in alloc; "Collect {}", fault.code())?,
+        Cause::Collect(fault) => collect_text(alloc, fault)?,
     }))
+}
+
+/// The code of a refusal, and the output that it was met at.
+fn collect_text(alloc: Global, fault: &OutputFault) -> Result<String, AllocError> {
+    let code = fault.fault.code();
+    match &fault.output {
+        None => format!(in alloc; "Collect {code}"),
+        Some(output) => format!(in alloc; "Collect {code} {}", output.as_str()),
+    }
 }
 
 fn fault_json(alloc: Global, fault: &RunFault) -> Result<String, RowFault> {

@@ -1,7 +1,8 @@
 use crate::list::List;
 use command_line::Launch;
-use proc_host::{Entry, HostRequest, StagePlan};
+use proc_host::{Entry, HostRequest};
 use row_io::RowFault;
+use staging::StagePlan;
 use std::alloc::{AllocError, Global};
 
 /// The requests of a log, as a JSON list of texts.
@@ -18,6 +19,8 @@ fn request(alloc: Global, request: &HostRequest) -> Result<String, AllocError> {
     match request {
         HostRequest::Stage(plan, number) => moves(format!(in alloc; "stage {number}")?, plan),
         HostRequest::Start(launch) => start(alloc, launch),
+        HostRequest::Measure(path) => format!(in alloc; "measure {}", path.as_str()),
+        HostRequest::Head(path, limit) => format!(in alloc; "head {limit} {}", path.as_str()),
         HostRequest::Collect => String::from_str(alloc, "collect"),
         HostRequest::Scan(folder) => format!(in alloc; "scan {}", folder.as_str()),
         HostRequest::Deliver(plan) => moves(String::from_str(alloc, "deliver")?, plan),

@@ -1,8 +1,9 @@
 use plain_data::{Items, Text};
-use proc_host::{ChildEnd, Found, Reply};
+use proc_host::{ChildEnd, Reply};
 use row_io::{Row, RowFault};
 use serde_json::Value as Json;
-use std::alloc::Global;
+use staging::{Found, Measure};
+use std::alloc::{AllocError, Global};
 
 /// The script of a row.
 pub fn script_of(alloc: Global, row: &Row) -> Result<Items<Reply>, RowFault> {
@@ -20,7 +21,35 @@ fn reply_of(alloc: Global, json: &Json) -> Result<Reply, RowFault> {
     if let Some(found) = json.get("found") {
         return Ok(Reply::Scan(listing_of(alloc, found)?));
     }
+    if let Some(measure) = json.get("measured") {
+        return Ok(Reply::Measure(measure_of(alloc, measure)?));
+    }
+    if let Some(head) = json.get("head") {
+        let head = head.as_str().ok_or(RowFault::BadArgument)?;
+        return Ok(Reply::Head(bytes_of(alloc, head)?));
+    }
     bare_reply(json).ok_or(RowFault::BadArgument)
+}
+
+/// What stands at a path: null for nothing, `[SIZE,SUM]` for a file, and a listing for a folder.
+fn measure_of(alloc: Global, json: &Json) -> Result<Measure, RowFault> {
+    if json.is_null() {
+        return Ok(Measure::Absent);
+    }
+    if let Some(found) = json.get("folder") {
+        return Ok(Measure::Folder(listing_of(alloc, found)?));
+    }
+    let size = number_at(json, 0)?;
+    let sum = text_at(alloc, json, 1)?;
+    Ok(Measure::File { size, sum })
+}
+
+fn bytes_of(alloc: Global, text: &str) -> Result<Items<u8>, AllocError> {
+    let mut bytes = Items::new(alloc);
+    for byte in text.as_bytes() {
+        bytes.push(*byte)?;
+    }
+    Ok(bytes)
 }
 
 fn bare_reply(json: &Json) -> Option<Reply> {

@@ -1,21 +1,40 @@
 -- What the machine waits for after each answer. That all this makes a run is a law above it.
-use Rattle.std.specs.Prelude.{◌≡◌, ◌==◌, ◌+◌, ◌<◌, ◌≤◌, ℕ, ℤ, cond, List, [], ◌∷◌, ◌++◌, Option, Some, None, Result, Ok, Err, map, find, length, codes}
-use Rattle.std.specs.Option.{option_copied}
-use Rattle.plain_data.specs.ByName.{with_value}
+use Rattle.std.specs.Prelude.{◌≡◌, ◌+◌, ◌<◌, ◌≤◌, ◌^◌, ℕ, ℤ, false, true, List, [], ◌∷◌, ◌++◌, Option, Some, None, Result, Ok, Err, map, length, reverse, unwrap_or, codes, bytes_eq}
+use Rattle.std.specs.List.{IsDistinct}
+use Rattle.std.specs.Map.{keys_of}
 use Rattle.command_line.specs.declared.launch.Launch.{Launch}
 use Rattle.command_line.specs.declared.fault.BuildFault.{BuildFault}
 use Rattle.command_line.specs.Launch.{IsLaunch, IsRefused}
-use Rattle.cwl_value.specs.declared.place.Place.{Place}
+use Rattle.command_line.specs.Laws.{LaunchOrRefusal}
+use Rattle.collected_outputs.specs.declared.contents.TheConstants.{MOST_CONTENTS}
+use Rattle.collected_outputs.specs.declared.object.TheConstants.{MOST_OBJECT}
+use Rattle.collected_outputs.specs.declared.fault.OutputFault.{OutputFault}
+use Rattle.collected_outputs.specs.Collected.{IsCollected}
+use Rattle.collected_outputs.specs.Contents.{Heads}
+use Rattle.collected_outputs.specs.HeadsWanted.{AreHeadsWanted, limit_of}
+use Rattle.collected_outputs.specs.Laws.{EveryFolderHasOutputsOrAFault, SomeHeadsAreWanted}
+use Rattle.collected_outputs.specs.Listing.{listing_of}
+use Rattle.collected_outputs.specs.Outputs.{Left}
+use Rattle.collected_outputs.specs.Patterns.{runtime}
+use Rattle.input_files.specs.Contents.{heads_wanted, with_contents}
+use Rattle.input_files.specs.Inputs.{inputs_for}
+use Rattle.input_files.specs.Measured.{Measures}
+use Rattle.input_files.specs.Paths.{input_paths}
+use Rattle.input_files.specs.declared.contents.TheConstants.{MOST_CONTENTS as MOST_FILLED}
+use Rattle.input_files.specs.declared.fault.ContentsFault.{ContentsFault}
+use Rattle.input_files.specs.declared.fault.InputFault.{InputFault}
+use Rattle.cwl_process.specs.declared.tool.ToolOutput.{ToolOutput}
 use Rattle.cwl_value.specs.declared.value.Value.{Value, roll-Value}
 use Rattle.cwl_value.specs.declared.value.Value.TheOpen.{Value-F}
 use Rattle.proc_host.specs.declared.call.HostAnswer.{HostAnswer}
 use Rattle.proc_host.specs.declared.call.HostRequest.{HostRequest}
 use Rattle.proc_host.specs.declared.call.HostFault.{HostFault}
-use Rattle.proc_host.specs.declared.found.Found.{Found}
-use Rattle.proc_host.specs.declared.plan.Move.{Move}
-use Rattle.proc_host.specs.declared.plan.StagePlan.{StagePlan}
 use Rattle.proc_host.specs.declared.child.ExitClass.{ExitClass}
 use Rattle.proc_host.specs.ExitClass.{class_of}
+use Rattle.staging.specs.declared.found.Found.{Found}
+use Rattle.staging.specs.declared.measure.Measure.{Measure}
+use Rattle.staging.specs.declared.plan.StagePlan.{StagePlan}
+use Rattle.staging.specs.Plan.{IsPlan}
 use Rattle.run_rules.specs.declared.outcome.Cause.{Cause}
 use Rattle.run_rules.specs.declared.outcome.Outcome.{Outcome}
 use Rattle.run_rules.specs.declared.outcome.Report.{Report}
@@ -23,19 +42,25 @@ use Rattle.run_rules.specs.declared.outcome.RunFault.{RunFault}
 use Rattle.run_rules.specs.declared.request.Answer.{Answer}
 use Rattle.run_rules.specs.declared.request.Request.{Request}
 use Rattle.run_rules.specs.declared.setting.Options.{Options}
-use Rattle.run_core.specs.declared.outputs.FoundStreams.{FoundStreams}
-use Rattle.run_core.specs.declared.outputs.Naming.{Naming}
+use Rattle.run_core.specs.declared.state.Filling.{Filling}
+use Rattle.run_core.specs.declared.state.Kept.{Kept}
 use Rattle.run_core.specs.declared.state.Lone.{Lone}
+use Rattle.run_core.specs.declared.state.Measuring.{Measuring}
 use Rattle.run_core.specs.declared.state.Phase.{Phase}
+use Rattle.run_core.specs.declared.state.Reading.{Reading}
 use Rattle.run_core.specs.declared.state.State.{State}
-use Rattle.run_core.specs.declared.state.StreamNames.{StreamNames}
-use Rattle.run_rules.specs.Words.{Name, Fields, last_by_name, null}
-use Rattle.run_rules.specs.Inputs.{NamedInput, is_misfit, named_inputs}
-use Rattle.run_rules.specs.Collected.{Files, NamedOutput, StreamFiles, file_at, files_at, lack, lacks, picked, stream_file}
-use Rattle.run_rules.specs.Folders.{out_folder, runtime_of}
-use Rattle.run_rules.specs.Location.{location_of}
-use Rattle.run_rules.specs.Delivered.{shared, target_of, with_move}
+use Rattle.run_rules.specs.Words.{Name, Fields, last_by_name, null, value_under}
+use Rattle.run_rules.specs.Delivered.{any_file, located}
+use Rattle.run_rules.specs.Folders.{in_folder, out_folder, runtime_of}
+use Rattle.run_rules.specs.Jobs.{input_cause}
+use Rattle.run_rules.specs.Made.{fields_moved, made_place, value_moved}
 use Rattle.run_rules.specs.Reports.{reported}
+use Rattle.run_core.specs.inner.Places.{left_place}
+use Rattle.run_core.specs.inner.Turns.{PutsNext}
+
+-- an output of a tool, under its id
+abbrev pub NamedOutput : Type 0
+NamedOutput = Name × ToolOutput
 
 abbrev pub waits : Request → Phase → State
 waits asks phase = record { asks = asks; phase = phase; flying = [] }
@@ -49,114 +74,231 @@ fails_for_good cause = ends (reported (Outcome.PermanentFail [] cause))
 abbrev pub host_fails : HostFault → List ℕ → State
 host_fails fault running = ends (Err (RunFault.Host fault running))
 
-abbrev pub stages : Fields → State
-stages inputs = waits (Request.Host [] (HostRequest.Stage (record { moves = []; value = inputs }) 1)) Phase.Staging
+-- Staging
 
-abbrev pub start_with : Fields → Option NamedInput → State
-start_with inputs None = stages inputs
-start_with inputs (Some input) = fails_for_good (Cause.Kind input.0)
+abbrev pub stages_by : StagePlan → State
+stages_by plan = waits (Request.Host [] (HostRequest.Stage plan 1)) Phase.Staging
+
+-- the job of these inputs is to be staged
+pub record Stages (lone : Lone) (inputs : Fields) (state : State) : Type 0 where
+  pub plan : StagePlan
+  pub is_plan : IsPlan false (in_folder lone.options.work 1) inputs plan
+  pub is : state ≡ stages_by plan
+
+-- the job has these inputs, or a fault why it has none
+pub data AfterInputs (lone : Lone) (measures : Measures) : State → Type 0 where
+  has_inputs : (inputs : Fields) (state : State) → inputs_for lone.tool.inputs lone.inputs measures ≡ Ok inputs → Stages lone inputs state →
+      AfterInputs lone measures state
+  has_no_inputs : (fault : InputFault) → inputs_for lone.tool.inputs lone.inputs measures ≡ Err fault →
+      AfterInputs lone measures (fails_for_good (input_cause fault))
+
+-- Measuring
+
+abbrev pub nothing_measured : Measuring
+nothing_measured = record { left = []; measures = [] }
+
+-- what a phase measures
+abbrev pub measuring_in : Phase → Measuring
+measuring_in (Phase.Measuring measuring) = measuring
+measuring_in phase = nothing_measured
+
+abbrev pub measure_of : Name → Request
+measure_of path = Request.Host [] (HostRequest.Measure path)
+
+-- the next input file is measured; where all are, the job is staged
+pub data MeasuresOn (lone : Lone) (measuring : Measuring) : State → Type 0 where
+  all_measured : (state : State) → measuring.left ≡ [] → AfterInputs lone measuring.measures state → MeasuresOn lone measuring state
+  measures : (rest : List Name) (path : Name) → measuring.left ≡ rest ++ path ∷ [] →
+      MeasuresOn lone measuring (waits (measure_of path) (Phase.Measuring measuring))
 
 -- before any answer
-abbrev pub at_start : Lone → State
-at_start lone = start_with (named_inputs lone.tool.inputs lone.inputs) (find (is_misfit lone.inputs) lone.tool.inputs)
+pub record Begins (lone : Lone) (state : State) : Type 0 where
+  pub left : List Name
+  pub paths : left ≡ reverse (input_paths lone.tool.inputs lone.inputs)
+  pub few : length left < 2 ^ 64
+  pub on : MeasuresOn lone (record { left = left; measures = [] }) state
 
--- the names of the files that take a launch's streams
-abbrev pub names_of : Launch → StreamNames
-names_of launch = record { stdout = launch.stdout; stderr = launch.stderr }
+-- after a measure
+pub record TakesMeasure (lone : Lone) (old : Measuring) (measure : Measure) (state : State) : Type 0 where
+  pub measuring : Measuring
+  pub puts : PutsNext old.left old.measures measure measuring.left measuring.measures
+  pub on : MeasuresOn lone measuring state
 
-abbrev pub no_names : StreamNames
-no_names = record { stdout = None; stderr = None }
+-- Starting
 
--- those that a phase keeps
-abbrev pub names_in : Phase → StreamNames
-names_in (Phase.Starting seat names) = names
-names_in (Phase.Running names) = names
-names_in (Phase.Scanning names) = names
-names_in phase = no_names
+-- what is kept of a job that is started on these inputs by this launch
+abbrev pub kept_of : Fields → Launch → Kept
+kept_of inputs launch = record { inputs = inputs; stdout = launch.stdout; stderr = launch.stderr }
 
-abbrev pub starts : Launch → State
-starts launch = waits (Request.Host [] (HostRequest.Start launch)) (Phase.Starting (0 ∷ []) (names_of launch))
+abbrev pub nothing_kept : Kept
+nothing_kept = record { inputs = []; stdout = None; stderr = None }
+
+-- what a phase keeps
+abbrev pub kept_in : Phase → Kept
+kept_in (Phase.Starting seat kept) = kept
+kept_in (Phase.Running kept) = kept
+kept_in (Phase.Scanning kept) = kept
+kept_in (Phase.Reading kept reading) = kept
+kept_in phase = nothing_kept
+
+abbrev pub starts : Fields → Launch → State
+starts inputs launch = waits (Request.Host [] (HostRequest.Start launch)) (Phase.Starting (0 ∷ []) (kept_of inputs launch))
 
 -- the staged job has this launch, or none
 pub data Launches (lone : Lone) (inputs : Fields) : State → Type 0 where
-  has_launch : (launch : Launch) → IsLaunch lone.tool inputs (runtime_of lone.options 1) launch → Launches lone inputs (starts launch)
+  has_launch : (launch : Launch) → IsLaunch lone.tool inputs (runtime_of lone.options 1) launch → Launches lone inputs (starts inputs launch)
   has_none : (fault : BuildFault) → IsRefused lone.tool inputs (runtime_of lone.options 1) fault → Launches lone inputs (fails_for_good (Cause.Build fault))
 
--- it has one of both
-abbrev pub HasOutcome : Lone → Fields → Type 0
-HasOutcome lone inputs = (state : State) × Launches lone inputs state
+-- Contents of inputs
 
-abbrev pub after_ticket : ℕ → StreamNames → State
-after_ticket ticket names = record { asks = Request.Host [] HostRequest.Collect; phase = Phase.Running names; flying = ticket ∷ [] }
+abbrev pub nothing_filled : Filling
+nothing_filled = record { staged = []; left = []; heads = [] }
 
-abbrev pub after_class : Options → StreamNames → Option ℤ → ExitClass → State
-after_class options names code ExitClass.Success = waits (Request.Host [] (HostRequest.Scan (out_folder options.work 1))) (Phase.Scanning names)
-after_class options names code ExitClass.Temporary = ends (reported (Outcome.TemporaryFail []))
-after_class options names code ExitClass.Permanent = fails_for_good (Cause.Exit code)
+-- what a phase reads
+abbrev pub filling_in : Phase → Filling
+filling_in (Phase.Filling filling) = filling
+filling_in phase = nothing_filled
 
-abbrev pub after_exit : Options → StreamNames → Option ℤ → State
-after_exit options names code = after_class options names code (class_of code)
+abbrev pub contents_of : Name → Request
+contents_of path = Request.Host [] (HostRequest.Head path MOST_FILLED)
 
--- what was found of the files of these names
-abbrev pub files_by : StreamNames → List Found → StreamFiles
-files_by names found = record { stdout = stream_file names.stdout found; stderr = stream_file names.stderr found }
+-- the job is started on these inputs, or there is a fault of their contents
+pub data AfterContents (lone : Lone) (staged : Fields) (heads : Heads) : State → Type 0 where
+  has_contents : (inputs : Fields) (state : State) → with_contents lone.tool.inputs staged heads ≡ Ok inputs → Launches lone inputs state →
+      AfterContents lone staged heads state
+  has_no_contents : (fault : ContentsFault) → with_contents lone.tool.inputs staged heads ≡ Err fault →
+      AfterContents lone staged heads (fails_for_good (Cause.Contents fault))
 
--- what was found, as the code lends it
-abbrev pub files_seen : FoundStreams → StreamFiles
-files_seen files = record { stdout = option_copied files.stdout; stderr = option_copied files.stderr }
+-- the next file's contents are read; where all are, the job is started
+pub data FillsOn (lone : Lone) (filling : Filling) : State → Type 0 where
+  all_filled : (state : State) → filling.left ≡ [] → AfterContents lone filling.staged filling.heads state → FillsOn lone filling state
+  fills : (rest : List Name) (path : Name) → filling.left ≡ rest ++ path ∷ [] →
+      FillsOn lone filling (waits (contents_of path) (Phase.Filling filling))
 
-abbrev pub place_named : Naming → Name → Found → Place
-place_named Naming.Path outdir found = Place.Path (target_of outdir found.name)
-place_named Naming.Location outdir found = Place.Url (location_of (target_of outdir found.name))
+-- before any contents are read
+pub record IsFirstFilling (lone : Lone) (staged : Fields) (filling : Filling) : Type 0 where
+  pub all : filling.staged ≡ staged
+  pub none_read : filling.heads ≡ []
+  pub left : filling.left ≡ reverse (heads_wanted lone.tool.inputs staged)
+  pub few : length filling.left < 2 ^ 64
 
--- the outputs as files in the folder of the outputs
-abbrev pub outputs_at : Naming → Name → Files → Fields
-outputs_at naming outdir files = last_by_name (files_at (place_named naming outdir) files)
+-- after a stage
+pub record AfterStage (lone : Lone) (staged : Fields) (state : State) : Type 0 where
+  pub filling : Filling
+  pub first : IsFirstFilling lone staged filling
+  pub on : FillsOn lone filling state
 
--- with a file more under a name, where there is one
-abbrev pub with_file : Naming → Name → Name → Option Found → Fields → Fields
-with_file naming outdir name None fields = fields
-with_file naming outdir name (Some found) fields = with_value name (file_at (place_named naming outdir found) found) fields
+-- after contents
+pub record TakesContents (lone : Lone) (old : Filling) (bytes : List ℕ) (state : State) : Type 0 where
+  pub filling : Filling
+  pub puts : PutsNext old.left old.heads bytes filling.left filling.heads
+  pub same : filling.staged ≡ old.staged
+  pub on : FillsOn lone filling state
 
-abbrev pub fields : Fields → Value
-fields named = roll-Value (Value-F.Fields named)
+-- Running
 
--- the copy of a file from the job's output folder to its target
-abbrev pub move_for : Options → Found → Move
-move_for options found = record { source = out_folder options.work 1 ++ codes "/" ++ found.name; target = target_of options.outdir found.name }
+abbrev pub after_ticket : ℕ → Kept → State
+after_ticket ticket kept = record { asks = Request.Host [] HostRequest.Collect; phase = Phase.Running kept; flying = ticket ∷ [] }
 
-abbrev pub moves_for : Options → Files → List Move
-moves_for options files = shared (map (λ f. move_for options f.1) files)
+abbrev pub scans : Options → Kept → State
+scans options kept = waits (Request.Host [] (HostRequest.Scan (out_folder options.work 1))) (Phase.Scanning kept)
 
--- with the copy of a file more, where there is one
-abbrev pub with_file_move : Options → Option Found → List Move → List Move
-with_file_move options None moves = moves
-with_file_move options (Some found) moves = with_move moves (move_for options found)
+abbrev pub after_class : Options → Kept → Option ℤ → ExitClass → State
+after_class options kept code ExitClass.Success = scans options kept
+after_class options kept code ExitClass.Temporary = ends (reported (Outcome.TemporaryFail []))
+after_class options kept code ExitClass.Permanent = fails_for_good (Cause.Exit code)
 
--- the copies of files to their targets, and the outputs there
-abbrev pub plan_to : Options → Files → StagePlan
-plan_to options files = record { moves = moves_for options files; value = outputs_at Naming.Path options.outdir files }
+abbrev pub after_exit : Lone → Kept → Option ℤ → State
+after_exit lone kept code = after_class lone.options kept code (class_of lone.tool.exit_codes code)
 
-abbrev pub located_in : Options → Files → Value
-located_in options files = fields (outputs_at Naming.Location options.outdir files)
+-- Collecting
 
--- a plan is delivered, where it has something to copy
-abbrev pub delivers_plan : StagePlan → Value → State
-delivers_plan plan located =
-    cond (length plan.moves == 0) (ends (reported (Outcome.Success located))) (waits (Request.Host [] (HostRequest.Deliver plan)) (Phase.Delivering located))
+-- what the child of a job left
+abbrev pub left_behind : Kept → List Found → Heads → Left
+left_behind kept found heads = record {
+  listing = listing_of found;
+  heads = heads;
+  stdout = unwrap_or kept.stdout [];
+  stderr = unwrap_or kept.stderr [];
+  inputs = kept.inputs;
+  runtime = runtime;
+}
 
-abbrev pub delivers : Options → Files → State
-delivers options files = delivers_plan (plan_to options files) (located_in options files)
+-- each output with its value as the job made it
+abbrev pub outputs_made : List NamedOutput → Fields → Fields
+outputs_made outputs named = map (λ o. (o.0, value_moved (made_place []) (value_under o.0 named))) outputs
 
-abbrev pub after_lack : Options → StreamFiles → List NamedOutput → Option NamedOutput → State
-after_lack options files outputs None = delivers options (picked files outputs)
-after_lack options files outputs (Some o) = fails_for_good (Cause.Collect (lack files o))
+-- the result where these are the job's named outputs
+abbrev pub result_of : Lone → Fields → Fields
+result_of lone named = last_by_name (outputs_made lone.tool.outputs named)
 
-abbrev pub after_files : Lone → StreamFiles → State
-after_files lone files = after_lack lone.options files lone.tool.outputs (find (lacks files) lone.tool.outputs)
+abbrev pub delivers_by : StagePlan → State
+delivers_by plan = waits (Request.Host [] (HostRequest.Deliver plan)) (Phase.Delivering (located plan.value))
 
-abbrev pub after_scan : Lone → StreamNames → List Found → State
-after_scan lone names found = after_files lone (files_by names found)
+-- the result's files are to be copied
+pub record DeliversFiles (options : Options) (outputs : Fields) (state : State) : Type 0 where
+  pub plan : StagePlan
+  pub is_plan : IsPlan true options.outdir (fields_moved (left_place options.work) outputs) plan
+  pub is : state ≡ delivers_by plan
+
+-- the result is delivered, where it has files
+pub data Delivers (lone : Lone) (named : Fields) : State → Type 0 where
+  delivers_none : any_file (outputs_made lone.tool.outputs named) ≡ false → Delivers lone named (ends (reported (Outcome.Success (located (result_of lone named)))))
+  delivers_files : (state : State) → any_file (outputs_made lone.tool.outputs named) ≡ true → DeliversFiles lone.options (result_of lone named) state → Delivers lone named state
+
+-- the outputs are collected, or there is a cause why there are none
+pub data Gathers (lone : Lone) (kept : Kept) (found : List Found) (heads : Heads) : State → Type 0 where
+  gathers : (named : Fields) (state : State) → IsCollected (left_behind kept found heads) lone.tool.outputs (Ok named) →
+      Delivers lone named state → Gathers lone kept found heads state
+  refuses : (fault : OutputFault) → IsCollected (left_behind kept found heads) lone.tool.outputs (Err fault) →
+      Gathers lone kept found heads (fails_for_good (Cause.Collect fault))
+
+-- First bytes of files
+
+abbrev pub nothing_read : Reading
+nothing_read = record { found = []; left = []; heads = [] }
+
+-- what a phase reads
+abbrev pub reading_in : Phase → Reading
+reading_in (Phase.Reading kept reading) = reading
+reading_in phase = nothing_read
+
+abbrev pub head_of : Name → Name → Request
+head_of work name = Request.Host [] (HostRequest.Head (out_folder work 1 ++ codes "/" ++ name) (limit_of name))
+
+-- the names of the files whose first bytes are read, the first of them last
+pub record AreLeft (lone : Lone) (kept : Kept) (found : List Found) (left : List Name) : Type 0 where
+  pub wanted : List Name
+  pub are_wanted : AreHeadsWanted (listing_of found) kept.inputs lone.tool.outputs wanted
+  pub left_is : left ≡ reverse wanted
+  pub few : length left < 2 ^ 64
+
+-- before any first bytes are read
+pub record IsFirst (lone : Lone) (kept : Kept) (found : List Found) (reading : Reading) : Type 0 where
+  pub all : reading.found ≡ found
+  pub none_read : reading.heads ≡ []
+  pub left : AreLeft lone kept found reading.left
+
+-- the next file's first bytes are read; where all are, the outputs are collected
+pub data ReadsOn (lone : Lone) (kept : Kept) (reading : Reading) : State → Type 0 where
+  all_read : (state : State) → reading.left ≡ [] → Gathers lone kept reading.found reading.heads state → ReadsOn lone kept reading state
+  reads : (rest : List Name) (name : Name) → reading.left ≡ rest ++ name ∷ [] →
+      ReadsOn lone kept reading (waits (head_of lone.options.work name) (Phase.Reading kept reading))
+
+-- after a scan
+pub record Lists (lone : Lone) (kept : Kept) (found : List Found) (state : State) : Type 0 where
+  pub reading : Reading
+  pub first : IsFirst lone kept found reading
+  pub on : ReadsOn lone kept reading state
+
+-- after first bytes
+pub record TakesHead (lone : Lone) (kept : Kept) (old : Reading) (bytes : List ℕ) (state : State) : Type 0 where
+  pub reading : Reading
+  pub puts : PutsNext old.left old.heads bytes reading.left reading.heads
+  pub same : reading.found ≡ old.found
+  pub on : ReadsOn lone kept reading state
+
+-- The whole
 
 -- the children that nobody waits for any more where this call failed: those in flight after a collect
 abbrev pub left_by : Request → List ℕ → List ℕ
@@ -170,7 +312,7 @@ delivered_in phase = null
 
 -- it has a place for a ticket
 abbrev pub HasSeat : Phase → Type 0
-HasSeat (Phase.Starting seat names) = seat ≡ 0 ∷ []
+HasSeat (Phase.Starting seat kept) = seat ≡ 0 ∷ []
 HasSeat phase = ⊥
 
 -- only what follows from these answers needs memory
@@ -181,54 +323,66 @@ NeedsMemory answer = Unit {0}
 
 -- how many pairs have to find room in a phase: a child that is started has its end noted too
 abbrev pub pairs_ahead : Phase → ℕ
-pairs_ahead (Phase.Starting seat names) = 2
+pairs_ahead (Phase.Starting seat kept) = 2
 pairs_ahead (Phase.Ended result) = 0
 pairs_ahead phase = 1
 
 -- and for how many of them room is made when the phase begins: a child's end has its room before the child is started
 abbrev pub pairs_wanted : Phase → ℕ
-pairs_wanted (Phase.Starting seat names) = 2
-pairs_wanted (Phase.Running names) = 0
+pairs_wanted (Phase.Starting seat kept) = 2
+pairs_wanted (Phase.Running kept) = 0
 pairs_wanted (Phase.Ended result) = 0
 pairs_wanted phase = 1
 
 -- with so many pairs and room for so many, a child's end finds room
 abbrev pub HasRoom : ℕ → ℕ → Phase → Type 0
-HasRoom pairs room (Phase.Running names) = pairs + 1 ≤ room
+HasRoom pairs room (Phase.Running kept) = pairs + 1 ≤ room
 HasRoom pairs room phase = Unit {0}
 
 -- the state after a call that is done: the job's folders are made, or the result's files are placed
 abbrev pub FollowsDone : Lone → Request → Phase → State → Type 0
-FollowsDone lone (Request.Host place (HostRequest.Stage plan number)) phase next = Launches lone plan.value next
+FollowsDone lone (Request.Host place (HostRequest.Stage plan number)) phase next = AfterStage lone plan.value next
 FollowsDone lone asks phase next = next ≡ ends (reported (Outcome.Success (delivered_in phase)))
+
+-- the state after first bytes: of an input file, or of a file of the output folder
+abbrev pub FollowsHead : Lone → Phase → List ℕ → State → Type 0
+FollowsHead lone (Phase.Filling filling) bytes next = TakesContents lone filling bytes next
+FollowsHead lone phase bytes next = TakesHead lone (kept_in phase) (reading_in phase) bytes next
 
 -- the state after an answer
 abbrev pub FollowsFrom : Lone → Request → List ℕ → Phase → Answer → State → Type 0
 FollowsFrom lone asks flying phase (Answer.Host HostAnswer.Done) next = FollowsDone lone asks phase next
-FollowsFrom lone asks flying phase (Answer.Host (HostAnswer.Started ticket)) next = next ≡ after_ticket ticket (names_in phase)
-FollowsFrom lone asks flying phase (Answer.Host (HostAnswer.Ended ending)) next = next ≡ after_exit lone.options (names_in phase) ending.code
-FollowsFrom lone asks flying phase (Answer.Host (HostAnswer.Listed found)) next = next ≡ after_scan lone (names_in phase) found
+FollowsFrom lone asks flying phase (Answer.Host (HostAnswer.Started ticket)) next = next ≡ after_ticket ticket (kept_in phase)
+FollowsFrom lone asks flying phase (Answer.Host (HostAnswer.Ended ending)) next = next ≡ after_exit lone (kept_in phase) ending.code
+FollowsFrom lone asks flying phase (Answer.Host (HostAnswer.Listed found)) next = Lists lone (kept_in phase) found next
+FollowsFrom lone asks flying phase (Answer.Host (HostAnswer.FirstBytes bytes)) next = FollowsHead lone phase bytes next
+FollowsFrom lone asks flying phase (Answer.Host (HostAnswer.Measured measure)) next = TakesMeasure lone (measuring_in phase) measure next
 FollowsFrom lone asks flying phase (Answer.Host (HostAnswer.Failed fault)) next = next ≡ host_fails fault (left_by asks flying)
 
 -- what a phase asks
 abbrev pub AsksIn : Request → Phase → Type 0
+AsksIn (Request.Host place (HostRequest.Measure path)) (Phase.Measuring measuring) = Unit {0}
 AsksIn (Request.Host place (HostRequest.Stage plan number)) Phase.Staging = Unit {0}
-AsksIn (Request.Host place (HostRequest.Start launch)) (Phase.Starting seat names) = seat ≡ 0 ∷ []
-AsksIn (Request.Host place HostRequest.Collect) (Phase.Running names) = Unit {0}
-AsksIn (Request.Host place (HostRequest.Scan folder)) (Phase.Scanning names) = Unit {0}
+AsksIn (Request.Host place (HostRequest.Head path limit)) (Phase.Filling filling) = Unit {0}
+AsksIn (Request.Host place (HostRequest.Start launch)) (Phase.Starting seat kept) = seat ≡ 0 ∷ []
+AsksIn (Request.Host place HostRequest.Collect) (Phase.Running kept) = Unit {0}
+AsksIn (Request.Host place (HostRequest.Scan folder)) (Phase.Scanning kept) = Unit {0}
+AsksIn (Request.Host place (HostRequest.Head path limit)) (Phase.Reading kept reading) = Unit {0}
 AsksIn (Request.Host place (HostRequest.Deliver plan)) (Phase.Delivering value) = Unit {0}
 AsksIn Request.Finished (Phase.Ended result) = Unit {0}
 AsksIn asks phase = ⊥
 
--- something follows from the answer
-abbrev pub CanFollow : Lone → Request → List ℕ → Phase → Answer → Type 0
-CanFollow lone asks flying phase answer = (next : State) × FollowsFrom lone asks flying phase answer next
+-- a run goes on also where there is no memory for what follows: what it rests on
+pub record CanGoOn (lone : Lone) : Type 0 where
+  pub ids : IsDistinct bytes_eq (keys_of lone.tool.inputs)
+  pub launches : LaunchOrRefusal
+  pub outputs : EveryFolderHasOutputsOrAFault
+  pub heads : SomeHeadsAreWanted
 
 -- what an answer makes of the state: what follows from it, or nothing more where memory ran out
 pub data Moves (lone : Lone) (old : State) (answer : Answer) : State → Type 0 where
   moves : (next : State) → FollowsFrom lone old.asks old.flying old.phase answer next → Moves lone old answer next
-  gives_up : (next : State) → FollowsFrom lone old.asks old.flying old.phase answer next → NeedsMemory answer →
-      Moves lone old answer (ends (Err RunFault.OutOfMemory))
+  gives_up : CanGoOn lone → NeedsMemory answer → Moves lone old answer (ends (Err RunFault.OutOfMemory))
 
 -- with so many pairs and room for so many: there is room for those that come next in the same state, or nothing more is asked
 pub data MakesRoom (pairs room : ℕ) (old : State) : State → Type 0 where

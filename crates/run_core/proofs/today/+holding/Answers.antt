@@ -1,5 +1,5 @@
 use Rattle.std.proofs.Common.{◌∙◌, sym, ap}
-use Rattle.run_rules.specs.RunsToday.{has_file}
+use Rattle.run_rules.specs.Delivered.{has_file}
 use Rattle.run_core.proofs.Holding.{fields_have}
 use Rattle.run_core.proofs.today.+holding.Goals as goal
 

@@ -1,6 +1,6 @@
 use Rattle.std.proofs.Common.{◌≡◌, map, drop}
 use Rattle.run_rules.specs.Made.{some_true}
-use Rattle.run_rules.specs.RunsToday.{has_file}
+use Rattle.run_rules.specs.Delivered.{has_file}
 use Rattle.run_core.proofs.today.+holding.Given as goal
 
 abbrev pub invariant-fields_have_file-loop-field : goal.invariant-fields_have_file-loop-field

@@ -1,0 +1,188 @@
+//! Values whose files stand elsewhere.
+ghost use Rattle.std.specs.Prelude.{◌≡◌, [], IfOk, map};
+ghost use Rattle.run_rules.specs.Delivered.{location_place, made_path};
+ghost use Rattle.run_rules.specs.Made.{value_moved, fields_moved, made_place};
+ghost use Rattle.run_core.specs.inner.Places.{file_elsewhere, dir_elsewhere, file_with, left_place, number_of, place_by};
+
+use crate::folders::{out_folder, path_in};
+use cwl_value::{DirVal, FileVal, JobPlace, Place, Value};
+use file_values::path_to_location;
+use plain_data::{Items, Keyed, Text};
+use std::alloc::{AllocError, Global};
+
+/// Where files go.
+#[derive(Clone, Copy, Drop)]
+pub(crate) enum Way<'a> {
+    /// From their names in the output folder to the lone job that made them.
+    Made,
+    /// From the job that made them to their paths, below this work folder.
+    Left(&'a Text),
+    /// From paths to locations.
+    Located,
+}
+
+/// The value with each File and Directory in it at another place.
+#[cycle(moving)]
+pub(crate) fn moved(alloc: Global, way: Way<'_>, value: &Value) -> Result<Value, AllocError>
+    ensures { IfOk result (λ found. found ≡ value_moved (place_by way.entry) value.now) }
+{
+    match value {
+        Value::FileVal(file) => Ok(Value::FileVal(moved_file(alloc, way, file)?)),
+        Value::DirVal(dir) => Ok(Value::DirVal(moved_dir(alloc, way, dir)?)),
+        Value::List(items) => Ok(Value::List(moved_items(alloc, way, items)?)),
+        Value::Fields(fields) => Ok(Value::Fields(moved_fields(alloc, way, fields)?)),
+        _ => value.clone_in(alloc),
+    }
+}
+
+#[cycle(moving)]
+fn moved_file(alloc: Global, way: Way<'_>, file: &FileVal) -> Result<FileVal, AllocError>
+    ensures { IfOk result (λ found. found ≡ file_elsewhere (place_by way.entry) file.now) }
+{
+    let secondary = moved_items(alloc, way, &file.secondary)?;
+    let place = moved_place(alloc, way, &file.place)?;
+    file_at(alloc, file, place, secondary)
+}
+
+#[cycle(moving)]
+fn moved_dir(alloc: Global, way: Way<'_>, dir: &DirVal) -> Result<DirVal, AllocError>
+    ensures { IfOk result (λ found. found ≡ dir_elsewhere (place_by way.entry) dir.now) }
+{
+    let basename = copy_if_any(alloc, &dir.basename)?;
+    let place = moved_place(alloc, way, &dir.place)?;
+    let listing = match &dir.listing {
+        None => None,
+        Some(entries) => Some(moved_items(alloc, way, entries)?),
+    };
+    Ok(DirVal {
+        place,
+        basename,
+        listing,
+    })
+}
+
+#[cycle(moving)]
+fn moved_items(
+    alloc: Global,
+    way: Way<'_>,
+    items: &Items<Value>,
+) -> Result<Items<Value>, AllocError>
+    ensures { IfOk result (λ found. found ≡ map (value_moved (place_by way.entry)) items.now) }
+{
+    let mut found = Items::new(alloc);
+    for item in items.as_slice() {
+        found.push(moved(alloc, way, item)?)?;
+    }
+    Ok(found)
+}
+
+/// The fields with each File and Directory in them at another place.
+#[cycle(moving)]
+pub(crate) fn moved_fields(
+    alloc: Global,
+    way: Way<'_>,
+    fields: &Keyed<Value>,
+) -> Result<Keyed<Value>, AllocError>
+    ensures { IfOk result (λ found. found ≡ fields_moved (place_by way.entry) fields.now) }
+{
+    let mut found = Vec::new(alloc);
+    for field in fields.as_slice() {
+        let name = field.0.copied(alloc)?;
+        found.push((name, moved(alloc, way, &field.1)?))?;
+    }
+    Ok(Keyed::from_sorted(found))
+}
+
+// The File at a place, beside these files.
+fn file_at(
+    alloc: Global,
+    file: &FileVal,
+    place: Place,
+    secondary: Items<Value>,
+) -> Result<FileVal, AllocError>
+    ensures { IfOk result (λ found. found ≡ file_with file.now place secondary) }
+{
+    let basename = copy_if_any(alloc, &file.basename)?;
+    let checksum = copy_if_any(alloc, &file.checksum)?;
+    let contents = copy_if_any(alloc, &file.contents)?;
+    Ok(FileVal {
+        place,
+        basename,
+        checksum,
+        size: file.size,
+        contents,
+        secondary,
+    })
+}
+
+fn copy_if_any(alloc: Global, text: &Option<Text>) -> Result<Option<Text>, AllocError>
+    ensures { IfOk result (λ copy. copy ≡ text.now) }
+{
+    match text {
+        None => Ok(None),
+        Some(text) => Ok(Some(text.copied(alloc)?)),
+    }
+}
+
+fn moved_place(alloc: Global, way: Way<'_>, place: &Place) -> Result<Place, AllocError>
+    ensures { IfOk result (λ found. found ≡ place_by way.entry place.now) }
+{
+    match way {
+        Way::Made => made_place(alloc, place),
+        Way::Left(work) => left_place(alloc, work, place),
+        Way::Located => located_place(alloc, place),
+    }
+}
+
+/// A name in the output folder becomes the lone job's.
+fn made_place(alloc: Global, place: &Place) -> Result<Place, AllocError>
+    ensures { IfOk result (λ found. found ≡ made_place [] place.now) }
+{
+    match place {
+        Place::Url(name) => Ok(Place::Made(Items::new(alloc), name.copied(alloc)?)),
+        _ => place.clone_in(alloc),
+    }
+}
+
+/// What a job made becomes its path.
+fn left_place(alloc: Global, work: &Text, place: &Place) -> Result<Place, AllocError>
+    ensures { IfOk result (λ found. found ≡ left_place work.now place.now) }
+{
+    match place {
+        Place::Made(job, name) => {
+            let folder = out_folder(alloc, work, number_of(job))?;
+            Ok(Place::Path(path_below(alloc, &folder, name)?))
+        }
+        _ => place.clone_in(alloc),
+    }
+}
+
+/// The number of the folders of a job: the lone one has the first.
+fn number_of(job: &JobPlace) -> u64
+    ensures { result ≡ number_of job.now }
+{
+    if job.as_slice().is_empty() { 1 } else { 0 }
+}
+
+/// The path of what has this name below a folder; `.` is the folder itself.
+fn path_below(alloc: Global, folder: &Text, name: &Text) -> Result<Text, AllocError>
+    ensures { IfOk result (λ path. path ≡ made_path folder.now name.now) }
+{
+    if name.as_str() == "." {
+        return folder.copied(alloc);
+    }
+    path_in(alloc, folder, name)
+}
+
+/// A path becomes its location.
+fn located_place(alloc: Global, place: &Place) -> Result<Place, AllocError>
+    ensures { IfOk result (λ found. found ≡ location_place place.now) }
+{
+    match place {
+        Place::Path(path) => {
+            let location = path_to_location(alloc, path.as_str())?;
+            Ok(Place::Url(Text::from_string(location)))
+        }
+        _ => place.clone_in(alloc),
+    }
+}
