@@ -22,7 +22,7 @@ use Rattle.run_rules.specs.Jobs.{Job, Walker}
 use Rattle.run_rules.specs.Unfold.{Unfolded}
 use Rattle.run_rules.specs.Scene.{Scene}
 use Rattle.run_rules.specs.Delivered.{sources}
-use Rattle.run_rules.specs.CollectsOn.{most_of}
+use Rattle.collected_outputs.specs.HeadsWanted.{limit_of}
 use Rattle.run_rules.specs.StartsOn.{StartsOn}
 use Rattle.run_rules.specs.Events.{nothing_due, input_heads_due, start_due, scan_due, output_heads_due, Event, Work, Progress, Started, in_flight, is_at_hand, is_held, number_at, started_at, delivered_at, is_staging, are_measured, unfolding_at, job_at}
 use Rattle.run_rules.specs.Folders.{out_folder}
@@ -81,7 +81,7 @@ module _ (tool : Tool) (inputs : Fields) (options : Options) (walks : Measures �
     free_up : IsFree lone f → IsFree own (after ms f)
     free_up free = record { still = open_up free.still; measured = measured_past tool inputs options walks paths ms p f.events }
 
-    stage_up : (marks : List Mark) (place : JobPlace) (plan : StagePlan) (number : ℕ) → MayStage lone f marks place plan number → MayStage own (after ms f) marks place plan number
+    pub stage_up : (marks : List Mark) (place : JobPlace) (plan : StagePlan) (number : ℕ) → MayStage lone f marks place plan number → MayStage own (after ms f) marks place plan number
     stage_up marks place plan number may = record {
       free = free_up may.free;
       job = may.job;
@@ -105,7 +105,7 @@ module _ (tool : Tool) (inputs : Fields) (options : Options) (walks : Measures �
       staged = may.staged;
     }
 
-    busy_up : (marks : List Mark) → IsBusy lone f marks → IsBusy own (after ms f) marks
+    pub busy_up : (marks : List Mark) → IsBusy lone f marks → IsBusy own (after ms f) marks
     busy_up marks busy = record { free = free_up busy.free; no_stage = λ place plan number may. busy.no_stage place plan number (stage_down marks place plan number may) }
 
     pub collect_up : (marks : List Mark) (place : JobPlace) → MayCollect lone f marks place → MayCollect own (after ms f) marks place
@@ -142,7 +142,7 @@ module _ (tool : Tool) (inputs : Fields) (options : Options) (walks : Measures �
         ap (λ (n : ℕ). Some (Request.Host place (HostRequest.Scan (out_folder options.work n)))) (number_past ms f.events p.are place)
     due_up (output_heads_due place found [] read) = refl
     due_up (output_heads_due place found (name ∷ todo) read) =
-        ap (λ (n : ℕ). Some (Request.Host place (HostRequest.Head (path_in (out_folder options.work n) name) (most_of name)))) (number_past ms f.events p.are place)
+        ap (λ (n : ℕ). Some (Request.Host place (HostRequest.Head (path_in (out_folder options.work n) name) (limit_of name)))) (number_past ms f.events p.are place)
 
     flies_up : (flight : ℕ × JobPlace) → Contains (in_flight f.events) flight → Contains (in_flight (ms ++ f.events)) flight
     flies_up flight there = subst (λ (flights : List (ℕ × JobPlace)). Contains flights flight) (sym flight_is) there

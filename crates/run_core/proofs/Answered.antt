@@ -78,10 +78,10 @@ walker_tool : (tool : Tool) (given : Fields) (known : Measures) → walker (proc
 walker_tool tool given known = ap (λ q. walker_at q given known) (ap out-Process (sym (rolls-Tool tool)) ∙ out-roll-Process (Process-F.Tool tool))
 
 module _ (run : Lone) (inputs : Fields) (ms : List Event) (l : IsLone run inputs ms) where
-  abbrev walks : Measures → Walker
+  abbrev pub walks : Measures → Walker
   walks = walker (process.Tool run.tool) run.inputs
 
-  abbrev its_paths : List Name
+  abbrev pub its_paths : List Name
   its_paths = paths (process.Tool run.tool) run.inputs
 
   pub past : IsPast run.tool inputs run.options walks its_paths ms

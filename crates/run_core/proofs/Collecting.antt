@@ -17,6 +17,7 @@ use Rattle.run_rules.specs.Words.{Name, Fields, Heads, JobPlace, last_by_name}
 use Rattle.run_rules.specs.Delivered.{any_file, located, sources}
 use Rattle.run_rules.specs.Events.{Event, Work, Started, job_succeeded, job_failed, nothing_due, output_heads_due, Progress, number_at}
 use Rattle.run_rules.specs.Jobs.{Job, output_names}
+use Rattle.run_rules.specs.Made.{fields_made}
 use Rattle.run_rules.specs.CollectsOn.{CollectsOn, left_of, reads_on, collects, collects_none}
 use Rattle.run_rules.specs.End.{succeeds_with, fails_permanently}
 use Rattle.run_rules.specs.EndsSo.{fails, succeeds, no_file}
@@ -29,7 +30,7 @@ use Rattle.run_core.specs.inner.Machine.{ends, kept_of, outputs_made, result_of,
 use Rattle.run_core.specs.inner.Measured.{NoMeasures}
 use Rattle.run_core.specs.inner.Places.{left_place, number_of}
 use Rattle.run_core.specs.inner.Standing.{IsLone, reading as at_reading, delivering as at_delivering, after, events_back, when_reading, when_gathered}
-use Rattle.run_core.proofs.Answered.{Advances, lone, end_at}
+use Rattle.run_core.proofs.Answered.{Advances, lone, walks, its_paths, end_at}
 use Rattle.run_core.proofs.Lone.{landed, outputs_in, busy_gathered, result_gathered}
 use Rattle.run_core.proofs.Phases.{turned}
 use Rattle.run_core.proofs.LoneResults.{outputs_are, sources_are, first_number}
@@ -69,13 +70,13 @@ module _ (run : Lone) (inputs : Fields) (ms : List Event) (l : IsLone run inputs
 
       delivers_on : (named : Fields) (next : State) → IsCollected (left_of began reading.found reading.heads) run.tool.outputs (Ok named) → Delivers run named next → Advances run t next
       delivers_on named next is (delivers_none none_there) =
-          let same = outputs_are run.tool.outputs named in
+          let same : outputs_in (output_names run.tool) (fields_made [] named) ≡ outputs_made run.tool.outputs named = outputs_are run.tool.outputs named in
           subst (λ (outputs : Fields). Advances run t (ends (reported (Outcome.Success (located (last_by_name outputs)))))) same
           (end_at run inputs ms l t (when_gathered own launch ticket named) (Load ∷ [])
-          (succeeds_with (outputs_in (output_names run.tool) _) (last_by_name (outputs_in (output_names run.tool) _))) (refl, (refl, (refl, (refl, tt))))
+          (succeeds_with (outputs_in (output_names run.tool) (fields_made [] named)) (last_by_name (outputs_in (output_names run.tool) (fields_made [] named)))) (refl, (refl, (refl, (refl, tt))))
           (collected named is)
-          (succeeds _ _ (busy_gathered run.tool inputs run.options _ _ ms l.limits own launch ticket named) (landed ticket)
-          (result_gathered run.tool inputs run.options _ _ ms l.limits own launch ticket named)
+          (succeeds (outputs_in (output_names run.tool) (fields_made [] named)) (last_by_name (outputs_in (output_names run.tool) (fields_made [] named))) (busy_gathered run.tool inputs run.options (walks run inputs ms l) (its_paths run inputs ms l) ms l.limits own launch ticket named) (landed ticket)
+          (result_gathered run.tool inputs run.options (walks run inputs ms l) (its_paths run inputs ms l) ms l.limits own launch ticket named)
           (no_file (ap any_file same ∙ none_there) refl)))
       delivers_on named next is (delivers_files state some files) =
           subst (λ (st : State). Advances run t st) (sym files.is) (record {

@@ -47,7 +47,8 @@ use Rattle.run_core.specs.inner.Places.{left_place, number_of}
 use Rattle.run_core.specs.inner.Turns.{PutsNext, no_turn, its_turn}
 use Rattle.run_core.specs.inner.Standing.{IsLone, IsAt, running as at_running, scanning as at_scanning, after, when_filling, when_staged, when_running, when_back, when_reading, when_gathered, events_back}
 use Rattle.run_core.proofs.Advance.{stage_up, collect_up, deliver_up, due_up}
-use Rattle.run_core.proofs.Answered.{pair, only_ticket, Advances, past, lone, walks, its_paths, step_at, end_at}
+use Rattle.run_core.proofs.Answered.{pair, only_ticket, Advances, past, lone, own as its_scene, walks, its_paths, step_at, end_at}
+use Rattle.run_rules.specs.Allowed.{MayStage, MayCollect, MayDeliver, due_in}
 use Rattle.run_core.proofs.Lone.{landed, when_delivered, may_stage, may_collect, may_deliver, busy_delivered, result_delivered_too, outputs_of}
 use Rattle.run_core.proofs.LoneResults.{outputs_are, sources_are, first_number}
 use Rattle.run_core.proofs.Phases.{fills_on, turned}
@@ -67,6 +68,7 @@ module _ (run : Lone) (inputs : Fields) (ms : List Event) (l : IsLone run inputs
     abbrev stage_request : Request
     stage_request = Request.Host [] (HostRequest.Stage plan 1)
 
+    allowed_stage : MayStage (its_scene run inputs ms l) (after ms at_first) (Compute ∷ []) [] plan 1
     allowed_stage = stage_up run.tool inputs run.options (walks run inputs ms l) (its_paths run inputs ms l) ms (past run inputs ms l) at_first tt (Compute ∷ []) [] plan 1
         (may_stage run.tool inputs run.options (walks run inputs ms l) (its_paths run inputs ms l) ms l.limits plan is_plan)
 
@@ -96,6 +98,7 @@ module _ (run : Lone) (inputs : Fields) (ms : List Event) (l : IsLone run inputs
     abbrev start_request : Request
     start_request = Request.Host [] (HostRequest.Start launch)
 
+    allowed_start : due_in (its_scene run inputs ms l) (ms ++ (when_staged own launch).events) (start_due [] own launch) ≡ Some start_request
     allowed_start = due_up run.tool inputs run.options (walks run inputs ms l) (its_paths run inputs ms l) ms (past run inputs ms l) (when_staged own launch) (refl, tt) (start_due [] own launch)
 
     pub began : (ticket : ℕ) → Advances run (t ++ pair start_request (HostAnswer.Started ticket) ∷ []) (after_ticket ticket (kept_of own launch))
@@ -120,7 +123,8 @@ module _ (run : Lone) (inputs : Fields) (ms : List Event) (l : IsLone run inputs
   abbrev collect_request : Request
   collect_request = Request.Host [] HostRequest.Collect
 
-  allowed_collect = λ (own : Fields) (launch : Launch) (ticket : ℕ).
+  allowed_collect : (own : Fields) (launch : Launch) (ticket : ℕ) → MayCollect (its_scene run inputs ms l) (after ms (when_running own launch ticket)) (Load ∷ []) []
+  allowed_collect own launch ticket =
       collect_up run.tool inputs run.options (walks run inputs ms l) (its_paths run inputs ms l) ms (past run inputs ms l) (when_running own launch ticket) (refl, (refl, tt)) (Load ∷ []) []
       (may_collect run.tool inputs run.options (walks run inputs ms l) (its_paths run inputs ms l) ms l.limits own launch ticket)
 
@@ -197,6 +201,7 @@ module _ (run : Lone) (inputs : Fields) (ms : List Event) (l : IsLone run inputs
     numbers_too : number_at (when_delivered own launch ticket named plan).events ≡ number_of
     numbers_too = fun_ext first_number
 
+    allowed_deliver : MayDeliver (its_scene run inputs ms l) (after ms (when_gathered own launch ticket named)) (Load ∷ []) [] plan
     allowed_deliver =
         deliver_up run.tool inputs run.options (walks run inputs ms l) (its_paths run inputs ms l) ms (past run inputs ms l) (when_gathered own launch ticket named) (refl, (refl, (refl, (refl, tt)))) (Load ∷ []) [] plan
         (may_deliver run.tool inputs run.options (walks run inputs ms l) (its_paths run inputs ms l) ms l.limits own launch ticket named plan (ap any_file same ∙ files) by_sources numbers)

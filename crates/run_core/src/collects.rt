@@ -1,9 +1,8 @@
 //! What the machine waits for once the job's output folder is listed.
 ghost use Rattle.std.specs.Prelude.{◌≡◌, [], true, unwrap_or, IfOk, OnOk};
-ghost use Rattle.run_core.specs.inner.Machine.{Delivers, DeliversFiles, Gathers, IsFirst, Lists, ReadsOn, TakesHead, delivered_in, ends, head_of, kept_in, outputs_made, reading_in, result_of};
+ghost use Rattle.run_core.specs.inner.Machine.{AreLeft, Delivers, DeliversFiles, Gathers, IsFirst, Lists, ReadsOn, TakesHead, delivered_in, ends, head_of, kept_in, outputs_made, reading_in, result_of};
 ghost use Rattle.run_core.specs.inner.Places.{left_place};
 ghost use Rattle.run_core.specs.inner.Turns.{PutsNext};
-ghost use Rattle.run_rules.specs.CollectsOn.{most_of};
 ghost use Rattle.run_rules.specs.Delivered.{any_file, located};
 ghost use Rattle.run_rules.specs.Made.{fields_moved};
 ghost use Rattle.run_rules.specs.Reports.{reported};
@@ -18,9 +17,7 @@ use crate::state::{
 };
 use crate::turns::{last_first, put_next};
 use crate::{Cause, Options, Outcome, Request};
-use collected_outputs::{
-    CollectError, MOST_CONTENTS, MOST_OBJECT, OUTPUT_OBJECT, StreamNames, collect_outputs,
-};
+use collected_outputs::{CollectError, StreamNames, collect_outputs, head_limit, heads_wanted};
 use cwl_value::Value;
 use plain_data::{Items, Keyed, Text};
 use proc_host::HostRequest;
@@ -66,13 +63,16 @@ fn first_reading(
 /// The names of the files whose first bytes are read, the first of them last.
 fn names_left(
     alloc: Global,
-    _lone: &Lone,
-    _kept: &Kept,
-    _found: &[Found],
+    lone: &Lone,
+    kept: &Kept,
+    found: &[Found],
 ) -> Result<Items<Text>, AllocError>
-    ensures { IfOk result (λ names. names ≡ []) }
+    ensures { IfOk result (AreLeft lone.now kept.now found.now) }
 {
-    Ok(Items::new(alloc))
+    match heads_wanted(alloc, &lone.tool, &kept.inputs, found) {
+        Ok(wanted) => Ok(last_first(wanted)),
+        Err(_) => Err(AllocError),
+    }
 }
 
 /// The first bytes of a file are read.
@@ -124,19 +124,8 @@ fn head_of(alloc: Global, work: &Text, name: &Text) -> Result<Request, AllocErro
     let path = path_in(alloc, &folder, name)?;
     Ok(Request::Host(
         Items::new(alloc),
-        HostRequest::Head(path, limit_of(name)),
+        HostRequest::Head(path, head_limit(name.as_str())),
     ))
-}
-
-/// How many bytes are read of a file at most.
-fn limit_of(name: &Text) -> u64
-    ensures { result ≡ most_of name.now }
-{
-    if name.as_str() == OUTPUT_OBJECT {
-        MOST_OBJECT
-    } else {
-        MOST_CONTENTS
-    }
 }
 
 fn name_or_empty(name: &Option<Text>) -> &str

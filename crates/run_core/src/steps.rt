@@ -10,6 +10,7 @@ use crate::state::{
     Lone, Phase, State, ended, failed_for_good, host_failed, kept_in, reported, waiting,
 };
 use crate::{Answer, Cause, Outcome, Request};
+use collected_outputs::{every_folder_has_outputs_or_a_fault, some_heads_are_wanted};
 use command_line::every_tool_has_a_launch_or_is_refused;
 use plain_data::Items;
 use proc_host::{ChildEnd, ExitClass, HostAnswer, HostFault, HostRequest, classify};
@@ -85,6 +86,8 @@ pub(crate) fn can_go_on(lone: &Lone)
 {
     let _inputs = lone.tool.inputs.as_slice();
     every_tool_has_a_launch_or_is_refused();
+    every_folder_has_outputs_or_a_fault();
+    some_heads_are_wanted();
 }
 
 /// What the machine waits for after this answer to what it asks. It takes what goes on out of the phase and the

@@ -14,3 +14,4 @@ pub mod RightEnds
 pub mod Reported
 pub mod TwoJobs
 pub mod MeasuredFile
+pub mod Rows

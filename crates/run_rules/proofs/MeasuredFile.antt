@@ -1,13 +1,11 @@
 -- Two jobs that wait for the measure of a file, and tools that give exit codes a meaning of their own: their runs, computed.
-use Rattle.std.proofs.Common.{◌≡◌, ℕ, lit<, pos, true, false, List, [], ◌∷◌, ◌++◌, Option, Some, None, refl}
+use Rattle.std.proofs.Common.{◌≡◌, ℕ, lit<, pos, true, false, List, [], ◌∷◌, ◌++◌, Option, Some, refl}
 use Rattle.std.specs.Prelude.{codes}
 use Rattle.plain_data.specs.ByName.{value_at}
-use Rattle.command_line.specs.declared.launch.Launch.{Launch}
 use Rattle.cwl_process.specs.declared.tool.ExitCodes.{ExitCodes}
-use Rattle.cwl_process.specs.declared.tool.Tool.{Tool}
 use Rattle.input_files.specs.Measured.{Measures}
 use Rattle.plan_checker.specs.declared.plan.Mark.{Mark}
-use Rattle.plan_checker.specs.declared.plan.Mark.TheVariants.{Load, Compute}
+use Rattle.plan_checker.specs.declared.plan.Mark.TheVariants.{Load}
 use Rattle.proc_host.specs.declared.call.HostAnswer.{HostAnswer}
 use Rattle.proc_host.specs.declared.call.HostFault.{HostFault}
 use Rattle.proc_host.specs.declared.call.HostRequest.{HostRequest}
@@ -18,10 +16,10 @@ use Rattle.staging.specs.declared.plan.StagePlan.{StagePlan}
 use Rattle.run_rules.specs.declared.outcome.Cause.{Cause}
 use Rattle.run_rules.specs.Words.{Name, JobPlace}
 use Rattle.run_rules.specs.Allowed.{MayMeasure, MayStage}
-use Rattle.run_rules.specs.End.{End, fails_permanently, fails_temporarily, ended_by_host}
+use Rattle.run_rules.specs.End.{fails_permanently, fails_temporarily, ended_by_host}
 use Rattle.run_rules.specs.EndsSo.{EndsSo, fails}
 use Rattle.run_rules.specs.Events.{Event, Work, Progress, file_measured, job_staged, job_started, child_exited, job_failed, job_failed_for_now, host_failed, nothing_due, scan_due, at_first, unfolding_at}
-use Rattle.run_rules.specs.Jobs.{Job, Made, Walk, Walker, failed, met_job}
+use Rattle.run_rules.specs.Jobs.{Job, Walker, failed, met_job}
 use Rattle.run_rules.specs.Scene.{Scene}
 use Rattle.run_rules.specs.Steps.{Steps, call, measures_file, exits_well, exits_for_now, exits_badly}
 use Rattle.run_rules.proofs.TwoJobs.{tool as plain_tool, options, launch, a, job, two}

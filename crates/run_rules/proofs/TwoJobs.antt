@@ -1,5 +1,6 @@
 -- A scene of two jobs that know nothing of each other, given by hand, with a slot for each: its runs, computed.
 use Rattle.std.proofs.Common.{◌≡◌, ℕ, Bool, true, cond, pos, List, [], ◌∷◌, ◌++◌, Option, Some, None, Ok, refl, lit<}
+use Rattle.std.specs.Fmt.{digits}
 use Rattle.std.specs.Prelude.{ℤ, false, codes}
 use Rattle.command_line.specs.Launch.{IsLaunch}
 use Rattle.command_line.specs.declared.launch.Launch.{Launch}
@@ -7,7 +8,6 @@ use Rattle.command_line.specs.declared.launch.Variable.{Variable}
 use Rattle.command_line.specs.declared.runtime.Runtime.{Runtime}
 use Rattle.cwl_process.specs.Acting.{nothing_asked}
 use Rattle.cwl_process.specs.declared.tool.Tool.{Tool}
-use Rattle.cwl_value.specs.declared.place.Segment.{Segment}
 use Rattle.proc_host.specs.declared.call.HostAnswer.{HostAnswer}
 use Rattle.proc_host.specs.declared.call.HostRequest.{HostRequest}
 use Rattle.proc_host.specs.declared.call.HostFault.{HostFault}
@@ -16,25 +16,25 @@ use Rattle.collected_outputs.specs.HeadsWanted.{of_outputs, none as none_asked}
 use Rattle.collected_outputs.specs.Outputs.{none as no_outputs}
 use Rattle.staging.specs.Placing.{none as none_placed}
 use Rattle.staging.specs.Plan.{IsPlan, none as none_moved}
-use Rattle.staging.specs.declared.group.Placed.{Placed}
 use Rattle.staging.specs.declared.plan.StagePlan.{StagePlan}
 use Rattle.run_rules.specs.declared.outcome.Cause.{Cause}
 use Rattle.run_rules.specs.declared.request.Pair.{Pair}
+use Rattle.run_rules.specs.declared.request.Request.{Request}
 use Rattle.run_rules.specs.declared.setting.Options.{Options}
-use Rattle.run_rules.specs.Words.{Name, JobPlace, is_same_place}
+use Rattle.run_rules.specs.Words.{Name, Heads, JobPlace, is_same_place}
 use Rattle.run_rules.specs.Jobs.{Job, met_job, Made, Walk}
-use Rattle.run_rules.specs.Events.{Event, job_staged, job_started, child_exited, job_succeeded, job_failed, job_failed_for_now, host_failed, collect_failed, nothing_due, start_due, Progress, Started, at_first, in_flight, unfolding_at}
+use Rattle.run_rules.specs.Events.{Event, job_staged, job_started, child_exited, job_succeeded, job_failed, job_failed_for_now, host_failed, collect_failed, nothing_due, input_heads_due, start_due, output_heads_due, Progress, Started, at_first, in_flight, unfolding_at}
 use Rattle.run_rules.specs.Folders.{runtime_of, in_folder}
-use Rattle.run_rules.specs.StartsOn.{has_launch}
+use Rattle.run_rules.specs.StartsOn.{has_launch, reads_on}
 use Rattle.run_rules.specs.CollectsOn.{collects, left_of}
-use Rattle.run_rules.specs.Steps.{Steps, call, stages, starts, exits_well, exits_badly, scans}
+use Rattle.run_rules.specs.Steps.{call, stages, reads_input, reads_output, starts, exits_well, exits_badly, scans}
 use Rattle.run_rules.proofs.Leads.{Leads, stays, follows}
 use Rattle.run_rules.specs.End.{End, succeeds_with, fails_permanently, fails_temporarily, ended_by_host, settled}
 use Rattle.run_rules.specs.EndsSo.{EndsSo, no_file, lost, fails, succeeds}
 use Rattle.plan_checker.specs.declared.plan.Mark.{Mark}
 use Rattle.plan_checker.specs.declared.plan.Mark.TheVariants.{Load, Compute}
 use Rattle.plan_checker.specs.Plan.{mark}
-use Rattle.run_rules.specs.Allowed.{MayStage, MayCollect}
+use Rattle.run_rules.specs.Allowed.{MayStage, MayCollect, due}
 use Rattle.run_rules.specs.Scene.{Scene}
 use Rattle.run_rules.proofs.NothingFollows.{flies_on}
 use Rattle.run_rules.proofs.TranscriptTells.{none_in}
@@ -184,6 +184,34 @@ either_ends =
     follows (exits_well b (record { ticket = 2; code = well; millis = 1000 }) (job b) (1, lit< tt, refl) refl refl)
     (follows (scans b (codes "") [] (job b) (started_as 2) [] nothing_due (job_succeeded b [] ∷ []) refl refl (of_outputs [] refl none_asked) (collects [] (collects_nothing 2)))
     (follows (exits_badly a (record { ticket = 1; code = badly; millis = 1000 }) (job a) (0, lit< tt, refl) refl refl) stays))
+
+-- First bytes are read one file after another, and the start or the outputs come with the last
+
+abbrev read_of : Name → Pair
+read_of path = call a (HostRequest.Head path 65536) (HostAnswer.FirstBytes (codes "abc"))
+
+module _ (is : (n : ℕ) → IsLaunch tool [] (runtime_of options n) (launch n)) where
+  it_starts_once_all_is_read : Leads s (record { work = input_heads_due a [] (codes "/f" ∷ codes "/g" ∷ []) []; events = job_staged a 1 ∷ [] })
+      (read_of (codes "/f") ∷ read_of (codes "/g") ∷ call a (HostRequest.Start (launch 1)) (HostAnswer.Started 1) ∷ []) (at one)
+  it_starts_once_all_is_read =
+      follows (reads_input a (codes "/f") 65536 (codes "abc") [] (codes "/g" ∷ []) [] (job a) _ [] refl refl (reads_on (codes "/g") []))
+      (follows (reads_input a (codes "/g") 65536 (codes "abc") [] [] _ (job a) (start_due a [] (launch 1)) [] refl refl (has_launch [] (launch 1) refl (is 1)))
+      (follows (starts a [] (launch 1) 1 refl) stays))
+
+collects_what_was_read : (n : ℕ) (read : Heads) → IsCollected (left_of (started_as n) [] read) [] (Ok [])
+collects_what_was_read n read = record { gathered = Ok []; are_gathered = bound [] refl no_outputs; is = refl }
+
+it_is_collected_once_all_is_read : Leads s (record { work = output_heads_due a [] (codes "g" ∷ []) []; events = one ++ child_exited 1 ∷ [] })
+    (read_of (codes "w/j1/out/g") ∷ []) (at (one ++ came_well 1 a))
+it_is_collected_once_all_is_read =
+    follows (reads_output a (codes "w/j1/out/g") 65536 (codes "abc") [] (codes "g") [] [] (job a) (started_as 1) nothing_due (job_succeeded a [] ∷ []) refl refl refl
+    (collects [] (collects_what_was_read 1 _))) stays
+
+-- what is asked is the first bytes of the next file, in the job's output folder
+the_next_is_asked : due s (record { work = output_heads_due a [] (codes "g" ∷ []) []; events = one ++ child_exited 1 ∷ [] })
+    ≡ Some (Request.Host a (HostRequest.Head (codes "w/j1/out/g") 65536))
+unfolding digits
+the_next_is_asked = refl
 
 -- Either end may come first
 

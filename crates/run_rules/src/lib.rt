@@ -6,11 +6,15 @@
 //! `laws.rt` says what follows for any run. `proofs/Rows.antt` computes the definitions on a worked example.
 #![tactic(auto)]
 
-// mod laws;
+mod laws;
 mod outcome;
 mod request;
 mod setting;
 
+pub use laws::{
+    a_lone_tool_is_within_limits, an_honest_run_ends_rightly, an_honest_run_is_reported_rightly,
+    delivery_keeps_the_value, nothing_follows_the_end, one_end, success_ran_each_job,
+};
 pub use outcome::{Cause, Note, Outcome, PlanNote, Report, RunFault};
 pub use request::{Answer, Pair, Request};
 pub use setting::{Options, Setting};

@@ -11,6 +11,8 @@ use Rattle.collected_outputs.specs.declared.object.TheConstants.{MOST_OBJECT}
 use Rattle.collected_outputs.specs.declared.fault.OutputFault.{OutputFault}
 use Rattle.collected_outputs.specs.Collected.{IsCollected}
 use Rattle.collected_outputs.specs.Contents.{Heads}
+use Rattle.collected_outputs.specs.HeadsWanted.{AreHeadsWanted, limit_of}
+use Rattle.collected_outputs.specs.Laws.{EveryFolderHasOutputsOrAFault, SomeHeadsAreWanted}
 use Rattle.collected_outputs.specs.Listing.{listing_of}
 use Rattle.collected_outputs.specs.Outputs.{Left}
 use Rattle.collected_outputs.specs.Patterns.{runtime}
@@ -48,8 +50,6 @@ use Rattle.run_core.specs.declared.state.Phase.{Phase}
 use Rattle.run_core.specs.declared.state.Reading.{Reading}
 use Rattle.run_core.specs.declared.state.State.{State}
 use Rattle.run_rules.specs.Words.{Name, Fields, last_by_name, null, value_under}
-use Rattle.run_rules.specs.CollectsOn.{most_of}
-use Rattle.run_rules.specs.Wanted.{AreWanted}
 use Rattle.run_rules.specs.Delivered.{any_file, located}
 use Rattle.run_rules.specs.Folders.{in_folder, out_folder, runtime_of}
 use Rattle.run_rules.specs.Jobs.{input_cause}
@@ -264,16 +264,20 @@ reading_in (Phase.Reading kept reading) = reading
 reading_in phase = nothing_read
 
 abbrev pub head_of : Name → Name → Request
-head_of work name = Request.Host [] (HostRequest.Head (out_folder work 1 ++ codes "/" ++ name) (most_of name))
+head_of work name = Request.Host [] (HostRequest.Head (out_folder work 1 ++ codes "/" ++ name) (limit_of name))
+
+-- the names of the files whose first bytes are read, the first of them last
+pub record AreLeft (lone : Lone) (kept : Kept) (found : List Found) (left : List Name) : Type 0 where
+  pub wanted : List Name
+  pub are_wanted : AreHeadsWanted (listing_of found) kept.inputs lone.tool.outputs wanted
+  pub left_is : left ≡ reverse wanted
+  pub few : length left < 2 ^ 64
 
 -- before any first bytes are read
 pub record IsFirst (lone : Lone) (kept : Kept) (found : List Found) (reading : Reading) : Type 0 where
   pub all : reading.found ≡ found
   pub none_read : reading.heads ≡ []
-  pub wanted : List Name
-  pub are_wanted : AreWanted (left_behind kept found []) lone.tool.outputs wanted
-  pub left : reading.left ≡ reverse wanted
-  pub few : length reading.left < 2 ^ 64
+  pub left : AreLeft lone kept found reading.left
 
 -- the next file's first bytes are read; where all are, the outputs are collected
 pub data ReadsOn (lone : Lone) (kept : Kept) (reading : Reading) : State → Type 0 where
@@ -372,6 +376,8 @@ AsksIn asks phase = ⊥
 pub record CanGoOn (lone : Lone) : Type 0 where
   pub ids : IsDistinct bytes_eq (keys_of lone.tool.inputs)
   pub launches : LaunchOrRefusal
+  pub outputs : EveryFolderHasOutputsOrAFault
+  pub heads : SomeHeadsAreWanted
 
 -- what an answer makes of the state: what follows from it, or nothing more where memory ran out
 pub data Moves (lone : Lone) (old : State) (answer : Answer) : State → Type 0 where
