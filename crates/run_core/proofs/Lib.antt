@@ -6,6 +6,7 @@ pub mod Answered
 pub mod LoneResults
 pub mod Phases
 pub mod Collecting
+pub mod Turning
 pub mod Next
 pub mod Holding
 pub mod Seats
