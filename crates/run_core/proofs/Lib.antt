@@ -1,4 +1,5 @@
 pub mod Loops
+pub mod Settled
 pub mod Shifted
 pub mod Advance
 pub mod Lone
@@ -6,6 +7,17 @@ pub mod Answered
 pub mod LoneResults
 pub mod Phases
 pub mod Collecting
+pub mod Turning
 pub mod Next
+pub mod Once
+pub mod Measuring
+pub mod Advances
+pub mod Lost
+pub mod Blamed
+pub mod Asking
+pub mod Leaves
+pub mod Taking
+pub mod RunTools
+pub mod Beginning
 pub mod Holding
 pub mod Seats
