@@ -1,20 +1,20 @@
 -- What fields of a document say together, beside the table (CWL v1.2, Command Line Tool Description, "stdin", "stdout", "stderr"; Workflow
 -- Description, "WorkflowStep"): one input at most stands for the standard input, and an output that is a stream has no binding. A default
--- is a value without Files and Directories (own, until they are resolved). Texts with references come after these, and what a
+-- is a value (CWL v1.2, "CommandInputParameter", "WorkflowInputParameter"). Texts with references come after these, and what a
 -- step says itself comes before the process that it runs.
-use Rattle.std.specs.Prelude.{ℕ, zero, suc, ◌&&◌, ◌||◌, List, [], ◌∷◌, Bool, false, Option, Some, None, is_some, if◌then◌else◌, codes}
+use Rattle.std.specs.Prelude.{ℕ, zero, suc, ◌&&◌, ◌||◌, List, [], ◌∷◌, Bool, true, false, Option, Some, None, is_some, if◌then◌else◌, codes}
 use Rattle.std.specs.Option.{option_map_or}
-use Rattle.std.specs.Str.{bytes_eq}
-use Rattle.serde_json.specs.Data.{Data, null, boolean, number, string, array, object, Items, no_items, item, Members, no_members, member}
+use Rattle.serde_json.specs.Data.{Data}
 use Rattle.serde_json.specs.Find.{as_str, get}
-use Rattle.document_table.specs.Entries.{class_in, entries, main_field}
+use Rattle.cwl_value.specs.Reading.{reading}
+use Rattle.document_table.specs.Entries.{entries, main_field}
 use Rattle.document_table.specs.Faults.{here, under}
 use Rattle.document_table.specs.Walk.{or_else}
 use Rattle.document_table.specs.declared.fault.Cause.TheVariants.{WrongForm}
 use Rattle.document_table.specs.declared.fault.DocumentFault.{DocumentFault}
 use Rattle.document_table.specs.declared.form.Kind.TheVariants as kind
 use Rattle.cwl_process.specs.FirstFaults.{at_field, first_at}
-use Rattle.cwl_process.specs.Parameters.{is_text}
+use Rattle.cwl_process.specs.Parameters.{if_read, is_text}
 use Rattle.cwl_process.specs.Processes.{is_workflow}
 use Rattle.cwl_process.specs.TemplateFaults.{asked_fault, step_text_fault, tool_text_fault}
 
@@ -40,29 +40,12 @@ output_fault d = if is_stream d && is_some (get (codes "outputBinding") d) then 
 
 -- ---- defaults
 
-abbrev pub is_file_class : List ℕ → Bool
-is_file_class class = bytes_eq class (codes "File") || bytes_eq class (codes "Directory")
-
--- a File or Directory is in it, at any depth
-abbrev mutual
-  pub holds_file : Data → Bool
-  holds_file null = false
-  holds_file (boolean b) = false
-  holds_file (number n) = false
-  holds_file (string s) = false
-  holds_file (array ds) = items_hold_file ds
-  holds_file (object ms) = is_file_class (class_in (object ms)) || members_hold_file ms
-
-  pub items_hold_file : Items → Bool
-  items_hold_file no_items = false
-  items_hold_file (item d ds) = holds_file d || items_hold_file ds
-
-  pub members_hold_file : Members → Bool
-  members_hold_file no_members = false
-  members_hold_file (member name d ms) = holds_file d || members_hold_file ms
+-- The JSON represents a value.
+abbrev pub is_value : Data → Bool
+is_value d = is_some (if_read (reading d))
 
 abbrev pub default_fault : Data → Option DocumentFault
-default_fault d = if option_map_or holds_file (get (codes "default") d) false then Some (under (codes "default") (here WrongForm)) else None
+default_fault d = if option_map_or is_value (get (codes "default") d) true then None else Some (under (codes "default") (here WrongForm))
 
 -- ---- processes
 

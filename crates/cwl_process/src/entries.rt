@@ -38,6 +38,14 @@ impl<T> Entries<T> {
         Entries { held }
     }
 
+    /// The same entries, without memory.
+    pub fn into_vec(self) -> Vec<(Text, T)>
+        ensures entries { result.items ≡ self }
+        ensures ids { IsDistinct bytes_eq (keys_of result.items) }
+    {
+        self.held
+    }
+
     pub fn as_slice(&self) -> &[(Text, T)]
         ensures entries { result.now ≡ self.now }
         ensures ids { IsDistinct bytes_eq (keys_of result.now) }

@@ -32,6 +32,7 @@ pub use document::{read_sound, read_unlinked};
 pub use entries::Entries;
 pub use laws::levels_never_decide;
 pub use links::{Links, Merge, Pick, Source};
+pub use parameters::default_at;
 pub use parts::{StepParts, read_step_parts, read_workflow_inputs, read_workflow_outputs};
 pub use process::{Process, Run, RunName};
 pub use read_workflow::is_workflow;

@@ -89,8 +89,8 @@ fn loads(value: &Value) -> bool
         }
 }
 
-/// The value of the field `default`.
-pub(crate) fn default_at(alloc: Global, value: &Value) -> Result<Option<CwlValue>, AllocError>
+/// Reads the value of the field `default`, where it has one. Files and Directories in it have their places as written.
+pub fn default_at(alloc: Global, value: &Value) -> Result<Option<CwlValue>, AllocError>
     ensures { IfOk result (λ default. default ≡ default_at (view value.now)) }
 {
     match value.get("default") {

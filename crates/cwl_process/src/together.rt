@@ -1,18 +1,20 @@
 //! Checks what fields of a document say together.
-ghost use Rattle.std.specs.Prelude.{◌≡◌, ◌||◌, IfOk, OnOk, is_some, map, codes};
+ghost use Rattle.std.specs.Prelude.{◌≡◌, IfOk, is_some, map, codes};
 ghost use Rattle.serde_json.specs.Find.{get};
-ghost use Rattle.serde_json.specs.View.{view, items_view, members_view};
-ghost use Rattle.document_table.specs.Entries.{class_in, entry_seen};
+ghost use Rattle.serde_json.specs.View.{view};
+ghost use Rattle.document_table.specs.Entries.{entry_seen};
 ghost use Rattle.document_table.specs.Faults.{under};
 ghost use Rattle.document_table.specs.declared.form.Kind.TheVariants as kind;
 ghost use Rattle.cwl_process.specs.FirstFaults.{first_at, first_in};
-ghost use Rattle.cwl_process.specs.Together.{default_fault, holds_file, inputs_fault, is_file_class, is_of_type, is_stream, items_hold_file, members_hold_file, output_fault, own_step_fault, process_fault, run_fault, step_fault, stdin_fault, tool_fault, workflow_fault};
+ghost use Rattle.cwl_process.specs.Together.{default_fault, inputs_fault, is_of_type, is_stream, is_value, output_fault, own_step_fault, process_fault, run_fault, step_fault, stdin_fault, tool_fault, workflow_fault};
 
 use crate::read_workflow::is_workflow;
 use crate::template_faults::{asked_fault, at_field, step_text_fault, tool_text_fault};
+use cwl_value::{ValueRefusal, from_json};
 use document_table::{Cause, DocumentFault, Kind, entries, here, main_field, under};
-use serde_json::{Map, Value};
+use serde_json::Value;
 use std::alloc::{AllocError, Global};
+use std::mem;
 
 /// What is wrong first with a process that keeps to the table, with so many workflows inside one another
 /// at most.
@@ -252,61 +254,25 @@ fn first_default_fault(
 fn default_fault(alloc: Global, value: &Value) -> Result<Option<DocumentFault>, AllocError>
     ensures { IfOk result (λ fault. fault ≡ default_fault (view value.now)) }
 {
-    let holds = match value.get("default") {
-        None => false,
-        Some(found) => holds_file(found),
+    let Some(found) = value.get("default") else {
+        return Ok(None);
     };
-    if holds {
-        return Ok(Some(under(alloc, "default", here(alloc, Cause::WrongForm))?));
+    if is_value(alloc, found)? {
+        return Ok(None);
     }
-    Ok(None)
+    Ok(Some(under(alloc, "default", here(alloc, Cause::WrongForm))?))
 }
 
-/// Whether a File or Directory is in the value, at any depth.
-#[cycle(files)]
-fn holds_file(value: &Value) -> bool
-    ensures { result ≡ holds_file (view value.now) }
+/// Whether the JSON represents a value.
+fn is_value(alloc: Global, json: &Value) -> Result<bool, AllocError>
+    ensures { IfOk result (λ is. is ≡ is_value (view json.now)) }
 {
-    match value {
-        Value::Array(items) => items_hold_file(items),
-        Value::Object(members) => is_file(value) || members_hold_file(members),
-        Value::Null | Value::Bool(_) | Value::Number(_) | Value::String(_) => false,
-    }
-}
-
-fn is_file(value: &Value) -> bool
-    ensures { result ≡ is_file_class (class_in (view value.now)) }
-{
-    match value.get("class") {
-        None => false,
-        Some(class) => match class.as_str() {
-            None => false,
-            Some(class) => class == "File" || class == "Directory",
-        },
-    }
-}
-
-#[cycle(files)]
-fn items_hold_file(items: &Vec<Value>) -> bool
-    ensures { result ≡ items_hold_file (items_view items.now.items) }
-{
-    for item in items {
-        if holds_file(item) {
-            return true;
+    match from_json(alloc, json) {
+        Ok(value) => {
+            mem::drop(value);
+            Ok(true)
         }
+        Err(ValueRefusal::OutOfMemory) => Err(AllocError),
+        Err(_) => Ok(false),
     }
-    false
-}
-
-#[cycle(files)]
-fn members_hold_file(members: &Map<String, Value>) -> bool
-    ensures { result ≡ members_hold_file (members_view members.now.entries) }
-{
-    for (name, value) in members.iter() {
-        let _ = name;
-        if holds_file(value) {
-            return true;
-        }
-    }
-    false
 }

@@ -16,7 +16,7 @@ use std::alloc::AllocError;
 use std::io::Write;
 use std::process::{ExitCode, Stdio};
 use std::rt::Env;
-use std::{env, io};
+use std::{env, io, mem};
 
 /// The status of a fault, and of a command line that is refused.
 const FAULT: u8 = 3;
@@ -66,7 +66,11 @@ where
     ensures { Tells (map (λ word. string_bytes word) words.now) (O.contents out.old) (O.contents out.new) (E.contents err.old) (E.contents err.new) result }
 {
     match exit_of(rt, words, path) {
-        Ok(exit) => say(&exit, out, err),
+        Ok(exit) => {
+            let status = say(&exit, out, err);
+            mem::drop(exit);
+            status
+        }
         Err(error) => explain(&error, out, err),
     }
 }

@@ -4,7 +4,9 @@ ghost use Rattle.cwl_program.specs.Tells.{Prints};
 ghost use Rattle.cwl_program.specs.Words.{name_of, word_of, refusal_code};
 
 use cwl_value::ValueRefusal;
+use document_links::LinkFault;
 use document_table::Cause;
+use file_values::FileFault;
 use plain_data::Text;
 use plan_checker::Broken;
 use proc_host::HostFault;
@@ -32,11 +34,15 @@ pub enum Exit {
 #[derive(Drop)]
 pub enum Refusal {
     Document(Cause),
+    /// The document can't be put together, or its defaults have no path.
+    Links(LinkFault),
     /// The document is a workflow.
     Workflow,
     /// The document is a tool that is not run so far, or not on such inputs.
     Tool,
     Inputs(ValueRefusal),
+    /// A file of the inputs has no path.
+    Location(FileFault),
     Certificate,
 }
 
@@ -60,9 +66,11 @@ impl Refusal {
     {
         match self {
             Refusal::Document(cause) => cause.code(),
+            Refusal::Links(fault) => fault.code(),
             Refusal::Workflow => Cause::WrongClass.code(),
             Refusal::Tool => Cause::UnknownField.code(),
             Refusal::Inputs(refusal) => refusal.code(),
+            Refusal::Location(fault) => fault.code(),
             Refusal::Certificate => "X1",
         }
     }

@@ -1,5 +1,9 @@
+//! Names of files and folders, as paths and URLs.
+
+use file_values::{FileError, FileFault, path_to_location};
 use plain_data::Text;
 use std::alloc::{AllocError, Global};
+use url::{ParseError, Url};
 
 /// A name as a path from the root: joined to the folder `here` where it does not begin with `/`, without empty
 /// components and components `.`.
@@ -20,4 +24,15 @@ fn add_components(path: &mut String, name: &str) -> Result<(), AllocError> {
         }
     }
     Ok(())
+}
+
+/// The URL of a file of this name, on which the locations in it are.
+pub fn base_of(alloc: Global, here: &str, name: &str) -> Result<Url, FileError> {
+    let path = from_root(alloc, here, name)?;
+    let location = path_to_location(alloc, path.as_str())?;
+    match Url::parse(alloc, location.as_str()) {
+        Ok(url) => Ok(url),
+        Err(ParseError::OutOfMemory) => Err(FileError::OutOfMemory),
+        Err(_) => Err(FileError::Refused(FileFault::NotAFileUrl)),
+    }
 }

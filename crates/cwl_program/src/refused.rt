@@ -3,10 +3,10 @@ ghost use Rattle.std.specs.Prelude.{IfOk};
 ghost use Rattle.cwl_program.specs.Runs.{IsRunExit};
 
 use crate::exit::{Exit, Refusal};
-use cwl_process::Process;
 use cwl_value::ValueRefusal;
+use document_links::LinkError;
 use document_table::DocumentError;
-use run_core::is_run_tool;
+use file_values::FileError;
 use std::alloc::AllocError;
 
 /// How a document ends the program that is not read.
@@ -20,11 +20,25 @@ pub fn refused_document(error: DocumentError) -> Result<Exit, AllocError>
     }
 }
 
-/// Why a process that was read is not run, whatever its inputs are.
-pub fn not_run(process: &Process) -> Option<Refusal> {
-    match process {
-        Process::Workflow(_) => Some(Refusal::Workflow),
-        Process::Tool(tool) => (!is_run_tool(tool)).then_some(Refusal::Tool),
+/// How a tool's document ends the program whose defaults are not read on its URL.
+#[tactic(auto, using(crate::specs::Runs::refused))]
+pub fn refused_links(error: LinkError) -> Result<Exit, AllocError>
+    ensures { IfOk result IsRunExit }
+{
+    match error {
+        LinkError::OutOfMemory => Err(AllocError),
+        LinkError::Refused(fault) => Ok(Exit::Refused(Refusal::Links(fault))),
+    }
+}
+
+/// How inputs end the program whose files have no path.
+#[tactic(auto, using(crate::specs::Runs::refused))]
+pub fn refused_location(error: FileError) -> Result<Exit, AllocError>
+    ensures { IfOk result IsRunExit }
+{
+    match error {
+        FileError::OutOfMemory => Err(AllocError),
+        FileError::Refused(fault) => Ok(Exit::Refused(Refusal::Location(fault))),
     }
 }
 

@@ -1,16 +1,18 @@
 //! A run of the user's own tool, over real processes and files.
-ghost use Rattle.std.specs.Prelude.{IfOk};
+ghost use Rattle.std.specs.Prelude.{◌≡◌, [], IfOk};
 ghost use Rattle.run_core.specs.Limits.{IsWithinLimits};
 ghost use Rattle.run_rules.specs.RunsToday.{RunsToday};
 ghost use Rattle.cwl_program.specs.Runs.{IsRunExit};
 
 use crate::exit::{Exit, Fault, Refusal};
-use crate::paths::from_root;
-use crate::refused::{not_run, refused_document, refused_inputs};
+use crate::paths::{base_of, from_root};
+use crate::refused::{refused_document, refused_inputs, refused_links, refused_location};
 use crate::report::exit_of_run;
 use crate::run_words::RunWords;
 use cwl_process::{Process, read_unlinked};
 use cwl_value::{Value, read_value};
+use document_links::{Docs, Process as LinkedProcess, read_process};
+use file_values::{FileError, resolve};
 use plain_data::{Keyed, Text};
 use process_machine::{Machine, World};
 use run_core::{Options, runs_today};
@@ -18,16 +20,33 @@ use std::alloc::{AllocError, Global};
 use std::process::Stdio;
 use std::rt::Env;
 use std::{env, fs, io, mem};
+use url::Url;
 use workflow_engine::run;
 
 /// The input object where no file is given.
 const NO_INPUTS: &[u8] = b"{}";
+
+/// What the program was called with: the folder that it is in, the words of `run`, and `PATH`.
+#[derive(Drop)]
+struct Call<'a> {
+    here: &'a str,
+    words: &'a RunWords<'a>,
+    path: &'a str,
+}
 
 /// Where a run has its folders.
 #[derive(Drop)]
 struct Places {
     work: Text,
     outdir: Text,
+}
+
+impl Places {
+    fn clone_in(&self, alloc: Global) -> Result<Places, AllocError> {
+        let work = self.work.copied(alloc)?;
+        let outdir = self.outdir.copied(alloc)?;
+        Ok(Places { work, outdir })
+    }
 }
 
 /// Runs the tool of a document on an input object, in a work folder that is made for it and removed again.
@@ -40,8 +59,33 @@ where
     R::File: Into<Stdio>,
     ensures { IfOk result IsRunExit }
 {
-    match fs::read(rt, words.document) {
-        Ok(bytes) => on_document(rt, bytes.as_slice(), words, path),
+    match here_of(rt) {
+        Ok(here) => {
+            let call = Call {
+                here: here.as_str(),
+                words,
+                path,
+            };
+            let exit = exit_of_call(rt, &call);
+            mem::drop(here);
+            exit
+        }
+        Err(error) => unread(&error),
+    }
+}
+
+fn here_of<R: World + Env>(rt: &R) -> io::Result<String> {
+    let here = env::current_dir(rt)?;
+    Ok(String::from_str(rt.alloc(), here.as_path().as_str())?)
+}
+
+fn exit_of_call<R: World>(rt: &R, call: &Call<'_>) -> Result<Exit, AllocError>
+where
+    R::File: Into<Stdio>,
+    ensures { IfOk result IsRunExit }
+{
+    match fs::read(rt, call.words.document) {
+        Ok(bytes) => on_document(rt, bytes.as_slice(), call),
         Err(error) => unread(&error),
     }
 }
@@ -57,39 +101,72 @@ fn unread(error: &io::Error) -> Result<Exit, AllocError>
     }
 }
 
-fn on_document<R: World + Env>(
-    rt: &R,
-    document: &[u8],
-    words: &RunWords,
-    path: &str,
-) -> Result<Exit, AllocError>
+#[tactic(auto, using(crate::specs::Runs::refused))]
+fn on_document<R: World>(rt: &R, document: &[u8], call: &Call<'_>) -> Result<Exit, AllocError>
 where
     R::File: Into<Stdio>,
     ensures { IfOk result IsRunExit }
 {
     match read_unlinked(rt.alloc(), document) {
-        Ok(process) => on_process(rt, process, words, path),
+        Ok(Process::Workflow(workflow)) => {
+            mem::drop(workflow);
+            Ok(Exit::Refused(Refusal::Workflow))
+        }
+        Ok(tool) => {
+            mem::drop(tool);
+            on_tool(rt, document, call)
+        }
         Err(error) => refused_document(error),
     }
 }
 
+fn on_tool<R: World>(rt: &R, document: &[u8], call: &Call<'_>) -> Result<Exit, AllocError>
+where
+    R::File: Into<Stdio>,
+    ensures { IfOk result IsRunExit }
+{
+    match base_of(rt.alloc(), call.here, call.words.document) {
+        Ok(base) => {
+            let exit = on_base(rt, document, &base, call);
+            mem::drop(base);
+            exit
+        }
+        Err(error) => refused_location(error),
+    }
+}
+
+/// Reads a tool's document again, with its defaults on the document's own URL.
 #[tactic(auto, using(crate::specs::Runs::refused))]
-fn on_process<R: World + Env>(
+fn on_base<R: World>(
     rt: &R,
-    process: Process,
-    words: &RunWords,
-    path: &str,
+    document: &[u8],
+    base: &Url,
+    call: &Call<'_>,
 ) -> Result<Exit, AllocError>
 where
     R::File: Into<Stdio>,
     ensures { IfOk result IsRunExit }
 {
-    if let Some(refusal) = not_run(&process) {
-        mem::drop(process);
-        return Ok(Exit::Refused(refusal));
+    let docs = Docs::new(rt.alloc());
+    let linked = read_process(rt.alloc(), document, base, &docs);
+    mem::drop(docs);
+    match linked {
+        Ok(LinkedProcess::Tool(tool)) => on_process(rt, Process::Tool(tool), call),
+        Ok(workflow) => {
+            mem::drop(workflow);
+            Ok(Exit::Refused(Refusal::Workflow))
+        }
+        Err(error) => refused_links(error),
     }
-    match inputs_of(rt, words) {
-        Ok(bytes) => on_inputs(rt, process, bytes.as_slice(), words, path),
+}
+
+fn on_process<R: World>(rt: &R, process: Process, call: &Call<'_>) -> Result<Exit, AllocError>
+where
+    R::File: Into<Stdio>,
+    ensures { IfOk result IsRunExit }
+{
+    match inputs_of(rt, call.words) {
+        Ok(bytes) => on_inputs(rt, process, bytes.as_slice(), call),
         Err(error) => {
             mem::drop(process);
             unread(&error)
@@ -104,19 +181,18 @@ fn inputs_of<R: World>(rt: &R, words: &RunWords) -> io::Result<Vec<u8>> {
     }
 }
 
-fn on_inputs<R: World + Env>(
+fn on_inputs<R: World>(
     rt: &R,
     process: Process,
     inputs: &[u8],
-    words: &RunWords,
-    path: &str,
+    call: &Call<'_>,
 ) -> Result<Exit, AllocError>
 where
     R::File: Into<Stdio>,
     ensures { IfOk result IsRunExit }
 {
     match read_value(rt.alloc(), inputs) {
-        Ok(value) => on_value(rt, process, value, words, path),
+        Ok(value) => on_value(rt, process, value, call),
         Err(refusal) => {
             mem::drop(process);
             refused_inputs(refusal)
@@ -125,41 +201,59 @@ where
 }
 
 #[tactic(auto, using(crate::specs::Runs::no_object))]
-fn on_value<R: World + Env>(
+fn on_value<R: World>(
     rt: &R,
     process: Process,
     value: Value,
-    words: &RunWords,
-    path: &str,
+    call: &Call<'_>,
 ) -> Result<Exit, AllocError>
 where
     R::File: Into<Stdio>,
     ensures { IfOk result IsRunExit }
 {
-    match value {
-        Value::Fields(inputs) => on_object(rt, process, inputs, words, path),
-        other => {
+    match located(rt.alloc(), value, call) {
+        Ok(Value::Fields(inputs)) => on_object(rt, process, inputs, call),
+        Ok(other) => {
             mem::drop(other);
             mem::drop(process);
             Ok(Exit::Fault(Fault::Input))
+        }
+        Err(error) => {
+            mem::drop(process);
+            refused_location(error)
+        }
+    }
+}
+
+/// The input object with its files at paths, on the URL of its own file.
+fn located(alloc: Global, value: Value, call: &Call<'_>) -> Result<Value, FileError> {
+    let name = call.words.inputs.unwrap_or(call.words.document);
+    match base_of(alloc, call.here, name) {
+        Ok(base) => {
+            let located = resolve(alloc, value, &base);
+            mem::drop(base);
+            located
+        }
+        Err(error) => {
+            mem::drop(value);
+            Err(error)
         }
     }
 }
 
 #[tactic(auto, using(crate::specs::Runs::refused))]
-fn on_object<R: World + Env>(
+fn on_object<R: World>(
     rt: &R,
     process: Process,
     inputs: Keyed<Value>,
-    words: &RunWords,
-    path: &str,
+    call: &Call<'_>,
 ) -> Result<Exit, AllocError>
 where
     R::File: Into<Stdio>,
     ensures { IfOk result IsRunExit }
 {
     if runs_today(&process, &inputs) {
-        return in_places(rt, process, inputs, words, path);
+        return in_places(rt, process, inputs, call);
     }
     mem::drop(process);
     mem::drop(inputs);
@@ -168,11 +262,50 @@ where
 
 /// Makes the work folder, runs, and removes the folder where that is possible.
 #[tactic(auto, using(crate::specs::Runs::no_work))]
-fn in_places<R: World + Env>(
+fn in_places<R: World>(
     rt: &R,
     process: Process,
     inputs: Keyed<Value>,
-    words: &RunWords,
+    call: &Call<'_>,
+) -> Result<Exit, AllocError>
+where
+    R::File: Into<Stdio>,
+    requires { RunsToday process inputs }
+    ensures { IfOk result IsRunExit }
+{
+    match places_of(rt, call) {
+        Ok(places) => {
+            let exit = in_work(rt, process, inputs, &places, call.path);
+            let _removed = fs::remove_dir_all(rt, places.work.as_str());
+            mem::drop(places);
+            exit
+        }
+        Err(_) => {
+            mem::drop(process);
+            mem::drop(inputs);
+            Ok(Exit::Fault(Fault::Work))
+        }
+    }
+}
+
+/// The folders from the root; the work folder is made.
+fn places_of<R: World>(rt: &R, call: &Call<'_>) -> io::Result<Places> {
+    let places = places_from(rt.alloc(), call)?;
+    fs::create_dir(rt, places.work.as_str())?;
+    Ok(places)
+}
+
+fn places_from(alloc: Global, call: &Call<'_>) -> Result<Places, AllocError> {
+    let work = from_root(alloc, call.here, call.words.work)?;
+    let outdir = from_root(alloc, call.here, call.words.outdir)?;
+    Ok(Places { work, outdir })
+}
+
+fn in_work<R: World>(
+    rt: &R,
+    process: Process,
+    inputs: Keyed<Value>,
+    places: &Places,
     path: &str,
 ) -> Result<Exit, AllocError>
 where
@@ -180,26 +313,14 @@ where
     requires { RunsToday process inputs }
     ensures { IfOk result IsRunExit }
 {
-    let Ok(places) = places_of(rt, words) else {
-        mem::drop(process);
-        mem::drop(inputs);
-        return Ok(Exit::Fault(Fault::Work));
-    };
-    let options = options_of(rt.alloc(), &places, path)?;
-    let folder = options.work.copied(rt.alloc())?;
-    let exit = ended(rt, process, inputs, options, places);
-    let _removed = fs::remove_dir_all(rt, folder.as_str());
-    exit
-}
-
-/// The folders from the root; the work folder is made.
-fn places_of<R: World + Env>(rt: &R, words: &RunWords) -> io::Result<Places> {
-    let here = env::current_dir(rt)?;
-    let here = here.as_path().as_str();
-    let work = from_root(rt.alloc(), here, words.work)?;
-    let outdir = from_root(rt.alloc(), here, words.outdir)?;
-    fs::create_dir(rt, work.as_str())?;
-    Ok(Places { work, outdir })
+    match options_of(rt.alloc(), places, path) {
+        Ok(options) => with_options(rt, process, inputs, options, places),
+        Err(error) => {
+            mem::drop(process);
+            mem::drop(inputs);
+            Err(error)
+        }
+    }
 }
 
 fn options_of(alloc: Global, places: &Places, path: &str) -> Result<Options, AllocError>
@@ -217,12 +338,12 @@ fn options_of(alloc: Global, places: &Places, path: &str) -> Result<Options, All
     })
 }
 
-fn ended<R: World>(
+fn with_options<R: World>(
     rt: &R,
     process: Process,
     inputs: Keyed<Value>,
     options: Options,
-    places: Places,
+    places: &Places,
 ) -> Result<Exit, AllocError>
 where
     R::File: Into<Stdio>,
@@ -230,10 +351,47 @@ where
     requires limits { IsWithinLimits options }
     ensures { IfOk result IsRunExit }
 {
+    match machine_of(rt, places) {
+        Ok(host) => ended(rt.alloc(), host, process, inputs, options),
+        Err(error) => {
+            mem::drop(process);
+            mem::drop(inputs);
+            mem::drop(options);
+            Err(error)
+        }
+    }
+}
+
+fn machine_of<R: World>(rt: &R, places: &Places) -> Result<Machine<R>, AllocError>
+    ensures { IfOk result (λ host. host.running ≡ []) }
+{
+    let places = places.clone_in(rt.alloc())?;
+    Ok(machine_at(rt.clone()?, places))
+}
+
+fn machine_at<R: World>(rt: R, places: Places) -> Machine<R>
+    ensures { result.running ≡ [] }
+{
     let Places { work, outdir } = places;
-    let mut host = Machine::new(rt.clone()?, work, outdir);
-    let report = run(rt.alloc(), &mut host, process, inputs, options);
-    let exit = exit_of_run(rt.alloc(), &report);
+    Machine::new(rt, work, outdir)
+}
+
+fn ended<R: World>(
+    alloc: Global,
+    mut host: Machine<R>,
+    process: Process,
+    inputs: Keyed<Value>,
+    options: Options,
+) -> Result<Exit, AllocError>
+where
+    R::File: Into<Stdio>,
+    requires idle { host.running ≡ [] }
+    requires runs { RunsToday process inputs }
+    requires limits { IsWithinLimits options }
+    ensures { IfOk result IsRunExit }
+{
+    let report = run(alloc, &mut host, process, inputs, options);
+    let exit = exit_of_run(alloc, &report);
     mem::drop(report);
     mem::drop(host);
     exit

@@ -1,37 +1,45 @@
 -- What the bounds say of one process.
-use Rattle.std.proofs.Common.{◌≡◌, ◌≢◌, ℕ, zero, suc, ◌-◌, true, false, Option, Some, None, Ok, Err, refl, sym, ap, ◌∙◌, arith}
+use Rattle.std.proofs.Common.{◌≡◌, ◌≢◌, ℕ, zero, suc, ◌-◌, true, false, Option, Some, None, Err, refl, sym, ap, subst, ◌∙◌, arith, ◌<◌, List, ◌∷◌, length, drop, get_or, map, Bor}
 use Rattle.std.specs.Prelude.{if◌then◌else◌}
 use Rattle.std.specs.Option.{option_map_or}
+use Rattle.std.proofs.Math.Seq.{drop-cons}
 use Rattle.serde_json.specs.Data.{Data}
+use Rattle.serde_json.specs.declared.value.Value.{Value}
+use Rattle.document_table.specs.Entries.{entry_seen}
 use Rattle.cwl_process.specs.Processes.{is_workflow}
 use Rattle.url.specs.Parts.{Parts}
-use Rattle.document_links.specs.Bounds.{Left, left, process_left, workflow_left}
+use Rattle.document_links.specs.Bounds.{left, process_left, step_left, steps_left, tool_left, workflow_left}
 use Rattle.document_links.specs.Library.{Finds}
 use Rattle.document_links.specs.declared.fault.LinkFault.TheVariants.{TooDeep, TooMany}
+use Rattle.document_links.specs.declared.walk.WalkFault.TheVariants.{Other}
+use Rattle.document_links.specs.declared.walk.WalkError.{WalkError}
+use Rattle.document_links.specs.Refused.{IsWalkErrorOf}
+use Rattle.document_links.specs.Walks.{Left, within}
+use Rattle.document_links.proofs.Results.{stopped}
 
 before : (n : ℕ) → n ≡ suc n - 1
 before n = omega arith
 
-pub no_room : (find : Finds) (levels : ℕ) (base : Parts) (d : Data) → left find levels 0 base d ≡ Err TooMany
+pub no_room : (find : Finds) (levels : ℕ) (base : Parts) (d : Data) → left find levels 0 base d ≡ Err (Other TooMany)
 unfolding left
 no_room find zero base d = refl
 no_room find (suc levels) base d = refl
 
-tool_left : (inner : Option (ℕ → Parts → Data → Left)) (find : Finds) (room : ℕ) (base : Parts) (d : Data) → room ≢ 0 → is_workflow d ≡ false
-    → process_left inner find room base d ≡ Ok (room - 1)
-tool_left inner find zero base d some is = absurd (some refl)
-tool_left inner find (suc room) base d some is =
-    ap (λ t. if t then option_map_or (λ f. workflow_left f find room base d) inner (Err TooDeep) else Ok room) is ∙ ap Ok (before room)
+one_tool : (inner : Option (ℕ → Parts → Data → Left)) (find : Finds) (room : ℕ) (base : Parts) (d : Data) → room ≢ 0 → is_workflow d ≡ false
+    → process_left inner find room base d ≡ tool_left (room - 1) base d
+one_tool inner find zero base d some is = absurd (some refl)
+one_tool inner find (suc room) base d some is =
+    ap (λ t. if t then option_map_or (λ f. workflow_left f find room base d) inner (Err (Other TooDeep)) else tool_left room base d) is ∙ ap (λ n. tool_left n base d) (before room)
 
-pub left_tool : (find : Finds) (levels room : ℕ) (base : Parts) (d : Data) → room ≢ 0 → is_workflow d ≡ false → left find levels room base d ≡ Ok (room - 1)
+pub left_tool : (find : Finds) (levels room : ℕ) (base : Parts) (d : Data) → room ≢ 0 → is_workflow d ≡ false → left find levels room base d ≡ tool_left (room - 1) base d
 unfolding left
-left_tool find zero room base d some is = tool_left None find room base d some is
-left_tool find (suc levels) room base d some is = tool_left (Some (left find levels)) find room base d some is
+left_tool find zero room base d some is = one_tool None find room base d some is
+left_tool find (suc levels) room base d some is = one_tool (Some (left find levels)) find room base d some is
 
-pub left_deep : (find : Finds) (room : ℕ) (base : Parts) (d : Data) → room ≢ 0 → is_workflow d ≡ true → left find zero room base d ≡ Err TooDeep
+pub left_deep : (find : Finds) (room : ℕ) (base : Parts) (d : Data) → room ≢ 0 → is_workflow d ≡ true → left find zero room base d ≡ Err (Other TooDeep)
 unfolding left
 left_deep find zero base d some is = absurd (some refl)
-left_deep find (suc room) base d some is = ap (λ t. if t then Err TooDeep else Ok room) is
+left_deep find (suc room) base d some is = ap (λ t. if t then Err (Other TooDeep) else tool_left room base d) is
 
 pub left_workflow : (find : Finds) (levels room : ℕ) (base : Parts) (d : Data) → levels ≢ 0 → room ≢ 0 → is_workflow d ≡ true
     → left find levels room base d ≡ workflow_left (left find (levels - 1)) find (room - 1) base d
@@ -39,6 +47,15 @@ unfolding left
 left_workflow find zero room base d deep some is = absurd (deep refl)
 left_workflow find (suc levels) zero base d deep some is = absurd (some refl)
 left_workflow find (suc levels) (suc room) base d deep some is =
-    ap (λ t. if t then workflow_left (left find levels) find room base d else Ok room) is
+    ap (λ t. if t then workflow_left (left find levels) find room base d else tool_left room base d) is
     ∙ ap (λ k. workflow_left (left find k) find room base d) (before levels)
     ∙ ap (λ k. workflow_left (left find (suc levels - 1)) find k base d) (before room)
+
+-- A step that ends the walk ends that over the steps.
+pub steps_stop : (inner : ℕ → Parts → Data → Left) (find : Finds) (still room : ℕ) (base : Parts) (all : List (Bor (List ℕ) × Bor Value)) (i : ℕ) (e : Bor (List ℕ) × Bor Value) (error : WalkError)
+    → i < length all → e ≡ get_or all i e → steps_left inner find still base (map entry_seen (drop i all)) ≡ steps_left inner find room base (map entry_seen all)
+    → IsWalkErrorOf (within (entry_seen e).0 (step_left inner find still base (entry_seen e).1)) error → IsWalkErrorOf (steps_left inner find room base (map entry_seen all)) error
+steps_stop inner find still room base all i e error inside at same stop =
+    subst (λ left. IsWalkErrorOf left error) same
+    (subst (λ es. IsWalkErrorOf (steps_left inner find still base (map entry_seen es)) error) (sym (drop-cons all i e inside ∙ ap (λ x. x ∷ drop (suc i) all) (sym at)))
+    (stopped _ (λ n. steps_left inner find n base (map entry_seen (drop (suc i) all))) error stop))

@@ -1,48 +1,48 @@
 -- What was made of documents so far: each beside what it reads as.
-use Rattle.std.proofs.Common.{◌≡◌, ℕ, suc, ◌+◌, ◌<◌, List, [], ◌∷◌, ◌++◌, length, take, get_or, Bool, true, false, Option, Some, None, refl, sym, ap, subst, ◌∙◌, bytes_eq, add-one, cond, MatchOption}
+use Rattle.std.proofs.Common.{◌≡◌, ℕ, ◌+◌, ◌<◌, List, [], ◌∷◌, ◌++◌, length, take, get_or, Bool, true, false, Option, Some, None, refl, sym, ap, subst, ◌∙◌, bytes_eq, add-one, cond, MatchOption}
 use Rattle.std.specs.Prelude.{option_map, ⊤}
 use Rattle.std.specs.Map.{keys_of}
 use Rattle.std.proofs.Math.Seq.{take-length, take-suc}
 use Rattle.std.proofs.lemmas.Option.{none-some, same_Some}
 use Rattle.std.specs.List.Sorted.{IsStrictlySortedBy}
 use Rattle.plain_data.specs.ByName.{IsByName, name_cmp, value_at}
-use Rattle.document_links.specs.Library.{Documents, Finds, Found, IsLookUp, IsReadAs, Library, finds_in, seen}
+use Rattle.document_links.specs.Library.{Documents, Found, IsReadAs, Readings, finds_among, seen}
 use Rattle.document_links.specs.declared.library.Reading.{Reading}
-use Rattle.document_links.specs.inner.Sound.{AllProcesses, IsSoundReading}
+use Rattle.document_links.specs.inner.Sound.{AllSound, IsSoundReading}
 
 abbrev pub IsMade : List ℕ × List ℕ → List ℕ × Reading → Type 0
 IsMade e m = (m.0 ≡ e.0) × IsReadAs e.1 (seen m.1) × IsSoundReading m.1
 
-abbrev pub AreMade : Documents → Library → Type 0
+abbrev pub AreMade : Documents → Readings → Type 0
 AreMade [] [] = ⊤
 AreMade [] (m ∷ ms) = ⊥
 AreMade (e ∷ es) [] = ⊥
 AreMade (e ∷ es) (m ∷ ms) = IsMade e m × AreMade es ms
 
-snoc : (es : Documents) (ms : Library) (e : List ℕ × List ℕ) (m : List ℕ × Reading) → AreMade es ms → IsMade e m → AreMade (es ++ e ∷ []) (ms ++ m ∷ [])
+snoc : (es : Documents) (ms : Readings) (e : List ℕ × List ℕ) (m : List ℕ × Reading) → AreMade es ms → IsMade e m → AreMade (es ++ e ∷ []) (ms ++ m ∷ [])
 snoc [] [] e m all one = (one, tt)
 snoc [] (x ∷ ms) e m all one = absurd all
 snoc (x ∷ es) [] e m all one = absurd all
 snoc (x ∷ es) (y ∷ ms) e m all one = (all.0, snoc es ms e m all.1 one)
 
 -- one more
-pub made_next : (es : Documents) (ms : Library) (i : ℕ) (e : List ℕ × List ℕ) (m : List ℕ × Reading) → AreMade (take i es) ms → i < length es → e ≡ get_or es i e → IsMade e m
+pub made_next : (es : Documents) (ms : Readings) (i : ℕ) (e : List ℕ × List ℕ) (m : List ℕ × Reading) → AreMade (take i es) ms → i < length es → e ≡ get_or es i e → IsMade e m
     → AreMade (take (i + 1) es) (ms ++ m ∷ [])
 made_next es ms i e m all within at one =
     subst (λ front. AreMade front (ms ++ m ∷ []))
     (sym (ap (λ n. take n es) (add-one i) ∙ take-suc es i e within ∙ ap (λ x. take i es ++ x ∷ []) (sym at)))
     (snoc (take i es) ms e m all one)
 
-same_names : (es : Documents) (ms : Library) → AreMade es ms → keys_of es ≡ keys_of ms
+same_names : (es : Documents) (ms : Readings) → AreMade es ms → keys_of es ≡ keys_of ms
 same_names [] [] all = refl
 same_names [] (m ∷ ms) all = absurd all
 same_names (e ∷ es) [] all = absurd all
 same_names (e ∷ es) (m ∷ ms) all = ap (λ name. name ∷ keys_of es) (sym all.0.0) ∙ ap (λ names. m.0 ∷ names) (same_names es ms all.1)
 
-pub all_made : (es : Documents) (ms : Library) (i : ℕ) → i ≡ length es → AreMade (take i es) ms → AreMade es ms
+pub all_made : (es : Documents) (ms : Readings) (i : ℕ) → i ≡ length es → AreMade (take i es) ms → AreMade es ms
 all_made es ms i is all = subst (λ front. AreMade front ms) (ap (λ n. take n es) is ∙ take-length es) all
 
-pub by_name : (es : Documents) (ms : Library) → AreMade es ms → IsByName es → IsByName ms
+pub by_name : (es : Documents) (ms : Readings) → AreMade es ms → IsByName es → IsByName ms
 by_name es ms all sorted = subst (λ names. IsStrictlySortedBy name_cmp names) (same_names es ms all) sorted
 
 abbrev Finds_one : Option (List ℕ) → Option Found → Type 0
@@ -53,7 +53,7 @@ one_found : (e : List ℕ × List ℕ) (m : List ℕ × Reading) (o : Option (Li
 one_found e m o r true made later = (seen m.1, refl, made.1)
 one_found e m o r false made later = later
 
-pub found_in : (es : Documents) (ms : Library) → AreMade es ms → (url : List ℕ) → Finds_one (value_at url es) (finds_in ms url)
+pub found_in : (es : Documents) (ms : Readings) → AreMade es ms → (url : List ℕ) → Finds_one (value_at url es) (finds_among ms url)
 found_in [] [] all url = refl
 found_in [] (m ∷ ms) all url = absurd all
 found_in (e ∷ es) [] all url = absurd all
@@ -66,7 +66,7 @@ one_sound : (m : List ℕ × Reading) (r : Option Reading) (test : Bool) (readin
 one_sound m r true reading own later is = subst IsSoundReading (same_Some m.1 reading is) own
 one_sound m r false reading own later is = later is
 
-pub all_sound : (es : Documents) (ms : Library) → AreMade es ms → AllProcesses ms
+pub all_sound : (es : Documents) (ms : Readings) → AreMade es ms → AllSound ms
 all_sound [] [] all url reading is = absurd (none-some reading is)
 all_sound [] (m ∷ ms) all url reading is = absurd all
 all_sound (e ∷ es) [] all url reading is = absurd all

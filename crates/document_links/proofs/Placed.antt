@@ -1,5 +1,5 @@
 -- What one process is, with others in the place of their names.
-use Rattle.std.proofs.Common.{◌≡◌, ◌≢◌, ℕ, zero, suc, ◌-◌, true, false, Option, Some, None, refl, sym, ap, ◌∙◌, arith, List, map}
+use Rattle.std.proofs.Common.{◌≡◌, ◌≢◌, ℕ, zero, suc, ◌-◌, true, false, Option, Some, None, refl, ap, ◌∙◌, arith, List, map}
 use Rattle.std.specs.Prelude.{if◌then◌else◌}
 use Rattle.std.specs.Option.{option_map_or}
 use Rattle.serde_json.specs.Data.{Data}
@@ -7,6 +7,7 @@ use Rattle.cwl_process.specs.Processes.{is_workflow}
 use Rattle.cwl_process.specs.Tools.{tool_in}
 use Rattle.cwl_process.specs.declared.tool.Asked.{Asked}
 use Rattle.url.specs.Parts.{Parts}
+use Rattle.document_links.specs.Defaults.{tool_on}
 use Rattle.document_links.specs.Library.{Finds}
 use Rattle.document_links.specs.Linked.{linked, nothing, process_in, workflow_in}
 use Rattle.document_links.specs.declared.process.Process.{Process}
@@ -17,26 +18,26 @@ before : (n : ℕ) → n ≡ suc n - 1
 before n = omega arith
 
 tool_placed : (inner : Option (Parts → Asked → Data → Process)) (find : Finds) (base : Parts) (around : Asked) (d : Data) → is_workflow d ≡ false
-    → process_in inner find base around d ≡ process.Tool (tool_in around d)
+    → process_in inner find base around d ≡ process.Tool (tool_on base (tool_in around d))
 tool_placed inner find base around d is =
-    ap (λ t. if t then option_map_or (λ f. process.Workflow (workflow_in f find base around d)) inner (nothing around) else process.Tool (tool_in around d)) is
+    ap (λ t. if t then option_map_or (λ f. process.Workflow (workflow_in f find base around d)) inner (nothing around) else process.Tool (tool_on base (tool_in around d))) is
 
 pub linked_tool : (find : Finds) (levels : ℕ) (base : Parts) (around : Asked) (d : Data) → is_workflow d ≡ false
-    → linked find levels base around d ≡ process.Tool (tool_in around d)
+    → linked find levels base around d ≡ process.Tool (tool_on base (tool_in around d))
 unfolding linked
 linked_tool find zero base around d is = tool_placed None find base around d is
 linked_tool find (suc levels) base around d is = tool_placed (Some (linked find levels)) find base around d is
 
 pub linked_deep : (find : Finds) (base : Parts) (around : Asked) (d : Data) → is_workflow d ≡ true → linked find zero base around d ≡ nothing around
 unfolding linked
-linked_deep find base around d is = ap (λ t. if t then nothing around else process.Tool (tool_in around d)) is
+linked_deep find base around d is = ap (λ t. if t then nothing around else process.Tool (tool_on base (tool_in around d))) is
 
 pub linked_workflow : (find : Finds) (levels : ℕ) (base : Parts) (around : Asked) (d : Data) → levels ≢ 0 → is_workflow d ≡ true
     → linked find levels base around d ≡ process.Workflow (workflow_in (linked find (levels - 1)) find base around d)
 unfolding linked
 linked_workflow find zero base around d deep is = absurd (deep refl)
 linked_workflow find (suc levels) base around d deep is =
-    ap (λ t. if t then process.Workflow (workflow_in (linked find levels) find base around d) else process.Tool (tool_in around d)) is
+    ap (λ t. if t then process.Workflow (workflow_in (linked find levels) find base around d) else process.Tool (tool_on base (tool_in around d))) is
     ∙ ap (λ k. process.Workflow (workflow_in (linked find k) find base around d)) (before levels)
 
 -- each entry with the step that f makes of it

@@ -1,9 +1,12 @@
 pub mod Bounds
 pub mod Codes
+pub mod Defaults
 pub mod Documents
 pub mod Library
 pub mod Linked
+pub mod Names
 pub mod Refused
 pub mod Targets
 pub mod Urls
+pub mod Walks
 pub mod inner

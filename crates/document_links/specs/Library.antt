@@ -6,6 +6,8 @@ use Rattle.serde_json.specs.View.{view}
 use Rattle.document_table.specs.declared.fault.DocumentError.TheVariants as error
 use Rattle.document_table.specs.declared.fault.DocumentFault.{DocumentFault}
 use Rattle.cwl_process.specs.Documents.{IsRefused, IsSound}
+use Rattle.document_links.specs.declared.library.Library.{Library}
+use Rattle.document_links.specs.declared.library.Library.TheVariants.{Any, Read}
 use Rattle.document_links.specs.declared.library.Reading.{Reading}
 use Rattle.document_links.specs.declared.library.Reading.TheVariants.{Sound, Wrong}
 
@@ -31,15 +33,19 @@ IsLookUp docs find = (url : List ℕ) → MatchOption (value_at url docs) (find 
 
 -- ---- as the code has it
 
-abbrev pub Library : Type 0
-Library = List (List ℕ × Reading)
+abbrev pub Readings : Type 0
+Readings = List (List ℕ × Reading)
 
 abbrev pub seen : Reading → Found
 seen (Sound v) = Ok (view v)
 seen (Wrong fault) = Err fault
 
-abbrev pub finds_in : Library → Finds
-finds_in library url = option_map seen (value_at url library)
+abbrev pub finds_among : Readings → Finds
+finds_among readings url = option_map seen (value_at url readings)
 
-abbrev pub AreReadAs : Documents → Library → Type 0
-AreReadAs docs library = IsLookUp docs (finds_in library)
+abbrev pub AreReadAs : Documents → Readings → Type 0
+AreReadAs docs readings = IsLookUp docs (finds_among readings)
+
+abbrev pub finds_in : Library → Finds
+finds_in (Read readings) = finds_among readings
+finds_in (Any v) = λ url. Some (Ok (view v))

@@ -1,7 +1,7 @@
 -- The process of a document, with the processes of other documents in the place of their names (CWL v1.2, Workflow Description, "WorkflowStep",
--- `run`; Command Line Tool Description, "Requirements and hints": what is asked is inherited). Where documents have a fault this says
--- something that means nothing.
-use Rattle.std.specs.Prelude.{ℕ, zero, suc, List, Option, Some, None, Result, Ok, Err, if◌then◌else◌, codes}
+-- `run`; Command Line Tool Description, "Requirements and hints": what is asked is inherited), and with
+-- the Files and Directories of defaults at paths. Where documents have a fault this says something that means nothing.
+use Rattle.std.specs.Prelude.{ℕ, zero, suc, Option, Some, None, Ok, Err, if◌then◌else◌, codes}
 use Rattle.std.specs.Option.{option_map_or}
 use Rattle.serde_json.specs.Data.{Data, null}
 use Rattle.serde_json.specs.Find.{as_str, get}
@@ -14,6 +14,7 @@ use Rattle.cwl_process.specs.Workflows.{step_parts_in}
 use Rattle.cwl_process.specs.declared.parts.StepParts.{StepParts}
 use Rattle.cwl_process.specs.declared.tool.Asked.{Asked}
 use Rattle.url.specs.Parts.{Parts}
+use Rattle.document_links.specs.Defaults.{each_on, step_input_on, tool_on, workflow_input_on}
 use Rattle.document_links.specs.Library.{Finds}
 use Rattle.document_links.specs.Targets.{Target, target}
 use Rattle.document_links.specs.declared.process.Process.{Process}
@@ -36,9 +37,9 @@ run_in inner find base asked d = option_map_or (λ name. at_target (target find 
 abbrev pub run_at : (Parts → Asked → Data → Process) → Finds → Parts → Asked → Data → Process
 run_at inner find base asked d = option_map_or (run_in inner find base asked) (get (codes "run") d) (nothing asked)
 
-abbrev pub step_of : Process → StepParts → Step
-step_of process parts = roll-Step (record {
-  inputs = parts.inputs;
+abbrev pub step_of : Parts → Process → StepParts → Step
+step_of base process parts = roll-Step (record {
+  inputs = each_on step_input_on base parts.inputs;
   outputs = parts.outputs;
   process = process;
   scatter = parts.scatter;
@@ -47,13 +48,13 @@ step_of process parts = roll-Step (record {
 })
 
 abbrev pub step_in : (Parts → Asked → Data → Process) → Finds → Parts → Asked → Data → Step
-step_in inner find base around d = step_of (run_at inner find base (asked_in around d) d) (step_parts_in d)
+step_in inner find base around d = step_of base (run_at inner find base (asked_in around d) d) (step_parts_in d)
 
 -- ---- processes
 
 abbrev pub workflow_in : (Parts → Asked → Data → Process) → Finds → Parts → Asked → Data → Workflow
 workflow_in inner find base around d = roll-Workflow (record {
-  inputs = entries_at kind.WorkflowInput workflow_input_in (codes "inputs") d;
+  inputs = each_on workflow_input_on base (entries_at kind.WorkflowInput workflow_input_in (codes "inputs") d);
   outputs = entries_at kind.WorkflowOutput workflow_output_in (codes "outputs") d;
   steps = entries_at kind.Step (step_in inner find base (asked_in around d)) (codes "steps") d;
 })
@@ -62,7 +63,7 @@ workflow_in inner find base around d = roll-Workflow (record {
 abbrev pub process_in : Option (Parts → Asked → Data → Process) → Finds → Parts → Asked → Data → Process
 process_in inner find base around d =
     if is_workflow d then option_map_or (λ f. process.Workflow (workflow_in f find base around d)) inner (nothing around)
-    else process.Tool (tool_in around d)
+    else process.Tool (tool_on base (tool_in around d))
 
 -- the process of a document at that URL, or of a value in it; so many workflows at most are inside one another
 unfoldable pub linked : Finds → ℕ → Parts → Asked → Data → Process

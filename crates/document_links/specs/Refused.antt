@@ -1,9 +1,17 @@
 -- What an error says: the fault that was found, and of out of memory nothing.
-use Rattle.std.specs.Prelude.{◌≡◌, ⊤, Result, Err}
-use Rattle.document_links.specs.declared.fault.LinkError.{LinkError}
-use Rattle.document_links.specs.declared.fault.LinkError.TheVariants.{Refused, OutOfMemory}
-use Rattle.document_links.specs.declared.fault.LinkFault.{LinkFault}
+use Rattle.std.specs.Prelude.{◌≡◌, ⊤, Option, Some, Result, Err}
+use Rattle.document_table.specs.declared.fault.DocumentFault.{DocumentFault}
+use Rattle.document_links.specs.declared.walk.WalkError.{WalkError}
+use Rattle.document_links.specs.declared.walk.WalkError.TheVariants.{Refused, OutOfMemory}
+use Rattle.document_links.specs.declared.walk.WalkFault.{WalkFault}
+use Rattle.document_links.specs.declared.walk.WalkFault.TheVariants.{Own, Other}
 
-abbrev pub IsErrorOf : {T : Type 0} → Result T LinkFault → LinkError → Type 0
-IsErrorOf found (Refused fault) = found ≡ Err fault
-IsErrorOf found OutOfMemory = ⊤
+abbrev pub IsWalkErrorOf : {T : Type 0} → Result T WalkFault → WalkError → Type 0
+IsWalkErrorOf found (Refused fault) = found ≡ Err fault
+IsWalkErrorOf found OutOfMemory = ⊤
+
+-- a fault of the document itself
+abbrev pub IsOwnFaultOf : Option DocumentFault → WalkError → Type 0
+IsOwnFaultOf found (Refused (Own fault)) = found ≡ Some fault
+IsOwnFaultOf found (Refused (Other fault)) = ⊥
+IsOwnFaultOf found OutOfMemory = ⊤

@@ -1,18 +1,19 @@
 //! How many processes there are, and how many workflows are inside one another: counted before any is built.
-ghost use Rattle.std.specs.Prelude.{◌≡◌, Ok, IfOk, IfErr, map, codes};
+ghost use Rattle.std.specs.Prelude.{◌≡◌, None, Ok, IfOk, IfErr, map, codes};
 ghost use Rattle.serde_json.specs.View.{view};
 ghost use Rattle.document_table.specs.Entries.{entry_seen};
 ghost use Rattle.document_links.specs.Bounds.{left, run_left, step_left, steps_left, workflow_left};
+ghost use Rattle.document_links.specs.Defaults.{defaults_fault};
 ghost use Rattle.document_links.specs.Library.{finds_in};
-ghost use Rattle.document_links.specs.Refused.{IsErrorOf};
-ghost use Rattle.document_links.specs.inner.Sound.{AllProcesses};
+ghost use Rattle.document_links.specs.Refused.{IsOwnFaultOf, IsWalkErrorOf};
 
-use crate::fault::{LinkError, LinkFault};
-use crate::library::Reading;
+use crate::defaults::defaults_fault;
+use crate::fault::LinkFault;
+use crate::library::Library;
 use crate::target::target;
+use crate::walk::{WalkError, WalkFault, told_of, within};
 use cwl_process::is_workflow;
 use document_table::{Kind, entries};
-use plain_data::Keyed;
 use serde_json::Value;
 use std::alloc::Global;
 use url::Url;
@@ -28,70 +29,71 @@ pub const MOST_PROCESSES: usize = 4096;
 #[cycle(bounds)]
 pub(crate) fn left(
     alloc: Global,
-    library: &Keyed<Reading>,
+    library: &Library,
     levels: usize,
     room: usize,
     base: &Url,
     value: &Value,
-) -> Result<usize, LinkError>
-    requires { AllProcesses library.now }
+) -> Result<usize, WalkError>
     ensures ok { IfOk result
         (λ n. left (finds_in library.now) levels room base.now (view value.now) ≡ Ok n) }
     ensures err { IfErr result
-        (IsErrorOf (left (finds_in library.now) levels room base.now (view value.now))) }
+        (IsWalkErrorOf (left (finds_in library.now) levels room base.now (view value.now))) }
 {
     if room == 0 {
-        return Err(LinkError::Refused(LinkFault::TooMany));
+        return Err(WalkError::Refused(WalkFault::Other(LinkFault::TooMany)));
     }
     if is_workflow(value) {
         if levels == 0 {
-            return Err(LinkError::Refused(LinkFault::TooDeep));
+            return Err(WalkError::Refused(WalkFault::Other(LinkFault::TooDeep)));
         }
         return workflow_left(alloc, library, levels - 1, room - 1, base, value);
     }
+    check_defaults(alloc, base, Kind::ToolInput, "inputs", value)?;
     Ok(room - 1)
 }
 
 #[cycle(bounds)]
 fn workflow_left(
     alloc: Global,
-    library: &Keyed<Reading>,
+    library: &Library,
     levels: usize,
     room: usize,
     base: &Url,
     value: &Value,
-) -> Result<usize, LinkError>
-    requires { AllProcesses library.now }
+) -> Result<usize, WalkError>
     ensures ok { IfOk result (λ n. workflow_left (left (finds_in library.now) levels)
         (finds_in library.now) room base.now (view value.now) ≡ Ok n) }
-    ensures err { IfErr result (IsErrorOf (workflow_left (left (finds_in library.now) levels)
+    ensures err { IfErr result (IsWalkErrorOf (workflow_left (left (finds_in library.now) levels)
         (finds_in library.now) room base.now (view value.now))) }
 {
+    check_defaults(alloc, base, Kind::WorkflowInput, "inputs", value)?;
     let Some(found) = value.get("steps") else {
         return Ok(room);
     };
     let all = entries(alloc, Kind::Step, found)?;
-    steps_left(alloc, library, levels, room, base, all.as_slice())
+    let left = steps_left(alloc, library, levels, room, base, all.as_slice());
+    within(alloc, "steps", left)
 }
 
 #[cycle(bounds)]
 fn steps_left(
     alloc: Global,
-    library: &Keyed<Reading>,
+    library: &Library,
     levels: usize,
     room: usize,
     base: &Url,
     all: &[(&str, &Value)],
-) -> Result<usize, LinkError>
-    requires { AllProcesses library.now }
+) -> Result<usize, WalkError>
     ensures ok { IfOk result (λ n. steps_left (left (finds_in library.now) levels)
         (finds_in library.now) room base.now (map entry_seen all.now) ≡ Ok n) }
-    ensures err { IfErr result (IsErrorOf (steps_left (left (finds_in library.now) levels)
+    ensures err { IfErr result (IsWalkErrorOf (steps_left (left (finds_in library.now) levels)
         (finds_in library.now) room base.now (map entry_seen all.now))) }
 {
     let mut still = room;
     for entry in all {
-        still = step_left(alloc, library, levels, still, base, entry.1)?;
+        let left = step_left(alloc, library, levels, still, base, entry.1);
+        still = within(alloc, entry.0, left)?;
     }
     Ok(still)
 }
@@ -99,26 +101,67 @@ fn steps_left(
 #[cycle(bounds)]
 fn step_left(
     alloc: Global,
-    library: &Keyed<Reading>,
+    library: &Library,
     levels: usize,
     room: usize,
     base: &Url,
     value: &Value,
-) -> Result<usize, LinkError>
-    requires { AllProcesses library.now }
+) -> Result<usize, WalkError>
     ensures ok { IfOk result (λ n. step_left (left (finds_in library.now) levels)
         (finds_in library.now) room base.now (view value.now) ≡ Ok n) }
-    ensures err { IfErr result (IsErrorOf (step_left (left (finds_in library.now) levels)
+    ensures err { IfErr result (IsWalkErrorOf (step_left (left (finds_in library.now) levels)
         (finds_in library.now) room base.now (view value.now))) }
 {
+    check_defaults(alloc, base, Kind::StepInput, "in", value)?;
     let Some(found) = value.get("run") else {
         return Ok(room);
     };
-    match found.as_str() {
-        None => left(alloc, library, levels, room, base, found),
-        Some(name) => {
-            let (url, json) = target(alloc, library, base, name)?;
-            left(alloc, library, levels, room, &url, json)
+    let left = run_left(alloc, library, levels, room, base, found);
+    within(alloc, "run", left)
+}
+
+#[cycle(bounds)]
+fn run_left(
+    alloc: Global,
+    library: &Library,
+    levels: usize,
+    room: usize,
+    base: &Url,
+    value: &Value,
+) -> Result<usize, WalkError>
+    ensures ok { IfOk result (λ n. run_left (left (finds_in library.now) levels)
+        (finds_in library.now) room base.now (view value.now) ≡ Ok n) }
+    ensures err { IfErr result (IsWalkErrorOf (run_left (left (finds_in library.now) levels)
+        (finds_in library.now) room base.now (view value.now))) }
+{
+    let Some(name) = value.as_str() else {
+        return left(alloc, library, levels, room, base, value);
+    };
+    let (url, json) = target(alloc, library, base, name)?;
+    match left(alloc, library, levels, room, &url, json) {
+        Err(WalkError::Refused(fault)) => {
+            let told = told_of(alloc, &url, fault)?;
+            Err(WalkError::Refused(WalkFault::Other(told)))
         }
+        other => other,
+    }
+}
+
+/// Checks that the defaults of the objects in a field have paths.
+fn check_defaults(
+    alloc: Global,
+    base: &Url,
+    kind: Kind,
+    name: &str,
+    value: &Value,
+) -> Result<(), WalkError>
+    ensures ok { IfOk result
+        (λ _. defaults_fault base.now kind name.now (view value.now) ≡ None) }
+    ensures err { IfErr result
+        (IsOwnFaultOf (defaults_fault base.now kind name.now (view value.now))) }
+{
+    match defaults_fault(alloc, base, kind, name, value)? {
+        None => Ok(()),
+        Some(fault) => Err(WalkError::Refused(WalkFault::Own(fault))),
     }
 }

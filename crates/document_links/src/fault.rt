@@ -13,8 +13,6 @@ use std::fmt;
 pub enum LinkFault {
     /// What is wrong with the document of this URL.
     Document(Text, DocumentFault),
-    /// The `run` of a step, which is no URL on its document's own.
-    NoUrl(Text),
     /// A step names the document of this URL, which isn't there.
     NotLoaded(Text),
     /// Over `MOST_WORKFLOWS` workflows are inside one another.
@@ -38,7 +36,6 @@ impl LinkFault {
     {
         match self {
             LinkFault::Document(_, fault) => fault.code(),
-            LinkFault::NoUrl(_) => "C6",
             LinkFault::NotLoaded(_) => "C10",
             LinkFault::TooDeep => "C9",
             LinkFault::TooMany => "C9",
@@ -50,7 +47,6 @@ impl fmt::Display for LinkFault {
     fn fmt<W: fmt::Write>(&self, f: &mut fmt::Formatter<W>) -> fmt::Result {
         match self {
             LinkFault::Document(url, fault) => write!(f, "{fault} in {url}"),
-            LinkFault::NoUrl(name) => write!(f, "no URL on the document's own: {name}"),
             LinkFault::NotLoaded(url) => write!(f, "no such document: {url}"),
             LinkFault::TooDeep => f.write_str("over 16 workflows inside one another"),
             LinkFault::TooMany => f.write_str("over 4,096 processes"),

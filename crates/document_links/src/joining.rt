@@ -32,7 +32,7 @@ pub(crate) fn joined(base: &Url, name: &str) -> Result<Option<Url>, AllocError>
     }
 }
 
-fn is_long(base: &Url, name: &str) -> bool
+pub(crate) fn is_long(base: &Url, name: &str) -> bool
     ensures { result ≡ is_long base.now name.now }
 {
     let length = url_text(base).len();

@@ -6,15 +6,19 @@
 #![tactic(auto)]
 
 mod bounds;
+mod defaults;
 mod fault;
 mod joining;
 mod library;
 mod linking;
+mod names;
+mod places;
 mod process;
 mod reading;
 mod target;
+mod walk;
 
 pub use bounds::{MOST_PROCESSES, MOST_WORKFLOWS};
 pub use fault::{LinkError, LinkFault};
 pub use process::{Process, Step, Workflow};
-pub use reading::{Docs, read_process};
+pub use reading::{Docs, needed_docs, read_process};

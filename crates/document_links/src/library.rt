@@ -1,7 +1,7 @@
 //! What other documents read as.
 ghost use Rattle.std.specs.Prelude.{◌≡◌, IfOk};
-ghost use Rattle.document_links.specs.Library.{AreReadAs, IsReadAs, seen};
-ghost use Rattle.document_links.specs.inner.Sound.{AllProcesses, IsSoundReading};
+ghost use Rattle.document_links.specs.Library.{AreReadAs, IsLookUp, IsReadAs, finds_in, seen};
+ghost use Rattle.document_links.specs.inner.Sound.{AllProcesses, AllSound, IsSoundReading};
 
 use cwl_process::read_sound;
 use document_table::{DocumentError, DocumentFault};
@@ -17,16 +17,26 @@ pub enum Reading {
     Wrong(DocumentFault),
 }
 
-/// What documents read as, by their URLs.
-pub(crate) type Library = Keyed<Reading>;
+/// Documents by their URLs.
+#[derive(Drop)]
+pub enum Library {
+    /// What each of them reads as.
+    Read(Keyed<Reading>),
+    /// This JSON is at every URL.
+    Any(Value),
+}
 
 /// Reads each of the documents once.
-pub(crate) fn read_library(
-    alloc: Global,
-    docs: &Keyed<Items<u8>>,
-) -> Result<Keyed<Reading>, AllocError>
-    ensures read { IfOk result (λ library. AreReadAs docs.now library) }
+pub(crate) fn read_library(alloc: Global, docs: &Keyed<Items<u8>>) -> Result<Library, AllocError>
+    ensures read { IfOk result (λ library. IsLookUp docs.now (finds_in library)) }
     ensures processes { IfOk result (λ library. AllProcesses library) }
+{
+    Ok(Library::Read(read_all(alloc, docs)?))
+}
+
+fn read_all(alloc: Global, docs: &Keyed<Items<u8>>) -> Result<Keyed<Reading>, AllocError>
+    ensures read { IfOk result (λ readings. AreReadAs docs.now readings) }
+    ensures processes { IfOk result (λ readings. AllSound readings) }
 {
     let mut entries = Vec::new(alloc);
     for entry in docs.as_slice() {

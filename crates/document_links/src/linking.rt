@@ -7,21 +7,24 @@ ghost use Rattle.document_table.specs.declared.form.Kind.TheVariants as kind;
 ghost use Rattle.cwl_process.specs.Acting.{asked_in};
 ghost use Rattle.cwl_process.specs.Tools.{entries_at, tool_in};
 ghost use Rattle.document_links.specs.Library.{finds_in};
-ghost use Rattle.document_links.specs.Linked.{linked, nothing, run_at, run_in, step_in, workflow_in};
+ghost use Rattle.document_links.specs.Defaults.{tool_on};
+ghost use Rattle.document_links.specs.Linked.{linked, nothing, run_at, run_in, step_in, step_of, workflow_in};
 ghost use Rattle.document_links.specs.inner.Sound.{AllProcesses};
 
-use crate::fault::LinkError;
-use crate::library::Reading;
+use crate::defaults::{each_on, tool_on};
+use crate::library::Library;
 use crate::process::{Process, Step, Workflow};
 use crate::target::target;
+use crate::walk::WalkError;
 use cwl_process::{
     Asked, Entries, StepParts, Tool, is_workflow, read_asked, read_step_parts, read_tool,
     read_workflow_inputs, read_workflow_outputs,
 };
 use document_table::{Kind, entries};
-use plain_data::{Keyed, Text};
+use plain_data::Text;
 use serde_json::Value;
 use std::alloc::{AllocError, Global};
+use std::mem;
 use url::Url;
 
 /// The process of a document at that URL, or of a value in it. So many workflows at most are inside one another.
@@ -29,7 +32,7 @@ use url::Url;
 #[tactic(auto, using(cwl_process::proofs::Forms::is_a_workflow, cwl_process::proofs::Forms::is_a_tool))]
 pub(crate) fn linked(
     alloc: Global,
-    library: &Keyed<Reading>,
+    library: &Library,
     levels: usize,
     base: &Url,
     around: &Asked,
@@ -47,15 +50,16 @@ pub(crate) fn linked(
         let workflow = linked_workflow(alloc, library, levels - 1, base, around, value)?;
         return Ok(Process::Workflow(workflow));
     }
-    Ok(Process::Tool(own_tool(alloc, around, value)?))
+    Ok(Process::Tool(own_tool(alloc, base, around, value)?))
 }
 
 #[tactic(auto, using(cwl_process::proofs::Forms::tool_inputs, cwl_process::proofs::Forms::tool_outputs, cwl_process::proofs::Forms::tool_requirements, cwl_process::proofs::Forms::tool_hints, cwl_process::proofs::Forms::tool_is_whole))]
-fn own_tool(alloc: Global, around: &Asked, value: &Value) -> Result<Tool, AllocError>
+fn own_tool(alloc: Global, base: &Url, around: &Asked, value: &Value) -> Result<Tool, AllocError>
     requires { IsOf kind.Tool (view value.now) }
-    ensures { IfOk result (λ tool. tool ≡ tool_in around.now (view value.now)) }
+    ensures { IfOk result
+        (λ tool. tool ≡ tool_on base.now (tool_in around.now (view value.now))) }
 {
-    read_tool(alloc, around, value)
+    tool_on(alloc, base, read_tool(alloc, around, value)?)
 }
 
 /// What stands where there is no process.
@@ -68,7 +72,7 @@ fn nothing(alloc: Global, around: &Asked) -> Result<Process, AllocError>
 #[cycle(linking)]
 fn linked_workflow(
     alloc: Global,
-    library: &Keyed<Reading>,
+    library: &Library,
     levels: usize,
     base: &Url,
     around: &Asked,
@@ -79,7 +83,7 @@ fn linked_workflow(
     ensures { IfOk result (λ workflow. workflow ≡ workflow_in (linked (finds_in library.now) levels)
         (finds_in library.now) base.now around.now (view value.now)) }
 {
-    let inputs = read_workflow_inputs(alloc, value)?;
+    let inputs = each_on(alloc, base, read_workflow_inputs(alloc, value)?)?;
     let outputs = read_workflow_outputs(alloc, value)?;
     let steps = steps_at(alloc, library, levels, base, around, value)?;
     Ok(Workflow {
@@ -93,7 +97,7 @@ fn linked_workflow(
 #[tactic(auto, using(cwl_process::proofs::Forms::workflow_steps, cwl_process::proofs::Forms::workflow_requirements, cwl_process::proofs::Forms::workflow_hints))]
 fn steps_at(
     alloc: Global,
-    library: &Keyed<Reading>,
+    library: &Library,
     levels: usize,
     base: &Url,
     around: &Asked,
@@ -115,7 +119,7 @@ fn steps_at(
 #[cycle(linking)]
 fn linked_steps(
     alloc: Global,
-    library: &Keyed<Reading>,
+    library: &Library,
     levels: usize,
     base: &Url,
     around: &Asked,
@@ -144,7 +148,7 @@ fn linked_steps(
 #[cycle(linking)]
 fn linked_step(
     alloc: Global,
-    library: &Keyed<Reading>,
+    library: &Library,
     levels: usize,
     base: &Url,
     around: &Asked,
@@ -156,7 +160,24 @@ fn linked_step(
         (finds_in library.now) base.now around.now (view value.now)) }
 {
     let parts = read_step_parts(alloc, value)?;
-    let process = run_at(alloc, library, levels, base, around, value)?;
+    match run_at(alloc, library, levels, base, around, value) {
+        Ok(process) => Ok(step_of(alloc, base, process, parts)?),
+        Err(error) => {
+            mem::drop(parts);
+            Err(error)
+        }
+    }
+}
+
+/// A step that runs this process.
+fn step_of(
+    alloc: Global,
+    base: &Url,
+    process: Process,
+    parts: StepParts,
+) -> Result<Step, AllocError>
+    ensures { IfOk result (λ step. step ≡ step_of base.now process parts) }
+{
     let StepParts {
         inputs,
         outputs,
@@ -164,6 +185,7 @@ fn linked_step(
         method,
         when,
     } = parts;
+    let inputs = each_on(alloc, base, inputs)?;
     Ok(Step {
         inputs,
         outputs,
@@ -178,7 +200,7 @@ fn linked_step(
 #[tactic(auto, using(cwl_process::proofs::Forms::step_requirements, cwl_process::proofs::Forms::step_hints))]
 fn run_at(
     alloc: Global,
-    library: &Keyed<Reading>,
+    library: &Library,
     levels: usize,
     base: &Url,
     around: &Asked,
@@ -200,7 +222,7 @@ fn run_at(
 #[tactic(auto, using(cwl_process::proofs::Forms::no_text_is_process))]
 fn run_in(
     alloc: Global,
-    library: &Keyed<Reading>,
+    library: &Library,
     levels: usize,
     base: &Url,
     asked: &Asked,
@@ -216,7 +238,7 @@ fn run_in(
     };
     match target(alloc, library, base, name) {
         Ok((url, json)) => linked(alloc, library, levels, &url, asked, json),
-        Err(LinkError::Refused(_)) => nothing(alloc, asked),
-        Err(LinkError::OutOfMemory) => Err(AllocError),
+        Err(WalkError::Refused(_)) => nothing(alloc, asked),
+        Err(WalkError::OutOfMemory) => Err(AllocError),
     }
 }

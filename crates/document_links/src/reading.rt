@@ -1,20 +1,25 @@
 //! Whole documents, with those that they name.
-ghost use Rattle.std.specs.Prelude.{IfOk, IfErr};
+ghost use Rattle.std.specs.Prelude.{◌≡◌, ℕ, Ok, IfOk, IfErr};
 ghost use Rattle.serde_json.specs.View.{view};
+ghost use Rattle.document_table.specs.Entries.{IsProcess};
 ghost use Rattle.cwl_process.specs.Documents as one;
-ghost use Rattle.document_links.specs.Documents.{IsLinked, IsOwnError, IsRefused};
+ghost use Rattle.document_links.specs.Documents.{IsApart, IsErrorOf, IsLinked, IsNeeded, IsNotNeeding, IsOwnError, IsRefused, IsTogether, bounded};
+ghost use Rattle.document_links.specs.Library.{finds_in};
 
 use crate::bounds::{MOST_PROCESSES, MOST_WORKFLOWS, left};
 use crate::fault::{LinkError, LinkFault};
 use crate::joining::url_text;
-use crate::library::read_library;
+use crate::library::{Library, read_library};
 use crate::linking::linked;
+use crate::names::urls_in;
 use crate::process::Process;
+use crate::walk::{WalkError, told_of};
 use cwl_process::{nothing_asked, read_sound};
 use document_table::DocumentError;
 use plain_data::{Items, Keyed, Text};
 use serde_json::Value;
 use std::alloc::Global;
+use std::mem;
 use url::Url;
 
 /// The bytes of documents by their URLs.
@@ -35,23 +40,64 @@ pub fn read_process(
     ensures err { IfErr result (λ e. IsRefused e bytes.now base.now docs.now) }
 {
     let document = own_document(alloc, bytes, base)?;
+    let process = together(alloc, base, docs, &document);
+    mem::drop(document);
+    process
+}
+
+/// The URLs of the documents that a document names, in the order of its steps, each once.
+///
+/// It refuses what `read_process` refuses whatever the other documents are: C1 to C8 of the document itself, and C9 where a document in
+/// the place of each name already makes too many.
+pub fn needed_docs(alloc: Global, bytes: &[u8], base: &Url) -> Result<Items<Text>, LinkError>
+    ensures ok { IfOk result (λ urls. IsNeeded bytes.now base.now urls) }
+    ensures err { IfErr result (λ e. IsNotNeeding e bytes.now base.now) }
+{
+    let document = own_document(alloc, bytes, base)?;
+    check_bounds(alloc, &Library::Any(Value::Null), base, &document)?;
+    Ok(urls_in(alloc, MOST_WORKFLOWS, base, &document)?)
+}
+
+/// The process of a document, with those that its steps name.
+fn together(alloc: Global, base: &Url, docs: &Docs, document: &Value) -> Result<Process, LinkError>
+    requires { IsProcess (view document.now) }
+    ensures ok { IfOk result (λ process. IsTogether (view document.now) base.now docs.now process) }
+    ensures err { IfErr result (λ e. IsApart e (view document.now) base.now docs.now) }
+{
     let library = read_library(alloc, docs)?;
-    let _room = left(
-        alloc,
-        &library,
-        MOST_WORKFLOWS,
-        MOST_PROCESSES,
-        base,
-        &document,
-    )?;
+    check_bounds(alloc, &library, base, document)?;
     Ok(linked(
         alloc,
         &library,
         MOST_WORKFLOWS,
         base,
         &nothing_asked(),
-        &document,
+        document,
     )?)
+}
+
+/// Checks that all that the document leads to is there, has no fault, and is within the bounds.
+fn check_bounds(
+    alloc: Global,
+    library: &Library,
+    base: &Url,
+    document: &Value,
+) -> Result<(), LinkError>
+    ensures ok { IfOk result (λ _. (n : ℕ) × (bounded (finds_in library.now) base.now (view document.now) ≡ Ok n)) }
+    ensures err { IfErr result (IsErrorOf (bounded (finds_in library.now) base.now (view document.now))) }
+{
+    match left(
+        alloc,
+        library,
+        MOST_WORKFLOWS,
+        MOST_PROCESSES,
+        base,
+        document,
+    ) {
+        Ok(_room) => Ok(()),
+        Err(WalkError::Refused(fault)) => { Err(LinkError::Refused(told_of(alloc, base, fault)?)) }
+        Err(WalkError::OutOfMemory) => Err(LinkError::OutOfMemory),
+    }
 }
 
 fn own_document(alloc: Global, bytes: &[u8], base: &Url) -> Result<Value, LinkError>

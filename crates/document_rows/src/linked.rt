@@ -1,27 +1,79 @@
 //! Reads processes with the documents that they name, and writes their tools by their places.
 use crate::process::{put_asked, put_key, put_texts};
 use crate::told;
-use document_links::{Docs, LinkError, LinkFault, Process, Step, Workflow, read_process};
+use crate::values::put_default;
+use cwl_process::Tool;
+use document_links::{
+    Docs, LinkError, LinkFault, Process, Step, Workflow, needed_docs, read_process,
+};
 use plain_data::{Items, Keyed, Text};
 use row_io::{Row, RowFault, json_text};
 use serde_json::Value;
 use std::alloc::Global;
+use std::mem;
 use url::Url;
 
 /// The process of the row's document at its base, with the documents under `docs`, or its fault.
 pub(crate) fn read(alloc: Global, row: &Row) -> Result<String, RowFault> {
-    let text = json_text(alloc, row.json("document")?)?;
     let docs = docs(alloc, row)?;
+    let found = found(alloc, row, &docs);
+    mem::drop(docs);
+    let process = found?;
+    let answer = answer(alloc, &process);
+    mem::drop(process);
+    answer
+}
+
+/// The URLs that the row's document names at its base, or its fault.
+pub(crate) fn needed(alloc: Global, row: &Row) -> Result<String, RowFault> {
+    let urls = urls(alloc, row)?;
+    let answer = urls_answer(alloc, &urls);
+    mem::drop(urls);
+    answer
+}
+
+type Urls = Result<Items<Text>, LinkError>;
+
+fn urls(alloc: Global, row: &Row) -> Result<Urls, RowFault> {
+    let text = json_text(alloc, row.json("document")?)?;
     let base = base(alloc, row.text("base")?)?;
-    match read_process(alloc, text.as_bytes(), &base, &docs) {
-        Ok(process) => {
-            let mut out = String::new(alloc);
-            put_process(alloc, &mut out, &process)?;
-            Ok(out)
-        }
-        Err(LinkError::Refused(fault)) => fault_told(alloc, &fault),
+    Ok(needed_docs(alloc, text.as_bytes(), &base))
+}
+
+fn urls_answer(alloc: Global, urls: &Urls) -> Result<String, RowFault> {
+    match urls {
+        Ok(urls) => urls_text(alloc, urls.as_slice()),
+        Err(LinkError::Refused(fault)) => fault_told(alloc, fault),
         Err(LinkError::OutOfMemory) => Err(RowFault::OutOfMemory),
     }
+}
+
+fn urls_text(alloc: Global, urls: &[Text]) -> Result<String, RowFault> {
+    let mut out = String::new(alloc);
+    put_texts(alloc, &mut out, urls)?;
+    Ok(out)
+}
+
+type Found = Result<Process, LinkError>;
+
+fn found(alloc: Global, row: &Row, docs: &Docs) -> Result<Found, RowFault> {
+    let text = json_text(alloc, row.json("document")?)?;
+    let base = base(alloc, row.text("base")?)?;
+    Ok(read_process(alloc, text.as_bytes(), &base, docs))
+}
+
+fn answer(alloc: Global, found: &Found) -> Result<String, RowFault> {
+    match found {
+        Ok(process) => process_text(alloc, process),
+        Err(LinkError::Refused(fault)) => fault_told(alloc, fault),
+        Err(LinkError::OutOfMemory) => Err(RowFault::OutOfMemory),
+    }
+}
+
+fn process_text(alloc: Global, process: &Process) -> Result<String, RowFault> {
+    let mut out = String::new(alloc);
+    put_process(alloc, &mut out, process)?;
+    Ok(out)
 }
 
 fn base(alloc: Global, text: &str) -> Result<Url, RowFault> {
@@ -64,16 +116,31 @@ fn put_process(alloc: Global, out: &mut String, process: &Process) -> Result<(),
             out.push_str("{\"baseCommand\":")?;
             put_texts(alloc, out, tool.base_command.as_slice())?;
             put_asked(alloc, out, &tool.asked)?;
+            put_tool_defaults(alloc, out, tool)?;
             Ok(out.push_str("}")?)
         }
         Process::Workflow(workflow) => put_workflow(alloc, out, workflow),
     }
 }
 
+fn put_tool_defaults(alloc: Global, out: &mut String, tool: &Tool) -> Result<(), RowFault> {
+    if tool.inputs.is_empty() {
+        return Ok(());
+    }
+    out.push_str(",\"defaults\":{")?;
+    let mut gap = "";
+    for entry in tool.inputs.as_slice() {
+        gap = put_default(alloc, out, gap, &entry.0, &entry.1.default)?;
+    }
+    Ok(out.push_str("}")?)
+}
+
+/// The steps, and before them the inputs, if there are any.
 #[cycle(linked)]
 fn put_workflow(alloc: Global, out: &mut String, workflow: &Workflow) -> Result<(), RowFault> {
     out.push_str("{")?;
-    let mut gap = "";
+    put_workflow_defaults(alloc, out, workflow)?;
+    let mut gap = if workflow.inputs.is_empty() { "" } else { "," };
     for entry in workflow.steps.as_slice() {
         put_key(alloc, out, gap, entry.0.as_str())?;
         put_step(alloc, out, &entry.1)?;
@@ -82,7 +149,38 @@ fn put_workflow(alloc: Global, out: &mut String, workflow: &Workflow) -> Result<
     Ok(out.push_str("}")?)
 }
 
+fn put_workflow_defaults(
+    alloc: Global,
+    out: &mut String,
+    workflow: &Workflow,
+) -> Result<(), RowFault> {
+    if workflow.inputs.is_empty() {
+        return Ok(());
+    }
+    out.push_str("\"/defaults\":{")?;
+    let mut gap = "";
+    for entry in workflow.inputs.as_slice() {
+        gap = put_default(alloc, out, gap, &entry.0, &entry.1.default)?;
+    }
+    Ok(out.push_str("}")?)
+}
+
+/// The process of the step, in a list after the step's inputs, if there are any.
 #[cycle(linked)]
 fn put_step(alloc: Global, out: &mut String, step: &Step) -> Result<(), RowFault> {
-    put_process(alloc, out, &step.process)
+    if step.inputs.is_empty() {
+        return put_process(alloc, out, &step.process);
+    }
+    put_step_defaults(alloc, out, step)?;
+    put_process(alloc, out, &step.process)?;
+    Ok(out.push_str("]")?)
+}
+
+fn put_step_defaults(alloc: Global, out: &mut String, step: &Step) -> Result<(), RowFault> {
+    out.push_str("[{")?;
+    let mut gap = "";
+    for entry in step.inputs.as_slice() {
+        gap = put_default(alloc, out, gap, &entry.0, &entry.1.default)?;
+    }
+    Ok(out.push_str("},")?)
 }

@@ -15,6 +15,7 @@ mod process;
 mod template;
 mod tool;
 mod types;
+mod values;
 
 struct Calls;
 
@@ -25,6 +26,7 @@ impl Answers for Calls {
             "read_nested_list" => read_nested_list(alloc, row),
             "read_unlinked" => process::read(alloc, row),
             "read_process" => linked::read(alloc, row),
+            "needed_docs" => linked::needed(alloc, row),
             "read_written" => process::read_written(alloc, row),
             "read_type" => types::read(alloc, row),
             _ => Err(RowFault::UnknownCall),

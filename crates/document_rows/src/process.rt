@@ -12,28 +12,50 @@ use plain_data::Text;
 use row_io::{Row, RowFault, json_text, quoted};
 use scatter_shape::Method;
 use std::alloc::Global;
+use std::mem;
+
+type Found = Result<Process, DocumentError>;
 
 /// The process of the row's document, or its fault.
 pub(crate) fn read(alloc: Global, row: &Row) -> Result<String, RowFault> {
-    let text = json_text(alloc, row.json("document")?)?;
-    match read_unlinked(alloc, text.as_bytes()) {
-        Ok(process) => {
-            let mut out = String::new(alloc);
-            put_process(alloc, &mut out, &process)?;
-            Ok(out)
-        }
-        Err(DocumentError::Refused(fault)) => Ok(told(alloc, &fault)?),
-        Err(DocumentError::OutOfMemory) => Err(RowFault::OutOfMemory),
-    }
+    let process = found(alloc, row)?;
+    let answer = answer(alloc, &process);
+    mem::drop(process);
+    answer
 }
 
 /// What the row's tool says.
 pub(crate) fn read_written(alloc: Global, row: &Row) -> Result<String, RowFault> {
+    let process = found(alloc, row)?;
+    let answer = written(alloc, &process);
+    mem::drop(process);
+    answer
+}
+
+fn found(alloc: Global, row: &Row) -> Result<Found, RowFault> {
     let text = json_text(alloc, row.json("document")?)?;
-    match read_unlinked(alloc, text.as_bytes()) {
+    Ok(read_unlinked(alloc, text.as_bytes()))
+}
+
+fn answer(alloc: Global, found: &Found) -> Result<String, RowFault> {
+    match found {
+        Ok(process) => process_text(alloc, process),
+        Err(DocumentError::Refused(fault)) => Ok(told(alloc, fault)?),
+        Err(DocumentError::OutOfMemory) => Err(RowFault::OutOfMemory),
+    }
+}
+
+fn process_text(alloc: Global, process: &Process) -> Result<String, RowFault> {
+    let mut out = String::new(alloc);
+    put_process(alloc, &mut out, process)?;
+    Ok(out)
+}
+
+fn written(alloc: Global, found: &Found) -> Result<String, RowFault> {
+    match found {
         Ok(Process::Tool(tool)) => Ok(String::from_str(alloc, tool.written.as_str())?),
         Ok(Process::Workflow(_)) => Ok(String::from_str(alloc, "a workflow")?),
-        Err(DocumentError::Refused(fault)) => Ok(told(alloc, &fault)?),
+        Err(DocumentError::Refused(fault)) => Ok(told(alloc, fault)?),
         Err(DocumentError::OutOfMemory) => Err(RowFault::OutOfMemory),
     }
 }

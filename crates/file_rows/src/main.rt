@@ -19,6 +19,7 @@ impl Answers for Calls {
         match row.call() {
             "matches" => globs::answer(alloc, row),
             "collect_outputs" => outputs::answer(alloc, row),
+            "heads_wanted" => outputs::heads_answer(alloc, row),
             "stage_plan" | "deliver_plan" => plans::answer(alloc, row),
             _ => Err(RowFault::UnknownCall),
         }

@@ -2,9 +2,10 @@ use crate::child::put_folder;
 use crate::listing::put_fault;
 use crate::place::{below, machine, prepared};
 use plain_data::{Items, Keyed, Text};
-use proc_host::{Host, HostError, Move, StagePlan};
+use proc_host::{Host, HostError};
 use row_io::{AnswerText, Row, RowFault};
 use serde_json::Value as Json;
+use staging::{Move, StagePlan};
 use std::alloc::Global;
 
 /// What a stage or a delivery of these moves answers, and what the row's folder holds then.

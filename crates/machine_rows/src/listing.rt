@@ -1,5 +1,6 @@
-use proc_host::{Found, HostError};
+use proc_host::HostError;
 use row_io::AnswerText;
+use staging::{Found, Measure};
 
 /// Adds a listing: name, whether it is a folder, size and sum of each entry.
 pub fn put_listing(out: &mut AnswerText, found: &[Found]) {
@@ -21,6 +22,21 @@ fn put_entry(out: &mut AnswerText, entry: &Found) {
     out.put(",");
     out.put_quoted(entry.sum.as_str());
     out.put("]");
+}
+
+/// Adds what stands at a path: null where nothing does, size and sum of a file, the listing of a folder.
+pub fn put_measure(out: &mut AnswerText, measure: &Measure) {
+    match measure {
+        Measure::Absent => out.put("null"),
+        Measure::File { size, sum } => {
+            out.put("[");
+            out.put_natural(*size);
+            out.put(",");
+            out.put_quoted(sum.as_str());
+            out.put("]");
+        }
+        Measure::Folder(found) => put_listing(out, found.as_slice()),
+    }
 }
 
 /// Adds the code of a call's fault.

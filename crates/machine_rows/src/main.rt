@@ -8,6 +8,7 @@ mod child;
 mod children;
 mod copies;
 mod listing;
+mod paths;
 mod place;
 mod program;
 
@@ -34,6 +35,7 @@ fn told_of(rt: &HostRuntime, row: &Row, place: &str) -> Result<String, RowFault>
         "child" => child::told_of(rt, row, place),
         "children" => children::told_of(rt, row, place),
         "stage" | "deliver" => copies::told_of(rt, row, place),
+        "measure" | "scan" | "head" => paths::told_of(rt, row, place),
         "main_run" => program::told_of(rt, row, place),
         _ => Err(RowFault::UnknownCall),
     }

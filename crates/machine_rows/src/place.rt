@@ -1,7 +1,7 @@
 use plain_data::{Items, Keyed, Text};
-use proc_host::StagePlan;
 use process_machine::Machine;
 use row_io::{Row, RowFault};
+use staging::StagePlan;
 use std::alloc::{AllocError, Global};
 use std::process::{Command, Stdio};
 use std::{env, fs, io, mem};

@@ -1,5 +1,5 @@
 -- A call that ran out of memory, or failed, and the entries of the log.
-use Rattle.std.proofs.Common.{◌≡◌, ◌∙◌, ◌++◌, ◌∷◌, List, [], Result, Ok, Err, IsErrAnd, ap, cond, subst, sym, append-nil, add-zero}
+use Rattle.std.proofs.Common.{◌≡◌, ◌∙◌, ◌+◌, ◌++◌, ◌∷◌, false, List, [], Result, Ok, Err, IsErrAnd, ap, cond, subst, sym, append-nil, add-zero}
 use Rattle.std.proofs.lemmas.List.Sums.{sum_by-append}
 use Rattle.proc_host.specs.declared.call.Entry.{Entry}
 use Rattle.proc_host.specs.declared.call.HostAnswer.{HostAnswer}
@@ -22,3 +22,11 @@ starts_same log request (Fault fault) =
     sum_by-append (λ (entry : Entry). cond (is_start entry.answer) 1 0) log (record { request = request; answer = Failed fault } ∷ [])
     ∙ add-zero (starts log)
 starts_same log request OutOfMemory = ap starts (append-nil log)
+
+-- nor is a call with another answer
+pub starts_kept : {T : Type 0} (log : List Entry) (request : HostRequest) (f : T → HostAnswer) → ((x : T) → is_start (f x) ≡ false)
+    → (r : Result T HostError) → starts (log ++ entries_of request (answer_behind f r)) ≡ starts log
+starts_kept log request f none (Ok x) =
+    sum_by-append (λ (entry : Entry). cond (is_start entry.answer) 1 0) log (record { request = request; answer = f x } ∷ [])
+    ∙ ap (λ b. starts log + (0 + cond b 1 0)) (none x) ∙ add-zero (starts log)
+starts_kept log request f none (Err e) = starts_same log request e

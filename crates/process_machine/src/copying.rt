@@ -1,21 +1,82 @@
-//! Copies of files.
+//! Copies of files and folders.
 
+use crate::layout::joined;
+use crate::tree::{Below, is_folder, tree_below};
 use crate::trouble::Trouble;
 use crate::world::World;
 use std::alloc::Global;
-use std::fs::{File, OpenFile};
+use std::fs::{File, OpenFile, Permissions};
 use std::io::{Read, Write};
+use std::os::unix::fs::PermissionsExt;
 use std::{fs, io, mem};
 
 /// The bytes that one read asks for.
 const BLOCK: usize = 65_536;
 
-/// Copies a file to a path, with its permissions. A file or link that is at the path goes; what a link points to is
-/// left alone. Where the copy fails, nothing is left at the path.
-pub(crate) fn copy_file<R: World>(rt: &R, source: &str, target: &str) -> Result<(), Trouble> {
-    if !fs::metadata(rt, source)?.is_file() {
-        return Err(Trouble::Failed);
+/// What the owner of a copied folder may do: read, write and search it. So it can be removed again.
+const OWNERS_RIGHTS: u32 = 0o700;
+
+/// Copies a file, or a folder with all that is below it, to a path. A link is taken as what it points to.
+///
+/// A file or link that stands where a file is copied to goes, and what the link points to is left alone. A folder that
+/// stands at the path stays as it is, and so does a file where a folder is copied to: both are trouble. Where the copy
+/// fails, nothing of it is left.
+pub(crate) fn copy<R: World>(rt: &R, source: &str, target: &str) -> Result<(), Trouble> {
+    if is_folder(rt, source)? {
+        copy_folder(rt, source, target)
+    } else {
+        copy_file(rt, source, target)
     }
+}
+
+// All names are read before the first copy, so a folder can be copied to a place inside of it.
+fn copy_folder<R: World>(rt: &R, source: &str, target: &str) -> Result<(), Trouble> {
+    let tree = tree_below(rt, source)?;
+    let copied = copy_tree(rt, source, tree.as_slice(), target);
+    mem::drop(tree);
+    copied
+}
+
+fn copy_tree<R: World>(rt: &R, source: &str, tree: &[Below], target: &str) -> Result<(), Trouble> {
+    make_folder(rt, source, target)?;
+    let filled = fill_folder(rt, source, tree, target);
+    if filled.is_err() {
+        let _removed = fs::remove_dir_all(rt, target);
+    }
+    filled
+}
+
+fn fill_folder<R: World>(
+    rt: &R,
+    source: &str,
+    tree: &[Below],
+    target: &str,
+) -> Result<(), Trouble> {
+    for below in tree {
+        copy_below(rt, source, below, target)?;
+    }
+    Ok(())
+}
+
+fn copy_below<R: World>(rt: &R, source: &str, below: &Below, target: &str) -> Result<(), Trouble> {
+    let from = joined(rt.alloc(), source, below.name.as_str())?;
+    let to = joined(rt.alloc(), target, below.name.as_str())?;
+    if below.is_dir {
+        make_folder(rt, from.as_str(), to.as_str())
+    } else {
+        copy_file(rt, from.as_str(), to.as_str())
+    }
+}
+
+// Makes a folder with the permissions of another, and with its owner's rights.
+fn make_folder<R: World>(rt: &R, source: &str, target: &str) -> Result<(), Trouble> {
+    let mode = fs::metadata(rt, source)?.permissions().mode();
+    fs::create_dir(rt, target)?;
+    let permissions = Permissions::from_mode(mode | OWNERS_RIGHTS);
+    Ok(fs::set_permissions(rt, target, permissions)?)
+}
+
+fn copy_file<R: World>(rt: &R, source: &str, target: &str) -> Result<(), Trouble> {
     let mut reader = File::open(rt, source)?;
     copy_from(rt, &mut reader, target)
 }

@@ -1,13 +1,13 @@
 //! The folders of a run.
 
-use crate::copying::copy_file;
+use crate::copying::copy;
 use crate::trouble::Trouble;
 use crate::world::World;
-use proc_host::{Move, StagePlan};
+use staging::{Move, StagePlan};
 use std::alloc::{AllocError, Global};
 use std::fs;
 
-/// Makes the folder of a job with `out`, `tmp` and `in` in it, and copies the files of its plan into `in`.
+/// Makes the folder of a job with `out`, `tmp` and `in` in it, and copies the files and folders of its plan into `in`.
 ///
 /// The job's folder has to be absent.
 pub(crate) fn lay_out<R: World>(
@@ -22,11 +22,15 @@ pub(crate) fn lay_out<R: World>(
 
 fn lay_out_in<R: World>(rt: &R, folder: &str, plan: &StagePlan) -> Result<(), Trouble> {
     fs::create_dir(rt, folder)?;
-    for name in ["out", "tmp", "in"] {
-        make_part(rt, folder, name)?;
-    }
+    make_parts(rt, folder)?;
     let inputs = joined(rt.alloc(), folder, "in")?;
     copy_all(rt, plan.moves.as_slice(), inputs.as_str())
+}
+
+fn make_parts<R: World>(rt: &R, folder: &str) -> Result<(), Trouble> {
+    make_part(rt, folder, "out")?;
+    make_part(rt, folder, "tmp")?;
+    make_part(rt, folder, "in")
 }
 
 fn make_part<R: World>(rt: &R, folder: &str, name: &str) -> Result<(), Trouble> {
@@ -42,7 +46,8 @@ pub(crate) fn joined(alloc: Global, folder: &str, name: &str) -> Result<String, 
     format!(in alloc; "{folder}/{name}")
 }
 
-/// Copies files to their targets, each of which has to be below this folder. Folders are made where they are absent.
+/// Copies files and folders to their targets, each of which has to be below this folder. The folders above a target are
+/// made where they are absent.
 pub(crate) fn copy_all<R: World>(rt: &R, moves: &[Move], below: &str) -> Result<(), Trouble> {
     for planned in moves {
         let target = planned.target.as_str();
@@ -50,7 +55,7 @@ pub(crate) fn copy_all<R: World>(rt: &R, moves: &[Move], below: &str) -> Result<
             return Err(Trouble::Failed);
         }
         make_parent(rt, target)?;
-        copy_file(rt, planned.source.as_str(), target)?;
+        copy(rt, planned.source.as_str(), target)?;
     }
     Ok(())
 }

@@ -1,17 +1,23 @@
 //! Real processes and real files, as a `Host`.
 //!
-//! A `Machine` lays out the folders of jobs, starts children, collects their ends, lists folders and delivers outputs.
+//! A `Machine` measures files, lays out the folders of jobs, starts children, collects their ends, lists folders, reads
+//! the first bytes of files and delivers outputs.
 //! It meets every clause of `Host`, as its contracts say. A child gets exactly the words, the environment and the
 //! folder of its launch (`command_of`). What the calls do to files and processes no contract can say: the rows of
 //! `machine_rows` show it.
 #![tactic(auto)]
 
+mod calls;
 mod collecting;
 mod copying;
+mod heads;
 mod layout;
 mod listing;
 mod machine;
+mod measuring;
+mod noting;
 mod spawning;
+mod tree;
 mod trouble;
 mod world;
 

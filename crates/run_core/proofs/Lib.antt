@@ -12,12 +12,6 @@ pub mod Next
 pub mod Once
 pub mod Measuring
 pub mod Advances
-pub mod Lost
-pub mod Blamed
 pub mod Asking
-pub mod Leaves
-pub mod Taking
-pub mod RunTools
-pub mod Beginning
 pub mod Holding
 pub mod Seats

@@ -3,7 +3,7 @@ use crate::script::{listing_of, text_at};
 use plain_data::{Items, Keyed};
 use row_io::{Row, RowFault, quoted};
 use serde_json::Value as Json;
-use staging::{Found, Move, StagePlan, listing_in};
+use staging::{Found, Measure, Move, StagePlan, listing_in};
 use std::alloc::Global;
 
 /// A copy of the row's listing.
@@ -21,6 +21,21 @@ pub fn listing_json(alloc: Global, listing: &Items<Found>) -> Result<String, Row
         list.push(found.as_str())?;
     }
     Ok(list.close()?)
+}
+
+/// What stands at a path as JSON, as it is written in a script.
+pub fn measure_json(alloc: Global, measure: &Measure) -> Result<String, RowFault> {
+    match measure {
+        Measure::Absent => Ok(String::from_str(alloc, "null")?),
+        Measure::File { size, sum } => {
+            let sum = quoted(alloc, sum.as_str())?;
+            Ok(format!(in alloc; "[{size},{sum}]")?)
+        }
+        Measure::Folder(found) => {
+            let found = listing_json(alloc, found)?;
+            Ok(format!(in alloc; "{{\"folder\":{found}}}")?)
+        }
+    }
 }
 
 fn found_json(alloc: Global, found: &Found) -> Result<String, RowFault> {

@@ -1,4 +1,4 @@
-use crate::copies::listing_json;
+use crate::copies::{listing_json, measure_json};
 use crate::list::{List, numbers};
 use crate::requests::requests;
 use crate::script::script_of;
@@ -8,9 +8,10 @@ use proc_host::{ChildEnd, Host, HostError, Scripted, Ticket};
 use row_io::{Row, RowFault, quoted};
 use staging::StagePlan;
 use std::alloc::{AllocError, Global};
+use std::str;
 
-/// What a scripted host answers to the row's calls, one after the other: `stage`, `start`, `collect`, `scan`, `deliver`,
-/// and `close` for the ticket that was started last.
+/// What a scripted host answers to the row's calls, one after the other: `measure`, `stage`, `start`, `collect`, `scan`,
+/// `head` (of three bytes at most), `deliver`, and `close` for the ticket that was started last.
 pub fn answer(alloc: Global, row: &Row) -> Result<String, RowFault> {
     let script = script_of(alloc, row)?;
     let mut host = Scripted::new(alloc, script, row.natural("least_started")?);
@@ -64,10 +65,12 @@ fn answer_to(
     held: &mut Vec<Ticket>,
 ) -> Result<String, RowFault> {
     match call {
+        "measure" => measured(alloc, host),
         "stage" => done(alloc, host.stage(&no_moves(alloc), 1)),
         "start" => started(alloc, host, held),
         "collect" => collected(alloc, host),
         "scan" => scanned(alloc, host),
+        "head" => read(alloc, host),
         "deliver" => done(alloc, host.deliver(&no_moves(alloc))),
         "close" => closed(alloc, host, held),
         _ => Err(RowFault::BadArgument),
@@ -138,6 +141,30 @@ fn scanned(alloc: Global, host: &mut Scripted) -> Result<String, RowFault> {
         Ok(found) => listing_json(alloc, &found),
         Err(error) => failed(alloc, error),
     }
+}
+
+fn measured(alloc: Global, host: &mut Scripted) -> Result<String, RowFault> {
+    let path = Text::from_text(alloc, "/d/a")?;
+    match host.measure(&path) {
+        Ok(measure) => measure_json(alloc, &measure),
+        Err(error) => failed(alloc, error),
+    }
+}
+
+fn read(alloc: Global, host: &mut Scripted) -> Result<String, RowFault> {
+    let path = Text::from_text(alloc, "/d/a")?;
+    match host.head(&path, 3) {
+        Ok(bytes) => bytes_json(alloc, bytes.as_slice()),
+        Err(error) => failed(alloc, error),
+    }
+}
+
+/// First bytes, which are a text, in a list.
+fn bytes_json(alloc: Global, bytes: &[u8]) -> Result<String, RowFault> {
+    let text = str::from_utf8(bytes).ok().ok_or(RowFault::BadArgument)?;
+    let mut list = List::new(alloc)?;
+    list.push_text(alloc, text)?;
+    Ok(list.close()?)
 }
 
 fn closed(alloc: Global, host: &mut Scripted, held: &mut Vec<Ticket>) -> Result<String, RowFault> {

@@ -1,6 +1,7 @@
 //! Rows of hosts, runs and the program: each line of `stdin` is a call, and `stdout` has its answer.
 //!
-//! A host's script is a list of the answers that it gives: `{"staged":true}`, `{"started":true}`,
+//! A host's script is a list of the answers that it gives: `{"measured":MEASURE}` (null, `[SIZE,SUM]` or
+//! `{"folder":[..]}`), `{"head":TEXT}`, `{"staged":true}`, `{"started":true}`,
 //! `{"ended":[TICKET,CODE,MILLIS]}` (the code is null for a child that a signal ended),
 //! `{"found":[[NAME,IS_DIR,SIZE,SUM]]}` and `{"delivered":true}`. A call that the script does not answer next fails.
 #![tactic(auto)]
@@ -26,7 +27,7 @@ impl Answers for Calls<'_> {
     fn answer(&self, alloc: Global, row: &Row) -> Result<String, RowFault> {
         match row.call() {
             "host" => hosts::answer(alloc, row),
-            "exit_class" => words::class(alloc, row),
+            "classify" => words::class(alloc, row),
             "fault_code" => words::fault(alloc, row),
             "copy_listing" => copies::listing(alloc, row),
             "copy_plan" => copies::plan(alloc, row),

@@ -12,3 +12,5 @@ pub mod SuccessCollects
 pub mod PlacesErased
 pub mod RightEnds
 pub mod Reported
+pub mod TwoJobs
+pub mod MeasuredFile

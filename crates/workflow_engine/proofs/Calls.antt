@@ -1,7 +1,7 @@
 -- What a host answers to a call, the call can be answered.
-use Rattle.std.proofs.Common.{◌≡◌, ◌≢◌, ◌∙◌, ℕ, List, Result, Ok, Err, IfOk, sym, subst}
+use Rattle.std.proofs.Common.{◌≡◌, ◌≢◌, ◌≤◌, ◌∙◌, ℕ, List, length, Result, Ok, Err, IfOk, sym, subst}
 use Rattle.std.specs.declared.alloc.AllocError.{AllocError}
-use Rattle.proc_host.specs.Answers.{CanAnswer, has_failed, fault_of}
+use Rattle.proc_host.specs.Answers.{CanAnswer, has_failed, is_read, fault_of}
 use Rattle.proc_host.specs.Log.{answer_behind, answer_behind_error, FailsOnlyBy, IsOnly}
 use Rattle.proc_host.specs.declared.call.HostAnswer.{HostAnswer}
 use Rattle.proc_host.specs.declared.call.HostError.{HostError}
@@ -36,6 +36,13 @@ module _ (running : List ℕ) (request : HostRequest) where
       result ≡ answered (answer_behind answer r) → ((x : T) → CanAnswer running request (answer x)) → FailsOnlyBy (fault_of request) r →
       IfOk result (CanAnswer running request)
   answer_told answer r result is can own = subst Told (sym is) (by_result answer r can own)
+
+-- no more of a file is read than was asked for
+pub head_told : (running : List ℕ) (path : List ℕ) (limit : ℕ) (r : Result (List ℕ) HostError) (result : Result HostAnswer AllocError) →
+    result ≡ answered (answer_behind (λ bytes. HostAnswer.FirstBytes bytes) r) → IfOk r (λ bytes. length bytes ≤ limit) → FailsOnlyBy HostFault.Head r →
+    IfOk result (CanAnswer running (HostRequest.Head path limit))
+head_told running path limit (Ok bytes) result is within own = subst (Told running (HostRequest.Head path limit)) (sym is) (is_read path limit bytes within)
+head_told running path limit (Err error) result is within own = fault_told running (HostRequest.Head path limit) error result is own
 
 -- and what it answers to what a run asks may be taken
 pub may_take : (flying running : List ℕ) (asked : Request) (place : JobPlace) (request : HostRequest) (answer : HostAnswer) → asked ≡ Request.Host place request →

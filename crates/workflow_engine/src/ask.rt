@@ -8,7 +8,8 @@ ghost use Rattle.workflow_engine.specs.Gains.{answered, gained_by};
 use crate::tickets::close_ended;
 use command_line::Launch;
 use plain_data::Items;
-use proc_host::{Found, Host, HostAnswer, HostError, HostRequest, Ticket};
+use proc_host::{Host, HostAnswer, HostError, HostRequest, Ticket};
+use staging::{Found, Measure};
 use std::alloc::AllocError;
 
 /// Calls the host as a run asks, and keeps the tickets of the children that run. An `Err` leaves the log and the
@@ -26,10 +27,12 @@ pub(crate) fn ask<H: Host>(
     ensures covered { Covers held.new.items (H.running host.new) }
 {
     match request {
+        HostRequest::Measure(path) => measured(host.measure(path)),
         HostRequest::Stage(plan, number) => done(host.stage(plan, *number)),
         HostRequest::Start(launch) => start(host, launch, held),
         HostRequest::Collect => collect(host, held),
         HostRequest::Scan(folder) => listed(host.scan(folder)),
+        HostRequest::Head(path, limit) => read(host.head(path, *limit)),
         HostRequest::Deliver(plan) => done(host.deliver(plan)),
     }
 }
@@ -79,6 +82,24 @@ fn done(outcome: Result<(), HostError>) -> Result<HostAnswer, AllocError>
 {
     match outcome {
         Ok(()) => Ok(HostAnswer::Done),
+        Err(error) => failed(error),
+    }
+}
+
+fn measured(outcome: Result<Measure, HostError>) -> Result<HostAnswer, AllocError>
+    ensures { result ≡ answered (answer_behind (λ measure. HostAnswer.Measured measure) outcome) }
+{
+    match outcome {
+        Ok(measure) => Ok(HostAnswer::Measured(measure)),
+        Err(error) => failed(error),
+    }
+}
+
+fn read(outcome: Result<Items<u8>, HostError>) -> Result<HostAnswer, AllocError>
+    ensures { result ≡ answered (answer_behind (λ bytes. HostAnswer.FirstBytes bytes) outcome) }
+{
+    match outcome {
+        Ok(bytes) => Ok(HostAnswer::FirstBytes(bytes)),
         Err(error) => failed(error),
     }
 }

@@ -3,7 +3,9 @@ use Rattle.std.specs.Prelude.{◌≡◌, ⊤, ℕ, List, Some}
 use Rattle.plain_data.specs.ByName.{value_at}
 use Rattle.serde_json.specs.View.{view}
 use Rattle.document_table.specs.Entries.{IsProcess}
-use Rattle.document_links.specs.Library.{Library}
+use Rattle.document_links.specs.Library.{Readings}
+use Rattle.document_links.specs.declared.library.Library.{Library}
+use Rattle.document_links.specs.declared.library.Library.TheVariants.{Any, Read}
 use Rattle.document_links.specs.declared.library.Reading.{Reading}
 use Rattle.document_links.specs.declared.library.Reading.TheVariants.{Sound, Wrong}
 
@@ -11,5 +13,9 @@ abbrev pub IsSoundReading : Reading → Type 0
 IsSoundReading (Sound v) = IsProcess (view v)
 IsSoundReading (Wrong fault) = ⊤
 
+abbrev pub AllSound : Readings → Type 0
+AllSound readings = (url : List ℕ) (reading : Reading) → value_at url readings ≡ Some reading → IsSoundReading reading
+
 abbrev pub AllProcesses : Library → Type 0
-AllProcesses library = (url : List ℕ) (reading : Reading) → value_at url library ≡ Some reading → IsSoundReading reading
+AllProcesses (Read readings) = AllSound readings
+AllProcesses (Any v) = IsProcess (view v)

@@ -1,4 +1,4 @@
-use Rattle.std.proofs.Common.{sym, ap, ◌∙◌}
+use Rattle.std.proofs.Common.{ap, ◌∙◌}
 use Rattle.serde_json.specs.View.{view}
 use Rattle.document_table.specs.declared.document.TheConstants.{MOST_NESTING}
 use Rattle.cwl_process.specs.Processes.{process_in}

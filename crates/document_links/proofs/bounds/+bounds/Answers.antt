@@ -1,12 +1,15 @@
-use Rattle.std.proofs.Common.{◌≡◌, Ok, sym, ap, map, ◌∙◌, codes}
+use Rattle.std.proofs.Common.{Ok, sym, ap, map, ◌∙◌, codes}
 use Rattle.std.specs.Option.{option_map_or}
+use Rattle.std.proofs.lemmas.Result.{err_from_is_err_and}
+use Rattle.serde_json.specs.Find.{get}
 use Rattle.serde_json.specs.View.{view}
 use Rattle.document_table.specs.Entries.{entries, entry_seen}
 use Rattle.document_table.specs.declared.form.Kind.TheVariants as kind
-use Rattle.document_links.specs.Bounds.{left, steps_left, workflow_left}
+use Rattle.document_links.specs.Bounds.{left, run_left, steps_left}
 use Rattle.document_links.specs.Library.{finds_in}
-use Rattle.document_links.proofs.Counted.{left_deep, left_tool, left_workflow, no_room}
-use Rattle.document_links.proofs.Results.{err_by, ok_by}
+use Rattle.document_links.specs.Walks.{within}
+use Rattle.document_links.proofs.Counted.{left_deep, left_tool, left_workflow, no_room, steps_stop}
+use Rattle.document_links.proofs.Results.{err_by, ok_by, own_error_by, unchecked}
 use Rattle.document_links.proofs.bounds.+bounds.Goals as goal
 
 pub left-returns-then-room-eq0-clause-err : goal.left-returns-then-room-eq0-clause-err
@@ -35,11 +38,44 @@ left-returns-then-is_workflow-clause-err t c =
 pub left-returns-clause-ok : goal.left-returns-clause-ok
 left-returns-clause-ok t c =
     left_tool (finds_in c.args.library.now) c.args.levels c.args.room c.args.base.now (view c.args.value.now) c.if-room-eq0.false (sym c.is_workflow.ensures ∙ c.if-is_workflow.false)
+    ∙ unchecked _ _ c.in_ok-check_defaults.ensures.ok
+
+pub left-returns-in_err-check_defaults-clause-err : goal.left-returns-in_err-check_defaults-clause-err
+left-returns-in_err-check_defaults-clause-err t c =
+    let p = err_from_is_err_and c.from_residual.result c.from_residual.ensures.1 in
+    rw (p.1, p.2)
+    (own_error_by _ _ _ _
+    (left_tool (finds_in c.args.library.now) c.args.levels c.args.room c.args.base.now (view c.args.value.now) c.if-room-eq0.false (sym c.is_workflow.ensures ∙ c.if-is_workflow.false))
+    c.in_err-check_defaults.ensures.err)
 
 pub workflow_left-returns-clause-err : goal.workflow_left-returns-clause-err
 workflow_left-returns-clause-err t c =
     let find = finds_in c.args.library.now in
+    let all = option_map_or (λ v. steps_left (left find c.args.levels) find c.args.room c.args.base.now (entries kind.Step v)) (get (codes "steps") (view c.args.value.now)) (Ok c.args.room) in
     err_by _ _ _
+    (unchecked _ (within (codes "steps") all) c.in_ok-check_defaults.ensures.ok)
+    (c.within.ensures.err all
+    (err_by _ _ _
     (sym (ap (steps_left (left find c.args.levels) find c.args.room c.args.base.now) (ap (map entry_seen) c.as_slice.ensures.value ∙ c.in_ok-all.ensures.value)
     ∙ ap (λ o. option_map_or (λ v. steps_left (left find c.args.levels) find c.args.room c.args.base.now (entries kind.Step v)) o (Ok c.args.room)) c.in-Some.ensures))
-    c.steps_left.ensures.err
+    c.steps_left-left.ensures.err))
+
+pub step_left-returns-clause-err : goal.step_left-returns-clause-err
+step_left-returns-clause-err t c =
+    let find = finds_in c.args.library.now in
+    let ran = option_map_or (run_left (left find c.args.levels) find c.args.room c.args.base.now) (get (codes "run") (view c.args.value.now)) (Ok c.args.room) in
+    err_by _ _ _
+    (unchecked _ (within (codes "run") ran) c.in_ok-check_defaults.ensures.ok)
+    (c.within.ensures.err ran
+    (err_by _ _ _
+    (sym (ap (λ o. option_map_or (run_left (left find c.args.levels) find c.args.room c.args.base.now) o (Ok c.args.room)) c.in-Some.ensures))
+    c.run_left-left.ensures.err))
+
+pub steps_left-returns-in_err-still-clause-err : goal.steps_left-returns-in_err-still-clause-err
+steps_left-returns-in_err-still-clause-err t c =
+    let p = err_from_is_err_and c.from_residual.result c.from_residual.ensures.1 in
+    let find = finds_in c.args.library.now in
+    rw (p.1, p.2)
+    (steps_stop (left find c.args.levels) find c.loop-entry.still c.args.room c.args.base.now c.args.all.now c.loop-entry.entry-index c.entry-item.result _
+    c.loop-entry-test.true c.entry-item.is c.loop-entry.invariant
+    (c.in_err-still.ensures.err _ c.step_left-left.ensures.err))

@@ -1,4 +1,4 @@
-use Rattle.std.proofs.Common.{◌≡◌, ℕ, ◌+◌, ◌*◌, drop, map}
+use Rattle.std.proofs.Common.{◌≡◌, ◌+◌, ◌*◌, drop, map}
 use Rattle.document_table.specs.Entries.{entry_seen}
 use Rattle.document_links.specs.Bounds.{left, steps_left}
 use Rattle.document_links.specs.Library.{finds_in}
@@ -7,16 +7,19 @@ use Rattle.document_links.proofs.bounds.+bounds.Given as goal
 -- Each workflow inside another takes a level; on one level the functions call one another in this order.
 
 abbrev pub decreases-left : goal.decreases-left
-decreases-left l = 4 * l.levels
+decreases-left l = 5 * l.levels
+
+abbrev pub decreases-run_left : goal.decreases-run_left
+decreases-run_left l = 5 * l.levels + 1
 
 abbrev pub decreases-step_left : goal.decreases-step_left
-decreases-step_left l = 4 * l.levels + 1
+decreases-step_left l = 5 * l.levels + 2
 
 abbrev pub decreases-steps_left : goal.decreases-steps_left
-decreases-steps_left l = 4 * l.levels + 2
+decreases-steps_left l = 5 * l.levels + 3
 
 abbrev pub decreases-workflow_left : goal.decreases-workflow_left
-decreases-workflow_left l = 4 * l.levels + 3
+decreases-workflow_left l = 5 * l.levels + 4
 
 abbrev pub invariant-steps_left-loop-entry : goal.invariant-steps_left-loop-entry
 invariant-steps_left-loop-entry l =

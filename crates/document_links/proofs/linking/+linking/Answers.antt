@@ -1,4 +1,4 @@
-use Rattle.std.proofs.Common.{rules, ◌≡◌, map, sym, ap, subst, ◌∙◌, arith, codes, []}
+use Rattle.std.proofs.Common.{sym, ap, subst, ◌∙◌, arith, []}
 use Rattle.std.specs.Option.{option_map_or}
 use Rattle.serde_json.specs.View.{view}
 use Rattle.document_table.specs.Entries.{MayHaveForm, entries}

@@ -1,4 +1,4 @@
-use Rattle.std.proofs.Common.{◌≡◌, ℕ, ◌+◌, ◌*◌, ◌++◌, drop, map}
+use Rattle.std.proofs.Common.{◌≡◌, ◌+◌, ◌*◌, ◌++◌, drop, map}
 use Rattle.document_table.specs.Entries.{entry_seen}
 use Rattle.document_links.specs.Library.{finds_in}
 use Rattle.document_links.specs.Linked.{linked, step_in}

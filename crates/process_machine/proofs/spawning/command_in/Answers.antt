@@ -1,6 +1,6 @@
-use Rattle.std.proofs.Common.{rules, ◌≡◌, ◌+◌, ◌++◌, ◌∷◌, ◌∙◌, ℕ, List, [], true, ap, sym, take, arith}
+use Rattle.std.proofs.Common.{rules, ◌≡◌, ◌+◌, ◌++◌, ◌∷◌, ◌∙◌, [], true, ap, sym, take, arith}
 use Rattle.std.proofs.lemmas.Grind.{common_steps}
-use Rattle.std.specs.Process.{clears_env, command_args, command_program, command_var}
+use Rattle.std.specs.Process.{clears_env, command_args, command_program}
 use Rattle.process_machine.specs.Launched.{text_under}
 use Rattle.process_machine.proofs.Variables.{variable_set}
 use Rattle.process_machine.proofs.spawning.command_in.Goals as goal

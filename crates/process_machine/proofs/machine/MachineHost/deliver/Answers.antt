@@ -1,8 +1,9 @@
-use Rattle.std.proofs.Common.{ap, ◌∙◌}
-use Rattle.process_machine.specs.Machine.{MachineState}
-use Rattle.process_machine.proofs.Steps.{nothing_gained}
+use Rattle.std.proofs.Common.{◌∙◌, refl, sym}
+use Rattle.process_machine.proofs.Steps.{starts_kept}
 use Rattle.process_machine.proofs.machine.MachineHost.deliver.Goals as goal
 
-pub returns-in_err-make_room-clause-logged : goal.returns-in_err-make_room-clause-logged
-returns-in_err-make_room-clause-logged g c =
-    nothing_gained _ _ c.from_residual.result _ _ (c.make_room.ensures.items ∙ ap (λ (s : MachineState). s.log) c.self.view_is) c.from_residual.ensures.1
+pub invariant_of-self : goal.invariant_of-self
+invariant_of-self g c = record {
+  counted = rw c.deliver.ensures.logged (c.self.invariant.counted ∙ sym (starts_kept c.self.inside.log.items _ _ (λ _. refl) c.deliver.result));
+  numbered = c.self.invariant.numbered;
+}

@@ -1,0 +1,226 @@
+//! The calls of a host: each makes room for its entry, acts, and adds the entry.
+ghost use Rattle.std.specs.Prelude.{◌≡◌, ◌≤◌, ◌++◌, ◌∷◌, [], length, IfOk, OnOk, OnErr, Contains};
+ghost use Rattle.proc_host.specs.Log.{answer_behind, entries_of, FailsOnlyBy};
+
+use crate::collecting::next_end;
+use crate::heads::head_of;
+use crate::layout::{copy_all, lay_out};
+use crate::listing::listing_of;
+use crate::measuring::measure_of;
+use crate::noting::{add, make_room, note, refused, told};
+use crate::spawning::{Flying, spawned};
+use crate::trouble::Trouble;
+use crate::world::World;
+use command_line::Launch;
+use plain_data::{Items, Text};
+use proc_host::{ChildEnd, Entry, HostAnswer, HostError, HostFault, HostRequest};
+use staging::{Found, Measure, StagePlan, listing_in};
+use std::process::Stdio;
+
+pub(crate) fn measure<R: World>(
+    rt: &R,
+    log: &mut Vec<Entry>,
+    path: &Text,
+) -> Result<Measure, HostError>
+    ensures logged { log.new.items ≡ log.old.items
+        ++ entries_of (HostRequest.Measure path.now) (answer_behind (λ measure. HostAnswer.Measured measure) result) }
+    ensures own { FailsOnlyBy HostFault.Measure result }
+{
+    make_room(log)?;
+    let request = HostRequest::Measure(path.copied(rt.alloc())?);
+    match measured_twice(rt, path) {
+        Ok((measure, noted)) => {
+            note(log, request, HostAnswer::Measured(noted));
+            Ok(measure)
+        }
+        Err(trouble) => Err(refused(log, request, HostFault::Measure, trouble)),
+    }
+}
+
+pub(crate) fn stage<R: World>(
+    rt: &R,
+    log: &mut Vec<Entry>,
+    work: &str,
+    plan: &StagePlan,
+    number: u64,
+) -> Result<(), HostError>
+    ensures logged { log.new.items ≡ log.old.items
+        ++ entries_of (HostRequest.Stage plan.now number) (answer_behind (λ _. HostAnswer.Done) result) }
+    ensures own { FailsOnlyBy HostFault.Stage result }
+{
+    make_room(log)?;
+    let request = HostRequest::Stage(plan.clone_in(rt.alloc())?, number);
+    let outcome = lay_out(rt, work, plan, number);
+    told(log, request, HostFault::Stage, outcome)
+}
+
+/// Starts the child of a launch under this ticket.
+pub(crate) fn start<R: World>(
+    rt: &R,
+    log: &mut Vec<Entry>,
+    running: &mut Vec<u64>,
+    flying: &mut Vec<Flying<R::Started>>,
+    launch: &Launch,
+    ticket: u64,
+) -> Result<(), HostError>
+where
+    R::File: Into<Stdio>,
+    ensures logged { log.new.items ≡ log.old.items
+        ++ entries_of (HostRequest.Start launch.now) (answer_behind (λ _. HostAnswer.Started ticket) result) }
+    ensures own { FailsOnlyBy HostFault.Start result }
+    ensures running { OnOk result (running.new.items ≡ running.old.items ++ ticket ∷ []) }
+    ensures err { OnErr result (running.new.items ≡ running.old.items) }
+{
+    make_room(running)?;
+    make_room(flying)?;
+    let child = begin(rt, log, launch, ticket)?;
+    add(running, ticket);
+    add(flying, child);
+    Ok(())
+}
+
+fn begin<R: World>(
+    rt: &R,
+    log: &mut Vec<Entry>,
+    launch: &Launch,
+    ticket: u64,
+) -> Result<Flying<R::Started>, HostError>
+where
+    R::File: Into<Stdio>,
+    ensures logged { log.new.items ≡ log.old.items
+        ++ entries_of (HostRequest.Start launch.now) (answer_behind (λ _. HostAnswer.Started ticket) result) }
+    ensures own { FailsOnlyBy HostFault.Start result }
+{
+    make_room(log)?;
+    let request = HostRequest::Start(launch.clone_in(rt.alloc())?);
+    match spawned(rt, launch, ticket) {
+        Ok(child) => {
+            note(log, request, HostAnswer::Started(ticket));
+            Ok(child)
+        }
+        Err(trouble) => Err(refused(log, request, HostFault::Start, trouble)),
+    }
+}
+
+pub(crate) fn collect<R: World>(
+    rt: &R,
+    log: &mut Vec<Entry>,
+    flying: &mut Vec<Flying<R::Started>>,
+    running: &[u64],
+) -> Result<ChildEnd, HostError>
+    ensures logged { log.new.items ≡ log.old.items
+        ++ entries_of HostRequest.Collect (answer_behind (λ ending. HostAnswer.Ended ending) result) }
+    ensures own { FailsOnlyBy HostFault.Collect result }
+    ensures child { IfOk result (λ ending. Contains running.now ending.ticket) }
+{
+    make_room(log)?;
+    match ended_of(rt, flying, running) {
+        Ok(ending) => {
+            note(log, HostRequest::Collect, HostAnswer::Ended(ending));
+            Ok(ending)
+        }
+        Err(trouble) => Err(refused(log, HostRequest::Collect, HostFault::Collect, trouble)),
+    }
+}
+
+pub(crate) fn scan<R: World>(
+    rt: &R,
+    log: &mut Vec<Entry>,
+    folder: &Text,
+) -> Result<Items<Found>, HostError>
+    ensures logged { log.new.items ≡ log.old.items
+        ++ entries_of (HostRequest.Scan folder.now) (answer_behind (λ found. HostAnswer.Listed found) result) }
+    ensures own { FailsOnlyBy HostFault.Scan result }
+{
+    make_room(log)?;
+    let request = HostRequest::Scan(folder.copied(rt.alloc())?);
+    match listed_twice(rt, folder) {
+        Ok((listed, noted)) => {
+            note(log, request, HostAnswer::Listed(noted));
+            Ok(listed)
+        }
+        Err(trouble) => Err(refused(log, request, HostFault::Scan, trouble)),
+    }
+}
+
+pub(crate) fn head<R: World>(
+    rt: &R,
+    log: &mut Vec<Entry>,
+    path: &Text,
+    limit: u64,
+) -> Result<Items<u8>, HostError>
+    ensures logged { log.new.items ≡ log.old.items
+        ++ entries_of (HostRequest.Head path.now limit) (answer_behind (λ bytes. HostAnswer.FirstBytes bytes) result) }
+    ensures own { FailsOnlyBy HostFault.Head result }
+    ensures within { IfOk result (λ bytes. length bytes ≤ limit) }
+{
+    make_room(log)?;
+    let request = HostRequest::Head(path.copied(rt.alloc())?, limit);
+    match read_twice(rt, path, limit) {
+        Ok((bytes, noted)) => {
+            note(log, request, HostAnswer::FirstBytes(noted));
+            Ok(bytes)
+        }
+        Err(trouble) => Err(refused(log, request, HostFault::Head, trouble)),
+    }
+}
+
+pub(crate) fn deliver<R: World>(
+    rt: &R,
+    log: &mut Vec<Entry>,
+    outdir: &str,
+    plan: &StagePlan,
+) -> Result<(), HostError>
+    ensures logged { log.new.items ≡ log.old.items
+        ++ entries_of (HostRequest.Deliver plan.now) (answer_behind (λ _. HostAnswer.Done) result) }
+    ensures own { FailsOnlyBy HostFault.Deliver result }
+{
+    make_room(log)?;
+    let request = HostRequest::Deliver(plan.clone_in(rt.alloc())?);
+    let outcome = copy_all(rt, plan.moves.as_slice(), outdir);
+    told(log, request, HostFault::Deliver, outcome)
+}
+
+// The next end of a child whose ticket was not closed.
+fn ended_of<R: World>(
+    rt: &R,
+    flying: &mut Vec<Flying<R::Started>>,
+    running: &[u64],
+) -> Result<ChildEnd, Trouble>
+    ensures { IfOk result (λ ending. Contains running.now ending.ticket) }
+{
+    let ending = next_end(rt, flying)?;
+    if running.contains(&ending.ticket) {
+        Ok(ending)
+    } else {
+        Err(Trouble::Failed)
+    }
+}
+
+// A listing for the caller, and a copy for the log.
+fn listed_twice<R: World>(rt: &R, folder: &Text) -> Result<(Items<Found>, Items<Found>), Trouble>
+    ensures { IfOk result (λ pair. pair.0 ≡ pair.1) }
+{
+    let listed = listing_of(rt, folder.as_str())?;
+    let noted = listing_in(rt.alloc(), &listed)?;
+    Ok((listed, noted))
+}
+
+// A measure for the caller, and a copy for the log.
+fn measured_twice<R: World>(rt: &R, path: &Text) -> Result<(Measure, Measure), Trouble>
+    ensures { IfOk result (λ pair. pair.0 ≡ pair.1) }
+{
+    let measure = measure_of(rt, path.as_str())?;
+    let noted = measure.clone_in(rt.alloc())?;
+    Ok((measure, noted))
+}
+
+// The first bytes of a file for the caller, and a copy for the log.
+fn read_twice<R: World>(rt: &R, path: &Text, limit: u64) -> Result<(Items<u8>, Items<u8>), Trouble>
+    ensures same { IfOk result (λ pair. pair.0 ≡ pair.1) }
+    ensures within { IfOk result (λ pair. length pair.0 ≤ limit) }
+{
+    let bytes = head_of(rt, path.as_str(), limit)?;
+    let noted = Items::from_vec(Vec::from_slice(rt.alloc(), bytes.as_slice())?);
+    Ok((bytes, noted))
+}

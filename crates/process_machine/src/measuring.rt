@@ -1,0 +1,63 @@
+//! What stands at a path.
+
+use crate::listing::{listing_of, sum_at};
+use crate::trouble::Trouble;
+use crate::world::World;
+use file_values::FileSum;
+use staging::Measure;
+use std::fs::FileType;
+use std::{fs, io};
+
+/// Measures what is at a path: nothing, a file with its size and sum, or a folder with all that is below it. A link is
+/// taken as what it points to.
+///
+/// A link that leads nowhere, a pipe or a device, and what can't be read or listed are trouble.
+pub(crate) fn measure_of<R: World>(rt: &R, path: &str) -> Result<Measure, Trouble> {
+    match fs::metadata(rt, path) {
+        Ok(metadata) => measure_as(rt, path, metadata.file_type()),
+        Err(error) => without_metadata(rt, path, &error),
+    }
+}
+
+fn measure_as<R: World>(rt: &R, path: &str, kind: FileType) -> Result<Measure, Trouble> {
+    if kind.is_dir() {
+        Ok(Measure::Folder(listing_of(rt, path)?))
+    } else if kind.is_file() {
+        let FileSum { sum, size } = sum_at(rt, path)?;
+        Ok(Measure::File { size, sum })
+    } else {
+        Err(Trouble::Failed)
+    }
+}
+
+// Where nothing is met at a path, there is nothing, or a link that leads nowhere.
+fn without_metadata<R: World>(rt: &R, path: &str, error: &io::Error) -> Result<Measure, Trouble> {
+    if is_absence(error) && !is_link(rt, path)? {
+        Ok(Measure::Absent)
+    } else {
+        Err(trouble_of(error))
+    }
+}
+
+fn is_link<R: World>(rt: &R, path: &str) -> Result<bool, Trouble> {
+    match fs::symlink_metadata(rt, path) {
+        Ok(_) => Ok(true),
+        Err(error) if is_absence(&error) => Ok(false),
+        Err(error) => Err(trouble_of(&error)),
+    }
+}
+
+// Whether an error says that nothing stands there: a name is absent, or stands below a file.
+fn is_absence(error: &io::Error) -> bool {
+    matches!(
+        error.kind(),
+        io::ErrorKind::NotFound | io::ErrorKind::NotADirectory
+    )
+}
+
+fn trouble_of(error: &io::Error) -> Trouble {
+    match error.kind() {
+        io::ErrorKind::OutOfMemory => Trouble::OutOfMemory,
+        _ => Trouble::Failed,
+    }
+}

@@ -1,0 +1,263 @@
+-- A scene of two jobs that know nothing of each other, given by hand, with a slot for each: its runs, computed.
+use Rattle.std.proofs.Common.{◌≡◌, ℕ, Bool, true, cond, pos, List, [], ◌∷◌, ◌++◌, Option, Some, None, Ok, refl, lit<}
+use Rattle.std.specs.Prelude.{ℤ, false, codes}
+use Rattle.command_line.specs.Launch.{IsLaunch}
+use Rattle.command_line.specs.declared.launch.Launch.{Launch}
+use Rattle.command_line.specs.declared.launch.Variable.{Variable}
+use Rattle.command_line.specs.declared.runtime.Runtime.{Runtime}
+use Rattle.cwl_process.specs.Acting.{nothing_asked}
+use Rattle.cwl_process.specs.declared.tool.Tool.{Tool}
+use Rattle.cwl_value.specs.declared.place.Segment.{Segment}
+use Rattle.proc_host.specs.declared.call.HostAnswer.{HostAnswer}
+use Rattle.proc_host.specs.declared.call.HostRequest.{HostRequest}
+use Rattle.proc_host.specs.declared.call.HostFault.{HostFault}
+use Rattle.collected_outputs.specs.Collected.{IsCollected, bound}
+use Rattle.collected_outputs.specs.HeadsWanted.{of_outputs, none as none_asked}
+use Rattle.collected_outputs.specs.Outputs.{none as no_outputs}
+use Rattle.staging.specs.Placing.{none as none_placed}
+use Rattle.staging.specs.Plan.{IsPlan, none as none_moved}
+use Rattle.staging.specs.declared.group.Placed.{Placed}
+use Rattle.staging.specs.declared.plan.StagePlan.{StagePlan}
+use Rattle.run_rules.specs.declared.outcome.Cause.{Cause}
+use Rattle.run_rules.specs.declared.request.Pair.{Pair}
+use Rattle.run_rules.specs.declared.setting.Options.{Options}
+use Rattle.run_rules.specs.Words.{Name, JobPlace, is_same_place}
+use Rattle.run_rules.specs.Jobs.{Job, met_job, Made, Walk}
+use Rattle.run_rules.specs.Events.{Event, job_staged, job_started, child_exited, job_succeeded, job_failed, job_failed_for_now, host_failed, collect_failed, nothing_due, start_due, Progress, Started, at_first, in_flight, unfolding_at}
+use Rattle.run_rules.specs.Folders.{runtime_of, in_folder}
+use Rattle.run_rules.specs.StartsOn.{has_launch}
+use Rattle.run_rules.specs.CollectsOn.{collects, left_of}
+use Rattle.run_rules.specs.Steps.{Steps, call, stages, starts, exits_well, exits_badly, scans}
+use Rattle.run_rules.proofs.Leads.{Leads, stays, follows}
+use Rattle.run_rules.specs.End.{End, succeeds_with, fails_permanently, fails_temporarily, ended_by_host, settled}
+use Rattle.run_rules.specs.EndsSo.{EndsSo, no_file, lost, fails, succeeds}
+use Rattle.plan_checker.specs.declared.plan.Mark.{Mark}
+use Rattle.plan_checker.specs.declared.plan.Mark.TheVariants.{Load, Compute}
+use Rattle.plan_checker.specs.Plan.{mark}
+use Rattle.run_rules.specs.Allowed.{MayStage, MayCollect}
+use Rattle.run_rules.specs.Scene.{Scene}
+use Rattle.run_rules.proofs.NothingFollows.{flies_on}
+use Rattle.run_rules.proofs.TranscriptTells.{none_in}
+
+abbrev pub tool : Tool
+tool = record {
+  base_command = codes "true" ∷ [];
+  arguments = [];
+  inputs = [];
+  outputs = [];
+  streams = record { stdin = None; stdout = None; stderr = None };
+  exit_codes = record { success = []; temporary = []; permanent = [] };
+  asked = nothing_asked;
+  written = codes "{}";
+}
+
+abbrev pub options : Options
+options = record {
+  work = codes "w";
+  outdir = codes "/out";
+  path_env = codes "/bin";
+  slots = 2;
+  retries = 0;
+  base = 1;
+  rate = 100000;
+  keep = false;
+}
+
+abbrev variable : Name → Name → Variable
+variable name text = record { name = name; text = text }
+
+abbrev env_in : Runtime → List Variable
+env_in runtime = variable (codes "HOME") runtime.outdir ∷ variable (codes "TMPDIR") runtime.tmpdir ∷ variable (codes "PATH") runtime.path_env ∷ []
+
+-- what the job that was staged as the n-th is started by
+abbrev pub launch : ℕ → Launch
+launch n = record {
+  words = codes "true" ∷ [];
+  env = env_in (runtime_of options n);
+  stdin = None;
+  stdout = None;
+  stderr = None;
+  dir = (runtime_of options n).outdir;
+}
+
+abbrev at_step : Name → JobPlace
+at_step name = record { step = name; index = [] } ∷ []
+
+abbrev pub a : JobPlace
+a = at_step (codes "a")
+
+abbrev b : JobPlace
+b = at_step (codes "b")
+
+abbrev pub job : JobPlace → Job
+job place = record { place = place; tool = tool; inputs = [] }
+
+abbrev pub two : Made → Walk
+two made = record { met = met_job (job a) ∷ met_job (job b) ∷ []; outs = [] }
+
+abbrev s : Scene
+s = record { walker = λ measures. two; paths = []; options = options }
+
+abbrev plan : StagePlan
+plan = record { moves = []; value = [] }
+
+-- nothing is copied for a job without inputs
+copies_nothing : (n : ℕ) → IsPlan false (in_folder options.work n) [] plan
+copies_nothing n = record {
+  placed = [];
+  are_placed = none_placed;
+  are_moves = none_moved;
+  number = λ members. 0;
+  numbers = λ p there. absurd (none_in p there);
+  value = refl;
+}
+
+abbrev started_as : ℕ → Started
+started_as n = record { inputs = []; launch = launch n }
+
+-- and nothing is collected of one without outputs
+collects_nothing : (n : ℕ) → IsCollected (left_of (started_as n) [] []) [] (Ok [])
+collects_nothing n = record { gathered = Ok []; are_gathered = bound [] refl no_outputs; is = refl }
+
+abbrev ended : ℕ → Option ℤ → Pair
+ended ticket code = call [] HostRequest.Collect (HostAnswer.Ended (record { ticket = ticket; code = code; millis = 1000 }))
+
+abbrev scanned : JobPlace → Pair
+scanned place = call place (HostRequest.Scan (codes "")) (HostAnswer.Listed [])
+
+abbrev well : Option ℤ
+well = Some (pos 0)
+
+abbrev badly : Option ℤ
+badly = Some (pos 1)
+
+-- after these events, with nothing due
+abbrev at : List Event → Progress
+at events = record { work = nothing_due; events = events }
+
+-- the first child runs; both run
+abbrev one : List Event
+one = job_staged a 1 ∷ job_started a [] (launch 1) 1 ∷ []
+
+abbrev both : List Event
+both = one ++ job_staged b 2 ∷ job_started b [] (launch 2) 2 ∷ []
+
+two_in_flight : in_flight both ≡ (1, a) ∷ (2, b) ∷ []
+two_in_flight = refl
+
+-- a child has ended well, and its folder is collected
+abbrev came_well : ℕ → JobPlace → List Event
+came_well ticket place = child_exited ticket ∷ job_succeeded place [] ∷ []
+
+abbrev came_badly : ℕ → JobPlace → List Event
+came_badly ticket place = child_exited ticket ∷ job_failed place (Cause.Exit badly) ∷ []
+
+-- The second job may be staged while the first one's child runs, and then a child is waited for
+
+may_stage : MayStage s (at one) (Load ∷ Compute ∷ []) b plan 2
+may_stage = record {
+  free = record { still = record { idle = refl; collects = refl; unsettled = refl }; measured = refl };
+  job = job b;
+  known = refl;
+  computed = refl;
+  not_held = refl;
+  slot = lit< tt;
+  staged = copies_nothing 2;
+  next_number = refl;
+}
+
+-- What is asked and answered brings these events about
+
+module _ (is : (n : ℕ) → IsLaunch tool [] (runtime_of options n) (launch n)) where
+  abbrev started : JobPlace → ℕ → List Pair
+  started place n = call place (HostRequest.Stage plan n) HostAnswer.Done ∷ call place (HostRequest.Start (launch n)) (HostAnswer.Started n) ∷ []
+
+  they_start : Leads s at_first (started a 1 ++ started b 2) (at both)
+  they_start =
+      follows (stages a plan 1 (job a) (start_due a [] (launch 1)) [] refl (has_launch [] (launch 1) refl (is 1)))
+      (follows (starts a [] (launch 1) 1 refl)
+      (follows (stages b plan 2 (job b) (start_due b [] (launch 2)) [] refl (has_launch [] (launch 2) refl (is 2)))
+      (follows (starts b [] (launch 2) 2 refl) stays)))
+
+either_ends : Leads s (at both) (ended 2 well ∷ scanned b ∷ ended 1 badly ∷ []) (at (both ++ came_well 2 b ++ came_badly 1 a))
+either_ends =
+    follows (exits_well b (record { ticket = 2; code = well; millis = 1000 }) (job b) (1, lit< tt, refl) refl refl)
+    (follows (scans b (codes "") [] (job b) (started_as 2) [] nothing_due (job_succeeded b [] ∷ []) refl refl (of_outputs [] refl none_asked) (collects [] (collects_nothing 2)))
+    (follows (exits_badly a (record { ticket = 1; code = badly; millis = 1000 }) (job a) (0, lit< tt, refl) refl refl) stays))
+
+-- Either end may come first
+
+not_after_a : {marks : List Mark} {end : End} → EndsSo s (at (both ++ came_well 1 a)) marks end → ⊥
+not_after_a ends = flies_on ends refl refl
+
+not_after_b : {marks : List Mark} {end : End} → EndsSo s (at (both ++ came_well 2 b)) marks end → ⊥
+not_after_b ends = flies_on ends refl refl
+
+no_result_of_one : (unfolding_at s (both ++ came_well 2 b)).result ≡ None
+no_result_of_one = refl
+
+-- once both are at hand, neither is staged again
+both_loaded : (is_a is_b : Bool) → mark (Load ∷ Load ∷ []) (cond is_a 0 (cond is_b 1 2)) ≡ Compute → ⊥
+both_loaded true is_b computed = cc
+both_loaded false true computed = cc
+both_loaded false false computed = cc
+
+ends_by_b : EndsSo s (at (both ++ came_well 1 a ++ came_well 2 b)) (Load ∷ Load ∷ []) (succeeds_with [] [])
+ends_by_b =
+    succeeds [] [] (record {
+      free = record { still = record { idle = refl; collects = refl; unsettled = refl }; measured = refl };
+      no_stage = λ place plan number may. both_loaded (is_same_place a place) (is_same_place b place) may.computed;
+    }) refl refl (no_file refl refl)
+
+ends_by_a : EndsSo s (at (both ++ came_well 2 b ++ came_well 1 a)) (Load ∷ Load ∷ []) (succeeds_with [] [])
+ends_by_a =
+    succeeds [] [] (record {
+      free = record { still = record { idle = refl; collects = refl; unsettled = refl }; measured = refl };
+      no_stage = λ place plan number may. both_loaded (is_same_place a place) (is_same_place b place) may.computed;
+    }) refl refl (no_file refl refl)
+
+-- A failure with the other in flight settles the end, which comes once the other has landed, however that ends
+
+abbrev a_fails : List Event
+a_fails = both ++ came_badly 1 a
+
+it_is_settled : settled s a_fails ≡ Some (fails_permanently a (Cause.Exit badly))
+it_is_settled = refl
+
+not_while_b_flies : {marks : List Mark} {end : End} → EndsSo s (at a_fails) marks end → ⊥
+not_while_b_flies ends = flies_on ends refl refl
+
+it_is_collected : MayCollect s (at a_fails) (Compute ∷ Load ∷ []) []
+it_is_collected = record {
+  at_root = refl;
+  idle = refl;
+  collects = refl;
+  flying = ((2, b), (0, lit< tt, refl));
+  busy = λ unsettled. let never : Some (fails_permanently a (Cause.Exit badly)) ≡ None = unsettled in absurd cc;
+}
+
+b_ends_well : EndsSo s (at (a_fails ++ came_well 2 b)) (Compute ∷ Load ∷ []) (fails_permanently a (Cause.Exit badly))
+b_ends_well = fails _ refl refl refl refl
+
+b_fails_too : EndsSo s (at (a_fails ++ came_badly 2 b)) (Compute ∷ Load ∷ []) (fails_permanently a (Cause.Exit badly))
+b_fails_too = fails _ refl refl refl refl
+
+-- the first failure counts, whichever job's it is
+b_fails_first : EndsSo s (at (both ++ came_badly 2 b ++ child_exited 1 ∷ job_failed_for_now a ∷ [])) (Compute ∷ Load ∷ []) (fails_permanently b (Cause.Exit badly))
+b_fails_first = fails _ refl refl refl refl
+
+a_signal_first : EndsSo s (at (both ++ child_exited 1 ∷ job_failed_for_now a ∷ came_badly 2 b)) (Compute ∷ Load ∷ []) (fails_temporarily a)
+a_signal_first = fails _ refl refl refl refl
+
+-- A collect that fails ends the run at once, with both tickets, and whatever was settled
+
+a_lost_collect : EndsSo s (at (both ++ collect_failed ∷ [])) (Load ∷ Load ∷ []) (ended_by_host HostFault.Collect (1 ∷ 2 ∷ []))
+a_lost_collect = lost refl refl
+
+one_lost_after_a_failure : EndsSo s (at (a_fails ++ collect_failed ∷ [])) (Load ∷ Load ∷ []) (ended_by_host HostFault.Collect (2 ∷ []))
+one_lost_after_a_failure = lost refl refl
+
+-- A start that fails with the other in flight is the end once that has landed, and names no ticket
+a_start_that_fails : EndsSo s (at (one ++ job_staged b 2 ∷ host_failed b HostFault.Start ∷ came_well 1 a)) (Load ∷ Compute ∷ [])
+    (ended_by_host HostFault.Start [])
+a_start_that_fails = fails _ refl refl refl refl
