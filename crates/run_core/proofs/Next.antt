@@ -70,7 +70,7 @@ module _ (run : Lone) (inputs : Fields) (ms : List Event) (l : IsLone run inputs
     abbrev stage_request : Request
     stage_request = Request.Host [] (HostRequest.Stage plan 1)
 
-    allowed_stage : MayStage (its_scene run inputs ms l) (after ms at_first) (Compute ∷ []) [] plan 1
+    pub allowed_stage : MayStage (its_scene run inputs ms l) (after ms at_first) (Compute ∷ []) [] plan 1
     allowed_stage = stage_up run.tool inputs run.options (walks run inputs ms l) (its_paths run inputs ms l) ms (past run inputs ms l) at_first tt (Compute ∷ []) [] plan 1
         (may_stage run.tool inputs run.options (walks run inputs ms l) (its_paths run inputs ms l) ms l.limits plan is_plan)
 
@@ -100,7 +100,7 @@ module _ (run : Lone) (inputs : Fields) (ms : List Event) (l : IsLone run inputs
     abbrev start_request : Request
     start_request = Request.Host [] (HostRequest.Start launch)
 
-    allowed_start : due_in (its_scene run inputs ms l) (ms ++ (when_staged own launch).events) (start_due [] own launch) ≡ Some start_request
+    pub allowed_start : due_in (its_scene run inputs ms l) (ms ++ (when_staged own launch).events) (start_due [] own launch) ≡ Some start_request
     allowed_start = due_up run.tool inputs run.options (walks run inputs ms l) (its_paths run inputs ms l) ms (past run inputs ms l) (when_staged own launch) (refl, tt) (start_due [] own launch)
 
     pub began : (ticket : ℕ) → Advances run (t ++ pair start_request (HostAnswer.Started ticket) ∷ []) (after_ticket ticket (kept_of own launch))
@@ -125,7 +125,7 @@ module _ (run : Lone) (inputs : Fields) (ms : List Event) (l : IsLone run inputs
   abbrev collect_request : Request
   collect_request = Request.Host [] HostRequest.Collect
 
-  allowed_collect : (own : Fields) (launch : Launch) (ticket : ℕ) → MayCollect (its_scene run inputs ms l) (after ms (when_running own launch ticket)) (Load ∷ []) []
+  pub allowed_collect : (own : Fields) (launch : Launch) (ticket : ℕ) → MayCollect (its_scene run inputs ms l) (after ms (when_running own launch ticket)) (Load ∷ []) []
   allowed_collect own launch ticket =
       collect_up run.tool inputs run.options (walks run inputs ms l) (its_paths run inputs ms l) ms (past run inputs ms l) (when_running own launch ticket) (refl, (refl, tt)) (Load ∷ []) []
       (may_collect run.tool inputs run.options (walks run inputs ms l) (its_paths run inputs ms l) ms l.limits own launch ticket)
@@ -191,7 +191,7 @@ module _ (run : Lone) (inputs : Fields) (ms : List Event) (l : IsLone run inputs
     fill_todo : reverse filling.left ≡ path ∷ reverse rest
     fill_todo = ap reverse is ∙ turned rest path
 
-    allowed_fill : due_in (its_scene run inputs ms l) (ms ++ fill_progress.events) fill_progress.work ≡ Some fill_request
+    pub allowed_fill : due_in (its_scene run inputs ms l) (ms ++ fill_progress.events) fill_progress.work ≡ Some fill_request
     allowed_fill =
         due_up run.tool inputs run.options (walks run inputs ms l) (its_paths run inputs ms l) ms (past run inputs ms l) fill_progress (refl, tt) fill_progress.work
         ∙ ap (λ (todo : List Name). due_in (lone run inputs ms l) fill_progress.events (input_heads_due [] filling.staged todo filling.heads)) fill_todo
@@ -234,7 +234,7 @@ module _ (run : Lone) (inputs : Fields) (ms : List Event) (l : IsLone run inputs
     abbrev began_so : Started
     began_so = record { inputs = own; launch = launch }
 
-    allowed_scan : due_in (its_scene run inputs ms l) (ms ++ (when_back own launch ticket millis).events) (scan_due [] millis) ≡ Some scan_request
+    pub allowed_scan : due_in (its_scene run inputs ms l) (ms ++ (when_back own launch ticket millis).events) (scan_due [] millis) ≡ Some scan_request
     allowed_scan = due_up run.tool inputs run.options (walks run inputs ms l) (its_paths run inputs ms l) ms (past run inputs ms l) (when_back own launch ticket millis) (refl, (refl, (refl, tt))) (scan_due [] millis)
 
     pub scan_fails : Advances run (t ++ pair scan_request (HostAnswer.Failed HostFault.Scan) ∷ []) (host_fails HostFault.Scan [])
@@ -274,7 +274,7 @@ module _ (run : Lone) (inputs : Fields) (ms : List Event) (l : IsLone run inputs
     head_todo : reverse reading.left ≡ name ∷ reverse rest
     head_todo = ap reverse is ∙ turned rest name
 
-    allowed_head : due_in (its_scene run inputs ms l) (ms ++ head_progress.events) head_progress.work ≡ Some head_request
+    pub allowed_head : due_in (its_scene run inputs ms l) (ms ++ head_progress.events) head_progress.work ≡ Some head_request
     allowed_head =
         due_up run.tool inputs run.options (walks run inputs ms l) (its_paths run inputs ms l) ms (past run inputs ms l) head_progress (refl, (refl, (refl, tt))) head_progress.work
         ∙ ap (λ (todo : List Name). due_in (lone run inputs ms l) head_progress.events (output_heads_due [] reading.found todo reading.heads)) head_todo
@@ -332,7 +332,7 @@ module _ (run : Lone) (inputs : Fields) (ms : List Event) (l : IsLone run inputs
     numbers_too : number_at (when_delivered own launch ticket named plan).events ≡ number_of
     numbers_too = fun_ext first_number
 
-    allowed_deliver : MayDeliver (its_scene run inputs ms l) (after ms (when_gathered own launch ticket named)) (Load ∷ []) [] plan
+    pub allowed_deliver : MayDeliver (its_scene run inputs ms l) (after ms (when_gathered own launch ticket named)) (Load ∷ []) [] plan
     allowed_deliver =
         deliver_up run.tool inputs run.options (walks run inputs ms l) (its_paths run inputs ms l) ms (past run inputs ms l) (when_gathered own launch ticket named) (refl, (refl, (refl, (refl, tt)))) (Load ∷ []) [] plan
         (may_deliver run.tool inputs run.options (walks run inputs ms l) (its_paths run inputs ms l) ms l.limits own launch ticket named plan (ap any_file same ∙ files) by_sources numbers)
