@@ -13,5 +13,7 @@ pub mod Once
 pub mod Measuring
 pub mod Advances
 pub mod Asking
+pub mod Lost
+pub mod Blamed
 pub mod Holding
 pub mod Seats
