@@ -17,3 +17,5 @@ pub mod Lost
 pub mod Blamed
 pub mod Holding
 pub mod Seats
+pub mod TakeSteps
+pub mod RunTools
