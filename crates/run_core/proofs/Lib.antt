@@ -13,8 +13,7 @@ pub mod Once
 pub mod Measuring
 pub mod Advances
 pub mod Asking
-pub mod Lost
-pub mod Blamed
+pub mod Beginning
 pub mod Holding
 pub mod Seats
 pub mod TakeSteps
