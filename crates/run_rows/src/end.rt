@@ -1,5 +1,6 @@
 use crate::list::numbers;
 use collected_outputs::OutputFault;
+use input_files::ContentsFault;
 use cwl_value::{JobPlace, Value, canonical_text, place_text};
 use plain_data::Text;
 use row_io::{RowFault, quoted};
@@ -56,8 +57,17 @@ fn cause_text(alloc: Global, cause: &Cause) -> Result<Text, AllocError> {
         Cause::Build(fault) => format!(in alloc; "Build {}", fault.code())?,
         Cause::Exit(Some(code)) => format!(in alloc; "Exit {code}")?,
         Cause::Exit(None) => String::from_str(alloc, "Exit by a signal")?,
+        Cause::Contents(fault) => contents_text(alloc, fault)?,
         Cause::Collect(fault) => collect_text(alloc, fault)?,
     }))
+}
+
+/// The code of refused contents, and the input.
+fn contents_text(alloc: Global, fault: &ContentsFault) -> Result<String, AllocError> {
+    match fault {
+        ContentsFault::TooLong(input) => format!(in alloc; "Collect G4 {}", input.as_str()),
+        ContentsFault::NotUtf8(input) => format!(in alloc; "Collect G9 {}", input.as_str()),
+    }
 }
 
 /// The code of a refusal, and the output that it was met at.
