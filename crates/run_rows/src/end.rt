@@ -1,6 +1,7 @@
 use crate::list::numbers;
 use collected_outputs::OutputFault;
 use cwl_value::{JobPlace, Value, canonical_text, place_text};
+use input_files::ContentsFault;
 use plain_data::Text;
 use row_io::{RowFault, quoted};
 use run_core::{Cause, Outcome, Report, RunFault};
@@ -53,11 +54,20 @@ fn cause_text(alloc: Global, cause: &Cause) -> Result<Text, AllocError> {
         Cause::Missing(input) => format!(in alloc; "Missing {}", input.as_str())?,
         Cause::Secondary(input) => format!(in alloc; "Secondary {}", input.as_str())?,
         Cause::Kind(input) => format!(in alloc; "Kind {}", input.as_str())?,
+        Cause::Contents(fault) => contents_text(alloc, fault)?,
         Cause::Build(fault) => format!(in alloc; "Build {}", fault.code())?,
         Cause::Exit(Some(code)) => format!(in alloc; "Exit {code}")?,
         Cause::Exit(None) => String::from_str(alloc, "Exit by a signal")?,
         Cause::Collect(fault) => collect_text(alloc, fault)?,
     }))
+}
+
+/// What is wrong with the contents, and the input whose they are.
+fn contents_text(alloc: Global, fault: &ContentsFault) -> Result<String, AllocError> {
+    match fault {
+        ContentsFault::TooLong(input) => format!(in alloc; "Contents TooLong {}", input.as_str()),
+        ContentsFault::NotUtf8(input) => format!(in alloc; "Contents NotUtf8 {}", input.as_str()),
+    }
 }
 
 /// The code of a refusal, and the output that it was met at.
