@@ -74,7 +74,7 @@ pub record Advances (run : Lone) (t : List Pair) (next : State) : Type 0 where
   pub goes : IsRunSoFar (setting_in run) t happened marks
   pub at : IsAt run happened marks next
 
-walker_tool : (tool : Tool) (given : Fields) (known : Measures) → walker (process.Tool tool) given known ≡ tool_walk tool [] (inputs_of tool given known)
+pub walker_tool : (tool : Tool) (given : Fields) (known : Measures) → walker (process.Tool tool) given known ≡ tool_walk tool [] (inputs_of tool given known)
 walker_tool tool given known = ap (λ q. walker_at q given known) (ap out-Process (sym (rolls-Tool tool)) ∙ out-roll-Process (Process-F.Tool tool))
 
 module _ (run : Lone) (inputs : Fields) (ms : List Event) (l : IsLone run inputs ms) where

@@ -1,4 +1,5 @@
 pub mod Loops
+pub mod Settled
 pub mod Shifted
 pub mod Advance
 pub mod Lone
@@ -6,6 +7,11 @@ pub mod Answered
 pub mod LoneResults
 pub mod Phases
 pub mod Collecting
+pub mod Turning
 pub mod Next
+pub mod Once
+pub mod Measuring
+pub mod Advances
+pub mod Asking
 pub mod Holding
 pub mod Seats

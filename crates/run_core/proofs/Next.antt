@@ -41,7 +41,7 @@ use Rattle.run_rules.specs.Plans.{LoadsHeld}
 use Rattle.run_rules.specs.Run.{IsRunSoFar, Replans}
 use Rattle.run_rules.specs.Reports.{report_of}
 use Rattle.run_core.specs.inner.Lone.{setting_in}
-use Rattle.run_core.specs.inner.Machine.{ends, host_fails, fails_for_good, stages_by, kept_of, scans as scans_state, after_class, after_exit, after_ticket, delivers_by, contents_of, outputs_made, result_of, AfterStage, TakesContents, Lists, TakesHead}
+use Rattle.run_core.specs.inner.Machine.{ends, host_fails, fails_for_good, stages_by, kept_of, scans as scans_state, after_class, after_exit, after_ticket, delivers_by, contents_of, head_of, FillsOn, ReadsOn, outputs_made, result_of, AfterStage, TakesContents, Lists, TakesHead}
 use Rattle.run_core.specs.inner.Measured.{NoMeasures}
 use Rattle.run_core.specs.inner.Places.{left_place, number_of}
 use Rattle.run_core.specs.inner.Turns.{PutsNext, no_turn, its_turn}
@@ -52,6 +52,8 @@ use Rattle.run_rules.specs.Allowed.{MayStage, MayCollect, MayDeliver, due_in}
 use Rattle.run_core.proofs.Lone.{landed, when_delivered, may_stage, may_collect, may_deliver, busy_delivered, result_delivered_too, outputs_of}
 use Rattle.run_core.proofs.LoneResults.{outputs_are, sources_are, first_number}
 use Rattle.run_core.proofs.Phases.{fills_on, turned}
+use Rattle.run_core.proofs.Turning.{IsTurn, turn_of, fewer}
+use Rattle.input_files.specs.declared.contents.TheConstants.{MOST_CONTENTS as MOST_FILLED}
 use Rattle.run_core.proofs.Collecting.{collects_on}
 
 module _ (run : Lone) (inputs : Fields) (ms : List Event) (l : IsLone run inputs ms) (t : List Pair) where
@@ -68,7 +70,7 @@ module _ (run : Lone) (inputs : Fields) (ms : List Event) (l : IsLone run inputs
     abbrev stage_request : Request
     stage_request = Request.Host [] (HostRequest.Stage plan 1)
 
-    allowed_stage : MayStage (its_scene run inputs ms l) (after ms at_first) (Compute ∷ []) [] plan 1
+    pub allowed_stage : MayStage (its_scene run inputs ms l) (after ms at_first) (Compute ∷ []) [] plan 1
     allowed_stage = stage_up run.tool inputs run.options (walks run inputs ms l) (its_paths run inputs ms l) ms (past run inputs ms l) at_first tt (Compute ∷ []) [] plan 1
         (may_stage run.tool inputs run.options (walks run inputs ms l) (its_paths run inputs ms l) ms l.limits plan is_plan)
 
@@ -98,7 +100,7 @@ module _ (run : Lone) (inputs : Fields) (ms : List Event) (l : IsLone run inputs
     abbrev start_request : Request
     start_request = Request.Host [] (HostRequest.Start launch)
 
-    allowed_start : due_in (its_scene run inputs ms l) (ms ++ (when_staged own launch).events) (start_due [] own launch) ≡ Some start_request
+    pub allowed_start : due_in (its_scene run inputs ms l) (ms ++ (when_staged own launch).events) (start_due [] own launch) ≡ Some start_request
     allowed_start = due_up run.tool inputs run.options (walks run inputs ms l) (its_paths run inputs ms l) ms (past run inputs ms l) (when_staged own launch) (refl, tt) (start_due [] own launch)
 
     pub began : (ticket : ℕ) → Advances run (t ++ pair start_request (HostAnswer.Started ticket) ∷ []) (after_ticket ticket (kept_of own launch))
@@ -123,7 +125,7 @@ module _ (run : Lone) (inputs : Fields) (ms : List Event) (l : IsLone run inputs
   abbrev collect_request : Request
   collect_request = Request.Host [] HostRequest.Collect
 
-  allowed_collect : (own : Fields) (launch : Launch) (ticket : ℕ) → MayCollect (its_scene run inputs ms l) (after ms (when_running own launch ticket)) (Load ∷ []) []
+  pub allowed_collect : (own : Fields) (launch : Launch) (ticket : ℕ) → MayCollect (its_scene run inputs ms l) (after ms (when_running own launch ticket)) (Load ∷ []) []
   allowed_collect own launch ticket =
       collect_up run.tool inputs run.options (walks run inputs ms l) (its_paths run inputs ms l) ms (past run inputs ms l) (when_running own launch ticket) (refl, (refl, tt)) (Load ∷ []) []
       (may_collect run.tool inputs run.options (walks run inputs ms l) (its_paths run inputs ms l) ms l.limits own launch ticket)
@@ -176,6 +178,135 @@ module _ (run : Lone) (inputs : Fields) (ms : List Event) (l : IsLone run inputs
       subst (λ (n : ℕ). So (when_running own launch n) (Load ∷ [])) (only_ticket ticket e.ticket flying) goes
       in comes_back own launch e there (class_of run.tool.exit_codes e.code) refl
 
+  -- Contents of inputs
+
+  module _ (filling : Filling) (rest : List Name) (path : Name) (is : filling.left ≡ rest ++ path ∷ [])
+      (goes : So (when_filling filling.staged (reverse filling.left) filling.heads) (Compute ∷ [])) where
+    abbrev fill_request : Request
+    fill_request = contents_of path
+
+    abbrev fill_progress : Progress
+    fill_progress = when_filling filling.staged (reverse filling.left) filling.heads
+
+    fill_todo : reverse filling.left ≡ path ∷ reverse rest
+    fill_todo = ap reverse is ∙ turned rest path
+
+    pub allowed_fill : due_in (its_scene run inputs ms l) (ms ++ fill_progress.events) fill_progress.work ≡ Some fill_request
+    allowed_fill =
+        due_up run.tool inputs run.options (walks run inputs ms l) (its_paths run inputs ms l) ms (past run inputs ms l) fill_progress (refl, tt) fill_progress.work
+        ∙ ap (λ (todo : List Name). due_in (lone run inputs ms l) fill_progress.events (input_heads_due [] filling.staged todo filling.heads)) fill_todo
+
+    fill_step : (bytes : List ℕ) (more_left : Filling) → more_left.staged ≡ filling.staged → more_left.heads ≡ with_value path bytes filling.heads → more_left.left ≡ rest →
+        (next : State) → length more_left.left < 2 ^ 64 → FillsOn run more_left next → Advances run (t ++ pair fill_request (HostAnswer.FirstBytes bytes) ∷ []) next
+    fill_step bytes more_left same_staged heads_are left_is next few on =
+        fills_on run inputs ms l (t ++ pair fill_request (HostAnswer.FirstBytes bytes) ∷ []) more_left
+        (λ work more none starts_on plans.
+        step_at run inputs ms l t fill_progress (Compute ∷ []) (pair fill_request (HostAnswer.FirstBytes bytes)) work more (Compute ∷ []) (refl, tt) none goes allowed_fill
+        (reads_input [] path _ bytes filling.staged (reverse rest) filling.heads job work more
+        (ap (λ (todo : List Name). input_heads_due [] filling.staged todo filling.heads) fill_todo) refl
+        (subst (λ (names : List Name). StartsOn run.options [] job 1 filling.staged (with_value path bytes filling.heads) names work more) (ap reverse left_is)
+        (subst (λ (heads : Heads). StartsOn run.options [] job 1 filling.staged heads (reverse more_left.left) work more) heads_are
+        (subst (λ (staged : Fields). StartsOn run.options [] job 1 staged more_left.heads (reverse more_left.left) work more) same_staged starts_on)))) plans)
+        next few on
+
+    pub fill_fails : Advances run (t ++ pair fill_request (HostAnswer.Failed HostFault.Head) ∷ []) (host_fails HostFault.Head [])
+    fill_fails =
+        end_at run inputs ms l (t ++ pair fill_request (HostAnswer.Failed HostFault.Head) ∷ [])
+        (record { work = nothing_due; events = job_staged [] 1 ∷ host_failed [] HostFault.Head ∷ [] }) (Compute ∷ []) (ended_by_host HostFault.Head []) (refl, (refl, tt))
+        (step_at run inputs ms l t fill_progress (Compute ∷ []) (pair fill_request (HostAnswer.Failed HostFault.Head)) nothing_due (host_failed [] HostFault.Head ∷ []) (Compute ∷ [])
+        (refl, tt) (refl, (refl, tt)) goes allowed_fill (call_fails [] (HostRequest.Head path MOST_FILLED) (λ same. cc)) refl)
+        (fails _ refl refl refl refl)
+
+    -- the name that came next is the path that was asked
+    pub filled : (bytes : List ℕ) (next : State) → length filling.left < 2 ^ 64 → TakesContents run filling bytes next →
+        Advances run (t ++ pair fill_request (HostAnswer.FirstBytes bytes) ∷ []) next
+    filled bytes next few takes =
+        let it : IsTurn filling.left filling.heads bytes rest path takes.filling.left takes.filling.heads = turn_of filling.left filling.heads bytes rest path is takes.puts in
+        fill_step bytes takes.filling takes.same it.found_is it.left_is next
+        (subst (λ (names : List Name). length names < 2 ^ 64) (sym it.left_is) (fewer rest path (subst (λ (names : List Name). length names < 2 ^ 64) is few))) takes.on
+
+  -- Scanning
+
+  module _ (own : Fields) (launch : Launch) (ticket millis : ℕ) (goes : So (when_back own launch ticket millis) (Load ∷ [])) where
+    abbrev scan_request : Request
+    scan_request = Request.Host [] (HostRequest.Scan (out_folder run.options.work 1))
+
+    abbrev began_so : Started
+    began_so = record { inputs = own; launch = launch }
+
+    pub allowed_scan : due_in (its_scene run inputs ms l) (ms ++ (when_back own launch ticket millis).events) (scan_due [] millis) ≡ Some scan_request
+    allowed_scan = due_up run.tool inputs run.options (walks run inputs ms l) (its_paths run inputs ms l) ms (past run inputs ms l) (when_back own launch ticket millis) (refl, (refl, (refl, tt))) (scan_due [] millis)
+
+    pub scan_fails : Advances run (t ++ pair scan_request (HostAnswer.Failed HostFault.Scan) ∷ []) (host_fails HostFault.Scan [])
+    scan_fails =
+        end_at run inputs ms l (t ++ pair scan_request (HostAnswer.Failed HostFault.Scan) ∷ [])
+        (record { work = nothing_due; events = events_back own launch ticket ++ host_failed [] HostFault.Scan ∷ [] }) (Load ∷ []) (ended_by_host HostFault.Scan []) (refl, (refl, (refl, (refl, tt))))
+        (step_at run inputs ms l t (when_back own launch ticket millis) (Load ∷ []) (pair scan_request (HostAnswer.Failed HostFault.Scan)) nothing_due (host_failed [] HostFault.Scan ∷ []) (Load ∷ [])
+        (refl, (refl, (refl, tt))) (refl, (refl, (refl, (refl, tt)))) goes allowed_scan (call_fails [] (HostRequest.Scan (out_folder run.options.work 1)) (λ same. cc)) refl)
+        (fails _ refl refl (landed ticket) refl)
+
+    pub listed : (found : List Found) (next : State) → Lists run (kept_of own launch) found next → Advances run (t ++ pair scan_request (HostAnswer.Listed found) ∷ []) next
+    listed found next so =
+        let wanted : List Name = so.first.left.wanted in
+        let todo : reverse so.reading.left ≡ wanted = ap reverse so.first.left.left_is ∙ reverse-reverse wanted in
+        collects_on run inputs ms l (t ++ pair scan_request (HostAnswer.Listed found) ∷ []) own launch ticket so.reading
+        (λ work more none collects_so plans.
+        step_at run inputs ms l t (when_back own launch ticket millis) (Load ∷ []) (pair scan_request (HostAnswer.Listed found)) work more (Load ∷ []) (refl, (refl, (refl, tt))) none goes allowed_scan
+        (scans [] (out_folder run.options.work 1) found job began_so wanted work more refl refl so.first.left.are_wanted
+        (subst (λ (names : List Name). CollectsOn [] job began_so found [] names work more) todo
+        (subst (λ (heads : Heads). CollectsOn [] job began_so found heads (reverse so.reading.left) work more) so.first.none_read
+        (subst (λ (all : List Found). CollectsOn [] job began_so all so.reading.heads (reverse so.reading.left) work more) so.first.all collects_so)))) plans)
+        next so.first.left.few so.on
+
+  -- First bytes of what was found
+
+  module _ (own : Fields) (launch : Launch) (ticket : ℕ) (reading : Reading) (rest : List Name) (name : Name) (is : reading.left ≡ rest ++ name ∷ [])
+      (goes : So (when_reading own launch ticket reading.found (reverse reading.left) reading.heads) (Load ∷ [])) where
+    abbrev head_request : Request
+    head_request = head_of run.options.work name
+
+    abbrev head_progress : Progress
+    head_progress = when_reading own launch ticket reading.found (reverse reading.left) reading.heads
+
+    abbrev began_with : Started
+    began_with = record { inputs = own; launch = launch }
+
+    head_todo : reverse reading.left ≡ name ∷ reverse rest
+    head_todo = ap reverse is ∙ turned rest name
+
+    pub allowed_head : due_in (its_scene run inputs ms l) (ms ++ head_progress.events) head_progress.work ≡ Some head_request
+    allowed_head =
+        due_up run.tool inputs run.options (walks run inputs ms l) (its_paths run inputs ms l) ms (past run inputs ms l) head_progress (refl, (refl, (refl, tt))) head_progress.work
+        ∙ ap (λ (todo : List Name). due_in (lone run inputs ms l) head_progress.events (output_heads_due [] reading.found todo reading.heads)) head_todo
+
+    pub head_fails : Advances run (t ++ pair head_request (HostAnswer.Failed HostFault.Head) ∷ []) (host_fails HostFault.Head [])
+    head_fails =
+        end_at run inputs ms l (t ++ pair head_request (HostAnswer.Failed HostFault.Head) ∷ [])
+        (record { work = nothing_due; events = events_back own launch ticket ++ host_failed [] HostFault.Head ∷ [] }) (Load ∷ []) (ended_by_host HostFault.Head []) (refl, (refl, (refl, (refl, tt))))
+        (step_at run inputs ms l t head_progress (Load ∷ []) (pair head_request (HostAnswer.Failed HostFault.Head)) nothing_due (host_failed [] HostFault.Head ∷ []) (Load ∷ [])
+        (refl, (refl, (refl, tt))) (refl, (refl, (refl, (refl, tt)))) goes allowed_head (call_fails [] (HostRequest.Head _ _) (λ same. cc)) refl)
+        (fails _ refl refl (landed ticket) refl)
+
+    head_step : (bytes : List ℕ) (more_read : Reading) → more_read.found ≡ reading.found → more_read.heads ≡ with_value name bytes reading.heads → more_read.left ≡ rest →
+        (next : State) → length more_read.left < 2 ^ 64 → ReadsOn run (kept_of own launch) more_read next → Advances run (t ++ pair head_request (HostAnswer.FirstBytes bytes) ∷ []) next
+    head_step bytes more_read same_found heads_are left_is next few on =
+        collects_on run inputs ms l (t ++ pair head_request (HostAnswer.FirstBytes bytes) ∷ []) own launch ticket more_read
+        (λ work more none collects_so plans.
+        step_at run inputs ms l t head_progress (Load ∷ []) (pair head_request (HostAnswer.FirstBytes bytes)) work more (Load ∷ []) (refl, (refl, (refl, tt))) none goes allowed_head
+        (reads_output [] _ _ bytes reading.found name (reverse rest) reading.heads job began_with work more
+        (ap (λ (todo : List Name). output_heads_due [] reading.found todo reading.heads) head_todo) refl refl
+        (subst (λ (names : List Name). CollectsOn [] job began_with reading.found (with_value name bytes reading.heads) names work more) (ap reverse left_is)
+        (subst (λ (heads : Heads). CollectsOn [] job began_with reading.found heads (reverse more_read.left) work more) heads_are
+        (subst (λ (all : List Found). CollectsOn [] job began_with all more_read.heads (reverse more_read.left) work more) same_found collects_so)))) plans)
+        next few on
+
+    pub head_read : (bytes : List ℕ) (next : State) → length reading.left < 2 ^ 64 → TakesHead run (kept_of own launch) reading bytes next →
+        Advances run (t ++ pair head_request (HostAnswer.FirstBytes bytes) ∷ []) next
+    head_read bytes next few takes =
+        let it : IsTurn reading.left reading.heads bytes rest name takes.reading.left takes.reading.heads = turn_of reading.left reading.heads bytes rest name is takes.puts in
+        head_step bytes takes.reading takes.same it.found_is it.left_is next
+        (subst (λ (names : List Name). length names < 2 ^ 64) (sym it.left_is) (fewer rest name (subst (λ (names : List Name). length names < 2 ^ 64) is few))) takes.on
+
   -- Delivering
 
   module _ (own : Fields) (launch : Launch) (ticket : ℕ) (named : Fields) (plan : StagePlan) (goes : So (when_gathered own launch ticket named) (Load ∷ []))
@@ -201,7 +332,7 @@ module _ (run : Lone) (inputs : Fields) (ms : List Event) (l : IsLone run inputs
     numbers_too : number_at (when_delivered own launch ticket named plan).events ≡ number_of
     numbers_too = fun_ext first_number
 
-    allowed_deliver : MayDeliver (its_scene run inputs ms l) (after ms (when_gathered own launch ticket named)) (Load ∷ []) [] plan
+    pub allowed_deliver : MayDeliver (its_scene run inputs ms l) (after ms (when_gathered own launch ticket named)) (Load ∷ []) [] plan
     allowed_deliver =
         deliver_up run.tool inputs run.options (walks run inputs ms l) (its_paths run inputs ms l) ms (past run inputs ms l) (when_gathered own launch ticket named) (refl, (refl, (refl, (refl, tt)))) (Load ∷ []) [] plan
         (may_deliver run.tool inputs run.options (walks run inputs ms l) (its_paths run inputs ms l) ms l.limits own launch ticket named plan (ap any_file same ∙ files) by_sources numbers)

@@ -16,6 +16,7 @@ use Rattle.run_rules.specs.Unfold.{Resolved, Unfolded, unfolded, or_else, nothin
 use Rattle.run_rules.specs.Scene.{Scene}
 use Rattle.run_rules.specs.Events.{Event, file_measured, job_staged, job_started, child_exited, job_succeeded, job_failed, job_failed_for_now, result_delivered, host_failed, collect_failed, Progress, Started, resolves, resolved, flight_after, in_flight, brings, is_at_hand, is_held, number_if, number_at, started_if, started_at, delivered_if, delivered_at, is_staging, measures_after, measures, measures_path, is_measured, are_measured, unfolding_at, job_at}
 use Rattle.run_core.specs.inner.Measured.{measures_one, AreMeasures, NoMeasures}
+use Rattle.run_core.proofs.Settled.{or_else_assoc, settled_split}
 use Rattle.run_rules.specs.End.{End, gives_up, is_lost_collect, fault_end, settled_by, unfold_end, settled_from, settled}
 
 pub measures_more : (ms : List Event) (path : Name) (measure : Measure) → AreMeasures ms → AreMeasures (ms ++ file_measured path measure ∷ [])
@@ -144,10 +145,6 @@ all_still (path ∷ paths) ms es is =
 
 -- two walks that are one where all is measured
 
-or_else_assoc : (one two three : Option End) → or_else (or_else one two) three ≡ or_else one (or_else two three)
-or_else_assoc None two three = refl
-or_else_assoc (Some end) two three = refl
-
 pub no_measures_more : (es : List Event) (e : Event) → NoMeasures es → measures_one e ≡ false → NoMeasures (es ++ e ∷ [])
 no_measures_more [] e none is = (is, tt)
 no_measures_more (x ∷ es) e none is = (none.0, no_measures_more es e none.1 is)
@@ -180,14 +177,6 @@ module _ (tool : Tool) (inputs : Fields) (options : Options) (walks : Measures �
     pub job_past : (es : List Event) → NoMeasures es → (place : JobPlace) → job_at S (ms ++ es) place ≡ job_at L es place
     job_past es none place = ap (λ (u : Unfolded). find (is_at place) u.jobs) (unfolding_past es none)
 
-    settled_split : (acc xs ys : List Event) → settled_from S acc (xs ++ ys) ≡ or_else (settled_from S acc xs) (settled_from S (acc ++ xs) ys)
-    settled_split acc [] ys = ap (λ (es : List Event). settled_from S es ys) (sym (append-nil acc))
-    settled_split acc (x ∷ xs) ys =
-        ap (λ (o : Option End). or_else (settled_by S acc x) (or_else (unfold_end S (acc ++ x ∷ [])) o))
-        (settled_split (acc ++ x ∷ []) xs ys ∙ ap (λ (es : List Event). or_else (settled_from S (acc ++ x ∷ []) xs) (settled_from S es ys)) (append_assoc acc (x ∷ []) xs))
-        ∙ ap (λ (o : Option End). or_else (settled_by S acc x) o) (sym (or_else_assoc (unfold_end S (acc ++ x ∷ [])) (settled_from S (acc ++ x ∷ []) xs) (settled_from S (acc ++ x ∷ xs) ys)))
-        ∙ sym (or_else_assoc (settled_by S acc x) (or_else (unfold_end S (acc ++ x ∷ [])) (settled_from S (acc ++ x ∷ []) xs)) (settled_from S (acc ++ x ∷ xs) ys))
-
     by_past : (acc : List Event) (e : Event) → settled_by S (ms ++ acc) e ≡ settled_by L acc e
     by_past acc (file_measured path measure) = refl
     by_past acc (job_staged place number) = refl
@@ -212,7 +201,7 @@ module _ (tool : Tool) (inputs : Fields) (options : Options) (walks : Measures �
 
     pub settled_past : (es : List Event) → NoMeasures es → settled S (ms ++ es) ≡ settled L es
     settled_past es none =
-        ap (λ (o : Option End). or_else (unfold_end S []) o) (settled_split [] ms es)
+        ap (λ (o : Option End). or_else (unfold_end S []) o) (settled_split S [] ms es)
         ∙ sym (or_else_assoc (unfold_end S []) (settled_from S [] ms) (settled_from S ms es))
         ∙ ap (λ (o : Option End). or_else o (settled_from S ms es)) p.still
         ∙ ap (λ (es_before : List Event). settled_from S es_before es) (sym (append-nil ms))

@@ -1,4 +1,5 @@
 ghost use Rattle.std.specs.Prelude.{◌≡◌, ◌++◌, IfOk, codes};
+ghost use Rattle.staging.specs.Groups.{path_in as path_under};
 ghost use Rattle.run_rules.specs.Folders.{in_folder, out_folder, tmp_folder, runtime_of};
 
 use crate::Options;
@@ -46,7 +47,8 @@ pub(crate) fn runtime_of(
 
 /// The path of what has this name in a folder.
 pub(crate) fn path_in(alloc: Global, folder: &Text, name: &Text) -> Result<Text, AllocError>
-    ensures { IfOk result (λ path. path ≡ folder.now ++ codes "/" ++ name.now) }
+    ensures written { IfOk result (λ path. path ≡ folder.now ++ codes "/" ++ name.now) }
+    ensures path { IfOk result (λ path. path ≡ path_under folder.now name.now) }
 {
     let folder = folder.as_str();
     let name = name.as_str();

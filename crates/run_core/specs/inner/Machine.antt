@@ -34,6 +34,7 @@ use Rattle.proc_host.specs.ExitClass.{class_of}
 use Rattle.staging.specs.declared.found.Found.{Found}
 use Rattle.staging.specs.declared.measure.Measure.{Measure}
 use Rattle.staging.specs.declared.plan.StagePlan.{StagePlan}
+use Rattle.staging.specs.Groups.{path_in}
 use Rattle.staging.specs.Plan.{IsPlan}
 use Rattle.run_rules.specs.declared.outcome.Cause.{Cause}
 use Rattle.run_rules.specs.declared.outcome.Outcome.{Outcome}
@@ -264,7 +265,7 @@ reading_in (Phase.Reading kept reading) = reading
 reading_in phase = nothing_read
 
 abbrev pub head_of : Name → Name → Request
-head_of work name = Request.Host [] (HostRequest.Head (out_folder work 1 ++ codes "/" ++ name) (limit_of name))
+head_of work name = Request.Host [] (HostRequest.Head (path_in (out_folder work 1) name) (limit_of name))
 
 -- the names of the files whose first bytes are read, the first of them last
 pub record AreLeft (lone : Lone) (kept : Kept) (found : List Found) (left : List Name) : Type 0 where

@@ -1,17 +1,20 @@
 -- The states that the machine can be in, with what has happened and the plan in force there.
 use Rattle.std.specs.Prelude.{◌≡◌, ◌<◌, ◌^◌, ℕ, true, false, List, [], ◌∷◌, ◌++◌, length, reverse, None, Some, Ok, Err, IfErr}
+use Rattle.std.specs.Map.{keys_of}
 use Rattle.command_line.specs.declared.launch.Launch.{Launch}
 use Rattle.command_line.specs.Launch.{IsLaunch}
 use Rattle.cwl_value.specs.declared.value.Value.{Value}
-use Rattle.proc_host.specs.declared.call.HostRequest.{HostRequest}
+use Rattle.input_files.specs.Paths.{input_paths}
 use Rattle.proc_host.specs.declared.call.Entry.{Entry}
 use Rattle.staging.specs.declared.found.Found.{Found}
+use Rattle.staging.specs.declared.measure.Measure.{Measure}
 use Rattle.staging.specs.declared.plan.StagePlan.{StagePlan}
 use Rattle.staging.specs.Plan.{IsPlan}
 use Rattle.run_rules.specs.declared.outcome.RunFault.{RunFault}
 use Rattle.run_rules.specs.declared.request.Request.{Request}
 use Rattle.run_core.specs.declared.state.Filling.{Filling}
 use Rattle.run_core.specs.declared.state.Lone.{Lone}
+use Rattle.run_core.specs.declared.state.Measuring.{Measuring}
 use Rattle.run_core.specs.declared.state.Phase.{Phase}
 use Rattle.run_core.specs.declared.state.Reading.{Reading}
 use Rattle.run_core.specs.declared.state.State.{State}
@@ -27,8 +30,8 @@ use Rattle.plan_checker.specs.declared.plan.Mark.TheVariants.{Load, Compute}
 use Rattle.run_rules.specs.Scene.{scene_of}
 use Rattle.run_rules.specs.Reports.{report_of}
 use Rattle.run_core.specs.inner.Lone.{setting_in}
-use Rattle.run_core.specs.inner.Machine.{waits, ends, stages_by, starts, after_ticket, kept_of, scans, delivers_by, contents_of, head_of, outputs_made, result_of}
-use Rattle.run_core.specs.inner.Measured.{AreMeasures}
+use Rattle.run_core.specs.inner.Machine.{waits, ends, stages_by, starts, after_ticket, kept_of, scans, delivers_by, contents_of, head_of, measure_of, outputs_made, result_of}
+use Rattle.run_core.specs.inner.Measured.{AreMeasures, measured_by}
 use Rattle.run_core.specs.inner.Places.{left_place}
 use Rattle.run_core.specs.Limits.{IsWithinLimits}
 use Rattle.run_rules.specs.Blame.{WereStarted, BlamesRightly}
@@ -41,6 +44,14 @@ pub record IsLone (lone : Lone) (inputs : Fields) (ms : List Event) : Type 0 whe
   pub measured : are_measured (scene_of (setting_in lone)) ms ≡ true
   pub fit : inputs_of lone.tool lone.inputs (measures ms) ≡ Ok inputs
   pub still : settled (scene_of (setting_in lone)) ms ≡ None
+
+-- its first input files are measured, and the others are still to be
+pub record IsMeasuring (lone : Lone) (found : List (Name × Measure)) (measuring : Measuring) : Type 0 where
+  pub limits : IsWithinLimits lone.options
+  pub paths : input_paths lone.tool.inputs lone.inputs ≡ keys_of found ++ reverse measuring.left
+  pub measures : measuring.measures ≡ measures (measured_by found)
+  pub few : length measuring.left < 2 ^ 64
+  pub still : settled (scene_of (setting_in lone)) (measured_by found) ≡ None
 
 -- the same, after these events
 abbrev pub after : List Event → Progress → Progress
@@ -70,6 +81,9 @@ when_gathered inputs launch ticket named =
     record { work = nothing_due; events = job_staged [] 1 ∷ job_started [] inputs launch ticket ∷ child_exited ticket ∷ job_succeeded [] named ∷ [] }
 
 pub data IsAt (lone : Lone) : Progress → List Mark → State → Type 0 where
+  measuring : (found : List (Name × Measure)) (measuring : Measuring) (rest : List Name) (path : Name) → IsMeasuring lone found measuring →
+      measuring.left ≡ rest ++ path ∷ [] →
+      IsAt lone (record { work = nothing_due; events = measured_by found }) [] (waits (measure_of path) (Phase.Measuring measuring))
   staging : (inputs : Fields) (ms : List Event) (plan : StagePlan) → IsLone lone inputs ms → IsPlan false (in_folder lone.options.work 1) inputs plan →
       IsAt lone (after ms at_first) (Compute ∷ []) (stages_by plan)
   filling : (inputs : Fields) (ms : List Event) (filling : Filling) (rest : List Name) (path : Name) → IsLone lone inputs ms →
