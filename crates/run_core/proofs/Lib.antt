@@ -13,5 +13,8 @@ pub mod Once
 pub mod Measuring
 pub mod Advances
 pub mod Asking
+pub mod Beginning
 pub mod Holding
 pub mod Seats
+pub mod TakeSteps
+pub mod RunTools

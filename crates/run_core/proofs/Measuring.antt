@@ -2,10 +2,10 @@
 use Rattle.std.specs.Prelude.{Contains, is_none, MatchBool, not}
 use Rattle.std.specs.List.{flat_map, list_all, list_any}
 use Rattle.std.specs.Map.{keys_of}
-use Rattle.std.proofs.Common.{◌≡◌, ◌∙◌, ℕ, ◌<◌, ◌^◌, ◌&&◌, ◌||◌, Bool, true, false, cond, List, [], ◌∷◌, ◌++◌, length, map, reverse, Option, Some, None, Result, Ok, Err, refl, sym, ap, subst, arith, append_assoc, append-nil, bytes_eq}
+use Rattle.std.proofs.Common.{◌≡◌, ◌∙◌, ◌<◌, ◌^◌, ◌&&◌, ◌||◌, Bool, true, false, cond, List, [], ◌∷◌, ◌++◌, length, reverse, Option, Some, None, Result, Ok, Err, refl, sym, ap, subst, arith, append_assoc, append-nil, bytes_eq}
 use Rattle.std.proofs.lemmas.List.{map-append, reverse-reverse}
 use Rattle.std.proofs.lemmas.List.Elements.{Contains-append_right}
-use Rattle.std.proofs.lemmas.List.Folds.{list_any-append, list_all-append}
+use Rattle.std.proofs.lemmas.List.Folds.{list_all-append}
 use Rattle.std.proofs.lemmas.List.Sums.{fold-append}
 use Rattle.std.proofs.lemmas.Cmp.{nat_list_eq_equiv}
 use Rattle.cwl_process.specs.declared.process.Process as process
@@ -16,7 +16,6 @@ use Rattle.cwl_process.specs.declared.tool.Tool.{Tool}
 use Rattle.input_files.specs.Inputs.{inputs_for}
 use Rattle.input_files.specs.Measured.{Measures}
 use Rattle.input_files.specs.Paths.{input_adds, input_paths, paths_of_fields}
-use Rattle.input_files.specs.declared.fault.InputFault.{InputFault}
 use Rattle.plain_data.specs.ByName.{with_value}
 use Rattle.proc_host.specs.declared.call.HostAnswer.{HostAnswer}
 use Rattle.proc_host.specs.declared.call.HostRequest.{HostRequest}
@@ -24,16 +23,15 @@ use Rattle.proc_host.specs.declared.call.HostFault.{HostFault}
 use Rattle.staging.specs.declared.measure.Measure.{Measure}
 use Rattle.run_rules.specs.declared.outcome.Cause.{Cause}
 use Rattle.run_rules.specs.declared.request.Pair.{Pair}
-use Rattle.run_rules.specs.declared.request.Request.{Request}
 use Rattle.run_core.specs.declared.state.Lone.{Lone}
 use Rattle.run_core.specs.declared.state.Measuring.{Measuring}
 use Rattle.run_core.specs.declared.state.State.{State}
 use Rattle.run_rules.specs.Words.{Name, Fields}
-use Rattle.run_rules.specs.Jobs.{Walker, walker, paths, paths_at, tool_walk, inputs_of, input_cause, or_cause}
+use Rattle.run_rules.specs.Jobs.{Walker, paths, paths_at, tool_walk, inputs_of, input_cause, or_cause}
 use Rattle.run_rules.specs.Unfold.{Resolved, Unfolded, unfolded, nothing_known}
 use Rattle.run_rules.specs.Scene.{Scene, scene_of}
-use Rattle.run_rules.specs.Events.{Event, file_measured, host_failed, nothing_due, Progress, at_first, in_flight, is_at_hand, measures, measures_after, measures_path, is_measured, are_measured, resolved, unfolding_at}
-use Rattle.run_rules.specs.End.{End, fails_permanently, ended_by_host, fault_end, is_lost_collect, unfold_end, settled, settled_by}
+use Rattle.run_rules.specs.Events.{Event, file_measured, host_failed, nothing_due, Progress, at_first, in_flight, is_at_hand, measures, measures_after, is_measured, are_measured, resolved, unfolding_at}
+use Rattle.run_rules.specs.End.{End, fails_permanently, ended_by_host, fault_end, is_lost_collect, unfold_end, settled}
 use Rattle.run_rules.specs.EndsSo.{fails}
 use Rattle.plan_checker.specs.declared.plan.Mark.{Mark}
 use Rattle.plan_checker.specs.declared.plan.Mark.TheVariants.{Compute}
@@ -41,11 +39,10 @@ use Rattle.run_rules.specs.Plans.{is_planning, LoadsHeld}
 use Rattle.run_rules.specs.Allowed.{MayMeasure}
 use Rattle.run_rules.specs.Steps.{measures_file, call_fails}
 use Rattle.run_rules.specs.Run.{IsRunSoFar, Replans, asks, begins}
-use Rattle.run_rules.specs.Reports.{report_of}
 use Rattle.run_core.specs.Limits.{IsWithinLimits}
 use Rattle.run_core.specs.inner.Lone.{setting_in}
 use Rattle.run_core.specs.inner.Machine.{host_fails, measure_of, MeasuresOn, all_measured, measures as measures_next, AfterInputs, has_inputs, has_no_inputs, Begins, TakesMeasure}
-use Rattle.run_core.specs.inner.Measured.{measures_one, AreMeasures, measured_by}
+use Rattle.run_core.specs.inner.Measured.{AreMeasures, measured_by}
 use Rattle.run_core.specs.inner.Standing.{IsLone, IsMeasuring, after, measuring as at_measuring, staging as at_staging, ended as at_end}
 use Rattle.run_core.proofs.Advance.{replans_up}
 use Rattle.run_core.proofs.Answered.{Advances, pair, past, walks, its_paths, walker_tool}

@@ -247,9 +247,9 @@ module _ (run : Lone) where
 
 pub one_fits : (pairs room : ℕ) (phase : Phase) → 0 < steps_in phase → pairs + pairs_ahead phase ≤ room → pairs < room
 one_fits pairs room Phase.Staging some fits = omega arith
-one_fits pairs room (Phase.Measuring measuring) some fits = omega arith
-one_fits pairs room (Phase.Filling filling) some fits = omega arith
-one_fits pairs room (Phase.Reading kept reading) some fits = omega arith
+one_fits pairs room (Phase.Measuring m) some fits = omega arith
+one_fits pairs room (Phase.Filling filled) some fits = omega arith
+one_fits pairs room (Phase.Reading kept r) some fits = omega arith
 one_fits pairs room (Phase.Starting seat kept) some fits = omega arith
 one_fits pairs room (Phase.Running kept) some fits = omega arith
 one_fits pairs room (Phase.Scanning kept) some fits = omega arith
@@ -258,9 +258,9 @@ one_fits pairs room (Phase.Ended result) some fits = absurd (omega arith)
 
 two_fit : (pairs room : ℕ) (phase : Phase) → steps_in phase ≡ 5 → pairs + pairs_ahead phase ≤ room → pairs + 2 ≤ room
 two_fit pairs room Phase.Staging four fits = absurd (omega arith)
-two_fit pairs room (Phase.Measuring measuring) four fits = absurd (omega arith)
-two_fit pairs room (Phase.Filling filling) four fits = absurd (omega arith)
-two_fit pairs room (Phase.Reading kept reading) four fits = absurd (omega arith)
+two_fit pairs room (Phase.Measuring m) four fits = absurd (omega arith)
+two_fit pairs room (Phase.Filling filled) four fits = absurd (omega arith)
+two_fit pairs room (Phase.Reading kept r) four fits = absurd (omega arith)
 two_fit pairs room (Phase.Starting seat kept) four fits = fits
 two_fit pairs room (Phase.Running kept) four fits = absurd (omega arith)
 two_fit pairs room (Phase.Scanning kept) four fits = absurd (omega arith)
@@ -270,9 +270,9 @@ two_fit pairs room (Phase.Ended result) four fits = absurd (omega arith)
 -- a child's end still fits once its start is noted
 by_phase : (pairs room : ℕ) (phase : Phase) → ((kept : Kept) → phase ≡ Phase.Running kept → pairs + 1 ≤ room) → HasRoom pairs room phase
 by_phase pairs room Phase.Staging fits = tt
-by_phase pairs room (Phase.Measuring measuring) fits = tt
-by_phase pairs room (Phase.Filling filling) fits = tt
-by_phase pairs room (Phase.Reading kept reading) fits = tt
+by_phase pairs room (Phase.Measuring m) fits = tt
+by_phase pairs room (Phase.Filling filled) fits = tt
+by_phase pairs room (Phase.Reading kept r) fits = tt
 by_phase pairs room (Phase.Starting seat kept) fits = tt
 by_phase pairs room (Phase.Running kept) fits = fits kept refl
 by_phase pairs room (Phase.Scanning kept) fits = tt
@@ -284,9 +284,9 @@ Room pairs room state = 0 < steps_in state.phase → pairs + pairs_ahead state.p
 
 room_left : (pairs room : ℕ) (phase : Phase) → pairs_wanted phase ≡ 0 → HasRoom pairs room phase → 0 < steps_in phase → pairs + pairs_ahead phase ≤ room
 room_left pairs room Phase.Staging none has some = absurd (omega arith)
-room_left pairs room (Phase.Measuring measuring) none has some = absurd (omega arith)
-room_left pairs room (Phase.Filling filling) none has some = absurd (omega arith)
-room_left pairs room (Phase.Reading kept reading) none has some = absurd (omega arith)
+room_left pairs room (Phase.Measuring m) none has some = absurd (omega arith)
+room_left pairs room (Phase.Filling filled) none has some = absurd (omega arith)
+room_left pairs room (Phase.Reading kept r) none has some = absurd (omega arith)
 room_left pairs room (Phase.Starting seat kept) none has some = absurd (omega arith)
 room_left pairs room (Phase.Running kept) none has some = has
 room_left pairs room (Phase.Scanning kept) none has some = absurd (omega arith)
@@ -295,9 +295,9 @@ room_left pairs room (Phase.Ended result) none has some = absurd (omega arith)
 
 room_made : (pairs room : ℕ) (phase : Phase) → 0 < pairs_wanted phase → pairs + pairs_wanted phase ≤ room → pairs + pairs_ahead phase ≤ room
 room_made pairs room Phase.Staging wants has = has
-room_made pairs room (Phase.Measuring measuring) wants has = has
-room_made pairs room (Phase.Filling filling) wants has = has
-room_made pairs room (Phase.Reading kept reading) wants has = has
+room_made pairs room (Phase.Measuring m) wants has = has
+room_made pairs room (Phase.Filling filled) wants has = has
+room_made pairs room (Phase.Reading kept r) wants has = has
 room_made pairs room (Phase.Starting seat kept) wants has = has
 room_made pairs room (Phase.Running kept) wants has = absurd (omega arith)
 room_made pairs room (Phase.Scanning kept) wants has = has
@@ -349,13 +349,13 @@ module _ (core : RunCore) (answer : Answer) (pairs : Vec Pair Global) (state : S
 
 -- a phase that asks has some weight
 weight_some : (phase : Phase) → 0 < steps_in phase → 0 < weight_of phase
-weight_some (Phase.Measuring measuring) some = omega arith
+weight_some (Phase.Measuring m) some = omega arith
 weight_some Phase.Staging some = lit< tt
-weight_some (Phase.Filling filling) some = omega arith
+weight_some (Phase.Filling filled) some = omega arith
 weight_some (Phase.Starting seat kept) some = lit< tt
 weight_some (Phase.Running kept) some = lit< tt
 weight_some (Phase.Scanning kept) some = lit< tt
-weight_some (Phase.Reading kept reading) some = omega arith
+weight_some (Phase.Reading kept r) some = omega arith
 weight_some (Phase.Delivering value) some = lit< tt
 weight_some (Phase.Ended result) some = absurd (none_less some)
 
@@ -363,9 +363,9 @@ weight_some (Phase.Ended result) some = absurd (none_less some)
 
 not_lost_is_ok : (phase : Phase) → (phase ≡ Phase.Ended (Err RunFault.OutOfMemory) → ⊥) → told_of phase ≡ Ok tt
 not_lost_is_ok Phase.Staging not_lost = refl
-not_lost_is_ok (Phase.Measuring measuring) not_lost = refl
-not_lost_is_ok (Phase.Filling filling) not_lost = refl
-not_lost_is_ok (Phase.Reading kept reading) not_lost = refl
+not_lost_is_ok (Phase.Measuring m) not_lost = refl
+not_lost_is_ok (Phase.Filling filled) not_lost = refl
+not_lost_is_ok (Phase.Reading kept r) not_lost = refl
 not_lost_is_ok (Phase.Starting seat kept) not_lost = refl
 not_lost_is_ok (Phase.Running kept) not_lost = refl
 not_lost_is_ok (Phase.Scanning kept) not_lost = refl

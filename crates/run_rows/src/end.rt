@@ -54,19 +54,19 @@ fn cause_text(alloc: Global, cause: &Cause) -> Result<Text, AllocError> {
         Cause::Missing(input) => format!(in alloc; "Missing {}", input.as_str())?,
         Cause::Secondary(input) => format!(in alloc; "Secondary {}", input.as_str())?,
         Cause::Kind(input) => format!(in alloc; "Kind {}", input.as_str())?,
-        Cause::Contents(fault) => contents_text(alloc, fault)?,
         Cause::Build(fault) => format!(in alloc; "Build {}", fault.code())?,
         Cause::Exit(Some(code)) => format!(in alloc; "Exit {code}")?,
         Cause::Exit(None) => String::from_str(alloc, "Exit by a signal")?,
+        Cause::Contents(fault) => contents_text(alloc, fault)?,
         Cause::Collect(fault) => collect_text(alloc, fault)?,
     }))
 }
 
-/// What is wrong with the contents, and the input whose they are.
+/// The code of refused contents, and the input.
 fn contents_text(alloc: Global, fault: &ContentsFault) -> Result<String, AllocError> {
     match fault {
-        ContentsFault::TooLong(input) => format!(in alloc; "Contents TooLong {}", input.as_str()),
-        ContentsFault::NotUtf8(input) => format!(in alloc; "Contents NotUtf8 {}", input.as_str()),
+        ContentsFault::TooLong(input) => format!(in alloc; "Collect G4 {}", input.as_str()),
+        ContentsFault::NotUtf8(input) => format!(in alloc; "Collect G9 {}", input.as_str()),
     }
 }
 
