@@ -1,7 +1,7 @@
 use crate::list::numbers;
 use collected_outputs::OutputFault;
-use input_files::ContentsFault;
 use cwl_value::{JobPlace, Value, canonical_text, place_text};
+use input_files::ContentsFault;
 use plain_data::Text;
 use row_io::{RowFault, quoted};
 use run_core::{Cause, Outcome, Report, RunFault};

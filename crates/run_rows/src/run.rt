@@ -8,12 +8,14 @@ use crate::requests::requests;
 use crate::script::script_of;
 use cwl_process::{Process, read_unlinked};
 use cwl_value::{Value, from_json};
+use file_values::resolve;
 use plain_data::{Keyed, Text};
 use proc_host::Scripted;
 use row_io::{Row, RowFault, json_text};
 use run_core::{Options, runs_today};
 use std::alloc::{AllocError, Global};
 use std::mem;
+use url::Url;
 use workflow_engine::run;
 
 /// How a run of the row's document on its inputs ends over its script, what was asked, and the tickets left.
@@ -79,10 +81,22 @@ fn process_of(alloc: Global, row: &Row) -> Result<Process, RowFault> {
     }
 }
 
+/// The inputs of a row, in a file of the folder `/d`.
 fn inputs_of(alloc: Global, row: &Row) -> Result<Keyed<Value>, RowFault> {
-    match from_json(alloc, row.json("inputs")?) {
+    let base = done(Url::parse(alloc, "file:///d/inputs.json"))?;
+    let value = done(from_json(alloc, row.json("inputs")?))?;
+    let located = resolve(alloc, value, &base);
+    mem::drop(base);
+    match located {
         Ok(Value::Fields(inputs)) => Ok(inputs),
         _ => Err(RowFault::BadArgument),
+    }
+}
+
+fn done<T, E: Drop>(outcome: Result<T, E>) -> Result<T, RowFault> {
+    match outcome {
+        Ok(value) => Ok(value),
+        Err(_) => Err(RowFault::BadArgument),
     }
 }
 
