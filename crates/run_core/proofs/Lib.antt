@@ -13,8 +13,10 @@ pub mod Once
 pub mod Measuring
 pub mod Advances
 pub mod Asking
+pub mod Lost
+pub mod Blamed
+pub mod TakeSteps
 pub mod Beginning
+pub mod RunTools
 pub mod Holding
 pub mod Seats
-pub mod TakeSteps
-pub mod RunTools
