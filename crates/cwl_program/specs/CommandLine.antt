@@ -16,14 +16,13 @@ check_command = with_rule (new_app (codes "check")) file_rule
 abbrev pub needing_subcommand : App → App
 needing_subcommand command = record command { top = record command.top { subcommand_required = true } }
 
--- the program's command with its subcommands
+-- the program's command with `demo` alone
+abbrev pub with_demo : App
+with_demo = with_subcommand (needing_subcommand (new_app (codes "deparohi"))) (new_app (codes "demo")).top
+
+-- and with its other subcommands
 abbrev pub command_line : App
-command_line =
-    with_subcommand
-    (with_subcommand
-    (with_subcommand (needing_subcommand (new_app (codes "deparohi"))) (new_app (codes "demo")).top)
-    check_command.top)
-    run_command.top
+command_line = with_subcommand (with_subcommand with_demo check_command.top) run_command.top
 
 -- what words can ask for: the demo, a certificate's file to be checked, or a run
 pub data Wish : Type 0 where

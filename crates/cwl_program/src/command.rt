@@ -1,6 +1,7 @@
 ghost use Rattle.std.specs.Prelude.{◌≡◌, IfOk, IfErr, map};
 ghost use Rattle.clap.specs.Words.{HasKind, app_of, fault_of, kind_of, subcommand_rows_of};
-ghost use Rattle.cwl_program.specs.CommandLine.{Asks, command_line, wish_of, wished};
+ghost use Rattle.cwl_program.specs.CommandLine.{Asks, check_command as checking, command_line, with_demo, wish_of, wished};
+ghost use Rattle.cwl_program.specs.RunWords.{IsLocal};
 ghost use Rattle.std.specs.Prelude.{string_bytes};
 
 use crate::run_words::{RunWords, run_command, run_words};
@@ -19,11 +20,12 @@ pub enum Choice<'a> {
     Run(RunWords<'a>),
 }
 
-fn command<'a>(alloc: Global) -> Result<Command<'a>, Error>
-    ensures ok { IfOk result (λ command. app_of command ≡ command_line) }
+// The subcommand `check`.
+fn check_command<'a>(alloc: Global) -> Result<Command<'a>, Error>
+    ensures ok { IfOk result (λ command. app_of command ≡ checking) }
+    ensures local { IfOk result IsLocal }
     ensures err { IfErr result (λ e. kind_of e ≡ ErrorKind.OutOfMemory) }
 {
-    let demo = Command::new(alloc, "demo").about("Runs a small tool over a scripted host");
     let file = Arg::new(alloc, "CERTIFICATE")
         .required(true)
         .action(ArgAction::Set)
@@ -31,12 +33,30 @@ fn command<'a>(alloc: Global) -> Result<Command<'a>, Error>
     let check = Command::new(alloc, "check")
         .about("Says whether a certificate shows its plan to be a cheapest one")
         .arg(file)?;
+    Ok(check)
+}
+
+// The program's command with the subcommand `demo` alone.
+fn demo_command<'a>(alloc: Global) -> Result<Command<'a>, Error>
+    ensures ok { IfOk result (λ command. app_of command ≡ with_demo) }
+    ensures err { IfErr result (λ e. kind_of e ≡ ErrorKind.OutOfMemory) }
+{
+    let demo = Command::new(alloc, "demo").about("Runs a small tool over a scripted host");
     let whole = Command::new(alloc, "deparohi")
         .about("Runs documents of the Common Workflow Language")
         .subcommand_required(true)
-        .subcommand(demo)?
-        .subcommand(check)?
-        .subcommand(run_command(alloc)?)?;
+        .subcommand(demo)?;
+    Ok(whole)
+}
+
+fn command<'a>(alloc: Global) -> Result<Command<'a>, Error>
+    ensures ok { IfOk result (λ command. app_of command ≡ command_line) }
+    ensures err { IfErr result (λ e. kind_of e ≡ ErrorKind.OutOfMemory) }
+{
+    let check = check_command(alloc)?;
+    let whole = demo_command(alloc)?.subcommand(check)?;
+    let run = run_command(alloc)?;
+    let whole = whole.subcommand(run)?;
     Ok(whole)
 }
 

@@ -1,6 +1,6 @@
 ghost use Rattle.std.specs.Prelude.{◌≡◌, IfOk, IfErr, false};
 ghost use Rattle.clap.specs.Words.{app_of, found_of, kind_of, rows_of, rule_of};
-ghost use Rattle.cwl_program.specs.RunWords.{IsLocal, named_rule, placed_rule, run_command, run_wish, wish_of_run};
+ghost use Rattle.cwl_program.specs.RunWords.{IsLocal, named_rule, placed_rule, run_command, run_wish, wish_of_run, with_folders};
 
 use clap::error::ErrorKind;
 use clap::{Arg, ArgAction, ArgMatches, Command, Error};
@@ -44,22 +44,31 @@ fn named<'a>(alloc: Global, id: &'a str, help: &'a str) -> Arg<'a>
         .help(help)
 }
 
+// The subcommand `run` with its two folders alone.
+fn folders_command<'a>(alloc: Global) -> Result<Command<'a>, Error>
+    ensures ok { IfOk result (λ command. app_of command ≡ with_folders) }
+    ensures local { IfOk result IsLocal }
+    ensures err { IfErr result (λ e. kind_of e ≡ ErrorKind.OutOfMemory) }
+{
+    let work = named(alloc, "work", WORK_HELP);
+    let command = Command::new(alloc, "run")
+        .about("Runs a tool and prints its output object")
+        .arg(work)?;
+    let outdir = named(alloc, "outdir", OUTDIR_HELP);
+    let command = command.arg(outdir)?;
+    Ok(command)
+}
+
 /// The subcommand `run`.
 pub fn run_command<'a>(alloc: Global) -> Result<Command<'a>, Error>
     ensures ok { IfOk result (λ command. app_of command ≡ run_command) }
     ensures local { IfOk result IsLocal }
     ensures err { IfErr result (λ e. kind_of e ≡ ErrorKind.OutOfMemory) }
 {
-    let work = named(alloc, "work", WORK_HELP);
-    let outdir = named(alloc, "outdir", OUTDIR_HELP);
     let document = placed(alloc, "DOCUMENT", true, "The tool's document, in JSON");
+    let command = folders_command(alloc)?.arg(document)?;
     let inputs = placed(alloc, "INPUTS", false, INPUTS_HELP);
-    let command = Command::new(alloc, "run")
-        .about("Runs a tool and prints its output object")
-        .arg(work)?
-        .arg(outdir)?
-        .arg(document)?
-        .arg(inputs)?;
+    let command = command.arg(inputs)?;
     Ok(command)
 }
 
