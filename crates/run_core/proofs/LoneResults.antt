@@ -1,8 +1,8 @@
 -- The result of a lone tool, as the machine makes it and as the rules say it.
-use Rattle.std.proofs.Common.{◌≡◌, ◌∙◌, ℕ, Bool, true, false, cond, List, [], ◌∷◌, ◌++◌, map, fold, Option, Some, None, option_map, unwrap_or, Ordering, Less, Equal, Greater, refl, sym, ap, rules, bytes_eq}
-use Rattle.std.specs.Map.{keys_of, lookup}
+use Rattle.std.proofs.Common.{◌≡◌, ◌∙◌, Bool, true, false, cond, List, [], ◌∷◌, fold, Ordering, Less, Equal, Greater, refl, sym, ap, bytes_eq}
+use Rattle.std.specs.Map.{keys_of}
 use Rattle.std.specs.Ordering.{match_ordering}
-use Rattle.plain_data.specs.ByName.{name_cmp, with_value, value_at}
+use Rattle.plain_data.specs.ByName.{name_cmp, with_value}
 use Rattle.cwl_value.specs.declared.place.Place.{Place}
 use Rattle.cwl_value.specs.declared.value.Value.{Value, roll-Value, fold-roll-Value}
 use Rattle.cwl_value.specs.declared.value.Value.TheOpen.{Value-F}
@@ -10,7 +10,7 @@ use Rattle.cwl_value.specs.declared.value.FileVal.{FileVal}
 use Rattle.cwl_value.specs.declared.value.DirVal.{DirVal}
 use Rattle.run_rules.specs.Words.{Name, Fields, JobPlace, last_by_name, null, value_under, is_same_place}
 use Rattle.run_rules.specs.Made.{value_moved, fields_moved, fields_made, made_place, file_moved, dir_moved}
-use Rattle.run_rules.specs.Delivered.{source_place, sources}
+use Rattle.run_rules.specs.Delivered.{sources}
 use Rattle.run_core.specs.inner.Machine.{NamedOutput, outputs_made}
 use Rattle.run_core.specs.inner.Places.{left_place, number_of}
 use Rattle.run_core.proofs.Lone.{outputs_in}
