@@ -1,7 +1,7 @@
 -- Once each input file is measured, what may be asked in a scene whose inputs are known may be asked in the run's own scene, and so on for
 -- what an answer brings about, the plans and the ends.
 use Rattle.std.specs.Prelude.{Contains}
-use Rattle.std.proofs.Common.{◌≡◌, ◌∙◌, ℕ, ◌+◌, ◌<◌, ◌&&◌, Bool, true, false, List, [], ◌∷◌, ◌++◌, length, Option, Some, None, Ok, refl, sym, ap, subst}
+use Rattle.std.proofs.Common.{◌≡◌, ◌∙◌, ℕ, ◌+◌, ◌<◌, ◌&&◌, Bool, true, false, List, [], ◌∷◌, ◌++◌, length, Option, Some, refl, sym, ap, subst}
 use Rattle.std.specs.Prelude.{MatchBool, is_none, map, not}
 use Rattle.std.specs.List.{list_any}
 use Rattle.cwl_process.specs.declared.tool.Tool.{Tool}
@@ -18,13 +18,13 @@ use Rattle.run_rules.specs.declared.request.Pair.{Pair}
 use Rattle.run_rules.specs.declared.request.Request.{Request}
 use Rattle.run_rules.specs.declared.setting.Options.{Options}
 use Rattle.run_rules.specs.Words.{Name, Fields, JobPlace}
-use Rattle.run_rules.specs.Jobs.{Job, Walker}
+use Rattle.run_rules.specs.Jobs.{Walker}
 use Rattle.run_rules.specs.Unfold.{Unfolded}
 use Rattle.run_rules.specs.Scene.{Scene}
 use Rattle.run_rules.specs.Delivered.{sources}
 use Rattle.collected_outputs.specs.HeadsWanted.{limit_of}
 use Rattle.run_rules.specs.StartsOn.{StartsOn}
-use Rattle.run_rules.specs.Events.{nothing_due, input_heads_due, start_due, scan_due, output_heads_due, Event, Work, Progress, Started, in_flight, is_at_hand, is_held, number_at, started_at, delivered_at, is_staging, are_measured, unfolding_at, job_at}
+use Rattle.run_rules.specs.Events.{nothing_due, input_heads_due, start_due, scan_due, output_heads_due, Event, Work, Progress, in_flight, is_at_hand, is_held, number_at, unfolding_at, job_at}
 use Rattle.run_rules.specs.Folders.{out_folder}
 use Rattle.run_rules.specs.End.{ended_by_host, End, IsDelivery, settled}
 use Rattle.run_rules.specs.EndsSo.{EndsSo, IsDelivered, no_file, copied, lost, fails, succeeds}

@@ -1,52 +1,32 @@
 -- What each answer leads to.
 use Rattle.std.specs.Prelude.{Contains}
-use Rattle.std.proofs.Common.{◌≡◌, ◌≢◌, ◌∙◌, ℕ, zero, suc, ◌<◌, ◌^◌, true, false, List, [], ◌∷◌, ◌++◌, length, reverse, Option, Some, None, Ok, Err, refl, sym, ap, subst, arith, lit<, append_assoc, append-nil}
-use Rattle.plain_data.specs.ByName.{with_value}
+use Rattle.std.proofs.Common.{◌≡◌, ◌∙◌, ℕ, zero, suc, List, [], ◌∷◌, ◌++◌, sym, ap, subst, arith, append_assoc}
 use Rattle.cwl_process.specs.declared.process.Process.{Process}
 use Rattle.cwl_process.specs.declared.process.Process as process
 use Rattle.cwl_process.specs.declared.tool.Tool.{Tool}
-use Rattle.collected_outputs.specs.Collected.{IsCollected}
-use Rattle.collected_outputs.specs.declared.fault.OutputFault.{OutputFault}
-use Rattle.command_line.specs.declared.fault.BuildFault.{BuildFault}
-use Rattle.command_line.specs.declared.launch.Launch.{Launch}
-use Rattle.command_line.specs.Launch.{IsLaunch, IsRefused}
 use Rattle.input_files.specs.Measured.{Measures}
 use Rattle.proc_host.specs.declared.call.HostAnswer.{HostAnswer}
-use Rattle.proc_host.specs.declared.call.HostRequest.{HostRequest}
-use Rattle.proc_host.specs.declared.call.HostFault.{HostFault}
-use Rattle.proc_host.specs.declared.child.ChildEnd.{ChildEnd}
-use Rattle.proc_host.specs.declared.child.ExitClass.{ExitClass}
-use Rattle.proc_host.specs.ExitClass.{class_of}
-use Rattle.staging.specs.declared.found.Found.{Found}
-use Rattle.staging.specs.declared.plan.StagePlan.{StagePlan}
-use Rattle.staging.specs.Plan.{IsPlan}
-use Rattle.run_rules.specs.declared.outcome.Cause.{Cause}
 use Rattle.run_rules.specs.declared.request.Answer.{Answer}
 use Rattle.run_rules.specs.declared.request.Request.{Request}
 use Rattle.run_rules.specs.declared.request.Pair.{Pair}
-use Rattle.run_rules.specs.declared.setting.Options.{Options}
 use Rattle.run_core.specs.declared.state.Lone.{Lone}
 use Rattle.run_core.specs.declared.state.State.{State}
-use Rattle.run_rules.specs.Words.{Name, Fields, Heads}
-use Rattle.run_rules.specs.Folders.{in_folder, out_folder, runtime_of}
-use Rattle.run_rules.specs.Events.{Event, Work, job_staged, job_started, child_exited, job_succeeded, job_failed, job_failed_for_now, result_delivered, host_failed, collect_failed, nothing_due, input_heads_due, start_due, scan_due, output_heads_due, Progress, at_first, in_flight}
-use Rattle.run_rules.specs.StartsOn.{StartsOn}
-use Rattle.run_rules.specs.CollectsOn.{CollectsOn}
-use Rattle.run_rules.specs.Steps.{Steps, progress_with, call, stages, reads_input, starts, exits_well, exits_for_now, exits_badly, scans, reads_output, delivers, loses_collect, call_fails}
-use Rattle.run_rules.specs.Scene.{Scene, scene_of}
-use Rattle.run_rules.specs.End.{End, succeeds_with, fails_permanently, fails_temporarily, ended_by_host}
-use Rattle.run_rules.specs.EndsSo.{EndsSo, lost as collect_lost, fails, succeeds}
+use Rattle.run_rules.specs.Words.{Name, Fields}
+use Rattle.run_rules.specs.Events.{Event, Work, Progress}
+use Rattle.run_rules.specs.Steps.{Steps, progress_with}
+use Rattle.run_rules.specs.Scene.{Scene}
+use Rattle.run_rules.specs.End.{End}
+use Rattle.run_rules.specs.EndsSo.{EndsSo}
 use Rattle.plan_checker.specs.declared.plan.Mark.{Mark}
-use Rattle.plan_checker.specs.declared.plan.Mark.TheVariants.{Load, Compute}
 use Rattle.run_rules.specs.Plans.{LoadsHeld}
 use Rattle.run_rules.specs.Allowed.{Allowed}
 use Rattle.run_rules.specs.Run.{IsRunSoFar, Replans, asks}
 use Rattle.run_rules.specs.Reports.{report_of}
-use Rattle.run_rules.specs.Jobs.{Job, Walker, walker, walker_at, paths, tool_walk, inputs_of}
+use Rattle.run_rules.specs.Jobs.{Walker, walker, walker_at, paths, tool_walk, inputs_of}
 use Rattle.cwl_process.specs.declared.process.Process.{out-Process, out-roll-Process}
 use Rattle.cwl_process.specs.declared.process.Process.TheOpen.{Process-F}
 use Rattle.cwl_process.specs.declared.process.Process.TheVariants.{rolls-Tool}
-use Rattle.run_core.specs.inner.Machine.{ends, host_fails, fails_for_good}
+use Rattle.run_core.specs.inner.Machine.{ends}
 use Rattle.run_core.specs.inner.Lone.{setting_in}
 use Rattle.run_core.specs.inner.Measured.{NoMeasures}
 use Rattle.run_core.specs.inner.Standing.{IsLone, IsAt, ended, after}

@@ -1,5 +1,5 @@
 -- What the machine asks, its run may ask.
-use Rattle.std.proofs.Common.{◌≡◌, ◌≢◌, List, [], ◌∷◌, refl}
+use Rattle.std.proofs.Common.{◌≢◌, List, refl}
 use Rattle.run_rules.specs.declared.request.Pair.{Pair}
 use Rattle.run_rules.specs.declared.request.Request.{Request}
 use Rattle.run_core.specs.declared.state.Lone.{Lone}

@@ -1,21 +1,17 @@
 -- What a listing and first bytes of what was found lead to.
-use Rattle.std.proofs.Common.{◌≡◌, ◌∙◌, ℕ, ◌<◌, ◌^◌, true, false, List, [], ◌∷◌, ◌++◌, length, reverse, Option, Some, None, Result, Ok, Err, refl, sym, ap, subst}
-use Rattle.std.proofs.Math.Path.{fun_ext}
-use Rattle.std.specs.Map.{keys_of}
+use Rattle.std.proofs.Common.{◌≡◌, ◌∙◌, ℕ, ◌<◌, ◌^◌, List, [], ◌∷◌, ◌++◌, length, reverse, Ok, Err, refl, sym, ap, subst}
 use Rattle.collected_outputs.specs.Collected.{IsCollected}
 use Rattle.collected_outputs.specs.declared.fault.OutputFault.{OutputFault}
 use Rattle.command_line.specs.declared.launch.Launch.{Launch}
-use Rattle.staging.specs.declared.plan.StagePlan.{StagePlan}
-use Rattle.staging.specs.Plan.{IsPlan}
 use Rattle.run_rules.specs.declared.outcome.Cause.{Cause}
 use Rattle.run_rules.specs.declared.outcome.Outcome.{Outcome}
 use Rattle.run_rules.specs.declared.request.Pair.{Pair}
 use Rattle.run_core.specs.declared.state.Lone.{Lone}
 use Rattle.run_core.specs.declared.state.Reading.{Reading}
 use Rattle.run_core.specs.declared.state.State.{State}
-use Rattle.run_rules.specs.Words.{Name, Fields, Heads, JobPlace, last_by_name}
-use Rattle.run_rules.specs.Delivered.{any_file, located, sources}
-use Rattle.run_rules.specs.Events.{Event, Work, Started, job_succeeded, job_failed, nothing_due, output_heads_due, Progress, number_at}
+use Rattle.run_rules.specs.Words.{Name, Fields, last_by_name}
+use Rattle.run_rules.specs.Delivered.{any_file, located}
+use Rattle.run_rules.specs.Events.{Event, Work, Started, job_succeeded, job_failed, nothing_due, output_heads_due}
 use Rattle.run_rules.specs.Jobs.{Job, output_names}
 use Rattle.run_rules.specs.Made.{fields_made}
 use Rattle.run_rules.specs.CollectsOn.{CollectsOn, left_of, reads_on, collects, collects_none}
@@ -26,14 +22,13 @@ use Rattle.plan_checker.specs.declared.plan.Mark.TheVariants.{Load}
 use Rattle.run_rules.specs.Plans.{LoadsHeld}
 use Rattle.run_rules.specs.Run.{IsRunSoFar, Replans}
 use Rattle.run_core.specs.inner.Lone.{setting_in}
-use Rattle.run_core.specs.inner.Machine.{ends, kept_of, outputs_made, result_of, Gathers, gathers, refuses, Delivers, delivers_none, delivers_files, ReadsOn, all_read, reads}
+use Rattle.run_core.specs.inner.Machine.{ends, kept_of, outputs_made, gathers, refuses, Delivers, delivers_none, delivers_files, ReadsOn, all_read, reads}
 use Rattle.run_core.specs.inner.Measured.{NoMeasures}
-use Rattle.run_core.specs.inner.Places.{left_place, number_of}
 use Rattle.run_core.specs.inner.Standing.{IsLone, reading as at_reading, delivering as at_delivering, after, events_back, when_reading, when_gathered}
 use Rattle.run_core.proofs.Answered.{Advances, lone, walks, its_paths, end_at}
 use Rattle.run_core.proofs.Lone.{landed, outputs_in, busy_gathered, result_gathered}
 use Rattle.run_core.proofs.Phases.{turned}
-use Rattle.run_core.proofs.LoneResults.{outputs_are, sources_are, first_number}
+use Rattle.run_core.proofs.LoneResults.{outputs_are}
 
 module _ (run : Lone) (inputs : Fields) (ms : List Event) (l : IsLone run inputs ms) (t : List Pair) (own : Fields) (launch : Launch) (ticket : ℕ) where
   abbrev job : Job

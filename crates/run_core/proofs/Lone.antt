@@ -1,6 +1,5 @@
 -- What may be asked in the scene of a lone tool whose inputs are known.
-use Rattle.std.proofs.Common.{◌≡◌, ◌∙◌, ℕ, ◌<◌, ◌==◌, not, true, false, cond, List, [], ◌∷◌, ◌++◌, map, Option, Some, None, filter, refl, sym, ap, subst, arith, eq-eqb, lit<}
-use Rattle.std.specs.Map.{keys_of}
+use Rattle.std.proofs.Common.{◌≡◌, ℕ, ◌<◌, ◌==◌, not, true, false, List, [], ◌∷◌, map, Option, Some, None, filter, refl, sym, ap, subst, arith, eq-eqb, lit<}
 use Rattle.command_line.specs.declared.launch.Launch.{Launch}
 use Rattle.cwl_process.specs.declared.tool.Tool.{Tool}
 use Rattle.input_files.specs.Measured.{Measures}

@@ -1,8 +1,6 @@
 -- The result of a lone tool, as the machine makes it and as the rules say it.
-use Rattle.std.proofs.Common.{◌≡◌, ◌∙◌, ℕ, Bool, true, false, cond, List, [], ◌∷◌, ◌++◌, map, fold, Option, Some, None, option_map, unwrap_or, Ordering, Less, Equal, Greater, refl, sym, ap, rules, bytes_eq}
-use Rattle.std.specs.Map.{keys_of, lookup}
-use Rattle.std.specs.Ordering.{match_ordering}
-use Rattle.plain_data.specs.ByName.{name_cmp, with_value, value_at}
+use Rattle.std.proofs.Common.{◌≡◌, ◌∙◌, Bool, true, false, cond, List, [], ◌∷◌, refl, sym, ap, bytes_eq}
+use Rattle.std.specs.Map.{keys_of}
 use Rattle.cwl_value.specs.declared.place.Place.{Place}
 use Rattle.cwl_value.specs.declared.value.Value.{Value, roll-Value, fold-roll-Value}
 use Rattle.cwl_value.specs.declared.value.Value.TheOpen.{Value-F}
@@ -10,7 +8,8 @@ use Rattle.cwl_value.specs.declared.value.FileVal.{FileVal}
 use Rattle.cwl_value.specs.declared.value.DirVal.{DirVal}
 use Rattle.run_rules.specs.Words.{Name, Fields, JobPlace, last_by_name, null, value_under, is_same_place}
 use Rattle.run_rules.specs.Made.{value_moved, fields_moved, fields_made, made_place, file_moved, dir_moved}
-use Rattle.run_rules.specs.Delivered.{source_place, sources}
+use Rattle.run_rules.specs.Delivered.{sources}
+use Rattle.run_rules.proofs.PlacesErased.{map_by_name}
 use Rattle.run_core.specs.inner.Machine.{NamedOutput, outputs_made}
 use Rattle.run_core.specs.inner.Places.{left_place, number_of}
 use Rattle.run_core.proofs.Lone.{outputs_in}
@@ -35,32 +34,9 @@ outputs_are (o ∷ outputs) named =
     ap (λ (v : Value). (o.0, v) ∷ outputs_in (keys_of outputs) (fields_made [] named)) (under_moved (made_place []) o.0 named)
     ∙ ap (λ (rest : Fields). (o.0, value_moved (made_place []) (value_under o.0 named)) ∷ rest) (outputs_are outputs named)
 
--- The order of names looks at no value
-
-module _ (move : Place → Place) where
-  put_moved : (o : Ordering) (name : Name) (value : Value) (e : Name × Value) (es later moved : Fields) → fields_moved move later ≡ moved →
-      fields_moved move (match_ordering o ((name, value) ∷ e ∷ es) ((e.0, value) ∷ es) (e ∷ later))
-      ≡ match_ordering o ((name, value_moved move value) ∷ (e.0, value_moved move e.1) ∷ fields_moved move es) ((e.0, value_moved move value) ∷ fields_moved move es) ((e.0, value_moved move e.1) ∷ moved)
-  put_moved Less name value e es later moved is = refl
-  put_moved Equal name value e es later moved is = refl
-  put_moved Greater name value e es later moved is = ap (λ (rest : Fields). (e.0, value_moved move e.1) ∷ rest) is
-
-  with_moved : (name : Name) (value : Value) (es : Fields) → fields_moved move (with_value name value es) ≡ with_value name (value_moved move value) (fields_moved move es)
-  with_moved name value [] = refl
-  with_moved name value (e ∷ es) =
-      put_moved (name_cmp name e.0) name value e es (with_value name value es) (with_value name (value_moved move value) (fields_moved move es)) (with_moved name value es)
-
-  sorted_moved : (sorted es : Fields) → fields_moved move (fold (λ done e. with_value e.0 e.1 done) sorted es) ≡ fold (λ done e. with_value e.0 e.1 done) (fields_moved move sorted) (fields_moved move es)
-  sorted_moved sorted [] = refl
-  sorted_moved sorted (e ∷ es) =
-      sorted_moved (with_value e.0 e.1 sorted) es ∙ ap (λ (done : Fields). fold (λ done e. with_value e.0 e.1 done) done (fields_moved move es)) (with_moved e.0 e.1 sorted)
-
-  pub by_name_moved : (es : Fields) → fields_moved move (last_by_name es) ≡ last_by_name (fields_moved move es)
-  by_name_moved es = sorted_moved [] es
-
 -- the files of the result where the job left them
 pub sources_are : (work : Name) (outputs : Fields) → sources number_of work outputs ≡ fields_moved (left_place work) (last_by_name outputs)
-sources_are work outputs = sym (by_name_moved (left_place work) outputs)
+sources_are work outputs = sym (map_by_name (value_moved (left_place work)) outputs)
 
 -- the lone job's folders are the first
 pub first_number : (place : JobPlace) → cond (is_same_place [] place) 1 0 ≡ number_of place

@@ -1,6 +1,6 @@
 -- Where memory runs out for what follows from an answer, the answer still makes a longer run.
-use Rattle.std.specs.Prelude.{Contains, MatchBool}
-use Rattle.std.proofs.Common.{◌≡◌, ◌∙◌, ◌⊎◌, inl, inr, ℕ, Bool, true, false, List, [], ◌∷◌, ◌++◌, reverse, Option, Some, None, Result, Ok, Err, refl, sym, ap, subst, arith}
+use Rattle.std.specs.Prelude.{MatchBool}
+use Rattle.std.proofs.Common.{◌≡◌, ◌∙◌, inl, inr, ℕ, Bool, true, false, List, [], ◌∷◌, ◌++◌, reverse, Result, Ok, Err, refl, ap, subst, arith}
 use Rattle.command_line.specs.declared.launch.Launch.{Launch}
 use Rattle.collected_outputs.specs.Collected.{Collected, IsCollected}
 use Rattle.collected_outputs.specs.Listing.{listing_of}
@@ -14,7 +14,6 @@ use Rattle.proc_host.specs.declared.call.HostRequest.{HostRequest}
 use Rattle.proc_host.specs.declared.child.ChildEnd.{ChildEnd}
 use Rattle.proc_host.specs.declared.child.ExitClass.{ExitClass}
 use Rattle.staging.specs.declared.found.Found.{Found}
-use Rattle.staging.specs.declared.plan.StagePlan.{StagePlan}
 use Rattle.run_rules.specs.declared.outcome.Cause.{Cause}
 use Rattle.run_rules.specs.declared.request.Answer.{Answer}
 use Rattle.run_rules.specs.declared.request.Pair.{Pair}
@@ -26,7 +25,7 @@ use Rattle.run_rules.specs.Answers.{MayAnswer, by_host}
 use Rattle.run_rules.specs.Folders.{out_folder, runtime_of}
 use Rattle.run_rules.specs.Jobs.{Job}
 use Rattle.run_rules.specs.Scene.{Scene, scene_of}
-use Rattle.run_rules.specs.Events.{Event, Work, Started, file_measured, job_staged, child_exited, job_succeeded, job_failed, job_failed_for_now, result_delivered, nothing_due, input_heads_due, scan_due, output_heads_due, start_due, Progress, at_first, in_flight}
+use Rattle.run_rules.specs.Events.{Event, Work, Started, file_measured, job_staged, child_exited, job_succeeded, job_failed, job_failed_for_now, result_delivered, nothing_due, input_heads_due, scan_due, output_heads_due, start_due, Progress, at_first}
 use Rattle.run_rules.specs.StartsOn.{StartsOn, reads_on, has_launch, has_no_launch, has_no_contents}
 use Rattle.run_rules.specs.CollectsOn.{CollectsOn, reads_on as reads_more, collects, collects_none, left_of}
 use Rattle.run_rules.specs.Steps.{Steps, progress_with, measures_file, stages, reads_input, exits_well, exits_for_now, exits_badly, scans, reads_output, delivers}
@@ -41,7 +40,7 @@ use Rattle.run_core.specs.inner.Measured.{NoMeasures}
 use Rattle.run_core.specs.inner.Standing.{IsLone, IsAt, measuring, staging, filling, starting, running, scanning, reading, delivering, ended, lost, after, when_filling, when_running, when_back, when_reading, when_gathered}
 use Rattle.run_core.proofs.Advance.{steps_up}
 use Rattle.run_core.proofs.Advances.{with_pair}
-use Rattle.run_core.proofs.Answered.{GoesOn, pair, only_ticket, past, lone, own as its_own, walks, its_paths}
+use Rattle.run_core.proofs.Answered.{GoesOn, pair, only_ticket, past, lone, walks, its_paths}
 use Rattle.run_core.proofs.Measuring.{may_measure, when_measuring}
 use Rattle.run_core.proofs.Next.{allowed_stage, allowed_fill, allowed_collect, allowed_scan, allowed_head, allowed_deliver}
 use Rattle.run_core.proofs.Phases.{turned}

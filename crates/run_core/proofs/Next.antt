@@ -1,11 +1,10 @@
 -- Whatever it is answered, the machine stands in a longer run.
 use Rattle.std.specs.Prelude.{Contains}
-use Rattle.std.proofs.Common.{◌≡◌, ◌∙◌, ℕ, ◌<◌, ◌^◌, true, false, List, [], ◌∷◌, ◌++◌, length, reverse, Option, Some, None, Ok, Err, refl, sym, ap, subst, lit<}
+use Rattle.std.proofs.Common.{◌≡◌, ◌∙◌, ℕ, ◌<◌, ◌^◌, true, false, List, [], ◌∷◌, ◌++◌, length, reverse, Some, refl, sym, ap, subst, lit<}
 use Rattle.std.proofs.lemmas.List.{reverse-reverse}
 use Rattle.std.proofs.Math.Path.{fun_ext}
 use Rattle.plain_data.specs.ByName.{with_value}
 use Rattle.command_line.specs.declared.launch.Launch.{Launch}
-use Rattle.command_line.specs.Launch.{IsLaunch}
 use Rattle.input_files.specs.Contents.{heads_wanted}
 use Rattle.proc_host.specs.declared.call.HostAnswer.{HostAnswer}
 use Rattle.proc_host.specs.declared.call.HostRequest.{HostRequest}
@@ -21,31 +20,27 @@ use Rattle.run_rules.specs.declared.request.Pair.{Pair}
 use Rattle.run_rules.specs.declared.request.Request.{Request}
 use Rattle.run_core.specs.declared.state.Filling.{Filling}
 use Rattle.run_core.specs.declared.state.Lone.{Lone}
-use Rattle.run_core.specs.declared.state.Phase.{Phase}
 use Rattle.run_core.specs.declared.state.Reading.{Reading}
 use Rattle.run_core.specs.declared.state.State.{State}
 use Rattle.run_rules.specs.Words.{Name, Fields, Heads, JobPlace}
 use Rattle.run_rules.specs.CollectsOn.{CollectsOn}
 use Rattle.run_rules.specs.StartsOn.{StartsOn}
 use Rattle.run_rules.specs.Delivered.{any_file, sources}
-use Rattle.run_rules.specs.Folders.{in_folder, out_folder, runtime_of}
+use Rattle.run_rules.specs.Folders.{in_folder, out_folder}
 use Rattle.run_rules.specs.Jobs.{Job}
 use Rattle.run_rules.specs.Made.{fields_moved}
-use Rattle.run_rules.specs.Events.{Event, Work, Started, job_staged, job_started, child_exited, job_succeeded, job_failed, job_failed_for_now, result_delivered, host_failed, collect_failed, nothing_due, input_heads_due, start_due, scan_due, output_heads_due, Progress, at_first, in_flight, number_at}
+use Rattle.run_rules.specs.Events.{Event, Started, job_staged, job_started, child_exited, job_succeeded, job_failed, job_failed_for_now, result_delivered, host_failed, collect_failed, nothing_due, input_heads_due, start_due, scan_due, output_heads_due, Progress, at_first, in_flight, number_at}
 use Rattle.run_rules.specs.Steps.{stages, reads_input, starts, exits_well, exits_for_now, exits_badly, scans, reads_output, delivers, loses_collect, call_fails}
 use Rattle.run_rules.specs.End.{succeeds_with, fails_permanently, fails_temporarily, ended_by_host}
 use Rattle.run_rules.specs.EndsSo.{lost as collect_lost, fails, succeeds, copied}
 use Rattle.plan_checker.specs.declared.plan.Mark.{Mark}
 use Rattle.plan_checker.specs.declared.plan.Mark.TheVariants.{Load, Compute}
-use Rattle.run_rules.specs.Plans.{LoadsHeld}
-use Rattle.run_rules.specs.Run.{IsRunSoFar, Replans}
+use Rattle.run_rules.specs.Run.{IsRunSoFar}
 use Rattle.run_rules.specs.Reports.{report_of}
 use Rattle.run_core.specs.inner.Lone.{setting_in}
-use Rattle.run_core.specs.inner.Machine.{ends, host_fails, fails_for_good, stages_by, kept_of, scans as scans_state, after_class, after_exit, after_ticket, delivers_by, contents_of, head_of, FillsOn, ReadsOn, outputs_made, result_of, AfterStage, TakesContents, Lists, TakesHead}
-use Rattle.run_core.specs.inner.Measured.{NoMeasures}
+use Rattle.run_core.specs.inner.Machine.{ends, host_fails, kept_of, after_class, after_exit, after_ticket, contents_of, head_of, FillsOn, ReadsOn, outputs_made, result_of, AfterStage, TakesContents, Lists, TakesHead}
 use Rattle.run_core.specs.inner.Places.{left_place, number_of}
-use Rattle.run_core.specs.inner.Turns.{PutsNext, no_turn, its_turn}
-use Rattle.run_core.specs.inner.Standing.{IsLone, IsAt, running as at_running, scanning as at_scanning, after, when_filling, when_staged, when_running, when_back, when_reading, when_gathered, events_back}
+use Rattle.run_core.specs.inner.Standing.{IsLone, running as at_running, scanning as at_scanning, after, when_filling, when_staged, when_running, when_back, when_reading, when_gathered, events_back}
 use Rattle.run_core.proofs.Advance.{stage_up, collect_up, deliver_up, due_up}
 use Rattle.run_core.proofs.Answered.{pair, only_ticket, Advances, past, lone, own as its_scene, walks, its_paths, step_at, end_at}
 use Rattle.run_rules.specs.Allowed.{MayStage, MayCollect, MayDeliver, due_in}

@@ -1,5 +1,5 @@
 -- Each input file is measured once.
-use Rattle.std.proofs.Common.{◌≡◌, ◌∙◌, ℕ, ◌||◌, Bool, true, false, cond, List, [], ◌∷◌, ◌++◌, fold, refl, sym, ap, subst, bytes_eq}
+use Rattle.std.proofs.Common.{◌≡◌, ◌∙◌, ◌||◌, Bool, true, false, List, [], ◌∷◌, ◌++◌, fold, refl, sym, bytes_eq}
 use Rattle.std.specs.List.{list_any}
 use Rattle.std.proofs.lemmas.Cmp.{nat_list_eq_equiv}
 use Rattle.std.proofs.lemmas.List.Folds.{list_any-append}
@@ -28,9 +28,10 @@ same_test one other = nat_list_eq_equiv.symm one other
 once_push : (names : List Name) (name : Name) → Once names → list_any (bytes_eq name) names ≡ false → Once (names ++ name ∷ [])
 once_push [] name once new = (refl, tt)
 once_push (n ∷ names) name once new =
-    let other : bytes_eq n name ≡ false = same_test n name ∙ neither (bytes_eq name n) (list_any (bytes_eq name) names) new in
-    (list_any-append (bytes_eq n) names (name ∷ []) ∙ both_not (list_any (bytes_eq n) names) (bytes_eq n name || false) once.0 (both_not (bytes_eq n name) false other refl),
-    once_push names name once.1 (nor (bytes_eq name n) (list_any (bytes_eq name) names) new))
+    let other : bytes_eq n name ≡ false = same_test n name ∙ neither (bytes_eq name n) (list_any (bytes_eq name) names) new in (
+      list_any-append (bytes_eq n) names (name ∷ []) ∙ both_not (list_any (bytes_eq n) names) (bytes_eq n name || false) once.0 (both_not (bytes_eq n name) false other refl),
+      once_push names name once.1 (nor (bytes_eq name n) (list_any (bytes_eq name) names) new),
+    )
 
 once_with : (kept : List Name) (name : Name) (there : Bool) → list_any (bytes_eq name) kept ≡ there → Once kept → Once (with_new kept name)
 once_with kept name true there once = rw there once

@@ -1,34 +1,25 @@
 -- What each answer leads to, phase by phase.
-use Rattle.std.specs.Prelude.{Contains}
-use Rattle.std.proofs.Common.{◌≡◌, ◌≢◌, ◌∙◌, ◌⊎◌, inl, inr, ℕ, ◌<◌, ◌^◌, true, false, List, [], ◌∷◌, ◌++◌, length, reverse, Option, Some, None, Result, Ok, Err, refl, sym, ap, subst, arith, lit<, append-nil, bytes_eq}
+use Rattle.std.proofs.Common.{◌≡◌, ◌∙◌, ◌<◌, ◌^◌, List, [], ◌∷◌, ◌++◌, length, reverse, refl, sym, ap, subst}
 use Rattle.std.proofs.lemmas.List.{reverse-append}
-use Rattle.command_line.specs.declared.fault.BuildFault.{BuildFault}
-use Rattle.command_line.specs.declared.launch.Launch.{Launch}
-use Rattle.command_line.specs.Launch.{IsLaunch, IsRefused}
-use Rattle.input_files.specs.Contents.{heads_wanted, with_contents}
-use Rattle.input_files.specs.declared.fault.ContentsFault.{ContentsFault}
-use Rattle.proc_host.specs.declared.call.HostAnswer.{HostAnswer}
-use Rattle.proc_host.specs.declared.call.HostRequest.{HostRequest}
 use Rattle.run_rules.specs.declared.outcome.Cause.{Cause}
 use Rattle.run_rules.specs.declared.request.Pair.{Pair}
 use Rattle.run_core.specs.declared.state.Filling.{Filling}
 use Rattle.run_core.specs.declared.state.Lone.{Lone}
 use Rattle.run_core.specs.declared.state.State.{State}
-use Rattle.run_rules.specs.Words.{Name, Fields, Heads}
-use Rattle.run_rules.specs.Folders.{runtime_of}
-use Rattle.run_rules.specs.Events.{Event, Work, job_staged, job_failed, nothing_due, input_heads_due, start_due, Progress}
+use Rattle.run_rules.specs.Words.{Name, Fields}
+use Rattle.run_rules.specs.Events.{Event, Work, job_staged, job_failed, nothing_due, input_heads_due, start_due}
 use Rattle.run_rules.specs.Jobs.{Job}
 use Rattle.run_rules.specs.StartsOn.{StartsOn, reads_on, has_launch as a_launch, has_no_launch, has_no_contents as no_contents}
 use Rattle.run_rules.specs.End.{fails_permanently}
 use Rattle.run_rules.specs.EndsSo.{fails}
-use Rattle.plan_checker.specs.declared.plan.Mark.TheVariants.{Load, Compute}
+use Rattle.plan_checker.specs.declared.plan.Mark.TheVariants.{Compute}
 use Rattle.run_rules.specs.Plans.{LoadsHeld}
 use Rattle.run_rules.specs.Run.{IsRunSoFar, Replans}
 use Rattle.run_core.specs.inner.Lone.{setting_in}
-use Rattle.run_core.specs.inner.Machine.{CanGoOn, FillsOn, all_filled, fills, AfterContents, has_contents, has_no_contents, Launches, has_launch, has_none}
+use Rattle.run_core.specs.inner.Machine.{FillsOn, all_filled, fills, has_contents, has_no_contents, has_launch, has_none}
 use Rattle.run_core.specs.inner.Measured.{NoMeasures}
 use Rattle.run_core.specs.inner.Standing.{IsLone, filling as at_filling, starting as at_starting, after, when_filling, when_staged}
-use Rattle.run_core.proofs.Answered.{GoesOn, Advances, lone, end_at}
+use Rattle.run_core.proofs.Answered.{Advances, lone, end_at}
 
 -- the last of a list is the first of it turned round
 pub turned : (rest : List Name) (name : Name) → reverse (rest ++ name ∷ []) ≡ name ∷ reverse rest

@@ -1,20 +1,16 @@
 -- Once each input file is measured, a run goes on as one of a scene in which nothing is measured and the inputs are known.
-use Rattle.std.specs.Prelude.{Contains}
-use Rattle.std.proofs.Common.{◌≡◌, ◌∙◌, ℕ, ◌+◌, ◌<◌, ◌&&◌, ◌||◌, Bool, true, false, not, cond, List, [], ◌∷◌, ◌++◌, map, find, filter, fold, length, Option, Some, None, Result, Ok, Err, refl, sym, ap, subst, append_assoc, append-nil, bytes_eq}
-use Rattle.std.specs.List.{list_all, list_any, filter_map}
-use Rattle.std.proofs.lemmas.List.Elements.{filter_map-append}
+use Rattle.std.proofs.Common.{◌≡◌, ◌∙◌, ◌&&◌, ◌||◌, Bool, true, false, cond, List, [], ◌∷◌, ◌++◌, find, filter, fold, Option, None, Ok, refl, sym, ap, append_assoc, append-nil}
+use Rattle.std.specs.List.{list_all, list_any}
 use Rattle.std.proofs.lemmas.List.Sums.{fold-append}
 use Rattle.input_files.specs.Measured.{Measures}
 use Rattle.staging.specs.declared.measure.Measure.{Measure}
-use Rattle.staging.specs.declared.plan.StagePlan.{StagePlan}
 use Rattle.cwl_process.specs.declared.tool.Tool.{Tool}
-use Rattle.plan_checker.specs.declared.plan.Mark.{Mark}
 use Rattle.run_rules.specs.declared.setting.Options.{Options}
 use Rattle.run_rules.specs.Words.{Name, Fields, JobPlace}
-use Rattle.run_rules.specs.Jobs.{Job, Walker, tool_walk}
+use Rattle.run_rules.specs.Jobs.{Walker, tool_walk}
 use Rattle.run_rules.specs.Unfold.{Resolved, Unfolded, unfolded, or_else, nothing_known, is_at}
 use Rattle.run_rules.specs.Scene.{Scene}
-use Rattle.run_rules.specs.Events.{Event, file_measured, job_staged, job_started, child_exited, job_succeeded, job_failed, job_failed_for_now, result_delivered, host_failed, collect_failed, Progress, Started, resolves, resolved, flight_after, in_flight, brings, is_at_hand, is_held, number_if, number_at, started_if, started_at, delivered_if, delivered_at, is_staging, measures_after, measures, measures_path, is_measured, are_measured, unfolding_at, job_at}
+use Rattle.run_rules.specs.Events.{Event, file_measured, job_staged, job_started, child_exited, job_succeeded, job_failed, job_failed_for_now, result_delivered, host_failed, collect_failed, resolved, flight_after, in_flight, brings, is_at_hand, is_held, number_if, number_at, started_if, started_at, delivered_if, delivered_at, is_staging, measures_after, measures, measures_path, is_measured, are_measured, unfolding_at, job_at}
 use Rattle.run_core.specs.inner.Measured.{measures_one, AreMeasures, NoMeasures}
 use Rattle.run_core.proofs.Settled.{or_else_assoc, settled_split}
 use Rattle.run_rules.specs.End.{End, gives_up, is_lost_collect, fault_end, settled_by, unfold_end, settled_from, settled}

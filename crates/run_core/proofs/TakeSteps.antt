@@ -1,7 +1,6 @@
 -- What the machine's callers learn of its steps and of its end.
-use Rattle.std.proofs.Common.{◌≡◌, ◌≢◌, ◌∙◌, ◌==◌, ℕ, ℤ, ◌+◌, ◌*◌, ◌^◌, ◌<◌, ◌≤◌, List, [], ◌∷◌, ◌++◌, Vec, Global, vec_len, vec_capacity, length, reverse, Option, Some, None, Result, Ok, Err, refl, sym, ap, subst, arith, eq-eqb, lit<, length-append}
+use Rattle.std.proofs.Common.{◌≡◌, ◌≢◌, ◌∙◌, ℕ, ℤ, ◌+◌, ◌*◌, ◌^◌, ◌<◌, ◌≤◌, List, [], ◌∷◌, ◌++◌, Vec, Global, vec_len, vec_capacity, length, Option, Result, Ok, Err, refl, sym, ap, subst, arith, eq-eqb, lit<, length-append}
 use Rattle.std.proofs.lemmas.List.Elements.{filter_map-append}
-use Rattle.proc_host.specs.declared.call.HostAnswer.{HostAnswer}
 use Rattle.proc_host.specs.declared.call.HostRequest.{HostRequest}
 use Rattle.proc_host.specs.Answers.{is_measured, is_staged, is_started, has_ended, is_listed, is_read, is_delivered, has_failed}
 use Rattle.proc_host.specs.declared.call.HostFault.{HostFault}
@@ -30,7 +29,7 @@ use Rattle.run_rules.specs.Events.{Progress}
 use Rattle.plan_checker.specs.declared.plan.Mark.{Mark}
 use Rattle.run_rules.specs.Run.{IsRunSoFar, IsRun}
 use Rattle.run_rules.specs.Reports.{Concludes, whole, lost as memory_lost, reported, report_of, entry_of, entries_of}
-use Rattle.run_core.specs.inner.Machine.{ends, after_class, told_of, AsksIn, FollowsFrom, HasRoom, NeedsMemory, pairs_ahead, pairs_wanted, CanGoOn, Moves, moves, gives_up, MakesRoom, has_room, wants_none, no_room, MeasuresOn, all_measured, measures, has_inputs, has_no_inputs, FillsOn, all_filled, fills, has_contents, has_no_contents, has_launch, has_none, ReadsOn, all_read, reads, gathers, refuses, Delivers, delivers_none, delivers_files, kept_of}
+use Rattle.run_core.specs.inner.Machine.{ends, after_class, told_of, AsksIn, FollowsFrom, HasRoom, NeedsMemory, pairs_ahead, pairs_wanted, Moves, moves, gives_up, MakesRoom, has_room, wants_none, no_room, MeasuresOn, all_measured, measures, has_inputs, has_no_inputs, FillsOn, all_filled, fills, has_contents, has_no_contents, has_launch, has_none, ReadsOn, all_read, reads, gathers, refuses, Delivers, delivers_none, delivers_files, kept_of}
 use Rattle.run_core.specs.inner.Standing.{IsAt, Blames, measuring, staging, filling, starting, running, scanning, reading, delivering, ended, lost}
 use Rattle.run_core.specs.Core.{steps_in, weight_of, Stands, Took}
 use Rattle.run_core.specs.declared.runner.RunCore.{RunCore}

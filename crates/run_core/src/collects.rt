@@ -99,12 +99,7 @@ fn put_head(alloc: Global, reading: &mut Reading, bytes: &Items<u8>) -> Result<(
 }
 
 /// The next file's first bytes are read; where all are, the outputs are collected.
-fn read_on(
-    alloc: Global,
-    lone: &Lone,
-    kept: Kept,
-    reading: Reading,
-) -> Result<State, AllocError>
+fn read_on(alloc: Global, lone: &Lone, kept: Kept, reading: Reading) -> Result<State, AllocError>
     ensures { IfOk result (λ state. ReadsOn lone.now kept reading state) }
 {
     match reading.left.as_slice() {
@@ -149,12 +144,7 @@ fn gathered_from(
 }
 
 /// The outputs are collected and delivered, or there is a cause why there are none.
-fn gathered(
-    alloc: Global,
-    lone: &Lone,
-    kept: &Kept,
-    reading: &Reading,
-) -> Result<State, AllocError>
+fn gathered(alloc: Global, lone: &Lone, kept: &Kept, reading: &Reading) -> Result<State, AllocError>
     ensures { IfOk result (λ state. Gathers lone.now kept.now reading.now.found reading.now.heads state) }
 {
     let streams = StreamNames {
@@ -204,11 +194,7 @@ fn located(alloc: Global, values: Keyed<Value>) -> Result<Value, AllocError>
 }
 
 /// The files are to be copied.
-fn delivering(
-    alloc: Global,
-    options: &Options,
-    outputs: Keyed<Value>,
-) -> Result<State, AllocError>
+fn delivering(alloc: Global, options: &Options, outputs: Keyed<Value>) -> Result<State, AllocError>
     ensures { IfOk result (λ state. DeliversFiles options.now outputs state) }
 {
     let plan = plan_of(alloc, options, outputs)?;
@@ -221,11 +207,7 @@ fn delivering(
 }
 
 /// Where the result's files are put.
-fn plan_of(
-    alloc: Global,
-    options: &Options,
-    outputs: Keyed<Value>,
-) -> Result<StagePlan, AllocError>
+fn plan_of(alloc: Global, options: &Options, outputs: Keyed<Value>) -> Result<StagePlan, AllocError>
     ensures { IfOk result (IsPlan true options.now.outdir (fields_moved (left_place options.now.work) outputs)) }
 {
     let files = moved_fields(alloc, Way::Left(&options.work), &outputs);
@@ -243,4 +225,3 @@ pub(crate) fn placed(alloc: Global, phase: &mut Phase) -> State
     };
     ended(alloc, reported(alloc, Outcome::Success(outputs)))
 }
-

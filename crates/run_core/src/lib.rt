@@ -21,8 +21,7 @@ mod today;
 mod turns;
 
 pub use run_rules::{
-    Answer, Cause, Note, Options, Outcome, Pair, PlanNote, Report, Request, RunFault,
-    Setting,
+    Answer, Cause, Note, Options, Outcome, Pair, PlanNote, Report, Request, RunFault, Setting,
 };
 pub use runner::RunCore;
 pub use today::runs_today;

@@ -106,17 +106,9 @@ impl RunCore {
         ensures faults { IfErr result (BlamesRightly (entries_of (transcript self))) }
         ensures lost { (result ≡ Err RunFault.OutOfMemory) ↔ IsLost self }
     {
-        let RunCore {
-            alloc: _,
-            lone: _,
-            pairs: _,
-            state,
-        } = self;
-        let State {
-            asks: _,
-            phase,
-            flying: _,
-        } = state;
+        let mut core = self;
+        let phase = mem::replace(&mut core.state.phase, Phase::Staging);
+        mem::drop(core);
         outcome_of(phase)
     }
 

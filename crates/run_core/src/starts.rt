@@ -83,10 +83,7 @@ fn measure_of(alloc: Global, path: &Text) -> Result<Request, AllocError>
     ensures { IfOk result (λ asks. asks ≡ measure_of path.now) }
 {
     let path = path.copied(alloc)?;
-    Ok(Request::Host(
-        Items::new(alloc),
-        HostRequest::Measure(path),
-    ))
+    Ok(Request::Host(Items::new(alloc), HostRequest::Measure(path)))
 }
 
 /// The job has these inputs, or a fault why it has none.
@@ -134,22 +131,14 @@ fn plan_in(alloc: Global, work: &Text, inputs: Keyed<Value>) -> Result<StagePlan
 }
 
 /// The job's folders are made: the contents of its inputs are read, and then it is started.
-pub(crate) fn staged(
-    alloc: Global,
-    lone: &Lone,
-    staged: &Keyed<Value>,
-) -> Result<State, AllocError>
+pub(crate) fn staged(alloc: Global, lone: &Lone, staged: &Keyed<Value>) -> Result<State, AllocError>
     ensures { IfOk result (λ state. AfterStage lone.now staged.now state) }
 {
     let filling = first_filling(alloc, lone, staged)?;
     fill_on(alloc, lone, filling)
 }
 
-fn first_filling(
-    alloc: Global,
-    lone: &Lone,
-    staged: &Keyed<Value>,
-) -> Result<Filling, AllocError>
+fn first_filling(alloc: Global, lone: &Lone, staged: &Keyed<Value>) -> Result<Filling, AllocError>
     ensures { IfOk result (IsFirstFilling lone.now staged.now) }
 {
     let wanted = heads_wanted(alloc, lone.tool.inputs.as_slice(), staged)?;
@@ -174,11 +163,7 @@ pub(crate) fn filled(
     fill_on(alloc, lone, filling)
 }
 
-fn put_contents(
-    alloc: Global,
-    filling: &mut Filling,
-    bytes: &Items<u8>,
-) -> Result<(), AllocError>
+fn put_contents(alloc: Global, filling: &mut Filling, bytes: &Items<u8>) -> Result<(), AllocError>
     ensures puts { OnOk result (PutsNext filling.old.left filling.old.heads bytes.now filling.new.left filling.new.heads) }
     ensures staged { filling.new.staged ≡ filling.old.staged }
 {
@@ -203,10 +188,7 @@ fn contents_of(alloc: Global, path: &Text) -> Result<Request, AllocError>
     ensures { IfOk result (λ asks. asks ≡ contents_of path.now) }
 {
     let path = path.copied(alloc)?;
-    Ok(Request::Host(
-        Items::new(alloc),
-        HostRequest::Head(path, MOST_CONTENTS),
-    ))
+    Ok(Request::Host(Items::new(alloc), HostRequest::Head(path, MOST_CONTENTS)))
 }
 
 /// The job is started on these inputs, or there is a fault of their contents.
@@ -223,9 +205,7 @@ fn inputs_filled(alloc: Global, lone: &Lone, filling: Filling) -> Result<State, 
     mem::drop(heads);
     match found {
         Ok(inputs) => launched(alloc, lone, inputs),
-        Err(ContentsError::Refused(fault)) => {
-            Ok(failed_for_good(alloc, Cause::Contents(fault)))
-        }
+        Err(ContentsError::Refused(fault)) => { Ok(failed_for_good(alloc, Cause::Contents(fault))) }
         Err(ContentsError::OutOfMemory) => Err(AllocError),
     }
 }
@@ -288,4 +268,3 @@ fn kept_of(alloc: Global, launch: &Launch, inputs: Keyed<Value>) -> Result<Kept,
         stderr: copied(alloc, &launch.stderr)?,
     })
 }
-

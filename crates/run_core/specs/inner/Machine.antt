@@ -1,13 +1,11 @@
 -- What the machine waits for after each answer. That all this makes a run is a law above it.
-use Rattle.std.specs.Prelude.{◌≡◌, ◌+◌, ◌<◌, ◌≤◌, ◌^◌, ℕ, ℤ, false, true, List, [], ◌∷◌, ◌++◌, Option, Some, None, Result, Ok, Err, map, length, reverse, unwrap_or, codes, bytes_eq}
+use Rattle.std.specs.Prelude.{◌≡◌, ◌+◌, ◌<◌, ◌≤◌, ◌^◌, ℕ, ℤ, false, true, List, [], ◌∷◌, ◌++◌, Option, None, Result, Ok, Err, map, length, reverse, unwrap_or, bytes_eq}
 use Rattle.std.specs.List.{IsDistinct}
 use Rattle.std.specs.Map.{keys_of}
 use Rattle.command_line.specs.declared.launch.Launch.{Launch}
 use Rattle.command_line.specs.declared.fault.BuildFault.{BuildFault}
 use Rattle.command_line.specs.Launch.{IsLaunch, IsRefused}
 use Rattle.command_line.specs.Laws.{LaunchOrRefusal}
-use Rattle.collected_outputs.specs.declared.contents.TheConstants.{MOST_CONTENTS}
-use Rattle.collected_outputs.specs.declared.object.TheConstants.{MOST_OBJECT}
 use Rattle.collected_outputs.specs.declared.fault.OutputFault.{OutputFault}
 use Rattle.collected_outputs.specs.Collected.{IsCollected}
 use Rattle.collected_outputs.specs.Contents.{Heads}
@@ -24,8 +22,7 @@ use Rattle.input_files.specs.declared.contents.TheConstants.{MOST_CONTENTS as MO
 use Rattle.input_files.specs.declared.fault.ContentsFault.{ContentsFault}
 use Rattle.input_files.specs.declared.fault.InputFault.{InputFault}
 use Rattle.cwl_process.specs.declared.tool.ToolOutput.{ToolOutput}
-use Rattle.cwl_value.specs.declared.value.Value.{Value, roll-Value}
-use Rattle.cwl_value.specs.declared.value.Value.TheOpen.{Value-F}
+use Rattle.cwl_value.specs.declared.value.Value.{Value}
 use Rattle.proc_host.specs.declared.call.HostAnswer.{HostAnswer}
 use Rattle.proc_host.specs.declared.call.HostRequest.{HostRequest}
 use Rattle.proc_host.specs.declared.call.HostFault.{HostFault}

@@ -1,9 +1,8 @@
 -- The states that the machine can be in, with what has happened and the plan in force there.
-use Rattle.std.specs.Prelude.{◌≡◌, ◌<◌, ◌^◌, ℕ, true, false, List, [], ◌∷◌, ◌++◌, length, reverse, None, Some, Ok, Err, IfErr}
+use Rattle.std.specs.Prelude.{◌≡◌, ◌<◌, ◌^◌, ℕ, true, false, List, [], ◌∷◌, ◌++◌, length, reverse, None, Ok, Err, IfErr}
 use Rattle.std.specs.Map.{keys_of}
 use Rattle.command_line.specs.declared.launch.Launch.{Launch}
 use Rattle.command_line.specs.Launch.{IsLaunch}
-use Rattle.cwl_value.specs.declared.value.Value.{Value}
 use Rattle.input_files.specs.Paths.{input_paths}
 use Rattle.proc_host.specs.declared.call.Entry.{Entry}
 use Rattle.staging.specs.declared.found.Found.{Found}
@@ -11,7 +10,6 @@ use Rattle.staging.specs.declared.measure.Measure.{Measure}
 use Rattle.staging.specs.declared.plan.StagePlan.{StagePlan}
 use Rattle.staging.specs.Plan.{IsPlan}
 use Rattle.run_rules.specs.declared.outcome.RunFault.{RunFault}
-use Rattle.run_rules.specs.declared.request.Request.{Request}
 use Rattle.run_core.specs.declared.state.Filling.{Filling}
 use Rattle.run_core.specs.declared.state.Lone.{Lone}
 use Rattle.run_core.specs.declared.state.Measuring.{Measuring}
@@ -19,9 +17,9 @@ use Rattle.run_core.specs.declared.state.Phase.{Phase}
 use Rattle.run_core.specs.declared.state.Reading.{Reading}
 use Rattle.run_core.specs.declared.state.State.{State}
 use Rattle.run_rules.specs.Words.{Fields, Heads, Name}
-use Rattle.run_rules.specs.Delivered.{any_file, located}
+use Rattle.run_rules.specs.Delivered.{any_file}
 use Rattle.run_rules.specs.Folders.{in_folder, runtime_of}
-use Rattle.run_rules.specs.Events.{Event, job_staged, job_started, child_exited, job_succeeded, nothing_due, input_heads_due, start_due, scan_due, output_heads_due, Progress, at_first, are_measured, measures, unfolding_at}
+use Rattle.run_rules.specs.Events.{Event, job_staged, job_started, child_exited, job_succeeded, nothing_due, input_heads_due, start_due, scan_due, output_heads_due, Progress, at_first, are_measured, measures}
 use Rattle.run_rules.specs.Jobs.{inputs_of}
 use Rattle.run_rules.specs.End.{End, settled}
 use Rattle.run_rules.specs.EndsSo.{EndsSo}

@@ -1,5 +1,5 @@
-use Rattle.std.proofs.Common.{◌≡◌, ◌∙◌, ℕ, List, unwrap_or, [], Result, Ok, Err, sym, ap, subst}
-use Rattle.collected_outputs.specs.Collected.{Collected, IsCollected, IsFault}
+use Rattle.std.proofs.Common.{◌≡◌, ◌∙◌, ℕ, List, unwrap_or, [], Ok, Err, sym, ap, subst}
+use Rattle.collected_outputs.specs.Collected.{IsCollected, IsFault}
 use Rattle.collected_outputs.specs.Contents.{Heads}
 use Rattle.collected_outputs.specs.Listing.{listing_of}
 use Rattle.collected_outputs.specs.Outputs.{Left}
@@ -25,7 +25,7 @@ left_is kept found other heads stdout stderr all out err =
 pub returns-in-Ok : goal.returns-in-Ok
 returns-in-Ok c =
     let same : left_as c.args.kept.now c.as_slice-found.result.now c.args.reading.now.heads c.name_or_empty.result.now c.name_or_empty-2.result.now
-        ≡ left_behind c.args.kept.now c.args.reading.now.found c.args.reading.now.heads =
+    ≡ left_behind c.args.kept.now c.args.reading.now.found c.args.reading.now.heads =
     left_is c.args.kept.now c.args.reading.now.found c.as_slice-found.result.now c.args.reading.now.heads c.name_or_empty.result.now c.name_or_empty-2.result.now
     c.as_slice-found.ensures c.name_or_empty.ensures c.name_or_empty-2.ensures in
     if_ok c.delivered.result (λ s delivers.
@@ -35,7 +35,7 @@ returns-in-Ok c =
 pub returns-in-Err-Refused : goal.returns-in-Err-Refused
 returns-in-Err-Refused c =
     let same : left_as c.args.kept.now c.as_slice-found.result.now c.args.reading.now.heads c.name_or_empty.result.now c.name_or_empty-2.result.now
-        ≡ left_behind c.args.kept.now c.args.reading.now.found c.args.reading.now.heads =
+    ≡ left_behind c.args.kept.now c.args.reading.now.found c.args.reading.now.heads =
     left_is c.args.kept.now c.args.reading.now.found c.as_slice-found.result.now c.args.reading.now.heads c.name_or_empty.result.now c.name_or_empty-2.result.now
     c.as_slice-found.ensures c.name_or_empty.ensures c.name_or_empty-2.ensures in
     subst (λ (s : State). Gathers c.args.lone.now c.args.kept.now c.args.reading.now.found c.args.reading.now.heads s) (sym c.failed_for_good.ensures)

@@ -1,4 +1,4 @@
-use Rattle.std.proofs.Common.{◌∙◌, List, length, take, ◌-◌, sym, ap, subst}
+use Rattle.std.proofs.Common.{◌∙◌, length, take, ◌-◌, sym, ap, subst}
 use Rattle.run_core.specs.declared.state.State.{State}
 use Rattle.run_rules.specs.declared.request.Request.{Request}
 use Rattle.run_core.specs.declared.state.Phase.{Phase}
