@@ -25,17 +25,10 @@ use Rattle.run_rules.specs.Plans.{LoadsHeld}
 use Rattle.run_rules.specs.Run.{Ends, IsRun}
 use Rattle.run_rules.specs.RanWell.{RanWell}
 use Rattle.run_rules.proofs.Lone.{InputsBy, lone}
+use Rattle.run_rules.proofs.Measuring.{left_true, right_true}
 use Rattle.run_rules.proofs.Known.{known_job, met_if_known, result_known}
 use Rattle.run_rules.proofs.TranscriptTells.{knows, none_in}
 use Rattle.run_rules.proofs.Scenes.{by_process, no_jobs}
-
-left_true : (a b : Bool) → (a && b) ≡ true → a ≡ true
-left_true true b both = refl
-left_true false b both = both
-
-right_true : (a b : Bool) → (a && b) ≡ true → b ≡ true
-right_true true b both = both
-right_true false b both = absurd cc
 
 -- Failures alone settle an end
 
