@@ -1,6 +1,7 @@
 -- The tuples of a scattered step, and each job's inputs (CWL v1.2, Workflow, "WorkflowStep": `scatter`, `scatterMethod`).
-use Rattle.std.specs.Prelude.{ℕ, ◌==◌, nat_le, Bool, true, not, cond, List, [], ◌∷◌, length, map, bytes_eq, Option, Some, None, Result, Ok, Err, option_map, slice_get, unwrap_or}
+use Rattle.std.specs.Prelude.{ℕ, ◌==◌, nat_le, Bool, true, not, cond, List, [], ◌∷◌, ◌++◌, length, map, bytes_eq, Option, Some, None, Result, Ok, Err, option_map, slice_get, unwrap_or}
 use Rattle.std.specs.List.{list_all}
+use Rattle.std.specs.Option.{option_map_or}
 use Rattle.cwl_value.specs.declared.value.DirVal.{DirVal}
 use Rattle.cwl_value.specs.declared.value.FileVal.{FileVal}
 use Rattle.cwl_value.specs.declared.value.Value.{Value, out-Value}
@@ -16,15 +17,14 @@ use Rattle.job_graph.specs.declared.cause.Cause.{Cause}
 use Rattle.job_graph.specs.declared.cause.Cause.TheVariants.{Scatter}
 use Rattle.job_graph.specs.Words.{Name, Fields}
 
-abbrev pub with_length : Option ℕ → Result (List ℕ) Cause → Result (List ℕ) Cause
-with_length None lengths = Err (Scatter NotAList)
-with_length (Some n) (Ok ns) = Ok (n ∷ ns)
-with_length (Some n) (Err cause) = Err cause
+abbrev pub lengths_from : Fields → List ℕ → List Name → Result (List ℕ) Cause
+lengths_from fields lengths [] = Ok lengths
+lengths_from fields lengths (name ∷ names) =
+    option_map_or (λ n. lengths_from fields (lengths ++ n ∷ []) names) (list_length (value_under name fields)) (Err (Scatter NotAList))
 
 -- the lengths of the scattered inputs, each of which has to be a list (S2)
 abbrev pub lengths_under : List Name → Fields → Result (List ℕ) Cause
-lengths_under [] fields = Ok []
-lengths_under (name ∷ names) fields = with_length (list_length (value_under name fields)) (lengths_under names fields)
+lengths_under names fields = lengths_from fields [] names
 
 -- a dotproduct takes equal lengths alone
 abbrev pub are_in_step : Method → List ℕ → Bool

@@ -19,9 +19,13 @@ pub data Fault : Type 0 where
 abbrev pub is_at : JobPlace → Job → Bool
 is_at place job = is_same_place job.place place
 
--- the outputs of the job at a place by the resolved places
+-- the named outputs of the job at a place, by the resolved places
+abbrev pub outputs_at : List Resolved → JobPlace → Option Fields
+outputs_at resolved place = option_map (λ r. r.outputs) (find (λ r. is_same_place r.place place) resolved)
+
+-- those, as the rest of the process sees them
 abbrev pub made_at : List Resolved → JobPlace → Option Fields
-made_at resolved place = option_map (λ r. fields_made place r.outputs) (find (λ r. is_same_place r.place place) resolved)
+made_at resolved place = option_map (fields_made place) (outputs_at resolved place)
 
 -- a job's outputs by the resolved places
 abbrev pub made_by : List Resolved → Made

@@ -72,7 +72,7 @@ fn outs_gathered(
 
 /// What all walks met, one walk after another.
 fn all_met<'a>(alloc: Global, walks: Vec<Walk<'a>>) -> Result<Items<Met<'a>>, AllocError>
-    ensures { IfOk result (λ met. map met_of met ≡ flat_map (λ w. w.met) (map walk_of walks.items)) }
+    ensures { IfOk result (λ met. map met_of met ≡ flat_map (λ w. w.met) (map walk_of walks.entry.items)) }
 {
     let mut met = Items::new(alloc);
     for walk in walks {
@@ -83,7 +83,7 @@ fn all_met<'a>(alloc: Global, walks: Vec<Walk<'a>>) -> Result<Items<Met<'a>>, Al
 
 /// Adds what a walk met.
 pub(crate) fn push_met<'a>(met: &mut Items<Met<'a>>, walk: Walk<'a>) -> Result<(), AllocError>
-    ensures { OnOk result (met.new ≡ met.old ++ walk.met) }
+    ensures { OnOk result (met.new ≡ met.old ++ walk.entry.met) }
 {
     let Walk { met: more, outs } = walk;
     drop(outs);
@@ -103,8 +103,8 @@ pub(crate) fn all_instances<'a>(
     requires some { shape.now.lengths ≢ [] }
     requires taken { IsTaken shape.now.method shape.now.lengths }
     requires one_each { length walks.items ≡ length (tuples_of shape.now.method shape.now.lengths) }
-    ensures { IfOk result (λ walk. (map met_of walk.met ≡ flat_map (λ w. w.met) (map walk_of walks.items))
-        × (walk.outs ≡ map (λ name. (name, out_gathered shape.now.method shape.now.lengths (map walk_of walks.items) name)) names.now)) }
+    ensures { IfOk result (λ walk. (map met_of walk.met ≡ flat_map (λ w. w.met) (map walk_of walks.entry.items))
+        × (walk.outs ≡ map (λ name. (name, out_gathered shape.now.method shape.now.lengths (map walk_of walks.entry.items) name)) names.now)) }
 {
     let outs = outs_gathered(alloc, shape, walks.as_slice(), names)?;
     let met = all_met(alloc, walks)?;

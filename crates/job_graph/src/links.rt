@@ -20,7 +20,7 @@ pub(crate) fn out_under<'a>(outs: &'a [Out], name: &str) -> Option<&'a Value>
     ensures { option_copied result ≡ out_under name.now (Some outs.now) }
 {
     for out in outs {
-        if out.0.as_str() == name {
+        if name == out.0.as_str() {
             return out.1.as_ref();
         }
     }

@@ -1,11 +1,10 @@
 //! The outputs of jobs, as the rest of the process sees them: each file in them at the place of its job.
-ghost use Rattle.std.specs.Prelude.{◌≡◌, IfOk, find, map, option_map};
+ghost use Rattle.std.specs.Prelude.{◌≡◌, IfOk, map, option_map};
 ghost use Rattle.std.specs.Map.{keys_of};
 ghost use Rattle.std.specs.Option.{option_copied};
 ghost use Rattle.link_values.specs.StepInputs.{value_under};
 ghost use Rattle.job_graph.specs.Jobs.{outs_of};
-ghost use Rattle.job_graph.specs.Unfold.{made_at};
-ghost use Rattle.job_graph.specs.Words.{is_same_place};
+ghost use Rattle.job_graph.specs.Unfold.{outputs_at};
 ghost use Rattle.job_graph.specs.Made.{dir_value_moved, fields_made, file_value_moved, made_place, value_moved};
 
 use crate::place::is_same_place;
@@ -24,7 +23,7 @@ pub(crate) struct Resolved {
 
 /// The outputs of the job at a place, where they are known.
 pub(crate) fn outputs_at<'a>(learned: &'a [Resolved], place: &JobPlace) -> Option<&'a Keyed<Value>>
-    ensures { option_copied result ≡ option_map (λ r. r.outputs) (find (λ r. is_same_place r.place place.now) learned.now) }
+    ensures { option_copied result ≡ outputs_at learned.now place.now }
 {
     for resolved in learned {
         if is_same_place(resolved.place.as_slice(), place.as_slice()) {
@@ -37,13 +36,12 @@ pub(crate) fn outputs_at<'a>(learned: &'a [Resolved], place: &JobPlace) -> Optio
 /// The outputs of the job at a place, by the ids of its tool's outputs.
 pub(crate) fn job_outs(
     alloc: Global,
-    learned: &[Resolved],
+    found: Option<&Keyed<Value>>,
     outputs: &Entries<ToolOutput>,
     place: &JobPlace,
 ) -> Result<Items<Out>, AllocError>
-    ensures { IfOk result (λ outs. outs ≡ outs_of (keys_of outputs.now) (made_at learned.now place.now)) }
+    ensures { IfOk result (λ outs. outs ≡ outs_of (keys_of outputs.now) (option_map (fields_made place.now) (option_copied found.entry))) }
 {
-    let found = outputs_at(learned, place);
     let mut outs = Items::new(alloc);
     for output in outputs.as_slice() {
         let name = output.0.copied(alloc)?;
@@ -58,7 +56,7 @@ fn out_value(
     name: &str,
     place: &JobPlace,
 ) -> Result<Option<Value>, AllocError>
-    ensures { IfOk result (λ value. value ≡ option_map (λ fields. value_under name.now (fields_made place.now fields)) (option_copied found.entry)) }
+    ensures { IfOk result (λ value. value ≡ option_map (value_under name.now) (option_map (fields_made place.now) (option_copied found.entry))) }
 {
     let Some(outputs) = found else {
         return Ok(None);

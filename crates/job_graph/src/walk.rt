@@ -9,7 +9,7 @@ ghost use Rattle.job_graph.specs.inner.Views.{met_of, walk_of};
 
 use crate::cause::Cause;
 use crate::inputs::inputs_for;
-use crate::made::{Resolved, job_outs};
+use crate::made::{Resolved, job_outs, outputs_at};
 use cwl_process::{Entries, Tool};
 use cwl_value::{JobPlace, Value, copy_job};
 use plain_data::{Items, Keyed, Text};
@@ -141,7 +141,7 @@ fn job_walk<'a>(
     ensures { IfOk result (λ walk. walk_of walk ≡ tool_walk tool.now place.now (Ok inputs) (made_by learned.now)) }
 {
     let place = copy_job(alloc, place)?;
-    let outs = job_outs(alloc, learned, &tool.outputs, &place)?;
+    let outs = job_outs(alloc, outputs_at(learned, &place), &tool.outputs, &place)?;
     let mut met = Items::new(alloc);
     met.push(Met::Job(Job {
         place,

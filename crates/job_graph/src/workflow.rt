@@ -153,7 +153,7 @@ fn with_outputs<'a>(
     env: &Env,
 ) -> Result<Walk<'a>, AllocError>
     ensures met { IfOk result (λ walk. map met_of walk.met
-        ≡ map met_of met ++ flat_map (λ o. fault_at place.now (output_value inputs.now env.now o.1.links)) outputs.now) }
+        ≡ map met_of met.entry ++ flat_map (λ o. fault_at place.now (output_value inputs.now env.now o.1.links)) outputs.now) }
     ensures outs { IfOk result (λ walk. walk.outs ≡ map (λ o. (o.0, given (output_value inputs.now env.now o.1.links))) outputs.now) }
 {
     let mut walk = Walk {
