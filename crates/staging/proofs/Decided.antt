@@ -115,6 +115,7 @@ closing [] h = absurd (true≢false (sym h))
 closing (c ∷ text) h = by (closing text) (true-or_false (c == 93)) where
   goes_on : (c == 93) ≡ false → (not (c == 47) && has_close text) ≡ true
   goes_on apart = (rw apart at h)
+
   by : (has_close text ≡ true → Closing text) → ((c == 93) ≡ true) ⊎ ((c == 93) ≡ false) → Closing (c ∷ text)
   by deeper (inl is) = record { members = []; rest = text; parts = ap (λ x. x ∷ text) (eqb-true c 93 is); inside = refl }
   by deeper (inr apart) =
@@ -225,6 +226,7 @@ text_read text = by (fault_of (body text)) refl where
   fine : fault_of (body text) ≡ None → (p : Read (body text)) → (list_any has_falling p.0 ≡ true) ⊎ (list_any has_falling p.0 ≡ false) → (r : Result (List PatternItem) GlobFault) × IsReading text r
   fine none p (inl falls) = (Err FallingRange, IsReading.falling none p.1 falls)
   fine none p (inr right) = (Ok p.0, IsReading.accepted none p.1 right)
+
   by : (fault : Option GlobFault) → fault_of (body text) ≡ fault → (r : Result (List PatternItem) GlobFault) × IsReading text r
   by (Some fault) is = (Err fault, IsReading.refused is)
   by None is = let p = read_within (length (body text)) (body text) (omega arith) in fine is p (true-or_false (list_any has_falling p.0))
