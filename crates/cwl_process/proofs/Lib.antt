@@ -3,3 +3,6 @@ pub mod Levels
 pub mod Requirements
 pub mod Slashes
 pub mod EmptyText
+mod KeptFields
+mod KeptTypes
+pub mod KeptTools

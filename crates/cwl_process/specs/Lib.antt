@@ -2,6 +2,7 @@ pub mod Acting
 pub mod Bindings
 pub mod Documents
 pub mod FirstFaults
+pub mod Laws
 pub mod Links
 pub mod Parameters
 pub mod Processes
