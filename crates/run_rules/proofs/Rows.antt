@@ -36,7 +36,8 @@ use Rattle.staging.specs.declared.group.Member.{Member}
 use Rattle.staging.specs.declared.group.Placed.{Placed}
 use Rattle.staging.specs.declared.plan.Move.{Move}
 use Rattle.staging.specs.declared.plan.StagePlan.{StagePlan}
-use Rattle.input_files.specs.Measured.{Measures, is_there, as_measured, value_there, dir_there, file_there, dir_level, file_level}
+use Rattle.input_files.specs.Measured.{Measures, is_there, as_measured, dir_there, file_there, dir_level, file_level}
+use Rattle.input_files.specs.Present.{value_there}
 use Rattle.input_files.specs.Paths.{Paths, input_paths, value_paths, dir_paths, file_paths}
 use Rattle.input_files.specs.Beside.{all_beside}
 use Rattle.input_files.specs.Given.{files_in}
