@@ -1,7 +1,7 @@
 -- How the answer of a run ends the program.
 use Rattle.std.specs.Prelude.{ℕ, List, Result, Ok, Err}
 use Rattle.serde_json.specs.Written.{compact_text}
-use Rattle.cwl_process.specs.declared.process.Process.{Process}
+use Rattle.document_links.specs.declared.process.Process.{Process}
 use Rattle.cwl_value.specs.Json.{json_of}
 use Rattle.cwl_value.specs.Places.{job_text}
 use Rattle.cwl_value.specs.declared.value.Value.TheVariants as values

@@ -6,8 +6,9 @@ ghost use Rattle.cwl_program.specs.Runs.{IsRunExit};
 use crate::exit::{Exit, Fault, Refusal};
 use crate::refused::{refused_document, refused_inputs};
 use crate::report::exit_of_run;
-use cwl_process::{Process, read_unlinked};
+use cwl_process::{Process as NamedProcess, read_unlinked};
 use cwl_value::{Value, read_value};
+use document_links::Process;
 use plain_data::{Items, Keyed, Text};
 use proc_host::{Reply, Scripted};
 use run_core::{Options, runs_today};
@@ -26,11 +27,16 @@ const INPUTS: &str = "{\"t\":\"abc\"}";
 const SUM: &str = "a9993e364706816aba3e25717850c26c9cd0d89d";
 
 /// Runs the worked example over a host that answers from a script.
+#[tactic(auto, using(crate::specs::Runs::refused))]
 pub fn exit_of_demo(alloc: Global, path: &str) -> Result<Exit, AllocError>
     ensures { IfOk result IsRunExit }
 {
     match read_unlinked(alloc, DOCUMENT.as_bytes()) {
-        Ok(process) => on_inputs(alloc, process, path),
+        Ok(NamedProcess::Tool(tool)) => on_inputs(alloc, Process::Tool(tool), path),
+        Ok(workflow) => {
+            mem::drop(workflow);
+            Ok(Exit::Refused(Refusal::Workflow))
+        }
         Err(error) => refused_document(error),
     }
 }

@@ -9,9 +9,9 @@ use crate::paths::{base_of, from_root};
 use crate::refused::{refused_document, refused_inputs, refused_links, refused_location};
 use crate::report::exit_of_run;
 use crate::run_words::RunWords;
-use cwl_process::{Process, read_unlinked};
+use cwl_process::{Process as NamedProcess, read_unlinked};
 use cwl_value::{Value, read_value};
-use document_links::{Docs, Process as LinkedProcess, read_process};
+use document_links::{Docs, Process, read_process};
 use file_values::{FileError, resolve};
 use plain_data::{Keyed, Text};
 use process_machine::{Machine, World};
@@ -108,7 +108,7 @@ where
     ensures { IfOk result IsRunExit }
 {
     match read_unlinked(rt.alloc(), document) {
-        Ok(Process::Workflow(workflow)) => {
+        Ok(NamedProcess::Workflow(workflow)) => {
             mem::drop(workflow);
             Ok(Exit::Refused(Refusal::Workflow))
         }
@@ -151,7 +151,7 @@ where
     let linked = read_process(rt.alloc(), document, base, &docs);
     mem::drop(docs);
     match linked {
-        Ok(LinkedProcess::Tool(tool)) => on_process(rt, Process::Tool(tool), call),
+        Ok(Process::Tool(tool)) => on_process(rt, Process::Tool(tool), call),
         Ok(workflow) => {
             mem::drop(workflow);
             Ok(Exit::Refused(Refusal::Workflow))

@@ -5,15 +5,17 @@ ghost use Rattle.cwl_value.specs.declared.value.FileVal.{out-FileVal};
 ghost use Rattle.input_files.specs.Measured as spec;
 
 use crate::listing::{checksum_of, values_below};
+use crate::present::are_present;
 use crate::there::measure_at;
 use cwl_value::{DirVal, FileVal, Place, Value};
 use plain_data::{Items, Keyed, Text};
 use staging::Measure;
 use std::alloc::{AllocError, Global};
 
-/// A copy of the value in which each File and Directory is as it was measured.
+/// A copy of the value, as the input object or a default has it, in which each File and Directory is as it was measured.
+/// What is absent has no sum and no listing.
 #[cycle(measured)]
-pub(crate) fn as_measured(
+pub fn as_measured(
     alloc: Global,
     measures: &Keyed<Measure>,
     value: &Value,
@@ -61,12 +63,14 @@ fn measured_dir(
 ) -> Result<DirVal, AllocError>
     ensures { IfOk result (λ d. d ≡ spec.dir_as_measured measures.now dir.now) }
 {
-    let listing = match found_listing(alloc, measures, &dir.place)? {
-        Some(found) => Some(found),
-        None => match &dir.listing {
-            None => None,
-            Some(items) => Some(measured_items(alloc, measures, items)?),
-        },
+    let are_listed_there = match &dir.listing {
+        None => true,
+        Some(items) => are_present(&measured_items(alloc, measures, items)?),
+    };
+    let listing = if are_listed_there {
+        found_listing(alloc, measures, &dir.place)?
+    } else {
+        None
     };
     let basename = copy_if_any(alloc, &dir.basename)?;
     Ok(DirVal {
@@ -107,17 +111,17 @@ fn measured_fields(
     Ok(Keyed::from_sorted(found))
 }
 
-// The checksum and the size: as measured, or else as they are.
+// The checksum and the size of what was measured; none where there is no file.
 fn sum_of(
     alloc: Global,
     measures: &Keyed<Measure>,
     file: &FileVal,
 ) -> Result<(Option<Text>, Option<u64>), AllocError>
-    ensures { IfOk result (λ sum. sum ≡ spec.sum_with (spec.measure_at measures.now (out-FileVal file.now).place) (out-FileVal file.now).checksum (out-FileVal file.now).size) }
+    ensures { IfOk result (λ sum. sum ≡ spec.sum_found (spec.measure_at measures.now (out-FileVal file.now).place)) }
 {
     match measure_at(measures, &file.place) {
         Some(Measure::File { size, sum }) => Ok((Some(checksum_of(alloc, sum)?), Some(*size))),
-        _ => Ok((copy_if_any(alloc, &file.checksum)?, file.size)),
+        _ => Ok((None, None)),
     }
 }
 

@@ -1,8 +1,8 @@
 -- What each answer leads to.
 use Rattle.std.specs.Prelude.{Contains}
 use Rattle.std.proofs.Common.{◌≡◌, ◌∙◌, ℕ, zero, suc, List, [], ◌∷◌, ◌++◌, sym, ap, subst, arith, append_assoc}
-use Rattle.cwl_process.specs.declared.process.Process.{Process}
-use Rattle.cwl_process.specs.declared.process.Process as process
+use Rattle.document_links.specs.declared.process.Process.{Process}
+use Rattle.document_links.specs.declared.process.Process as process
 use Rattle.cwl_process.specs.declared.tool.Tool.{Tool}
 use Rattle.input_files.specs.Measured.{Measures}
 use Rattle.proc_host.specs.declared.call.HostAnswer.{HostAnswer}
@@ -23,9 +23,9 @@ use Rattle.run_rules.specs.Allowed.{Allowed}
 use Rattle.run_rules.specs.Run.{IsRunSoFar, Replans, asks}
 use Rattle.run_rules.specs.Reports.{report_of}
 use Rattle.run_rules.specs.Jobs.{Walker, walker, walker_at, paths, tool_walk, inputs_of}
-use Rattle.cwl_process.specs.declared.process.Process.{out-Process, out-roll-Process}
-use Rattle.cwl_process.specs.declared.process.Process.TheOpen.{Process-F}
-use Rattle.cwl_process.specs.declared.process.Process.TheVariants.{rolls-Tool}
+use Rattle.document_links.specs.declared.process.Process.{out-Process, out-roll-Process}
+use Rattle.document_links.specs.declared.process.Process.TheOpen.{Process-F}
+use Rattle.document_links.specs.declared.process.Process.TheVariants.{rolls-Tool}
 use Rattle.run_core.specs.inner.Machine.{ends}
 use Rattle.run_core.specs.inner.Lone.{setting_in}
 use Rattle.run_core.specs.inner.Measured.{NoMeasures}

@@ -1,7 +1,7 @@
 -- A new machine stands before any answer.
 use Rattle.std.proofs.Common.{◌≡◌, ◌<◌, ◌≤◌, List, [], vec_len, vec_capacity, Err, refl, sym, subst, arith}
-use Rattle.cwl_process.specs.declared.process.Process.{Process}
-use Rattle.cwl_process.specs.declared.process.Process as process
+use Rattle.document_links.specs.declared.process.Process.{Process}
+use Rattle.document_links.specs.declared.process.Process as process
 use Rattle.input_files.specs.Measured.{Measures}
 use Rattle.run_rules.specs.declared.outcome.RunFault.{RunFault}
 use Rattle.run_rules.specs.declared.request.Pair.{Pair}

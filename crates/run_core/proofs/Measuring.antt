@@ -8,10 +8,10 @@ use Rattle.std.proofs.lemmas.List.Elements.{Contains-append_right}
 use Rattle.std.proofs.lemmas.List.Folds.{list_all-append}
 use Rattle.std.proofs.lemmas.List.Sums.{fold-append}
 use Rattle.std.proofs.lemmas.Cmp.{nat_list_eq_equiv}
-use Rattle.cwl_process.specs.declared.process.Process as process
-use Rattle.cwl_process.specs.declared.process.Process.{out-Process, out-roll-Process}
-use Rattle.cwl_process.specs.declared.process.Process.TheOpen.{Process-F}
-use Rattle.cwl_process.specs.declared.process.Process.TheVariants.{rolls-Tool}
+use Rattle.document_links.specs.declared.process.Process as process
+use Rattle.document_links.specs.declared.process.Process.{out-Process, out-roll-Process}
+use Rattle.document_links.specs.declared.process.Process.TheOpen.{Process-F}
+use Rattle.document_links.specs.declared.process.Process.TheVariants.{rolls-Tool}
 use Rattle.cwl_process.specs.declared.tool.Tool.{Tool}
 use Rattle.input_files.specs.Inputs.{inputs_for}
 use Rattle.input_files.specs.Measured.{Measures}
@@ -21,6 +21,7 @@ use Rattle.proc_host.specs.declared.call.HostAnswer.{HostAnswer}
 use Rattle.proc_host.specs.declared.call.HostRequest.{HostRequest}
 use Rattle.proc_host.specs.declared.call.HostFault.{HostFault}
 use Rattle.staging.specs.declared.measure.Measure.{Measure}
+use Rattle.job_graph.specs.declared.cause.Cause.{Cause as Unmet}
 use Rattle.run_rules.specs.declared.outcome.Cause.{Cause}
 use Rattle.run_rules.specs.declared.request.Pair.{Pair}
 use Rattle.run_core.specs.declared.state.Lone.{Lone}
@@ -159,10 +160,10 @@ module _ (run : Lone) where
     each_one : are_measured own (measured_by found) ≡ true
     each_one = ap (λ names. list_all (is_measured (measured_by found)) names) (its_are ∙ all ∙ append-nil (keys_of found)) ∙ all_from [] found
 
-    known_then : (r : Result Fields Cause) → inputs_of run.tool run.inputs (measures (measured_by found)) ≡ r → unfolding_at own (measured_by found) ≡ unfolded (tool_walk run.tool [] r) []
+    known_then : (r : Result Fields Unmet) → inputs_of run.tool run.inputs (measures (measured_by found)) ≡ r → unfolding_at own (measured_by found) ≡ unfolded (tool_walk run.tool [] r) []
     known_then r is =
         ap (λ (b : Bool). cond b (unfolded (own.walker (measures (measured_by found))) (resolved (measured_by found))) nothing_known) each_one
-        ∙ ap (λ (w : Walker). unfolded w (resolved (measured_by found))) (walker_tool run.tool run.inputs (measures (measured_by found)) ∙ ap (λ (x : Result Fields Cause). tool_walk run.tool [] x) is)
+        ∙ ap (λ (w : Walker). unfolded w (resolved (measured_by found))) (walker_tool run.tool run.inputs (measures (measured_by found)) ∙ ap (λ (x : Result Fields Unmet). tool_walk run.tool [] x) is)
         ∙ ap (λ (rs : List Resolved). unfolded (tool_walk run.tool [] r) rs) (none_resolved found)
 
   module _ (t : List Pair) where
@@ -197,13 +198,13 @@ module _ (run : Lone) where
       inputs_measured known same all next (has_no_inputs fault refused) =
           let cause : inputs_of run.tool run.inputs (measures (measured_by found)) ≡ Err (input_cause fault) =
           ap or_cause (ap (λ (k : Measures). inputs_for run.tool.inputs run.inputs k) (sym same) ∙ refused) in
-          let settled_so : settled own (measured_by found) ≡ Some (fails_permanently [] (input_cause fault)) =
+          let settled_so : settled own (measured_by found) ≡ Some (fails_permanently [] (Cause.Equation (input_cause fault))) =
           settles ∙ ap (λ (u : Unfolded). fault_end u.fault) (known_then found all (Err (input_cause fault)) cause) in
           record {
             happened = when_measuring found;
             marks = [];
             goes = going [] (no_plan_at (measured_by found) _ settled_so);
-            at = at_end (when_measuring found) [] (fails_permanently [] (input_cause fault)) (fails _ refl (none_lost found) (none_flies found) settled_so);
+            at = at_end (when_measuring found) [] (fails_permanently [] (Cause.Equation (input_cause fault))) (fails _ refl (none_lost found) (none_flies found) settled_so);
           }
 
       measures_on : (measuring : Measuring) → measuring.measures ≡ measures (measured_by found) → input_paths run.tool.inputs run.inputs ≡ keys_of found ++ reverse measuring.left →

@@ -1,19 +1,18 @@
 -- What is run so far is a tool.
 use Rattle.std.proofs.Common.{◌≡◌, ◌∙◌, sym, ap, subst}
-use Rattle.cwl_process.specs.declared.process.Process.{Process, out-Process, out-roll-Process}
-use Rattle.cwl_process.specs.declared.process.Process as process
-use Rattle.cwl_process.specs.declared.process.Process.TheOpen.{Process-F}
-use Rattle.cwl_process.specs.declared.process.Process.TheVariants.{rolls-Tool}
-use Rattle.cwl_process.specs.declared.process.Run.{Run}
+use Rattle.document_links.specs.declared.process.Process.{Process, out-Process, out-roll-Process}
+use Rattle.document_links.specs.declared.process.Process as process
+use Rattle.document_links.specs.declared.process.Process.TheOpen.{Process-F}
+use Rattle.document_links.specs.declared.process.Process.TheVariants.{rolls-Tool}
 use Rattle.cwl_process.specs.declared.tool.Tool.{Tool}
-use Rattle.cwl_process.specs.declared.workflow.Step.{Step}
-use Rattle.cwl_process.specs.declared.workflow.Workflow.{Workflow}
+use Rattle.document_links.specs.declared.process.Step.{Step}
+use Rattle.document_links.specs.declared.process.Workflow.{Workflow}
 use Rattle.run_rules.specs.Words.{Fields}
 use Rattle.run_rules.specs.RunsToday.{RunsToday, runs_tool}
 use Rattle.run_core.specs.inner.Lone.{IsTool, IsToolAt}
 
 abbrev AtTop : Type 0
-AtTop = Process-F Process Run Step Workflow
+AtTop = Process-F Process Step Workflow
 
 abbrev at_tool : Tool → AtTop
 at_tool tool = Process-F.Tool tool

@@ -1,6 +1,6 @@
 -- What callers see of the machine.
 use Rattle.std.specs.Prelude.{◌≡◌, ◌≢◌, ℕ, ◌+◌, ◌*◌, ◌^◌, ◌<◌, ◌≤◌, List, [], ◌∷◌, ◌++◌, length, Result, Err, IfErr, OnOk, OnErr, vec_len, vec_capacity}
-use Rattle.cwl_process.specs.declared.process.Process.{Process}
+use Rattle.document_links.specs.declared.process.Process.{Process}
 use Rattle.run_rules.specs.declared.outcome.RunFault.{RunFault}
 use Rattle.run_rules.specs.declared.request.Answer.{Answer}
 use Rattle.run_rules.specs.declared.request.Request.{Request}

@@ -95,18 +95,18 @@ fn inputs_measured(alloc: Global, lone: &Lone, measuring: Measuring) -> Result<S
     mem::drop(measuring);
     match found {
         Ok(inputs) => staging(alloc, lone, inputs),
-        Err(InputError::Refused(fault)) => Ok(failed_for_good(alloc, cause_of(fault))),
+        Err(InputError::Refused(fault)) => Ok(failed_for_good(alloc, Cause::Equation(cause_of(fault)))),
         Err(InputError::OutOfMemory) => Err(AllocError),
     }
 }
 
-fn cause_of(fault: InputFault) -> Cause
+fn cause_of(fault: InputFault) -> job_graph::Cause
     ensures { result ≡ input_cause fault }
 {
     match fault {
-        InputFault::Kind(input) => Cause::Kind(input),
-        InputFault::Missing(input) => Cause::Missing(input),
-        InputFault::Secondary(input) => Cause::Secondary(input),
+        InputFault::Kind(input) => job_graph::Cause::Kind(input),
+        InputFault::Missing(input) => job_graph::Cause::Missing(input),
+        InputFault::Secondary(input) => job_graph::Cause::Secondary(input),
     }
 }
 

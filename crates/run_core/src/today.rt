@@ -4,8 +4,8 @@ ghost use Rattle.run_rules.specs.Delivered.{has_file};
 ghost use Rattle.run_rules.specs.Made.{some_true};
 ghost use Rattle.run_rules.specs.RunsToday.{RunsToday};
 
-use cwl_process::Process;
 use cwl_value::Value;
+use document_links::Process;
 use plain_data::{Items, Keyed};
 
 /// Checks that a process is one that is run so far, on these inputs: a tool. Takes no memory.

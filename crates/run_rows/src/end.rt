@@ -51,15 +51,25 @@ fn cause_json(alloc: Global, cause: &Cause) -> Result<String, RowFault> {
 
 fn cause_text(alloc: Global, cause: &Cause) -> Result<Text, AllocError> {
     Ok(Text::from_string(match cause {
-        Cause::Missing(input) => format!(in alloc; "Missing {}", input.as_str())?,
-        Cause::Secondary(input) => format!(in alloc; "Secondary {}", input.as_str())?,
-        Cause::Kind(input) => format!(in alloc; "Kind {}", input.as_str())?,
+        Cause::Equation(cause) => equation_text(alloc, cause)?,
         Cause::Build(fault) => format!(in alloc; "Build {}", fault.code())?,
         Cause::Exit(Some(code)) => format!(in alloc; "Exit {code}")?,
         Cause::Exit(None) => String::from_str(alloc, "Exit by a signal")?,
         Cause::Contents(fault) => contents_text(alloc, fault)?,
         Cause::Collect(fault) => collect_text(alloc, fault)?,
     }))
+}
+
+/// The code of a step that has no value, or the input that has none.
+fn equation_text(alloc: Global, cause: &job_graph::Cause) -> Result<String, AllocError> {
+    match cause {
+        job_graph::Cause::Missing(input) => format!(in alloc; "Missing {}", input.as_str()),
+        job_graph::Cause::Secondary(input) => format!(in alloc; "Secondary {}", input.as_str()),
+        job_graph::Cause::Kind(input) => format!(in alloc; "Kind {}", input.as_str()),
+        job_graph::Cause::Link(fault) => String::from_str(alloc, fault.code()),
+        job_graph::Cause::Reference(fault) => String::from_str(alloc, fault.code()),
+        job_graph::Cause::Scatter(fault) => String::from_str(alloc, fault.code()),
+    }
 }
 
 /// The code of refused contents, and the input.

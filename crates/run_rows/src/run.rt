@@ -6,8 +6,9 @@ use crate::end::end_json;
 use crate::list::numbers;
 use crate::requests::requests;
 use crate::script::script_of;
-use cwl_process::{Process, read_unlinked};
+use cwl_process::{Process as NamedProcess, read_unlinked};
 use cwl_value::{Value, from_json};
+use document_links::Process;
 use file_values::resolve;
 use plain_data::{Keyed, Text};
 use proc_host::Scripted;
@@ -76,8 +77,8 @@ fn host_of(alloc: Global, row: &Row) -> Result<Scripted, RowFault>
 fn process_of(alloc: Global, row: &Row) -> Result<Process, RowFault> {
     let document = json_text(alloc, row.json("document")?)?;
     match read_unlinked(alloc, document.as_bytes()) {
-        Ok(process) => Ok(process),
-        Err(_) => Err(RowFault::BadArgument),
+        Ok(NamedProcess::Tool(tool)) => Ok(Process::Tool(tool)),
+        _ => Err(RowFault::BadArgument),
     }
 }
 

@@ -1,9 +1,9 @@
 -- A lone tool is one job, so it is within the limits.
 use Rattle.std.proofs.Common.{◌≡◌, ◌≢◌, ◌∙◌, List, [], ◌∷◌, reverse, Some, None, Result, Ok, Err, refl, sym, subst}
-use Rattle.cwl_process.specs.declared.process.Process as process
+use Rattle.document_links.specs.declared.process.Process as process
 use Rattle.cwl_process.specs.declared.tool.Tool.{Tool}
 use Rattle.input_files.specs.Measured.{Measures}
-use Rattle.run_rules.specs.declared.outcome.Cause.{Cause}
+use Rattle.job_graph.specs.declared.cause.Cause.{Cause}
 use Rattle.run_rules.specs.Words.{Fields}
 use Rattle.run_rules.specs.Jobs.{Walker, inputs_of, tool_walk, walker}
 use Rattle.run_rules.specs.Unfold.{fault_at, too_many_jobs, Resolved, fault_after, unfolded}

@@ -2,7 +2,8 @@
 use Rattle.std.specs.Prelude.{Contains}
 use Rattle.std.proofs.Common.{◌≡◌, ◌∙◌, Bool, true, false, cond, List, [], ◌∷◌, find, reverse, Some, None, Result, Ok, Err, refl, sym, ap, subst, arith}
 use Rattle.cwl_process.specs.declared.tool.Tool.{Tool}
-use Rattle.run_rules.specs.declared.outcome.Cause.{Cause}
+use Rattle.job_graph.specs.declared.cause.Cause.{Cause}
+use Rattle.run_rules.specs.declared.outcome.Cause.{Cause as RunCause}
 use Rattle.run_rules.specs.Words.{Fields, JobPlace}
 use Rattle.run_rules.specs.Jobs.{Job, Made, Walker, met_job, tool_walk, result}
 use Rattle.run_rules.specs.Unfold.{Resolved, Unfolded, is_at, made_by, nothing_known, unfolded}
@@ -56,7 +57,7 @@ module _ (tool : Tool) where
     pub cause : Cause
     pub why : inputs ≡ Err cause
 
-  pub fault_known : (measured : Bool) (inputs : Result Fields Cause) (known : List Resolved) (place : JobPlace) (cause : Cause) →
+  pub fault_known : (measured : Bool) (inputs : Result Fields Cause) (known : List Resolved) (place : JobPlace) (cause : RunCause) →
       fault_end (known_by tool measured inputs known).fault ≡ Some (fails_permanently place cause) → LacksInputs measured inputs
   fault_known true (Ok inputs) known place cause is =
       let never : None ≡ Some (fails_permanently place cause) = sym (ap fault_end (no_fault tool inputs (reverse known))) ∙ is in absurd cc

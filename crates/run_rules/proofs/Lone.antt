@@ -1,16 +1,15 @@
 -- The scene of a lone tool, by any inputs that it has for what was measured.
 use Rattle.std.proofs.Common.{◌≡◌, ◌∙◌, List, [], Result, sym, ap}
-use Rattle.cwl_process.specs.declared.process.Process.{Process, out-Process, out-roll-Process}
-use Rattle.cwl_process.specs.declared.process.Process.TheOpen.{Process-F}
-use Rattle.cwl_process.specs.declared.process.Process.TheVariants.{rolls-Tool}
-use Rattle.cwl_process.specs.declared.process.Process as process
-use Rattle.cwl_process.specs.declared.process.Run.{Run}
 use Rattle.cwl_process.specs.declared.tool.Tool.{Tool}
-use Rattle.cwl_process.specs.declared.workflow.Step.{Step}
-use Rattle.cwl_process.specs.declared.workflow.Workflow.{Workflow}
+use Rattle.document_links.specs.declared.process.Process.{Process, out-Process, out-roll-Process}
+use Rattle.document_links.specs.declared.process.Process.TheOpen.{Process-F}
+use Rattle.document_links.specs.declared.process.Process.TheVariants.{rolls-Tool}
+use Rattle.document_links.specs.declared.process.Process as process
+use Rattle.document_links.specs.declared.process.Step.{Step}
+use Rattle.document_links.specs.declared.process.Workflow.{Workflow}
 use Rattle.input_files.specs.Measured.{Measures}
 use Rattle.input_files.specs.Paths.{input_paths}
-use Rattle.run_rules.specs.declared.outcome.Cause.{Cause}
+use Rattle.job_graph.specs.declared.cause.Cause.{Cause}
 use Rattle.run_rules.specs.declared.setting.Options.{Options}
 use Rattle.run_rules.specs.declared.setting.Setting.{Setting}
 use Rattle.run_rules.specs.Words.{Name, Fields}
@@ -34,7 +33,7 @@ walker_tool tool given = ap (λ q. walker_at q given) (out_tool tool)
 abbrev pub setting_on : Tool → Fields → Options → Setting
 setting_on tool given options = record { process = process.Tool tool; inputs = given; options = options }
 
-abbrev pub scene_at : Process-F Process Run Step Workflow → Fields → Options → Scene
+abbrev pub scene_at : Process-F Process Step Workflow → Fields → Options → Scene
 scene_at q given options = record { walker = walker_at q given; paths = paths_at q given; options = options }
 
 abbrev pub scene_by : Tool → Fields → Options → Scene

@@ -2,7 +2,7 @@
 use Rattle.std.proofs.Common.{◌≡◌, [], Some, None, Ok, Err, option_map, refl, ap}
 use Rattle.cwl_value.specs.Erased.{fields_erased}
 use Rattle.cwl_process.specs.declared.tool.Tool.{Tool}
-use Rattle.run_rules.specs.declared.outcome.Cause.{Cause}
+use Rattle.job_graph.specs.declared.cause.Cause.{Cause}
 use Rattle.run_rules.specs.Words.{Fields}
 use Rattle.run_rules.specs.Key.{key}
 use Rattle.run_rules.specs.Eval.{World, eval_by}

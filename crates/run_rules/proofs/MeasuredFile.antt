@@ -13,6 +13,7 @@ use Rattle.proc_host.specs.declared.child.ChildEnd.{ChildEnd}
 use Rattle.staging.specs.declared.measure.Measure.{Measure}
 use Rattle.staging.specs.declared.measure.Measure.TheVariants.{Absent, File}
 use Rattle.staging.specs.declared.plan.StagePlan.{StagePlan}
+use Rattle.job_graph.specs.declared.cause.Cause.{Cause as Unmet}
 use Rattle.run_rules.specs.declared.outcome.Cause.{Cause}
 use Rattle.run_rules.specs.Words.{Name, JobPlace}
 use Rattle.run_rules.specs.Allowed.{MayMeasure, MayStage}
@@ -35,7 +36,7 @@ a_file = File 3 (codes "a9993e364706816aba3e25717850c26c9cd0d89d")
 -- two jobs where the file is there, and else the fault that it is missing
 abbrev by_file : Option Measure → Walker
 by_file (Some (File size sum)) = two
-by_file _ = λ made. failed [] (Cause.Missing (codes "f")) []
+by_file _ = λ made. failed [] (Unmet.Missing (codes "f")) []
 
 abbrev waiting : Scene
 waiting = record { walker = λ (measures : Measures). by_file (value_at path measures); paths = path ∷ []; options = options }
@@ -73,7 +74,7 @@ it_is_measured_once may = let never : true ≡ false = may.unmeasured in cc
 both_are_known : (unfolding_at waiting there).jobs ≡ job a ∷ job (record { step = codes "b"; index = [] } ∷ []) ∷ []
 both_are_known = refl
 
-it_is_missing : EndsSo waiting (at missing) [] (fails_permanently [] (Cause.Missing (codes "f")))
+it_is_missing : EndsSo waiting (at missing) [] (fails_permanently [] (Cause.Equation (Unmet.Missing (codes "f"))))
 it_is_missing = fails _ refl refl refl refl
 
 a_measure_that_fails : EndsSo waiting (at (host_failed [] HostFault.Measure ∷ [])) [] (ended_by_host HostFault.Measure [])

@@ -1,7 +1,7 @@
 -- A lone tool is one job, whatever is known.
 use Rattle.std.proofs.Common.{◌≡◌, List, [], ◌∷◌, Ok, Err, refl}
 use Rattle.cwl_process.specs.declared.tool.Tool.{Tool}
-use Rattle.run_rules.specs.declared.outcome.Cause.{Cause}
+use Rattle.job_graph.specs.declared.cause.Cause.{Cause}
 use Rattle.run_rules.specs.Words.{Fields}
 use Rattle.run_rules.specs.Jobs.{Job, tool_walk}
 use Rattle.run_rules.specs.Unfold.{Resolved, jobs_after}

@@ -3,9 +3,10 @@ use Rattle.std.specs.Prelude.{◌&&◌, nat_lt, is_some}
 use Rattle.std.proofs.Common.{◌≡◌, ◌∙◌, ◌⊎◌, inl, inr, Bool, true, false, cond, List, [], ◌∷◌, ◌++◌, length, filter, find, fold, Option, Some, None, Result, Ok, Err, option_map, refl, sym, ap}
 use Rattle.cwl_value.specs.Erased.{fields_erased}
 use Rattle.cwl_process.specs.declared.tool.Tool.{Tool}
-use Rattle.cwl_process.specs.declared.workflow.Workflow.{Workflow}
+use Rattle.document_links.specs.declared.process.Workflow.{Workflow}
 use Rattle.input_files.specs.Measured.{Measures}
 use Rattle.input_files.specs.Paths.{input_paths}
+use Rattle.job_graph.specs.declared.cause.Cause.{Cause as Unmet}
 use Rattle.run_rules.specs.declared.outcome.Cause.{Cause}
 use Rattle.run_rules.specs.declared.request.Pair.{Pair}
 use Rattle.run_rules.specs.declared.setting.Options.{Options}
@@ -81,7 +82,7 @@ module _ (tool : Tool) (inputs_by : InputsBy) (paths : List Name) (options : Opt
       let known : KnownThen es place it.job = known_then es place it in inputs_then es later fits leads known.all ∙ known.fit
 
   fails_by : (inputs : Fields) → inputs_by all ≡ Ok inputs → world (key tool inputs) ≡ None → Fails
-  fails_by inputs fit none = ap (λ (r : Result Fields Cause). eval_by world (tool_walk tool [] r)) fit ∙ fails tool inputs world none
+  fails_by inputs fit none = ap (λ (r : Result Fields Unmet). eval_by world (tool_walk tool [] r)) fit ∙ fails tool inputs world none
 
   -- A failure is one of the world's
 
@@ -107,7 +108,7 @@ module _ (tool : Tool) (inputs_by : InputsBy) (paths : List Name) (options : Opt
   lacks_rightly es later place cause fits leads is =
       let lacks : LacksInputs tool (are_measured s es) (inputs_by (measures es)) =
       fault_known tool (are_measured s es) (inputs_by (measures es)) (resolved es) place cause is in
-      ap (λ (r : Result Fields Cause). eval_by world (tool_walk tool [] r)) (inputs_then es later fits leads lacks.all ∙ lacks.why)
+      ap (λ (r : Result Fields Unmet). eval_by world (tool_walk tool [] r)) (inputs_then es later fits leads lacks.all ∙ lacks.why)
       ∙ misfit_fails tool lacks.cause world
 
   settles_rightly : (es later : List Event) (place : JobPlace) (cause : Cause) → Fits s es later → Leads_to es later → AgreesFrom s world es later →
@@ -185,10 +186,10 @@ module _ (tool : Tool) (inputs_by : InputsBy) (paths : List Name) (options : Opt
       result_by (find is_root (resolved es)) ≡ Some outputs → eval_by world (s.walker all) ≡ Some (fields_erased outputs)
   by_resolved inputs fit es outputs None found fits leads agrees is = let never : None ≡ Some outputs = sym (ap result_by found) ∙ is in absurd cc
   by_resolved inputs fit es outputs (Some r) found fits leads agrees is =
-      ap (λ (i : Result Fields Cause). eval_by world (tool_walk tool [] i)) fit
+      ap (λ (i : Result Fields Unmet). eval_by world (tool_walk tool [] i)) fit
       ∙ gives tool inputs world r.outputs outputs (collects_rightly inputs fit [] es r fits leads agrees found) (sym (ap result_by found) ∙ is)
 
-  by_inputs : (inputs : Result Fields Cause) → inputs_by all ≡ inputs → (es : List Event) (outputs : Fields) → Fits s [] es → Leads_to [] es → AgreesFrom s world [] es →
+  by_inputs : (inputs : Result Fields Unmet) → inputs_by all ≡ inputs → (es : List Event) (outputs : Fields) → Fits s [] es → Leads_to [] es → AgreesFrom s world [] es →
       result (tool_walk tool [] inputs) (made_by (resolved es)) ≡ Some outputs → eval_by world (s.walker all) ≡ Some (fields_erased outputs)
   by_inputs (Ok inputs) fit es outputs fits leads agrees is = by_resolved inputs fit es outputs (find is_root (resolved es)) refl fits leads agrees is
   by_inputs (Err why) fit es outputs fits leads agrees is = let never : None ≡ Some outputs = is in absurd cc

@@ -13,7 +13,7 @@ use Rattle.cwl_value.specs.declared.value.Value as value
 use Rattle.cwl_value.specs.declared.value.Value.TheVariants.{rolls-FileVal}
 use Rattle.cwl_value.specs.declared.value.Value.{Value, roll-Value, out-roll-Value, fold-roll-Value}
 use Rattle.cwl_value.specs.declared.value.Value.TheOpen.{Value-F, FileVal-F}
-use Rattle.cwl_process.specs.declared.process.Process as process
+use Rattle.document_links.specs.declared.process.Process as process
 use Rattle.cwl_process.specs.declared.tool.Tool.{Tool}
 use Rattle.param_refs.specs.declared.template.Part.TheVariants as part
 use Rattle.cwl_process.specs.Acting.{nothing_asked}
@@ -36,13 +36,15 @@ use Rattle.staging.specs.declared.group.Member.{Member}
 use Rattle.staging.specs.declared.group.Placed.{Placed}
 use Rattle.staging.specs.declared.plan.Move.{Move}
 use Rattle.staging.specs.declared.plan.StagePlan.{StagePlan}
-use Rattle.input_files.specs.Measured.{Measures, is_there, as_measured, value_there, dir_there, file_there, dir_level, file_level}
+use Rattle.input_files.specs.Measured.{Measures, is_there, as_measured, dir_there, file_there, dir_level, file_level}
+use Rattle.input_files.specs.Present.{value_there}
 use Rattle.input_files.specs.Paths.{Paths, input_paths, value_paths, dir_paths, file_paths}
 use Rattle.input_files.specs.Beside.{all_beside}
 use Rattle.input_files.specs.Given.{files_in}
 use Rattle.collected_outputs.specs.Collected.{IsCollected}
 use Rattle.collected_outputs.specs.HeadsWanted.{AreHeadsWanted}
 use Rattle.collected_outputs.specs.Listing.{listing_of}
+use Rattle.job_graph.specs.declared.cause.Cause.{Cause as Unmet}
 use Rattle.run_rules.specs.declared.outcome.Cause.{Cause}
 use Rattle.run_rules.specs.declared.outcome.Outcome.{Outcome}
 use Rattle.run_rules.specs.declared.setting.Options.{Options}
@@ -179,7 +181,7 @@ module _ (measures : Measures) where
   it_fits : inputs_of hello abc measures ≡ Ok abc
   it_fits = rw (a_text, out-roll-Value, all_there, no_files, as_it_stands, nothing_beside, out-roll-Value) refl
 
-  an_input_left_out : inputs_of hello [] measures ≡ Err (Cause.Kind (codes "t"))
+  an_input_left_out : inputs_of hello [] measures ≡ Err (Unmet.Kind (codes "t"))
   an_input_left_out = rw (a_text, out-roll-Value, out-roll-Value) refl
 
 no_paths : input_paths hello.inputs abc ≡ []
@@ -313,7 +315,7 @@ its_scene =
     ∙ (λ i. let x : Scene = lone hello (λ measures. it_fits measures i) (no_paths i) options in x)
 
 abbrev other : Scene
-other = lone hello (λ measures. Err (Cause.Kind (codes "t"))) [] options
+other = lone hello (λ measures. Err (Unmet.Kind (codes "t"))) [] options
 
 its_other_scene : scene_of (setting_on []) ≡ other
 its_other_scene =
@@ -334,9 +336,9 @@ module _ (world : World) (measures : Measures) where
   no_value_without_inputs : eval world (process.Tool hello) [] measures ≡ None
   no_value_without_inputs = ap (λ (x : Scene). eval_by world (x.walker measures)) its_other_scene
 
-an_end_at_once : EndsSo (scene_of (setting_on [])) at_first [] (fails_permanently [] (Cause.Kind (codes "t")))
+an_end_at_once : EndsSo (scene_of (setting_on [])) at_first [] (fails_permanently [] (Cause.Equation (Unmet.Kind (codes "t"))))
 an_end_at_once =
-    subst (λ (x : Scene). EndsSo x at_first [] (fails_permanently [] (Cause.Kind (codes "t")))) (sym its_other_scene) (fails _ refl refl refl refl)
+    subst (λ (x : Scene). EndsSo x at_first [] (fails_permanently [] (Cause.Equation (Unmet.Kind (codes "t"))))) (sym its_other_scene) (fails _ refl refl refl refl)
 
 abbrev job : Job
 job = record { place = []; tool = hello; inputs = abc }

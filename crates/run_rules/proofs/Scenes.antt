@@ -1,10 +1,10 @@
 -- The scenes of runs: those of a tool, and those of a workflow, of which nothing is known and in which nothing is asked.
 use Rattle.std.proofs.Common.{◌≡◌, ◌∙◌, true, false, List, [], ◌∷◌, find, Option, Some, None, refl, sym, ap, subst, unwrap_or}
 use Rattle.std.specs.Map.{keys_of}
-use Rattle.cwl_process.specs.declared.process.Process.{out-Process}
-use Rattle.cwl_process.specs.declared.process.Process.TheOpen.{Process-F}
+use Rattle.document_links.specs.declared.process.Process.{out-Process}
+use Rattle.document_links.specs.declared.process.Process.TheOpen.{Process-F}
 use Rattle.cwl_process.specs.declared.tool.Tool.{Tool}
-use Rattle.cwl_process.specs.declared.workflow.Workflow.{Workflow, out-Workflow}
+use Rattle.document_links.specs.declared.process.Workflow.{Workflow, out-Workflow}
 use Rattle.plan_checker.specs.declared.plan.Mark.{Mark}
 use Rattle.proc_host.specs.declared.call.HostRequest.{HostRequest}
 use Rattle.run_rules.specs.declared.request.Pair.{Pair}

@@ -25,7 +25,7 @@ pub data End : Type 0 where
 -- the end by the first fault
 abbrev pub fault_end : Option Fault → Option End
 fault_end None = None
-fault_end (Some (fault_at place cause)) = Some (fails_permanently place cause)
+fault_end (Some (fault_at place cause)) = Some (fails_permanently place (Cause.Equation cause))
 fault_end (Some too_many_jobs) = Some beyond_limits
 
 -- whether an event is that the job at a place failed for now

@@ -1,7 +1,7 @@
 -- What computing every job gives, in a world where equal jobs always give equal outputs.
 use Rattle.std.specs.Prelude.{Option, option_map}
 use Rattle.cwl_value.specs.Erased.{fields_erased}
-use Rattle.cwl_process.specs.declared.process.Process.{Process}
+use Rattle.document_links.specs.declared.process.Process.{Process}
 use Rattle.input_files.specs.Measured.{Measures}
 use Rattle.run_rules.specs.Words.{Fields}
 use Rattle.run_rules.specs.Key.{Key, key}

@@ -4,13 +4,12 @@ use Rattle.std.specs.Prelude.{Bool, false, cond, List, [], ◌∷◌, Option, So
 use Rattle.std.specs.List.{list_all}
 use Rattle.std.specs.Map.{keys_of}
 use Rattle.cwl_value.specs.declared.value.Value.{Value}
-use Rattle.cwl_process.specs.declared.process.Process.{Process, out-Process}
-use Rattle.cwl_process.specs.declared.process.Process.TheOpen.{Process-F}
-use Rattle.cwl_process.specs.declared.process.Run.{Run}
 use Rattle.cwl_process.specs.declared.tool.Tool.{Tool}
-use Rattle.cwl_process.specs.declared.workflow.Step.{Step}
-use Rattle.cwl_process.specs.declared.workflow.Workflow.{Workflow, out-Workflow}
-use Rattle.run_rules.specs.declared.outcome.Cause.{Cause}
+use Rattle.document_links.specs.declared.process.Process.{Process, out-Process}
+use Rattle.document_links.specs.declared.process.Process.TheOpen.{Process-F}
+use Rattle.document_links.specs.declared.process.Step.{Step}
+use Rattle.document_links.specs.declared.process.Workflow.{Workflow, out-Workflow}
+use Rattle.job_graph.specs.declared.cause.Cause.{Cause}
 use Rattle.run_rules.specs.Words.{Name, Fields, JobPlace, value_under}
 use Rattle.input_files.specs.Inputs.{inputs_for}
 use Rattle.input_files.specs.Paths.{input_paths}
@@ -79,7 +78,7 @@ tool_walk tool place (Ok inputs) made =
 abbrev pub workflow_walk : Workflow → Walker
 workflow_walk workflow made = record { met = []; outs = outs_of (keys_of (out-Workflow workflow).outputs) None }
 
-abbrev pub walker_at : Process-F Process Run Step Workflow → Fields → Measures → Walker
+abbrev pub walker_at : Process-F Process Step Workflow → Fields → Measures → Walker
 walker_at (Process-F.Tool tool) given measures = tool_walk tool [] (inputs_of tool given measures)
 walker_at (Process-F.Workflow workflow) given measures = workflow_walk workflow
 
@@ -89,7 +88,7 @@ walker process given = walker_at (out-Process process) given
 
 -- Which paths are measured before anything else: those of the input files
 
-abbrev pub paths_at : Process-F Process Run Step Workflow → Fields → List Name
+abbrev pub paths_at : Process-F Process Step Workflow → Fields → List Name
 paths_at (Process-F.Tool tool) given = input_paths tool.inputs given
 paths_at (Process-F.Workflow workflow) given = []
 

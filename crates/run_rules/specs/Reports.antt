@@ -1,6 +1,6 @@
 -- What a run gains on its host, and what it reports.
 use Rattle.std.specs.Prelude.{◌≡◌, List, [], Option, Some, None, Result, Ok, Err, filter_map, option_map}
-use Rattle.cwl_process.specs.declared.process.Process.{Process}
+use Rattle.document_links.specs.declared.process.Process.{Process}
 use Rattle.proc_host.specs.declared.call.Entry.{Entry}
 use Rattle.run_rules.specs.declared.request.Answer.{Answer}
 use Rattle.run_rules.specs.declared.request.Request.{Request}

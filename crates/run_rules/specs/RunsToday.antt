@@ -1,6 +1,6 @@
 -- Which processes are run so far, on which inputs: a tool, on any.
-use Rattle.cwl_process.specs.declared.process.Process.{Process}
-use Rattle.cwl_process.specs.declared.process.Process as process
+use Rattle.document_links.specs.declared.process.Process.{Process}
+use Rattle.document_links.specs.declared.process.Process as process
 use Rattle.cwl_process.specs.declared.tool.Tool.{Tool}
 use Rattle.run_rules.specs.Words.{Fields}
 

@@ -2,7 +2,7 @@
 use Rattle.std.specs.Prelude.{ℕ, ◌+◌, nat_le, ◌&&◌, Bool, not, cond, length, List, [], ◌∷◌, ◌++◌, Option, Some, None, filter, filter_map, find, option_map, reverse}
 use Rattle.std.specs.List.{list_any}
 use Rattle.plan_checker.specs.declared.graph.TheConstants.{MOST_VERTICES, MOST_ENTRIES}
-use Rattle.run_rules.specs.declared.outcome.Cause.{Cause}
+use Rattle.job_graph.specs.declared.cause.Cause.{Cause}
 use Rattle.run_rules.specs.Words.{Fields, JobPlace, is_same_place}
 use Rattle.run_rules.specs.Jobs.{Job, Met, met_job, met_fault, Made, Walker, result}
 use Rattle.run_rules.specs.Made.{any_made, fields_made}

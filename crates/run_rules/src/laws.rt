@@ -4,7 +4,7 @@ ghost use Rattle.std.specs.Prelude.{◌≡◌, ◌≢◌, List, Some, Contains};
 ghost use Rattle.run_rules.specs.declared.request.Pair.{Pair};
 ghost use Rattle.run_rules.specs.declared.request.Request.{Request};
 ghost use Rattle.run_rules.specs.declared.setting.Setting.{Setting};
-ghost use Rattle.cwl_process.specs.declared.process.Process as process;
+ghost use Rattle.document_links.specs.declared.process.Process as process;
 ghost use Rattle.cwl_process.specs.declared.tool.Tool.{Tool};
 ghost use Rattle.input_files.specs.Measured.{Measures};
 ghost use Rattle.cwl_value.specs.Erased.{erased, fields_erased};

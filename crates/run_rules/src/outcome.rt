@@ -2,18 +2,14 @@ use collected_outputs::OutputFault;
 use command_line::BuildFault;
 use cwl_value::{JobPlace, Value};
 use input_files::ContentsFault;
-use plain_data::{Items, Text};
+use plain_data::Items;
 use proc_host::HostFault;
 
 /// Why a job gives no outputs, and would give none if it were started again.
 #[derive(Drop)]
 pub enum Cause {
-    /// A File or Directory of this input is absent, or something of the other kind stands there.
-    Missing(Text),
-    /// The value of this input does not fit its type.
-    Kind(Text),
-    /// A File of this input lacks a secondary file that it has to have.
-    Secondary(Text),
+    /// An input of the process or of one of its steps has no value.
+    Equation(job_graph::Cause),
     /// The contents of an input are refused.
     Contents(ContentsFault),
     /// There is no launch for it.

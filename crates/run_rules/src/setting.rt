@@ -1,5 +1,5 @@
-use cwl_process::Process;
 use cwl_value::Value;
+use document_links::Process;
 use plain_data::{Keyed, Text};
 
 /// What a run may use, and where.

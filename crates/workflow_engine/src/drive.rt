@@ -10,8 +10,8 @@ ghost use Rattle.workflow_engine.specs.Gains.{RunsOn};
 
 use crate::ask::ask;
 use crate::tickets::close_all;
-use cwl_process::Process;
 use cwl_value::Value;
+use document_links::Process;
 use plain_data::Keyed;
 use proc_host::{Host, Ticket};
 use run_core::{Answer, Options, Report, Request, RunCore, RunFault};

@@ -88,7 +88,7 @@ pub data AfterInputs (lone : Lone) (measures : Measures) : State → Type 0 wher
   has_inputs : (inputs : Fields) (state : State) → inputs_for lone.tool.inputs lone.inputs measures ≡ Ok inputs → Stages lone inputs state →
       AfterInputs lone measures state
   has_no_inputs : (fault : InputFault) → inputs_for lone.tool.inputs lone.inputs measures ≡ Err fault →
-      AfterInputs lone measures (fails_for_good (input_cause fault))
+      AfterInputs lone measures (fails_for_good (Cause.Equation (input_cause fault)))
 
 -- Measuring
 

@@ -1,5 +1,5 @@
 use Rattle.std.proofs.Common.{refl, sym, subst}
-use Rattle.cwl_process.specs.declared.process.Process.{Process}
+use Rattle.document_links.specs.declared.process.Process.{Process}
 use Rattle.run_rules.specs.RunsToday.{RunsToday, runs_tool}
 use Rattle.run_core.proofs.today.runs_today.Goals as goal
 
