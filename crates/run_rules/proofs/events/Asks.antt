@@ -1,16 +1,15 @@
 -- What may be asked where nothing is due, from what is known of jobs by their numbers.
 use Rattle.std.specs.Prelude.{◌<◌, ◌≤◌, Contains}
 use Rattle.std.specs.List.{list_any}
-use Rattle.std.proofs.Common.{◌≡◌, ◌∙◌, ◌+◌, ℕ, suc, Bool, true, false, cond, List, [], ◌∷◌, length, filter, find, Some, None, refl, sym, ap, subst, arith}
+use Rattle.std.proofs.Common.{◌≡◌, ◌∙◌, ◌+◌, ℕ, true, false, List, [], length, filter, Some, None, refl, sym, ap, subst, arith}
 use Rattle.plan_checker.specs.declared.plan.Mark.{Mark}
 use Rattle.staging.specs.Plan.{IsPlan}
 use Rattle.staging.specs.declared.plan.StagePlan.{StagePlan}
 use Rattle.run_rules.specs.declared.request.Pair.{Pair}
 use Rattle.run_rules.specs.declared.request.Request.{Request}
-use Rattle.run_rules.specs.Words.{Fields, JobPlace, is_same_place}
+use Rattle.run_rules.specs.Words.{Fields, JobPlace}
 use Rattle.run_rules.specs.Folders.{in_folder}
 use Rattle.run_rules.specs.Jobs.{Job}
-use Rattle.run_rules.specs.Unfold.{is_at}
 use Rattle.run_rules.specs.Scene.{Scene}
 use Rattle.run_rules.specs.Delivered.{any_file}
 use Rattle.run_rules.specs.Events.{Work, nothing_due, Progress, in_flight, is_held, is_staging, delivered_at, unfolding_at}
@@ -19,27 +18,9 @@ use Rattle.run_rules.specs.Allowed.{IsFree, MayStage, IsBusy, MayCollect, MayDel
 use Rattle.run_rules.specs.Plans.{LoadsHeld}
 use Rattle.run_rules.specs.Run.{Goes}
 use Rattle.run_rules.proofs.events.Flights.{Flight}
-use Rattle.run_rules.proofs.events.Places.{AreApart, IsJob, found_at, same_place}
+use Rattle.run_rules.proofs.events.Places.{AreApart, IsFound, IsJob, found_at, found_is}
+use Rattle.run_rules.proofs.SuccessCollects.{same_place}
 use Rattle.run_rules.proofs.events.Planned.{computed, jobs_in}
-
--- the number under which a job was found, at this very place
-record IsFound (jobs : List Job) (place : JobPlace) (job : Job) : Type 0 where
-  number : ℕ
-  there : IsJob jobs number job
-  same : is_same_place job.place place ≡ true
-
-found_first : (test : Bool) (place : JobPlace) (x job : Job) (jobs : List Job) → is_at place x ≡ test →
-    cond test (Some x) (find (is_at place) jobs) ≡ Some job → (find (is_at place) jobs ≡ Some job → IsFound jobs place job) → IsFound (x ∷ jobs) place job
-found_first true place x job jobs passes is rest =
-    let same : x ≡ job = cc in
-    record { number = 0; there = record { within = omega arith; is = same }; same = ap (λ (j : Job). is_same_place j.place place) (sym same) ∙ passes }
-found_first false place x job jobs passes is rest =
-    let later : IsFound jobs place job = rest is in
-    record { number = suc later.number; there = record { within = omega (arith, later.there.within); is = later.there.is }; same = later.same }
-
-found_is : (jobs : List Job) (place : JobPlace) (job : Job) → find (is_at place) jobs ≡ Some job → IsFound jobs place job
-found_is [] place job is = absurd cc
-found_is (x ∷ jobs) place job is = found_first (is_at place x) place x job jobs refl is (found_is jobs place job)
 
 module _ (s : Scene) (f : Progress) (marks : List Mark) where
   -- what is due is asked

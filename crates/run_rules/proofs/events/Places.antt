@@ -1,32 +1,16 @@
 -- The test of two places is equality; and known jobs that are at different places are told apart by it, as by their numbers.
 use Rattle.std.specs.Prelude.{bytes_eq, ◌&&◌, slice_index_or}
 use Rattle.std.specs.Cmp.{IsEquivalence}
-use Rattle.std.specs.Cmp.Lexicographic.{bytes_decides}
 use Rattle.std.specs.List.{AllByRecursion, IsDistinct}
-use Rattle.std.proofs.Common.{◌≡◌, ◌∙◌, ◌<◌, ◌+◌, ◌==◌, ℕ, zero, suc, Bool, true, false, cond, List, [], ◌∷◌, length, map, find, Some, refl, sym, ap, subst, arith}
-use Rattle.std.proofs.lemmas.Bool.{and_parts, eqb-true, eq-eqb}
+use Rattle.std.proofs.Common.{None, ◌≡◌, ◌∙◌, ◌<◌, ◌+◌, ◌==◌, ℕ, zero, suc, Bool, true, false, cond, List, [], ◌∷◌, length, map, find, Some, refl, sym, ap, subst, arith}
+use Rattle.std.proofs.lemmas.Bool.{eqb-true, eq-eqb}
 use Rattle.std.proofs.lemmas.Cmp.{nat_list_eq_equiv}
 use Rattle.std.proofs.lemmas.Map.Keys.{IsDistinct-head, IsDistinct-tail}
-use Rattle.cwl_value.specs.declared.place.Segment.{Segment}
-use Rattle.run_rules.specs.Words.{JobPlace, is_same_place, segment_eq}
+use Rattle.run_rules.specs.Words.{JobPlace, is_same_place}
 use Rattle.run_rules.specs.Jobs.{Job}
 use Rattle.run_rules.specs.Unfold.{is_at}
 use Rattle.run_rules.specs.Plans.{number_from, number_of}
-
-same_segment : (a b : Segment) → segment_eq a b ≡ true → a ≡ b
-same_segment a b same =
-    let step : a.step ≡ b.step = (bytes_decides a.step b.step).0 (and_parts (bytes_eq a.step b.step) (bytes_eq a.index b.index) same).0 in
-    let index : a.index ≡ b.index = (bytes_decides a.index b.index).0 ((and_parts (bytes_eq a.step b.step) (bytes_eq a.index b.index) same).1) in
-    λ i. record { step = step i; index = index i }
-
-pub same_place : (p q : JobPlace) → is_same_place p q ≡ true → p ≡ q
-same_place [] [] same = refl
-same_place [] (b ∷ q) same = absurd cc
-same_place (a ∷ p) [] same = absurd cc
-same_place (a ∷ p) (b ∷ q) same =
-    let first : a ≡ b = same_segment a b (and_parts (segment_eq a b) (is_same_place p q) same).0 in
-    let rest : p ≡ q = same_place p q (and_parts (segment_eq a b) (is_same_place p q) same).1 in
-    λ i. first i ∷ rest i
+use Rattle.run_rules.proofs.SuccessCollects.{same_place}
 
 pub same_itself : (p : JobPlace) → is_same_place p p ≡ true
 same_itself [] = refl
@@ -105,6 +89,40 @@ read_within (x ∷ jobs) (suc n) d e within = read_within jobs n d e (omega (ari
 pub one_job : (jobs : List Job) (n m : ℕ) (one other : Job) → n ≡ m → IsJob jobs n one → IsJob jobs m other → one ≡ other
 one_job jobs n m one other equal its its_too =
     sym its.is ∙ read_within jobs n one other its.within ∙ ap (λ k. slice_index_or jobs k other) equal ∙ its_too.is
+
+-- the number under which a job was found, at this very place
+pub record IsFound (jobs : List Job) (place : JobPlace) (job : Job) : Type 0 where
+  pub number : ℕ
+  pub there : IsJob jobs number job
+  pub same : is_same_place job.place place ≡ true
+
+found_first : (test : Bool) (place : JobPlace) (x job : Job) (jobs : List Job) → is_at place x ≡ test →
+    cond test (Some x) (find (is_at place) jobs) ≡ Some job → (find (is_at place) jobs ≡ Some job → IsFound jobs place job) → IsFound (x ∷ jobs) place job
+found_first true place x job jobs passes is rest =
+    let same : x ≡ job = cc in
+    record { number = 0; there = record { within = omega arith; is = same }; same = ap (λ (j : Job). is_same_place j.place place) (sym same) ∙ passes }
+found_first false place x job jobs passes is rest =
+    let later : IsFound jobs place job = rest is in
+    record { number = suc later.number; there = record { within = omega (arith, later.there.within); is = later.there.is }; same = later.same }
+
+pub found_is : (jobs : List Job) (place : JobPlace) (job : Job) → find (is_at place) jobs ≡ Some job → IsFound jobs place job
+found_is [] place job is = absurd cc
+found_is (x ∷ jobs) place job is = found_first (is_at place x) place x job jobs refl is (found_is jobs place job)
+
+not_found_by : (test : Bool) (place : JobPlace) (x : Job) (jobs : List Job) (n : ℕ) (job : Job) → is_at place x ≡ test →
+    cond test (Some x) (find (is_at place) jobs) ≡ None → n < suc (length jobs) → slice_index_or (x ∷ jobs) n job ≡ job →
+    ((k : ℕ) → find (is_at place) jobs ≡ None → k < length jobs → slice_index_or jobs k job ≡ job → is_same_place job.place place ≡ false) →
+    is_same_place job.place place ≡ false
+not_found_by true place x jobs n job passes none within is rest = absurd cc
+not_found_by false place x jobs zero job passes none within is rest = ap (λ (j : Job). is_same_place j.place place) (sym is) ∙ passes
+not_found_by false place x jobs (suc n) job passes none within is rest = rest n none (omega (arith, within)) is
+
+-- a place that no known job is at is none of theirs
+pub not_found : (place : JobPlace) (jobs : List Job) (n : ℕ) (job : Job) → find (is_at place) jobs ≡ None → n < length jobs →
+    slice_index_or jobs n job ≡ job → is_same_place job.place place ≡ false
+not_found place [] n job none within is = absurd (omega (arith, within))
+not_found place (x ∷ jobs) n job none within is =
+    not_found_by (is_at place x) place x jobs n job refl none within is (λ k less so at. not_found place jobs k job less so at)
 
 module _ (jobs : List Job) (apart : AreApart jobs) where
   pub found_at : (n : ℕ) (job : Job) → IsJob jobs n job → find (is_at job.place) jobs ≡ Some job
