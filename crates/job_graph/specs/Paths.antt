@@ -10,7 +10,7 @@ use Rattle.document_links.specs.declared.process.Process.TheOpen.{Process-F, Wor
 use Rattle.document_links.specs.declared.process.Step.{Step, fold-Step}
 use Rattle.document_links.specs.declared.process.Workflow.{Workflow, out-Workflow, fold-Workflow}
 use Rattle.input_files.specs.Parameters.{tool_parameter, workflow_parameter}
-use Rattle.input_files.specs.Paths.{Paths, paths_of, paths_of_fields, adds_of, default_paths_of, each_once}
+use Rattle.input_files.specs.Paths.{Paths, paths_of, paths_of_fields, paths_of_defaults, root_adds as inputs_add, each_once}
 use Rattle.job_graph.specs.Words.{Name, Fields}
 
 -- ---- inside a workflow: the defaults, in the order of the document
@@ -19,14 +19,14 @@ abbrev pub link_paths : Name × StepInput → Paths
 link_paths input = option_map_or paths_of input.1.default []
 
 abbrev pub process_level : Process-F Paths Paths Paths → Paths
-process_level (Process-F.Tool tool) = flat_map (default_paths_of tool_parameter) tool.inputs
+process_level (Process-F.Tool tool) = paths_of_defaults tool_parameter tool.inputs
 process_level (Process-F.Workflow paths) = paths
 
 abbrev pub step_level : Step-F Paths Paths Paths → Paths
 step_level s = flat_map link_paths s.inputs ++ s.process
 
 abbrev pub workflow_level : Workflow-F Paths Paths Paths → Paths
-workflow_level w = flat_map (default_paths_of workflow_parameter) w.inputs ++ flat_map (λ s. s.1) w.steps
+workflow_level w = paths_of_defaults workflow_parameter w.inputs ++ flat_map (λ s. s.1) w.steps
 
 abbrev pub paths_in : Process → Paths
 paths_in = fold-Process Paths Paths Paths process_level step_level workflow_level
@@ -40,9 +40,9 @@ paths_in_workflow = fold-Workflow Paths Paths Paths process_level step_level wor
 -- ---- at the root: what is given, and the files that are looked for beside it and beside the root's defaults
 
 abbrev pub root_adds : Fields → Process-F Process Step Workflow → Paths
-root_adds given (Process-F.Tool tool) = flat_map (adds_of tool_parameter given) tool.inputs
+root_adds given (Process-F.Tool tool) = inputs_add tool_parameter tool.inputs given
 root_adds given (Process-F.Workflow w) =
-    flat_map (adds_of workflow_parameter given) (out-Workflow w).inputs ++ flat_map (λ s. paths_in_step s.1) (out-Workflow w).steps
+    inputs_add workflow_parameter (out-Workflow w).inputs given ++ flat_map (λ s. paths_in_step s.1) (out-Workflow w).steps
 
 -- the paths that are measured, each once
 abbrev pub input_paths : Process → Fields → Paths
