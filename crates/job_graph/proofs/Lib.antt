@@ -1,2 +1,3 @@
 mod Loops
 mod Outs
+mod Tuples
