@@ -5,6 +5,7 @@ ghost use Rattle.std.specs.Option.{option_copied};
 ghost use Rattle.link_values.specs.StepInputs.{null, value_under};
 ghost use Rattle.job_graph.specs.Jobs.{outs_of};
 ghost use Rattle.job_graph.specs.Unfold.{outputs_at};
+ghost use Rattle.job_graph.specs.inner.Views.{resolved_of};
 ghost use Rattle.job_graph.specs.Made.{dir_value_moved, fields_made, file_value_moved, made_place, value_moved};
 
 use crate::place::is_same_place;
@@ -12,18 +13,28 @@ use crate::walk::Out;
 use cwl_process::{Entries, ToolOutput};
 use cwl_value::{DirVal, FileVal, JobPlace, Place, Value, copy_job};
 use plain_data::{Items, Keyed, Text};
+use staging::Measure;
 use std::alloc::{AllocError, Global};
 
-/// A place whose job's outputs are known, with them: the files are named relative to the job's output folder.
+/// A place whose job has ended, with its outputs: their files are named relative to the job's output folder.
 #[derive(Drop)]
 pub(crate) struct Resolved {
     pub place: JobPlace,
     pub outputs: Keyed<Value>,
 }
 
+/// What is known of the world outside the process.
+#[derive(Drop)]
+pub(crate) struct Facts {
+    /// What stands at the paths of the input files.
+    pub measures: Keyed<Measure>,
+    /// The jobs that have ended, in the order learned.
+    pub learned: Items<Resolved>,
+}
+
 /// The outputs of the job at a place, where they are known.
 pub(crate) fn outputs_at<'a>(learned: &'a [Resolved], place: &JobPlace) -> Option<&'a Keyed<Value>>
-    ensures { option_copied result ≡ outputs_at learned.now place.now }
+    ensures { option_copied result ≡ outputs_at (map resolved_of learned.now) place.now }
 {
     for resolved in learned {
         if is_same_place(resolved.place.as_slice(), place.as_slice()) {

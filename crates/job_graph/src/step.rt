@@ -1,14 +1,18 @@
 //! Steps, and what all that recurs is: the walk through a process.
-ghost use Rattle.std.specs.Prelude.{◌≡◌, ◌≢◌, ◌++◌, [], length, map, IfOk, OnOk};
-ghost use Rattle.job_graph.specs.Equations.{fault_at, goes_on};
-ghost use Rattle.job_graph.specs.Links.{with_entry};
+ghost use Rattle.std.specs.Prelude.{◌≡◌, ◌≢◌, ◌++◌, [], Ok, length, map, IfOk, OnOk};
+ghost use Rattle.document_links.specs.declared.process.Step.{out-Step};
+ghost use Rattle.job_graph.specs.Equations.{fault_at, goes_on, instance, instance_from, meaning_of, over_lengths, scattered, step_meaning_of, step_place};
+ghost use Rattle.job_graph.specs.Links.{entry_value, with_entry};
+ghost use Rattle.job_graph.specs.Scatter.{at_tuple};
 ghost use Rattle.job_graph.specs.declared.partly.Partly.TheVariants.{Gives};
-ghost use Rattle.job_graph.specs.inner.Views.{met_of};
+ghost use Rattle.job_graph.specs.inner.Entered.{HasEntered};
+ghost use Rattle.job_graph.specs.inner.Levels.{step_of};
+ghost use Rattle.job_graph.specs.inner.Views.{made_from, met_of, walk_of};
 
 use crate::cause::{Cause, of_link};
 use crate::gather::all_instances;
 use crate::links::{Env, entry_value};
-use crate::made::Resolved;
+use crate::made::Facts;
 use crate::partly::Partly;
 use crate::place::step_place;
 use crate::scatter::{at_tuple, lengths_under, tuples_for};
@@ -20,6 +24,7 @@ use link_values::{value_froms, when_value};
 use param_refs::Template;
 use plain_data::{Items, Keyed, Text};
 use scatter_shape::{Method, Shape};
+use staging::Measure;
 use std::alloc::{AllocError, Global};
 use std::mem;
 
@@ -27,14 +32,16 @@ use std::mem;
 #[cycle(walk)]
 pub(crate) fn walk_process<'a>(
     alloc: Global,
-    learned: &[Resolved],
+    facts: &Facts,
     process: &'a Process,
     place: &JobPlace,
     given: &Keyed<Value>,
-) -> Result<Walk<'a>, AllocError> {
+) -> Result<Walk<'a>, AllocError>
+    ensures { IfOk result (λ walk. walk_of walk ≡ meaning_of facts.now.measures (made_from facts.now) process.now place.now given.now) }
+{
     match process {
-        Process::Tool(tool) => walk_tool(alloc, learned, tool, place, given),
-        Process::Workflow(workflow) => walk_workflow(alloc, learned, workflow, place, given),
+        Process::Tool(tool) => walk_tool(alloc, facts, tool, place, given),
+        Process::Workflow(workflow) => walk_workflow(alloc, facts, workflow, place, given),
     }
 }
 
@@ -49,19 +56,21 @@ struct Entered<'a> {
 #[cycle(walk)]
 pub(crate) fn walk_step<'a>(
     alloc: Global,
-    learned: &[Resolved],
+    facts: &Facts,
     id: &Text,
     step: &'a Step,
     place: &JobPlace,
     inputs: &Keyed<Value>,
     env: &Env,
-) -> Result<Walk<'a>, AllocError> {
-    let entered = enter(alloc, id, step, place, inputs, env)?;
+) -> Result<Walk<'a>, AllocError>
+    ensures { IfOk result (λ walk. walk_of walk ≡ step_meaning_of facts.now.measures (made_from facts.now) step.now id.now place.now inputs.now env.now) }
+{
+    let entered = enter(alloc, &facts.measures, id, step, place, inputs, env)?;
     let Entered { faults, values } = entered;
     match values {
         Some(values) => {
             drop(faults);
-            let walk = scattered(alloc, learned, id, step, place, &values);
+            let walk = scattered(alloc, facts, id, step, place, &values);
             drop(values);
             walk
         }
@@ -74,19 +83,22 @@ pub(crate) fn walk_step<'a>(
 
 fn enter<'a>(
     alloc: Global,
+    measures: &Keyed<Measure>,
     id: &Text,
     step: &Step,
     place: &JobPlace,
     inputs: &Keyed<Value>,
     env: &Env,
-) -> Result<Entered<'a>, AllocError> {
+) -> Result<Entered<'a>, AllocError>
+    ensures { IfOk result (HasEntered (step_place place.now id.now []) (map (λ i. (i.0, entry_value measures.now inputs.now env.now i.1)) (out-Step step.now).inputs)) }
+{
     let own = step_place(alloc, place, id, &Items::new(alloc))?;
     let mut entered = Entered {
         faults: Items::new(alloc),
         values: Some(Keyed::new(alloc)),
     };
     for input in step.inputs.as_slice() {
-        let value = entry_value(alloc, inputs, env, &input.1)?;
+        let value = entry_value(alloc, measures, inputs, env, &input.1)?;
         put_entry(alloc, &mut entered, &own, &input.0, value)?;
     }
     Ok(entered)
@@ -136,20 +148,20 @@ fn put_value(
 #[cycle(walk)]
 fn scattered<'a>(
     alloc: Global,
-    learned: &[Resolved],
+    facts: &Facts,
     id: &Text,
     step: &'a Step,
     place: &JobPlace,
     values: &Keyed<Value>,
-) -> Result<Walk<'a>, AllocError> {
+) -> Result<Walk<'a>, AllocError>
+    ensures { IfOk result (λ walk. walk_of walk ≡ scattered (step_of facts.now step.now) id.now place.now values.now (step_of facts.now step.now).scatter) }
+{
     let own = step_place(alloc, place, id, &Items::new(alloc))?;
+    if step.scatter.is_empty() {
+        return instance(alloc, facts, step, &own, values);
+    }
     match lengths_under(alloc, step.scatter.as_slice(), values)? {
-        Ok(lengths) => {
-            if lengths.is_empty() {
-                return instance(alloc, learned, step, &own, values);
-            }
-            over_lengths(alloc, learned, id, step, place, values, lengths)
-        }
+        Ok(lengths) => over_lengths(alloc, facts, id, step, place, values, lengths),
         Err(cause) => failed(alloc, &own, cause, step.outputs.as_slice()),
     }
 }
@@ -157,7 +169,7 @@ fn scattered<'a>(
 #[cycle(walk)]
 fn over_lengths<'a>(
     alloc: Global,
-    learned: &[Resolved],
+    facts: &Facts,
     id: &Text,
     step: &'a Step,
     place: &JobPlace,
@@ -165,11 +177,12 @@ fn over_lengths<'a>(
     lengths: Items<usize>,
 ) -> Result<Walk<'a>, AllocError>
     requires { lengths ≢ [] }
+    ensures { IfOk result (λ walk. walk_of walk ≡ over_lengths (step_of facts.now step.now) id.now place.now values.now (Ok lengths)) }
 {
     let method = step.method.unwrap_or(Method::Dotproduct);
     match tuples_for(alloc, method, lengths.as_slice())? {
         Ok(tuples) => {
-            let walks = instances(alloc, learned, id, step, place, values, tuples.as_slice())?;
+            let walks = instances(alloc, facts, id, step, place, values, tuples.as_slice())?;
             let shape = Shape { method, lengths };
             all_instances(alloc, &shape, walks, step.outputs.as_slice())
         }
@@ -183,18 +196,20 @@ fn over_lengths<'a>(
 #[cycle(walk)]
 fn instances<'a>(
     alloc: Global,
-    learned: &[Resolved],
+    facts: &Facts,
     id: &Text,
     step: &'a Step,
     place: &JobPlace,
     values: &Keyed<Value>,
     tuples: &[Items<usize>],
 ) -> Result<Vec<Walk<'a>>, AllocError>
-    ensures { IfOk result (λ walks. length walks.items ≡ length tuples.now) }
+    ensures one_each { IfOk result (λ walks. length walks.items ≡ length tuples.now) }
+    ensures walks { IfOk result (λ walks. map walk_of walks.items ≡ map (λ tuple. instance (step_of facts.now step.now)
+        (step_place place.now id.now tuple) (at_tuple (step_of facts.now step.now).scatter tuple values.now)) tuples.now) }
 {
     let mut walks = Vec::new(alloc);
     for tuple in tuples {
-        walks.push(instance_at(alloc, learned, id, step, place, values, tuple)?)?;
+        walks.push(instance_at(alloc, facts, id, step, place, values, tuple)?)?;
     }
     Ok(walks)
 }
@@ -202,30 +217,35 @@ fn instances<'a>(
 #[cycle(walk)]
 fn instance_at<'a>(
     alloc: Global,
-    learned: &[Resolved],
+    facts: &Facts,
     id: &Text,
     step: &'a Step,
     place: &JobPlace,
     values: &Keyed<Value>,
     tuple: &Items<usize>,
-) -> Result<Walk<'a>, AllocError> {
+) -> Result<Walk<'a>, AllocError>
+    ensures { IfOk result (λ walk. walk_of walk ≡ instance (step_of facts.now step.now) (step_place place.now id.now tuple.now)
+        (at_tuple (step_of facts.now step.now).scatter tuple.now values.now)) }
+{
     let own = step_place(alloc, place, id, tuple)?;
     let fields = at_tuple(alloc, step.scatter.as_slice(), tuple.as_slice(), values)?;
-    instance(alloc, learned, step, &own, &fields)
+    instance(alloc, facts, step, &own, &fields)
 }
 
 /// One value of a step: `valueFrom`, then `when`, then its process.
 #[cycle(walk)]
 fn instance<'a>(
     alloc: Global,
-    learned: &[Resolved],
+    facts: &Facts,
     step: &'a Step,
     place: &JobPlace,
     values: &Keyed<Value>,
-) -> Result<Walk<'a>, AllocError> {
+) -> Result<Walk<'a>, AllocError>
+    ensures { IfOk result (λ walk. walk_of walk ≡ instance (step_of facts.now step.now) place.now values.now) }
+{
     match of_link(value_froms(alloc, step.inputs.as_slice(), values))? {
         Ok(fields) => {
-            let walk = run_where(alloc, learned, step, place, &fields);
+            let walk = run_where(alloc, facts, step, place, &fields);
             drop(fields);
             walk
         }
@@ -236,13 +256,15 @@ fn instance<'a>(
 #[cycle(walk)]
 fn run_where<'a>(
     alloc: Global,
-    learned: &[Resolved],
+    facts: &Facts,
     step: &'a Step,
     place: &JobPlace,
     fields: &Keyed<Value>,
-) -> Result<Walk<'a>, AllocError> {
+) -> Result<Walk<'a>, AllocError>
+    ensures { IfOk result (λ walk. walk_of walk ≡ instance_from (step_of facts.now step.now) place.now (Ok fields.now)) }
+{
     match goes_on(&step.when, fields)? {
-        Ok(true) => walk_process(alloc, learned, &step.process, place, fields),
+        Ok(true) => walk_process(alloc, facts, &step.process, place, fields),
         Ok(false) => Ok(Walk {
             met: Items::new(alloc),
             outs: nulls(alloc, step.outputs.as_slice())?,

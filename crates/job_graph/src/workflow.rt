@@ -1,14 +1,15 @@
 //! Workflows: steps that read one another's outputs.
-ghost use Rattle.std.specs.Prelude.{◌≡◌, ◌++◌, ◌∷◌, [], map, IfOk, OnOk};
+ghost use Rattle.std.specs.Prelude.{◌≡◌, ◌++◌, ◌∷◌, [], length, map, IfOk, OnOk};
 ghost use Rattle.std.specs.List.{flat_map};
-ghost use Rattle.job_graph.specs.Equations.{fault_at};
+ghost use Rattle.job_graph.specs.Equations.{env_after, fault_at, next_env, step_meaning_of, step_walk, workflow_meaning_of};
 ghost use Rattle.job_graph.specs.Links.{given, output_value};
-ghost use Rattle.job_graph.specs.inner.Views.{met_of};
+ghost use Rattle.job_graph.specs.inner.Levels.{steps_of, steps_walk};
+ghost use Rattle.job_graph.specs.inner.Views.{made_from, met_of, walk_of};
 
 use crate::gather::push_met;
-use crate::inputs::inputs_for;
+use crate::inputs::workflow_inputs;
 use crate::links::{Env, output_value};
-use crate::made::Resolved;
+use crate::made::Facts;
 use crate::partly::Partly;
 use crate::step::walk_step;
 use crate::walk::{Met, Out, Walk, failed_process};
@@ -23,15 +24,17 @@ use std::mem;
 #[cycle(walk)]
 pub(crate) fn walk_workflow<'a>(
     alloc: Global,
-    learned: &[Resolved],
+    facts: &Facts,
     workflow: &'a Workflow,
     place: &JobPlace,
     given: &Keyed<Value>,
-) -> Result<Walk<'a>, AllocError> {
-    match inputs_for(alloc, workflow.inputs.as_slice(), given)? {
+) -> Result<Walk<'a>, AllocError>
+    ensures { IfOk result (λ walk. walk_of walk ≡ workflow_meaning_of facts.now.measures (made_from facts.now) workflow.now place.now given.now) }
+{
+    match workflow_inputs(alloc, &facts.measures, workflow.inputs.as_slice(), given)? {
         Ok(inputs) => {
             let outputs = workflow.outputs.as_slice();
-            let walk = walk_steps(alloc, learned, &workflow.steps, outputs, place, &inputs);
+            let walk = walk_steps(alloc, facts, &workflow.steps, outputs, place, &inputs);
             drop(inputs);
             walk
         }
@@ -42,14 +45,16 @@ pub(crate) fn walk_workflow<'a>(
 #[cycle(walk)]
 fn walk_steps<'a>(
     alloc: Global,
-    learned: &[Resolved],
+    facts: &Facts,
     steps: &'a Entries<Step>,
     outputs: &[(Text, WorkflowOutput)],
     place: &JobPlace,
     inputs: &Keyed<Value>,
-) -> Result<Walk<'a>, AllocError> {
-    let env = env_after(alloc, learned, steps, place, inputs)?;
-    let met = steps_met(alloc, learned, steps, place, inputs, &env);
+) -> Result<Walk<'a>, AllocError>
+    ensures { IfOk result (λ walk. walk_of walk ≡ steps_walk outputs.now (steps_of facts.now steps.now) place.now inputs.now) }
+{
+    let env = env_after(alloc, facts, steps, place, inputs)?;
+    let met = steps_met(alloc, facts, steps, place, inputs, &env);
     match met {
         Ok(met) => {
             let walk = with_outputs(alloc, met, outputs, place, inputs, &env);
@@ -62,16 +67,19 @@ fn walk_steps<'a>(
 
 /// What the steps give, as many times one after another as there are steps: then all is known that can be.
 #[cycle(walk)]
+#[tactic(auto, using(crate::proofs::Loops::steps_length))]
 fn env_after(
     alloc: Global,
-    learned: &[Resolved],
+    facts: &Facts,
     steps: &Entries<Step>,
     place: &JobPlace,
     inputs: &Keyed<Value>,
-) -> Result<Env, AllocError> {
+) -> Result<Env, AllocError>
+    ensures { IfOk result (λ env. env ≡ env_after (length (steps_of facts.now steps.now)) (steps_of facts.now steps.now) place.now inputs.now) }
+{
     let mut env = Keyed::new(alloc);
-    for _ in 0..steps.len() {
-        let next = next_env(alloc, learned, steps, place, inputs, &env)?;
+    for round in 0..steps.len() {
+        let next = next_env(alloc, facts, steps, place, inputs, &env)?;
         drop(mem::replace(&mut env, next));
     }
     Ok(env)
@@ -81,16 +89,18 @@ fn env_after(
 #[cycle(walk)]
 fn next_env(
     alloc: Global,
-    learned: &[Resolved],
+    facts: &Facts,
     steps: &Entries<Step>,
     place: &JobPlace,
     inputs: &Keyed<Value>,
     env: &Env,
-) -> Result<Env, AllocError> {
+) -> Result<Env, AllocError>
+    ensures { IfOk result (λ next. next ≡ next_env (steps_of facts.now steps.now) place.now inputs.now env.now) }
+{
     let mut next = Keyed::new(alloc);
     for step in steps.as_slice() {
         let name = step.0.copied(alloc)?;
-        let outs = step_outs(alloc, learned, &step.0, &step.1, place, inputs, env)?;
+        let outs = step_outs(alloc, facts, &step.0, &step.1, place, inputs, env)?;
         drop(next.insert(name, outs)?);
     }
     Ok(next)
@@ -99,14 +109,16 @@ fn next_env(
 #[cycle(walk)]
 fn step_outs(
     alloc: Global,
-    learned: &[Resolved],
+    facts: &Facts,
     id: &Text,
     step: &Step,
     place: &JobPlace,
     inputs: &Keyed<Value>,
     env: &Env,
-) -> Result<Items<Out>, AllocError> {
-    let Walk { met, outs } = walk_step(alloc, learned, id, step, place, inputs, env)?;
+) -> Result<Items<Out>, AllocError>
+    ensures { IfOk result (λ outs. outs ≡ (step_meaning_of facts.now.measures (made_from facts.now) step.now id.now place.now inputs.now env.now).outs) }
+{
+    let Walk { met, outs } = walk_step(alloc, facts, id, step, place, inputs, env)?;
     drop(met);
     Ok(outs)
 }
@@ -115,17 +127,19 @@ fn step_outs(
 #[cycle(walk)]
 fn steps_met<'a>(
     alloc: Global,
-    learned: &[Resolved],
+    facts: &Facts,
     steps: &'a Entries<Step>,
     place: &JobPlace,
     inputs: &Keyed<Value>,
     env: &Env,
-) -> Result<Items<Met<'a>>, AllocError> {
+) -> Result<Items<Met<'a>>, AllocError>
+    ensures { IfOk result (λ met. map met_of met ≡ flat_map (λ s. (step_walk place.now inputs.now env.now s).met) (steps_of facts.now steps.now)) }
+{
     let mut met = Items::new(alloc);
     for step in steps.as_slice() {
         push_met(
             &mut met,
-            walk_step(alloc, learned, &step.0, &step.1, place, inputs, env)?,
+            walk_step(alloc, facts, &step.0, &step.1, place, inputs, env)?,
         )?;
     }
     Ok(met)

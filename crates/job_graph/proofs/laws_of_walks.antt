@@ -1,0 +1,9 @@
+pub mod Grown
+pub mod Known
+pub mod Learned
+pub mod Part
+pub mod Places
+pub mod Processes
+pub mod Rounds
+pub mod Same
+pub mod Steps
