@@ -1,4 +1,2 @@
-pub mod Entered
-pub mod Levels
 pub mod Told
 pub mod Views
