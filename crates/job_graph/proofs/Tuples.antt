@@ -43,7 +43,7 @@ taken_tuples method lengths taken =
 
 pub refused_tuples : (method : Method) (lengths : List ℕ) (fault : ScatterFault) → IsRefused method lengths fault → tuples_for method lengths ≡ Err (Scatter fault)
 refused_tuples method lengths UnequalLengths refused = elim (cases_Bool (are_in_step method lengths)) [
-    inl is ↦ absurd (refused (true_in_step method lengths is))
+  | inl is ↦ absurd (refused (true_in_step method lengths is))
   | inr is ↦ ap (λ (b : Bool). by_tests method lengths b (nat_le (length (tuples_of method lengths)) MOST_TUPLES)) is
 ]
 refused_tuples method lengths TooManyJobs refused =

@@ -4,6 +4,7 @@
 use Rattle.std.specs.Prelude.{List, [], ◌++◌, Option}
 use Rattle.std.specs.List.{flat_map}
 use Rattle.std.specs.Option.{option_map_or}
+use Rattle.plain_data.specs.ByName.{map_values}
 use Rattle.cwl_process.specs.declared.workflow.StepInput.{StepInput}
 use Rattle.document_links.specs.declared.process.Process.{Process, out-Process, fold-Process}
 use Rattle.document_links.specs.declared.process.Process.TheOpen.{Process-F, Workflow-F, Step-F}
@@ -37,12 +38,15 @@ paths_in_step = fold-Step Paths Paths Paths process_level step_level workflow_le
 abbrev pub paths_in_workflow : Workflow → Paths
 paths_in_workflow = fold-Workflow Paths Paths Paths process_level step_level workflow_level
 
+abbrev pub paths_in_steps : List (Name × Step) → Paths
+paths_in_steps steps = flat_map (λ s. s.1) (map_values paths_in_step steps)
+
 -- ---- at the root: what is given, and the files that are looked for beside it and beside the root's defaults
 
 abbrev pub root_adds : Fields → Process-F Process Step Workflow → Paths
 root_adds given (Process-F.Tool tool) = inputs_add tool_parameter tool.inputs given
 root_adds given (Process-F.Workflow w) =
-    inputs_add workflow_parameter (out-Workflow w).inputs given ++ flat_map (λ s. paths_in_step s.1) (out-Workflow w).steps
+    inputs_add workflow_parameter (out-Workflow w).inputs given ++ paths_in_steps (out-Workflow w).steps
 
 -- the paths that are measured, each once
 abbrev pub input_paths : Process → Fields → Paths

@@ -45,7 +45,12 @@ pub(crate) fn root_fields(
     ensures { IfOk result (λ fields. fields ≡ spec.root_fields process.now given.now measures.now) }
 {
     match process {
-        Process::Tool(tool) => input_files::root_fields(alloc, tool.inputs.as_slice(), given, measures),
+        Process::Tool(tool) => input_files::root_fields(
+            alloc,
+            tool.inputs.as_slice(),
+            given,
+            measures,
+        ),
         Process::Workflow(workflow) => {
             input_files::root_fields(alloc, workflow.inputs.as_slice(), given, measures)
         }

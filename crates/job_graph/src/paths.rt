@@ -46,11 +46,7 @@ fn push_root(
 
 // Adds the paths of the defaults of a process inside another.
 #[cycle(paths)]
-fn push_process(
-    alloc: Global,
-    process: &Process,
-    paths: &mut Items<Text>,
-) -> Result<(), AllocError>
+fn push_process(alloc: Global, process: &Process, paths: &mut Items<Text>) -> Result<(), AllocError>
     ensures { OnOk result (paths.new ≡ paths.old ++ spec.paths_in process.now) }
 {
     match process {
@@ -77,7 +73,7 @@ fn push_steps(
     steps: &Entries<Step>,
     paths: &mut Items<Text>,
 ) -> Result<(), AllocError>
-    ensures { OnOk result (paths.new ≡ paths.old ++ flat_map (λ s. spec.paths_in_step s.1) steps.now) }
+    ensures { OnOk result (paths.new ≡ paths.old ++ spec.paths_in_steps steps.now) }
 {
     for step in steps.as_slice() {
         push_step(alloc, &step.1, paths)?;

@@ -1,5 +1,5 @@
 //! The tuples of a scattered step, and the inputs of each.
-ghost use Rattle.std.specs.Prelude.{◌≡◌, ◌≢◌, [], Some, IfOk, OnOk, unwrap_or};
+ghost use Rattle.std.specs.Prelude.{◌≡◌, ◌≢◌, [], Some, IfOk, OnOk, length, unwrap_or};
 ghost use Rattle.std.specs.Option.{option_copied};
 ghost use Rattle.plain_data.specs.ByName.{with_value};
 ghost use Rattle.link_values.specs.StepInputs.{null};
@@ -18,7 +18,8 @@ pub(crate) fn lengths_under(
     names: &[Text],
     fields: &Keyed<Value>,
 ) -> Result<Result<Items<usize>, Cause>, AllocError>
-    ensures { IfOk result (λ found. found ≡ lengths_under names.now fields.now) }
+    ensures value { IfOk result (λ found. found ≡ lengths_under names.now fields.now) }
+    ensures one_each { IfOk result (λ found. IfOk found (λ lengths. length lengths ≡ length names.now)) }
 {
     let mut lengths = Items::new(alloc);
     for name in names {

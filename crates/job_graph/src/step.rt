@@ -146,6 +146,7 @@ fn put_value(
 
 /// A step whose inputs are all known.
 #[cycle(walk)]
+#[tactic(auto, using(crate::proofs::Loops::as_many_as_some))]
 fn scattered<'a>(
     alloc: Global,
     facts: &Facts,

@@ -140,7 +140,12 @@ fn job_walk<'a>(
     ensures { IfOk result (λ walk. walk_of walk ≡ tool_walk tool.now place.now (Ok inputs) (made_from facts.now)) }
 {
     let place = copy_job(alloc, place)?;
-    let outs = job_outs(alloc, outputs_at(facts.learned.as_slice(), &place), &tool.outputs, &place)?;
+    let outs = job_outs(
+        alloc,
+        outputs_at(facts.learned.as_slice(), &place),
+        &tool.outputs,
+        &place,
+    )?;
     let mut met = Items::new(alloc);
     met.push(Met::Job(Job {
         place,
