@@ -83,6 +83,13 @@ pub fn met_jobs_are_known()
         → find (is_at job.place) (unfolded (walker process given measures) learned).jobs ≡ Some job }
 {}
 
+/// Says that each job that is known is met again.
+pub fn known_jobs_are_met()
+    ensures { (process : Process) (given : Fields) (measures : Measures) (learned : List Resolved) (job : Job)
+        → Contains (unfolded (walker process given measures) learned).jobs job
+        → Contains (walker process given measures (made_by learned)).met (met_job job) }
+{}
+
 /// Says that a world which agrees with the known jobs does so with those that are met.
 pub fn known_jobs_agree()
     ensures { (key : Tool → Fields → Key) (world : World) (process : Process) (given : Fields) (measures : Measures)

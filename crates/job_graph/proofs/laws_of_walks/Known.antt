@@ -176,6 +176,11 @@ in_of m [] k within is = absurd (omega arith)
 in_of m (x ∷ xs) zero within is = inl (sym is)
 in_of m (x ∷ xs) (suc k) within is = inr (in_of m xs k (omega arith) is)
 
+contains_of : (m : Met) (met : List Met) → IsIn m met → Contains met m
+contains_of m [] at = absurd at
+contains_of m (x ∷ xs) (inl here) = (zero, omega arith, sym here)
+contains_of m (x ∷ xs) (inr later) = let rest : Contains xs m = contains_of m xs later in (suc rest.0, omega arith, rest.2)
+
 listed : (whole met : List Met) → ((m : Met) → IsIn m met → IsIn m whole) → AllByRecursion (λ (job : Job). IsIn (met_job job) whole) (filter_map job_met met)
 listed whole [] means = tt
 listed whole (met_job job ∷ met) means = (means (met_job job) (inl refl), listed whole met (λ m at. means m (inr at)))
@@ -261,6 +266,9 @@ module _ (process : Process) (given : Fields) (measures : Measures) where
   is_met learned job at =
       All-contains (λ (job : Job). IsIn (met_job job) (walks (made_by learned)).met) (unfolded walks learned).jobs job
       (All-from_recursion (λ (job : Job). IsIn (met_job job) (walks (made_by learned)).met) (unfolded walks learned).jobs (known_met learned)) at
+
+  pub known_is_met : (learned : List Resolved) (job : Job) → Contains (unfolded walks learned).jobs job → Contains (walks (made_by learned)).met (met_job job)
+  known_is_met learned job at = contains_of (met_job job) (walks (made_by learned)).met (is_met learned job at)
 
   pub each_learned : (learned : List Resolved) (outputs : Fields) (job : Job) → (unfolded walks learned).result ≡ Some outputs → Contains (unfolded walks learned).jobs job → is_some (outputs_at learned job.place) ≡ true
   each_learned learned outputs job is at =

@@ -1,7 +1,7 @@
 -- The jobs of a walk have different places: a step's id and its tuple tell them apart.
-use Rattle.std.proofs.Common.{◌≡◌, ◌∙◌, ◌⊎◌, ◌≢◌, inl, inr, ℕ, List, [], ◌∷◌, ◌++◌, map, Bool, true, false, cond, not, Option, Some, None, Result, Ok, Err, bytes_eq, refl, sym, ap, subst, rules, append_assoc, append-nil}
+use Rattle.std.proofs.Common.{◌≡◌, ◌∙◌, ◌⊎◌, ◌≢◌, inl, inr, ℕ, List, [], ◌∷◌, ◌++◌, map, Bool, true, false, cond, not, Option, Some, None, Result, Ok, Err, bytes_eq, refl, sym, ap, ap₂, subst, rules, append_assoc, append-nil}
 use Rattle.std.specs.Prelude.{◌&&◌, ◌||◌, nat_le, length}
-use Rattle.std.specs.List.{AllByRecursion, flat_map, list_all, list_any}
+use Rattle.std.specs.List.{AllByRecursion, IsDistinct, flat_map, list_all, list_any}
 use Rattle.std.specs.Map.{keys_of}
 use Rattle.std.proofs.lemmas.List.{append_cancel_left}
 use Rattle.std.proofs.lemmas.Slice.Eq.{bytes_eq-Decides}
@@ -10,8 +10,9 @@ use Rattle.cwl_process.specs.declared.tool.Tool.{Tool}
 use Rattle.cwl_process.specs.declared.workflow.WorkflowOutput.{WorkflowOutput}
 use Rattle.document_links.specs.declared.process.Process.{Process, the_lemmas}
 use Rattle.document_links.specs.declared.process.Process as process
-use Rattle.document_links.specs.declared.process.Step.{Step, roll-Step}
-use Rattle.document_links.specs.declared.process.Workflow.{Workflow, roll-Workflow}
+use Rattle.document_links.specs.declared.process.Process.TheViews.{roll-out-Step, roll-out-Workflow}
+use Rattle.document_links.specs.declared.process.Step.{Step, roll-Step, out-Step}
+use Rattle.document_links.specs.declared.process.Workflow.{Workflow, roll-Workflow, out-Workflow}
 use Rattle.input_files.specs.Measured.{Measures}
 use Rattle.link_values.specs.StepInputs.{value_froms}
 use Rattle.plain_data.specs.ByName.{map_values}
@@ -279,3 +280,39 @@ module _ (measures : Measures) (made : Made) where
   -- each job of a walk is at a place of its own
   pub walk_places : (p : Process) → ids_differ p ≡ true → (place : JobPlace) (fields : Fields) → IsAt place (meaning_of measures made p place fields).met
   walk_places p = induction cases p
+
+-- ---- what the type of steps keeps
+
+abbrev pub inside_differs : Name × Step → Bool
+inside_differs e = ids_differ (out-Step e.1).process
+
+no_other : (name : Name) (names : List Name) → AllByRecursion (λ other. bytes_eq name other ≡ false) names → list_any (bytes_eq name) names ≡ false
+no_other name [] all = refl
+no_other name (n ∷ ns) all = ap₂ (λ (a b : Bool). a || b) all.0 (no_other name ns all.1)
+
+names_differ : (names : List Name) → IsDistinct bytes_eq names → differ names ≡ true
+unfolding IsDistinct
+names_differ [] distinct = refl
+names_differ (n ∷ ns) distinct = ap₂ (λ (a b : Bool). not a && b) (no_other n ns distinct.0) (names_differ ns distinct.1)
+
+same_ids : (steps : List (Name × Step)) → keys_of steps ≡ ids_of steps
+same_ids [] = refl
+same_ids (e ∷ es) = ap (λ (ids : List Name). e.0 ∷ ids) (same_ids es)
+
+step_is : (s : Step) → step_ids_differ s ≡ ids_differ (out-Step s).process
+step_is s = ap step_ids_differ (sym (roll-out-Step s)) ∙ step_differs (out-Step s)
+
+all_inside : (steps : List (Name × Step)) → list_all inside_differs steps ≡ list_all (λ e. e.1) (map_values step_ids_differ steps)
+all_inside [] = refl
+all_inside (e ∷ es) = ap₂ (λ (a b : Bool). a && b) (sym (step_is e.1)) (all_inside es)
+
+pub seen_workflow : (w : Workflow) → IsDistinct bytes_eq (keys_of (out-Workflow w).steps) → list_all inside_differs (out-Workflow w).steps ≡ true → workflow_ids_differ w ≡ true
+seen_workflow w distinct inside =
+    ap workflow_ids_differ (sym (roll-out-Workflow w)) ∙ steps_differ (out-Workflow w)
+    ∙ ap₂ (λ (a b : Bool). a && b) (ap differ (sym (same_ids (out-Workflow w).steps)) ∙ names_differ (keys_of (out-Workflow w).steps) distinct) (sym (all_inside (out-Workflow w).steps) ∙ inside)
+
+pub seen_tool : (tool : Tool) → ids_differ (process.Tool tool) ≡ true
+seen_tool tool = tool_differs tool
+
+pub seen_process : (w : Workflow) → workflow_ids_differ w ≡ true → ids_differ (process.Workflow w) ≡ true
+seen_process w seen = workflow_differs w ∙ seen

@@ -1,0 +1,5 @@
+use Rattle.job_graph.proofs.laws_of_walks.Known.{known_is_met}
+use Rattle.job_graph.proofs.laws.known_jobs_are_met.Goals as goal
+
+pub returns : goal.returns
+returns c = known_is_met
