@@ -1,4 +1,5 @@
 pub mod Codes
+pub mod Grouped
 pub mod Laws
 pub mod Location
 pub mod Names

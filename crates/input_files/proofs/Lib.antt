@@ -1,4 +1,3 @@
 mod Fileless
 mod Heads
 mod Once
-mod Slashes

@@ -175,26 +175,24 @@ fn file_beside(
 {
     let mut file = file;
     for one in declared {
-        file = with_one(alloc, measures, file, one)?;
+        add_one(alloc, measures, &mut file, one)?;
     }
     Ok(file)
 }
 
-// The File with the file that it lacks, where that was found.
-fn with_one(
+// Adds the file that the File lacks, where that was found.
+fn add_one(
     alloc: Global,
     measures: &Keyed<Measure>,
-    file: FileVal,
+    file: &mut FileVal,
     declared: &SecondaryFile,
-) -> Result<FileVal, AllocError>
-    ensures { IfOk result (λ f. f ≡ spec.with_one measures.now file declared.now) }
+) -> Result<(), AllocError>
+    ensures { OnOk result (file.new ≡ spec.with_one measures.now file.old declared.now) }
 {
-    let Some(names) = lacked(alloc, &file, declared)? else {
-        return Ok(file);
-    };
-    let mut file = file;
-    push_found(alloc, measures, &names, &mut file.secondary)?;
-    Ok(file)
+    match lacked(alloc, file, declared)? {
+        None => Ok(()),
+        Some(names) => push_found(alloc, measures, &names, &mut file.secondary),
+    }
 }
 
 fn push_found(

@@ -15,6 +15,7 @@ use cwl_value::Value;
 use plain_data::{Keyed, Text};
 use staging::Measure;
 use std::alloc::{AllocError, Global};
+use std::mem;
 
 /// What is handed to the root of a run, under the ids of its inputs: what is given, or the default in place of null, each
 /// File and Directory as it was measured, with the files that were found beside each File. What is absent has no sum and
@@ -88,11 +89,31 @@ fn take_input<P: Parameter>(
     ensures sound { IfOk result (λ _. spec.fault_with P.of input.now (spec.taken_value P.of measures.now fields.now input.now) ≡ None) }
     ensures err { IfErr result (RefusesInput (spec.fault_with P.of input.now (spec.taken_value P.of measures.now fields.now input.now))) }
 {
-    let value = taken_value(alloc, fields, measures, input)?;
-    if let Some(fault) = fault_with(alloc, input, &value)? {
-        return Err(InputError::Refused(fault));
-    }
+    let value = without_fault(alloc, input, taken_value(alloc, fields, measures, input)?)?;
     Ok(put(alloc, taken, &input.0, value)?)
+}
+
+// The value, where nothing is wrong with it.
+fn without_fault<P: Parameter>(
+    alloc: Global,
+    input: &(Text, P),
+    value: Value,
+) -> Result<Value, InputError>
+    ensures sound { IfOk result (λ v. spec.fault_with P.of input.now value ≡ None) }
+    ensures same { IfOk result (λ v. v ≡ value) }
+    ensures err { IfErr result (RefusesInput (spec.fault_with P.of input.now value)) }
+{
+    match fault_with(alloc, input, &value) {
+        Ok(None) => Ok(value),
+        Ok(Some(fault)) => {
+            mem::drop(value);
+            Err(InputError::Refused(fault))
+        }
+        Err(error) => {
+            mem::drop(value);
+            Err(InputError::from(error))
+        }
+    }
 }
 
 fn taken_value<P: Parameter>(

@@ -1,6 +1,6 @@
 use Rattle.std.proofs.Common.{◌≡◌, ◌-◌, Some, None, lit<, take, ap, ◌∙◌, arith}
 use Rattle.std.proofs.lemmas.Str.Pattern.{rfind_char}
-use Rattle.input_files.proofs.Slashes.{beside-at, beside-none}
+use Rattle.file_values.proofs.Slashes.{beside-at, beside-none}
 use Rattle.input_files.proofs.names.beside.Goals as goal
 
 pub returns-in_ok-format-in-Some : goal.returns-in_ok-format-in-Some

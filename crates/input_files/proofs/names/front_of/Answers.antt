@@ -1,6 +1,6 @@
 use Rattle.std.proofs.Common.{◌≡◌, ◌-◌, Some, None, lit<, take, sym, ap, ◌∙◌, arith}
 use Rattle.std.proofs.lemmas.Str.Pattern.{rfind_char}
-use Rattle.input_files.proofs.Slashes.{before-at, before-none}
+use Rattle.file_values.proofs.Slashes.{before-at, before-none}
 use Rattle.input_files.proofs.names.front_of.Goals as goal
 
 pub returns-in-Some : goal.returns-in-Some

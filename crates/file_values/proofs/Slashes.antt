@@ -1,10 +1,9 @@
--- Where a path's last slash is.
-use Rattle.std.proofs.Common.{◌≡◌, ◌≢◌, ℕ, ◌+◌, ◌-◌, ◌<◌, true, false, not, List, [], ◌∷◌, ◌++◌, suc, refl, length, get_or, take, ap, ◌∙◌, arith, ne_eqb, eq-eqb}
+-- Where a path's last slash is, and what stands beside it.
+use Rattle.std.proofs.Common.{◌≡◌, ◌≢◌, ℕ, ◌+◌, ◌-◌, ◌<◌, true, false, not, if◌then◌else◌, List, [], ◌∷◌, ◌++◌, suc, refl, length, get_or, take, ap, ◌∙◌, arith, ne_eqb, eq-eqb}
 use Rattle.std.specs.List.{before_last, suffix_len, list_any}
 use Rattle.std.proofs.lemmas.List.Sums.{suffix_len_is}
 use Rattle.std.proofs.lemmas.List.Folds.{list_any_at}
 use Rattle.file_values.specs.Names.{is_slash}
-use Rattle.input_files.specs.Beside.{beside}
 
 pub before-at : (bs : List ℕ) (k : ℕ) → k < length bs → get_or bs k 0 ≡ 47 → ((i : ℕ) → k < i → i < length bs → get_or bs i 0 ≢ 47) → before_last is_slash bs ≡ take k bs
 before-at bs k within is none =
@@ -27,8 +26,12 @@ none_any (b ∷ bs) none =
     let here : is_slash b ≡ false = ne_eqb b 47 (none 0 (omega arith)) in
     rw here (none_any bs (λ i below same. none (suc i) (omega arith) same))
 
-pub beside-at : (primary name : List ℕ) (k : ℕ) → k < length primary → get_or primary k 0 ≡ 47 → ((i : ℕ) → k < i → i < length primary → get_or primary i 0 ≢ 47) → beside primary name ≡ take k primary ++ 47 ∷ name
+-- the path of a name in the folder of another path
+abbrev pub beside_path : List ℕ → List ℕ → List ℕ
+beside_path primary name = (if list_any is_slash primary then before_last is_slash primary ++ 47 ∷ name else name)
+
+pub beside-at : (primary name : List ℕ) (k : ℕ) → k < length primary → get_or primary k 0 ≡ 47 → ((i : ℕ) → k < i → i < length primary → get_or primary i 0 ≢ 47) → beside_path primary name ≡ take k primary ++ 47 ∷ name
 beside-at primary name k within is none = rw (any_at primary k within is, before-at primary k within is none) refl
 
-pub beside-none : (primary name : List ℕ) → ((i : ℕ) → i < length primary → get_or primary i 0 ≢ 47) → beside primary name ≡ name
+pub beside-none : (primary name : List ℕ) → ((i : ℕ) → i < length primary → get_or primary i 0 ≢ 47) → beside_path primary name ≡ name
 beside-none primary name none = rw (none_any primary none) refl
