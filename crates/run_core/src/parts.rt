@@ -1,0 +1,72 @@
+//! Parts of a phase, taken out of it.
+
+use crate::state::{Filling, JobPhase, Kept, Measuring, Phase, Reading};
+use plain_data::{Items, Keyed};
+use std::alloc::Global;
+use std::mem;
+
+fn nothing_kept(alloc: Global) -> Kept {
+    Kept {
+        inputs: Keyed::new(alloc),
+        stdout: None,
+        stderr: None,
+    }
+}
+
+/// Takes what is kept of the job out of a phase.
+pub(crate) fn kept_in(alloc: Global, phase: &mut Phase) -> Kept {
+    match phase {
+        Phase::Working(_, JobPhase::Starting(kept))
+        | Phase::Working(_, JobPhase::Scanning(kept))
+        | Phase::Working(_, JobPhase::Reading(kept, _)) => {
+            mem::replace(kept, nothing_kept(alloc))
+        }
+        _ => nothing_kept(alloc),
+    }
+}
+
+/// Takes what is measured out of a phase.
+pub(crate) fn measuring_in(alloc: Global, phase: &mut Phase) -> Measuring {
+    let none = Measuring {
+        left: Items::new(alloc),
+        measures: Keyed::new(alloc),
+    };
+    match phase {
+        Phase::Measuring(measuring) => mem::replace(measuring, none),
+        _ => none,
+    }
+}
+
+/// Takes the contents that are read out of a phase.
+pub(crate) fn filling_in(alloc: Global, phase: &mut Phase) -> Filling {
+    let none = Filling {
+        staged: Keyed::new(alloc),
+        left: Items::new(alloc),
+        heads: Keyed::new(alloc),
+    };
+    match phase {
+        Phase::Working(_, JobPhase::Filling(filling)) => mem::replace(filling, none),
+        _ => none,
+    }
+}
+
+/// Takes what is read out of a phase.
+pub(crate) fn reading_in(alloc: Global, phase: &mut Phase) -> Reading {
+    let none = Reading {
+        found: Items::new(alloc),
+        left: Items::new(alloc),
+        heads: Keyed::new(alloc),
+    };
+    match phase {
+        Phase::Working(_, JobPhase::Reading(_, reading)) => mem::replace(reading, none),
+        _ => none,
+    }
+}
+
+/// The number of the job that the phase is of.
+pub(crate) fn job_in(phase: &Phase) -> usize {
+    match phase {
+        Phase::Staging(job) | Phase::Working(job, _) => *job,
+        _ => 0,
+    }
+}
