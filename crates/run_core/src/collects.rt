@@ -1,4 +1,12 @@
 //! What comes of a job once its child has ended well, until its outputs are collected.
+ghost use Rattle.std.specs.Prelude.{◌≡◌, [], unwrap_or, IfOk, OnOk, reverse};
+ghost use Rattle.collected_outputs.specs.HeadsWanted.{AreHeadsWanted, limit_of};
+ghost use Rattle.collected_outputs.specs.Listing.{listing_of};
+ghost use Rattle.proc_host.specs.declared.call.HostRequest.{HostRequest as Call};
+ghost use Rattle.run_core.specs.inner.Due.{Collects, CollectsFirst, CollectsPast, Gathers, Scans};
+ghost use Rattle.run_core.specs.inner.Turns.{PutsNext};
+ghost use Rattle.run_rules.specs.Folders.{out_folder};
+ghost use Rattle.staging.specs.Groups.{path_in as path_under};
 
 use crate::Cause;
 use crate::folders::{out_folder, path_in};
@@ -13,9 +21,18 @@ use std::alloc::{AllocError, Global};
 use std::mem;
 
 /// The output folder is listed next.
-pub(crate) fn scanning(alloc: Global, site: Site<'_>, kept: Kept) -> Result<JobNext, AllocError> {
+pub(crate) fn scanning(
+    alloc: Global,
+    site: Site<'_>,
+    kept: Kept,
+    millis: u64,
+) -> Result<JobNext, AllocError>
+    ensures { IfOk result (Scans site.entry kept millis) }
+{
     match out_folder(alloc, &site.options.work, site.folder) {
-        Ok(folder) => Ok(JobNext::Asks(HostRequest::Scan(folder), JobPhase::Scanning(kept))),
+        Ok(folder) => {
+            Ok(JobNext::Asks(HostRequest::Scan(folder), JobPhase::Scanning(kept, millis)))
+        }
         Err(error) => {
             mem::drop(kept);
             Err(error)
@@ -29,7 +46,9 @@ pub(crate) fn listed(
     site: Site<'_>,
     kept: Kept,
     found: &Items<Found>,
-) -> Result<JobNext, AllocError> {
+) -> Result<JobNext, AllocError>
+    ensures { IfOk result (CollectsFirst site.entry kept found.now) }
+{
     match first_reading(alloc, site, &kept, found) {
         Ok(reading) => read_on(alloc, site, kept, reading),
         Err(error) => {
@@ -45,7 +64,11 @@ fn first_reading(
     site: Site<'_>,
     kept: &Kept,
     found: &Items<Found>,
-) -> Result<Reading, AllocError> {
+) -> Result<Reading, AllocError>
+    ensures found { IfOk result (λ reading. listing_of reading.found ≡ listing_of found.now) }
+    ensures left { IfOk result (λ reading. AreHeadsWanted (listing_of found.now) kept.now.inputs site.entry.tool.now.outputs (reverse reading.left)) }
+    ensures heads { IfOk result (λ reading. reading.heads ≡ []) }
+{
     Ok(Reading {
         left: names_left(alloc, site, kept, found.as_slice())?,
         found: listing_in(alloc, found)?,
@@ -59,7 +82,9 @@ fn names_left(
     site: Site<'_>,
     kept: &Kept,
     found: &[Found],
-) -> Result<Items<Text>, AllocError> {
+) -> Result<Items<Text>, AllocError>
+    ensures { IfOk result (λ left. AreHeadsWanted (listing_of found.now) kept.now.inputs site.entry.tool.now.outputs (reverse left)) }
+{
     match heads_wanted(alloc, site.tool, &kept.inputs, found) {
         Ok(wanted) => Ok(last_first(wanted)),
         Err(_) => Err(AllocError),
@@ -73,13 +98,18 @@ pub(crate) fn read(
     kept: Kept,
     mut reading: Reading,
     bytes: &Items<u8>,
-) -> Result<JobNext, AllocError> {
+) -> Result<JobNext, AllocError>
+    ensures { IfOk result (CollectsPast site.entry kept reading bytes.now) }
+{
     put_head(alloc, &mut reading, bytes)?;
     read_on(alloc, site, kept, reading)
 }
 
 /// Puts the first bytes of the file whose turn it is under its name.
-fn put_head(alloc: Global, reading: &mut Reading, bytes: &Items<u8>) -> Result<(), AllocError> {
+fn put_head(alloc: Global, reading: &mut Reading, bytes: &Items<u8>) -> Result<(), AllocError>
+    ensures puts { OnOk result (PutsNext reading.old.left reading.old.heads bytes.now reading.new.left reading.new.heads) }
+    ensures found { reading.new.found ≡ reading.old.found }
+{
     let bytes = Items::from_vec(bytes.as_slice().to_vec(alloc)?);
     put_next(&mut reading.left, &mut reading.heads, bytes)
 }
@@ -90,7 +120,9 @@ fn read_on(
     site: Site<'_>,
     kept: Kept,
     reading: Reading,
-) -> Result<JobNext, AllocError> {
+) -> Result<JobNext, AllocError>
+    ensures { IfOk result (Collects site.entry kept reading.found reading.heads (reverse reading.left)) }
+{
     match reading.left.as_slice() {
         [] => gathered_from(alloc, site, kept, reading),
         [.., name] => {
@@ -101,13 +133,17 @@ fn read_on(
 }
 
 /// Asks for the first bytes of a file of the output folder.
-fn head_of(alloc: Global, site: Site<'_>, name: &Text) -> Result<HostRequest, AllocError> {
+fn head_of(alloc: Global, site: Site<'_>, name: &Text) -> Result<HostRequest, AllocError>
+    ensures { IfOk result (λ asks. asks ≡ Call.Head (path_under (out_folder site.entry.options.now.work site.entry.folder) name.now) (limit_of name.now)) }
+{
     let folder = out_folder(alloc, &site.options.work, site.folder)?;
     let path = path_in(alloc, &folder, name)?;
     Ok(HostRequest::Head(path, head_limit(name.as_str())))
 }
 
-fn name_or_empty(name: &Option<Text>) -> &str {
+fn name_or_empty(name: &Option<Text>) -> &str
+    ensures { result.now ≡ unwrap_or name.now [] }
+{
     match name {
         None => "",
         Some(name) => name.as_str(),
@@ -119,7 +155,9 @@ fn gathered_from(
     site: Site<'_>,
     kept: Kept,
     reading: Reading,
-) -> Result<JobNext, AllocError> {
+) -> Result<JobNext, AllocError>
+    ensures { IfOk result (Gathers site.entry kept reading.found reading.heads) }
+{
     gathered(alloc, site, &kept, &reading)
 }
 
@@ -129,7 +167,9 @@ fn gathered(
     site: Site<'_>,
     kept: &Kept,
     reading: &Reading,
-) -> Result<JobNext, AllocError> {
+) -> Result<JobNext, AllocError>
+    ensures { IfOk result (Gathers site.entry kept.now reading.now.found reading.now.heads) }
+{
     let streams = StreamNames {
         stdout: name_or_empty(&kept.stdout),
         stderr: name_or_empty(&kept.stderr),

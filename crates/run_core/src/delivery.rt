@@ -1,4 +1,12 @@
 //! The result, once no job is left.
+ghost use Rattle.std.specs.Prelude.{◌≡◌, ◌≤◌, false, true, IfOk, length};
+ghost use Rattle.run_core.specs.inner.Course.{known_in};
+ghost use Rattle.run_core.specs.inner.Knows.{outputs_in};
+ghost use Rattle.run_core.specs.inner.Picks.{Delivers, DeliversFiles, delivered_in, sources_in};
+ghost use Rattle.run_core.specs.inner.Turn.{succeeds};
+ghost use Rattle.run_rules.specs.Delivered.{any_file, located};
+ghost use Rattle.run_rules.specs.Words.{last_by_name};
+ghost use Rattle.staging.specs.Plan.{IsPlan};
 
 use crate::choice::sources_of;
 use crate::fields::put;
@@ -25,7 +33,10 @@ pub(crate) fn delivery(
     alloc: Global,
     given: &Given<'_>,
     course: &Course<'_>,
-) -> Result<Turn, AllocError> {
+) -> Result<Turn, AllocError>
+    requires { length course.now.jobs.items ≤ length (known_in course.now.known) }
+    ensures { IfOk result (Delivers given.now course.now) }
+{
     let outputs = outputs_of(alloc, result_in(course))?;
     let Outputs { values, has_file } = outputs;
     if has_file {
@@ -36,19 +47,24 @@ pub(crate) fn delivery(
     Ok(succeeded(alloc, located?))
 }
 
-/// The outputs of the process.
-fn result_in<'s>(course: &'s Course<'_>) -> &'s [(Text, Value)] {
+/// The outputs of the process. They are there where no job is left, as `job_graph` says of an accepted process.
+fn result_in<'s>(course: &'s Course<'_>) -> &'s [(Text, Value)]
+    ensures { result.now ≡ outputs_in course.now.known }
+{
     match &course.known {
         None => &[],
         Some(unfolding) => match unfolding.result() {
-            None => unreachable!(),
+            None => &[],
             Some(outputs) => outputs,
         },
     }
 }
 
 /// The outputs by name.
-fn outputs_of(alloc: Global, outputs: &[(Text, Value)]) -> Result<Outputs, AllocError> {
+fn outputs_of(alloc: Global, outputs: &[(Text, Value)]) -> Result<Outputs, AllocError>
+    ensures values { IfOk result (λ found. found.values ≡ last_by_name outputs.now) }
+    ensures has_file { IfOk result (λ found. found.has_file ≡ any_file outputs.now) }
+{
     let mut values = Keyed::new(alloc);
     let mut found = false;
     for output in outputs {
@@ -63,7 +79,9 @@ fn outputs_of(alloc: Global, outputs: &[(Text, Value)]) -> Result<Outputs, Alloc
 }
 
 /// The output object, each file at its location.
-fn located(alloc: Global, values: &Keyed<Value>) -> Result<Value, AllocError> {
+fn located(alloc: Global, values: &Keyed<Value>) -> Result<Value, AllocError>
+    ensures { IfOk result (λ value. value ≡ located values.now) }
+{
     Ok(Value::Fields(moved_fields(alloc, Way::Located, values)?))
 }
 
@@ -73,7 +91,10 @@ fn delivering(
     given: &Given<'_>,
     course: &Course<'_>,
     outputs: Keyed<Value>,
-) -> Result<Turn, AllocError> {
+) -> Result<Turn, AllocError>
+    requires { length course.now.jobs.items ≤ length (known_in course.now.known) }
+    ensures { IfOk result (DeliversFiles given.now course.now outputs) }
+{
     let plan = plan_of(alloc, given, course, outputs)?;
     let located = located(alloc, &plan.value)?;
     Ok(waiting(
@@ -89,14 +110,19 @@ fn plan_of(
     given: &Given<'_>,
     course: &Course<'_>,
     outputs: Keyed<Value>,
-) -> Result<StagePlan, AllocError> {
-    let files = sources_of(alloc, &given.options.work, course, &outputs);
+) -> Result<StagePlan, AllocError>
+    requires { length course.now.jobs.items ≤ length (known_in course.now.known) }
+    ensures { IfOk result (IsPlan true given.now.options.outdir (sources_in given.now.options course.now outputs)) }
+{
+    let files = sources_of(alloc, &given.options, course, &outputs);
     mem::drop(outputs);
     deliver_plan(alloc, &files?, given.options.outdir.as_str())
 }
 
 /// The result's files are where they are wanted: the outputs that name them are the end.
-pub(crate) fn delivered(alloc: Global, phase: &mut Phase) -> Turn {
+pub(crate) fn delivered(alloc: Global, phase: &mut Phase) -> Turn
+    ensures { result ≡ succeeds (delivered_in phase.old) }
+{
     let outputs = match phase {
         Phase::Delivering(outputs) => mem::replace(outputs, Value::Null),
         _ => Value::Null,

@@ -1,4 +1,12 @@
 //! The input files are measured before anything else, and then the first jobs are known.
+ghost use Rattle.std.specs.Prelude.{◌≡◌, [], OnErr, OnOk, IfOk, None, length, reverse};
+ghost use Rattle.job_graph.specs.Equations.{walker};
+ghost use Rattle.job_graph.specs.Paths.{input_paths};
+ghost use Rattle.run_core.specs.inner.Course.{nothing_past, past_of};
+ghost use Rattle.run_core.specs.inner.Knows.{IsUnfolded};
+ghost use Rattle.run_core.specs.inner.Measures.{Begins, MeasuresOn, TakesMeasure};
+ghost use Rattle.run_core.specs.inner.Parts.{measuring_in};
+ghost use Rattle.run_core.specs.inner.Turns.{PutsNext};
 
 use crate::choice::pick;
 use crate::course::{end_by, settle};
@@ -17,7 +25,9 @@ pub(crate) fn begun<'a>(
     alloc: Global,
     given: &Given<'a>,
     course: &mut Course<'a>,
-) -> Result<Turn, AllocError> {
+) -> Result<Turn, AllocError>
+    ensures { IfOk result (λ turn. Begins given.now course.old turn course.new) }
+{
     let paths = input_paths(alloc, given.process, given.inputs)?;
     let measuring = Measuring {
         left: last_first(paths),
@@ -33,7 +43,9 @@ pub(crate) fn measured<'a>(
     course: &mut Course<'a>,
     phase: &mut Phase,
     measure: &Measure,
-) -> Result<Turn, AllocError> {
+) -> Result<Turn, AllocError>
+    ensures { IfOk result (λ turn. TakesMeasure given.now course.old (measuring_in phase.old) measure.now turn course.new) }
+{
     let mut measuring = measuring_in(alloc, phase);
     put_measure(alloc, &mut measuring, measure)?;
     measure_on(alloc, given, course, measuring)
@@ -43,7 +55,9 @@ fn put_measure(
     alloc: Global,
     measuring: &mut Measuring,
     measure: &Measure,
-) -> Result<(), AllocError> {
+) -> Result<(), AllocError>
+    ensures { OnOk result (PutsNext measuring.old.left measuring.old.measures measure.now measuring.new.left measuring.new.measures) }
+{
     let measure = measure.clone_in(alloc)?;
     put_next(&mut measuring.left, &mut measuring.measures, measure)
 }
@@ -54,7 +68,9 @@ fn measure_on<'a>(
     given: &Given<'a>,
     course: &mut Course<'a>,
     measuring: Measuring,
-) -> Result<Turn, AllocError> {
+) -> Result<Turn, AllocError>
+    ensures { IfOk result (λ turn. MeasuresOn given.now course.old measuring turn course.new) }
+{
     match measuring.left.as_slice() {
         [] => {
             let Measuring { left: _, measures } = measuring;
@@ -78,7 +94,10 @@ fn know<'a>(
     given: &Given<'a>,
     course: &mut Course<'a>,
     measures: Keyed<Measure>,
-) -> Result<(), AllocError> {
+) -> Result<(), AllocError>
+    ensures is { OnOk result (IsUnfolded (walker given.now.process.now given.now.inputs.now measures) [] course.old course.new) }
+    ensures past { OnErr result (past_of course.new ≡ past_of course.old) }
+{
     match Unfolding::new(alloc, given.process, given.inputs, measures) {
         Ok(unfolding) => {
             course.known = Some(unfolding);

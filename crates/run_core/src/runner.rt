@@ -1,3 +1,20 @@
+ghost use Rattle.std.specs.Prelude.{◌≡◌, ◌≢◌, ◌↔◌, ◌+◌, ◌<◌, ◌≤◌, ◌∷◌, ◌++◌, [], None, Err, IfOk, IfErr, OnOk, vec_len, vec_capacity};
+ghost use Rattle.proc_host.specs.declared.call.HostRequest.{HostRequest};
+ghost use Rattle.run_rules.specs.declared.outcome.RunFault.{RunFault};
+ghost use Rattle.run_rules.specs.declared.request.Request.{Request};
+ghost use Rattle.run_rules.specs.Answers.{MayAnswer, flying_after};
+ghost use Rattle.run_rules.specs.Blame.{BlamesRightly};
+ghost use Rattle.run_rules.specs.Reports.{entries_of, Concludes};
+ghost use Rattle.run_rules.specs.Words.{JobPlace};
+ghost use Rattle.run_core.specs.declared.state.Phase.{Phase};
+ghost use Rattle.run_core.specs.Core.{setting_of, transcript, asked, flying, IsLost, IsEnded, Stands, MayAsk, Begins, Took};
+ghost use Rattle.run_core.specs.Limits.{IsWithinLimits};
+ghost use Rattle.run_core.specs.inner.Course.{past_of};
+ghost use Rattle.run_core.specs.inner.Follows.{AsksIn, HasPairs, IsReady, MakesRoom, Moves, told_of};
+ghost use Rattle.run_core.specs.inner.Measures.{Begins as BeginsAt};
+ghost use Rattle.run_core.specs.inner.Standing.{HasRoom};
+ghost use Rattle.workflow_check.specs.Checked.{fault_in};
+
 use crate::course::at_first;
 use crate::measuring::begun;
 use crate::state::{Course, Given, Phase, Turn};
@@ -29,7 +46,12 @@ impl<'a> RunCore<'a> {
         process: &'a Process,
         inputs: &'a Keyed<Value>,
         options: Options,
-    ) -> Result<RunCore<'a>, RunFault> {
+    ) -> Result<RunCore<'a>, RunFault>
+        requires accepted { fault_in process.now ≡ None }
+        requires limits { IsWithinLimits options }
+        ensures ok { IfOk result (λ core. Begins process.now inputs.now options core) }
+        ensures err { IfErr result (λ fault. fault ≡ RunFault.OutOfMemory) }
+    {
         let mut core = RunCore {
             alloc,
             given: Given {
@@ -41,7 +63,13 @@ impl<'a> RunCore<'a> {
             course: at_first(alloc),
             turn: ended(Err(RunFault::OutOfMemory)),
         };
-        match core.start() {
+        match start(
+            alloc,
+            &core.given,
+            &mut core.pairs,
+            &mut core.course,
+            &mut core.turn,
+        ) {
             Ok(()) => Ok(core),
             Err(AllocError) => {
                 mem::drop(core);
@@ -50,27 +78,30 @@ impl<'a> RunCore<'a> {
         }
     }
 
-    /// Comes to the first state, with room for one pair.
-    fn start(&mut self) -> Result<(), AllocError> {
-        self.pairs.reserve(1)?;
-        let turn = begun(self.alloc, &self.given, &mut self.course)?;
-        mem::drop(mem::replace(&mut self.turn, turn));
-        Ok(())
-    }
-
     /// What it asks now, which may be asked after the run so far; `Finished` where it has ended.
-    pub fn next(&self) -> &Request {
+    pub fn next(&self) -> &Request
+        requires { Stands self.now }
+        ensures asked { result.now ≡ asked self.now }
+        ensures flying { (place : JobPlace) → asked self.now ≡ Request.Host place HostRequest.Collect → flying self.now ≢ [] }
+        ensures allowed { asked self.now ≢ Request.Finished → MayAsk self.now }
+    {
         &self.turn.asks
     }
 
     /// The tickets of the children in flight, while it asks something.
-    pub fn in_flight(&self) -> &[u64] {
+    pub fn in_flight(&self) -> &[u64]
+        ensures { result.now ≡ flying self.now }
+    {
         self.course.tickets.as_slice()
     }
 
     /// Takes the answer to what it asks. Where memory runs out for what comes next, the pair is kept, the children in
     /// flight are waited for, and nothing else is asked; once none is in flight it answers so, and `finish` says so too.
-    pub fn take(&mut self, answer: Answer) -> Result<(), RunFault> {
+    pub fn take(&mut self, answer: Answer) -> Result<(), RunFault>
+        requires stands { Stands self.old }
+        requires answers { MayAnswer (flying self.old) (asked self.old) answer }
+        ensures { Took self.old answer result self.new }
+    {
         let request = step(
             self.alloc,
             &self.given,
@@ -84,7 +115,13 @@ impl<'a> RunCore<'a> {
     }
 
     /// What came of the run, where it has ended.
-    pub fn finish(self) -> Result<Report, RunFault> {
+    pub fn finish(self) -> Result<Report, RunFault>
+        requires stands { Stands self }
+        requires finished { asked self ≡ Request.Finished }
+        ensures concluded { Concludes (setting_of self) (transcript self) result }
+        ensures faults { IfErr result (BlamesRightly (entries_of (transcript self))) }
+        ensures lost { (result ≡ Err RunFault.OutOfMemory) ↔ IsLost self }
+    {
         let mut core = self;
         let phase = mem::replace(&mut core.turn.phase, Phase::Collecting);
         mem::drop(core);
@@ -92,10 +129,31 @@ impl<'a> RunCore<'a> {
     }
 
     /// Leaves the run as it is, since memory ran out somewhere else.
-    pub fn abandon(self) -> Result<Report, RunFault> {
+    pub fn abandon(self) -> Result<Report, RunFault>
+        requires { Stands self }
+        ensures concluded { Concludes (setting_of self) (transcript self) result }
+        ensures memory { result ≡ Err RunFault.OutOfMemory }
+    {
         mem::drop(self);
         Err(RunFault::OutOfMemory)
     }
+}
+
+/// Comes to the first state, with room for one pair and one more.
+fn start<'a>(
+    alloc: Global,
+    given: &Given<'a>,
+    pairs: &mut Vec<Pair>,
+    course: &mut Course<'a>,
+    turn: &mut Turn,
+) -> Result<(), AllocError>
+    ensures items { pairs.new.items ≡ pairs.old.items }
+    ensures room { OnOk result (vec_len pairs.new + 2 ≤ vec_capacity pairs.new) }
+    ensures begins { OnOk result (BeginsAt given.now course.old turn.new course.new) }
+{
+    pairs.reserve(2)?;
+    mem::drop(mem::replace(turn, begun(alloc, given, course)?));
+    Ok(())
 }
 
 /// Moves to the state that follows from the answer, and gives back what was asked.
@@ -105,7 +163,14 @@ fn step<'a>(
     course: &mut Course<'a>,
     turn: &mut Turn,
     answer: &Answer,
-) -> Request {
+) -> Request
+    requires answers { MayAnswer course.old.tickets.items turn.old.asks answer.now }
+    requires asks { AsksIn course.old turn.old }
+    requires room { HasRoom course.old turn.old.phase }
+    requires ready { IsReady course.old }
+    ensures asked { result ≡ turn.old.asks }
+    ensures moved { Moves given.now course.old turn.old answer.now turn.new course.new }
+{
     let next = next_turn(alloc, given, course, turn, answer);
     let asked = mem::replace(&mut turn.asks, Request::Finished);
     mem::drop(mem::replace(turn, next));
@@ -119,7 +184,14 @@ fn next_turn<'a>(
     course: &mut Course<'a>,
     turn: &mut Turn,
     answer: &Answer,
-) -> Turn {
+) -> Turn
+    requires answers { MayAnswer course.old.tickets.items turn.old.asks answer.now }
+    requires asks { AsksIn course.old turn.old }
+    requires room { HasRoom course.old turn.old.phase }
+    requires ready { IsReady course.old }
+    ensures asked { turn.new.asks ≡ turn.old.asks }
+    ensures moved { Moves given.now course.old turn.old answer.now result course.new }
+{
     match follows(alloc, given, course, turn, answer) {
         Ok(next) => next,
         Err(AllocError) => lost(alloc, course),
@@ -127,13 +199,22 @@ fn next_turn<'a>(
 }
 
 /// Adds a pair where there is room for it.
-fn note(pairs: &mut Vec<Pair>, request: Request, answer: Answer) {
+fn note(pairs: &mut Vec<Pair>, request: Request, answer: Answer)
+    requires { vec_len pairs.old < vec_capacity pairs.old }
+    ensures items { pairs.new.items ≡ pairs.old.items ++ record { request = request; answer = answer } ∷ [] }
+    ensures len { vec_len pairs.new ≡ vec_len pairs.old + 1 }
+    ensures room { vec_capacity pairs.old ≤ vec_capacity pairs.new }
+{
     pairs.push(Pair { request, answer }).unwrap();
 }
 
 /// Makes room for the pairs that come next: the answer to what is asked, and the end of each child in flight. Where
 /// there is none, nothing but those ends is asked for, and they have room.
-fn make_room(alloc: Global, pairs: &mut Vec<Pair>, course: &Course<'_>, turn: &mut Turn) {
+fn make_room(alloc: Global, pairs: &mut Vec<Pair>, course: &Course<'_>, turn: &mut Turn)
+    requires { HasPairs (vec_len pairs.old) (vec_capacity pairs.old) (past_of course.now) turn.old }
+    ensures items { pairs.new.items ≡ pairs.old.items }
+    ensures room { MakesRoom (vec_len pairs.new) (vec_capacity pairs.new) (past_of course.now) turn.old turn.new }
+{
     match turn.phase {
         Phase::Draining | Phase::Ended(_) => return,
         _ => {}
@@ -146,7 +227,9 @@ fn make_room(alloc: Global, pairs: &mut Vec<Pair>, course: &Course<'_>, turn: &m
 }
 
 /// What `take` answers: whether memory ran out and no child is in flight.
-fn told_of(phase: &Phase) -> Result<(), RunFault> {
+fn told_of(phase: &Phase) -> Result<(), RunFault>
+    ensures { result ≡ told_of phase.now }
+{
     match phase {
         Phase::Ended(Err(RunFault::OutOfMemory)) => Err(RunFault::OutOfMemory),
         _ => Ok(()),
@@ -154,7 +237,10 @@ fn told_of(phase: &Phase) -> Result<(), RunFault> {
 }
 
 /// What `finish` answers, at the end.
-fn outcome_of(phase: Phase) -> Result<Report, RunFault> {
+fn outcome_of(phase: Phase) -> Result<Report, RunFault>
+    requires { IsEnded phase }
+    ensures { phase ≡ Phase.Ended result }
+{
     match phase {
         Phase::Ended(outcome) => outcome,
         _ => unreachable!(),

@@ -1,4 +1,13 @@
 //! What comes of a job once it is staged, until its child is asked for.
+ghost use Rattle.std.specs.Prelude.{◌≡◌, [], IfErr, IfOk, OnOk, reverse};
+ghost use Rattle.command_line.specs.Launch.{IsError, IsLaunch};
+ghost use Rattle.input_files.specs.Contents.{heads_wanted as wanted_heads};
+ghost use Rattle.proc_host.specs.declared.call.HostRequest.{HostRequest as Call};
+ghost use Rattle.run_core.specs.declared.state.JobNext.{JobNext as Next};
+ghost use Rattle.run_core.specs.declared.state.JobPhase.{JobPhase as InPhase};
+ghost use Rattle.run_core.specs.inner.Due.{Launches, Starts, StartsPast, kept_of};
+ghost use Rattle.run_core.specs.inner.Turns.{PutsNext};
+ghost use Rattle.run_rules.specs.Folders.{runtime_of};
 
 use crate::Cause;
 use crate::folders::runtime_of;
@@ -18,7 +27,9 @@ pub(crate) fn filled_first(
     alloc: Global,
     site: Site<'_>,
     staged: &Keyed<Value>,
-) -> Result<JobNext, AllocError> {
+) -> Result<JobNext, AllocError>
+    ensures { IfOk result (λ next. Starts site.entry staged.now [] (wanted_heads site.entry.tool.now.inputs staged.now) next) }
+{
     let filling = first_filling(alloc, site, staged)?;
     fill_on(alloc, site, filling)
 }
@@ -27,7 +38,11 @@ fn first_filling(
     alloc: Global,
     site: Site<'_>,
     staged: &Keyed<Value>,
-) -> Result<Filling, AllocError> {
+) -> Result<Filling, AllocError>
+    ensures staged { IfOk result (λ filling. filling.staged ≡ staged.now) }
+    ensures left { IfOk result (λ filling. filling.left ≡ reverse (wanted_heads site.entry.tool.now.inputs staged.now)) }
+    ensures heads { IfOk result (λ filling. filling.heads ≡ []) }
+{
     let wanted = heads_wanted(alloc, site.tool.inputs.as_slice(), staged)?;
     Ok(Filling {
         left: last_first(wanted),
@@ -42,18 +57,25 @@ pub(crate) fn filled(
     site: Site<'_>,
     mut filling: Filling,
     bytes: &Items<u8>,
-) -> Result<JobNext, AllocError> {
+) -> Result<JobNext, AllocError>
+    ensures { IfOk result (StartsPast site.entry filling bytes.now) }
+{
     put_contents(alloc, &mut filling, bytes)?;
     fill_on(alloc, site, filling)
 }
 
-fn put_contents(alloc: Global, filling: &mut Filling, bytes: &Items<u8>) -> Result<(), AllocError> {
+fn put_contents(alloc: Global, filling: &mut Filling, bytes: &Items<u8>) -> Result<(), AllocError>
+    ensures puts { OnOk result (PutsNext filling.old.left filling.old.heads bytes.now filling.new.left filling.new.heads) }
+    ensures staged { filling.new.staged ≡ filling.old.staged }
+{
     let bytes = Items::from_vec(bytes.as_slice().to_vec(alloc)?);
     put_next(&mut filling.left, &mut filling.heads, bytes)
 }
 
 /// The next input file's contents are read; where all are, the job is started.
-fn fill_on(alloc: Global, site: Site<'_>, filling: Filling) -> Result<JobNext, AllocError> {
+fn fill_on(alloc: Global, site: Site<'_>, filling: Filling) -> Result<JobNext, AllocError>
+    ensures { IfOk result (λ next. Starts site.entry filling.staged filling.heads (reverse filling.left) next) }
+{
     match filling.left.as_slice() {
         [] => inputs_filled(alloc, site, filling),
         [.., path] => {
@@ -64,7 +86,10 @@ fn fill_on(alloc: Global, site: Site<'_>, filling: Filling) -> Result<JobNext, A
 }
 
 /// The job is started on these inputs, or there is a fault of their contents.
-fn inputs_filled(alloc: Global, site: Site<'_>, filling: Filling) -> Result<JobNext, AllocError> {
+fn inputs_filled(alloc: Global, site: Site<'_>, filling: Filling) -> Result<JobNext, AllocError>
+    requires { filling.left ≡ [] }
+    ensures { IfOk result (λ next. Starts site.entry filling.staged filling.heads [] next) }
+{
     let Filling {
         staged,
         left: _,
@@ -80,7 +105,9 @@ fn inputs_filled(alloc: Global, site: Site<'_>, filling: Filling) -> Result<JobN
 }
 
 /// The job is started by its launch, or has none.
-fn launched(alloc: Global, site: Site<'_>, inputs: Keyed<Value>) -> Result<JobNext, AllocError> {
+fn launched(alloc: Global, site: Site<'_>, inputs: Keyed<Value>) -> Result<JobNext, AllocError>
+    ensures { IfOk result (Launches site.entry inputs) }
+{
     match launch_of(alloc, site, &inputs) {
         Ok(launch) => starting(alloc, launch, inputs),
         Err(BuildError::Refused(fault)) => {
@@ -94,19 +121,26 @@ fn launched(alloc: Global, site: Site<'_>, inputs: Keyed<Value>) -> Result<JobNe
     }
 }
 
-fn launch_of(alloc: Global, site: Site<'_>, inputs: &Keyed<Value>) -> Result<Launch, BuildError> {
+fn launch_of(alloc: Global, site: Site<'_>, inputs: &Keyed<Value>) -> Result<Launch, BuildError>
+    ensures ok { IfOk result (IsLaunch site.entry.tool.now inputs.now (runtime_of site.entry.options.now site.entry.folder)) }
+    ensures err { IfErr result (IsError site.entry.tool.now inputs.now (runtime_of site.entry.options.now site.entry.folder)) }
+{
     let runtime = runtime_of(alloc, site.options, site.folder)?;
     build(alloc, site.tool, inputs, &runtime)
 }
 
 /// The child is to be started.
-fn starting(alloc: Global, launch: Launch, inputs: Keyed<Value>) -> Result<JobNext, AllocError> {
+fn starting(alloc: Global, launch: Launch, inputs: Keyed<Value>) -> Result<JobNext, AllocError>
+    ensures { IfOk result (λ next. next ≡ Next.Asks (Call.Start launch) (InPhase.Starting (kept_of inputs launch))) }
+{
     let kept = kept_of(alloc, &launch, inputs)?;
     Ok(JobNext::Asks(HostRequest::Start(launch), JobPhase::Starting(kept)))
 }
 
 /// What is kept of a job: its inputs, and the names of the files that take its child's streams.
-fn kept_of(alloc: Global, launch: &Launch, inputs: Keyed<Value>) -> Result<Kept, AllocError> {
+fn kept_of(alloc: Global, launch: &Launch, inputs: Keyed<Value>) -> Result<Kept, AllocError>
+    ensures { IfOk result (λ kept. kept ≡ kept_of inputs launch.now) }
+{
     Ok(Kept {
         inputs,
         stdout: copied(alloc, &launch.stdout)?,
@@ -114,7 +148,9 @@ fn kept_of(alloc: Global, launch: &Launch, inputs: Keyed<Value>) -> Result<Kept,
     })
 }
 
-fn copied(alloc: Global, name: &Option<Text>) -> Result<Option<Text>, AllocError> {
+fn copied(alloc: Global, name: &Option<Text>) -> Result<Option<Text>, AllocError>
+    ensures { IfOk result (λ copy. copy ≡ name.now) }
+{
     match name {
         None => Ok(None),
         Some(name) => Ok(Some(name.copied(alloc)?)),

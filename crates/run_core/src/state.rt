@@ -64,8 +64,8 @@ pub(crate) enum JobPhase {
     Filling(Filling),
     /// Its child's ticket.
     Starting(Kept),
-    /// The entries of its output folder.
-    Scanning(Kept),
+    /// The entries of its output folder; its child ran for so many milliseconds.
+    Scanning(Kept, u64),
     /// The first bytes of one of these output files.
     Reading(Kept, Reading),
 }

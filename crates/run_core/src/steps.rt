@@ -1,4 +1,15 @@
 //! What the machine waits for after each answer.
+ghost use Rattle.std.specs.Prelude.{◌≡◌, ◌<◌, ◌∷◌, ◌++◌, [], Contains, IfOk, OnErr, length};
+ghost use Rattle.proc_host.specs.Tickets.{without};
+ghost use Rattle.proc_host.specs.declared.call.HostRequest.{HostRequest};
+ghost use Rattle.run_core.specs.declared.state.JobNext.{JobNext};
+ghost use Rattle.run_core.specs.declared.state.JobPhase.{JobPhase};
+ghost use Rattle.run_core.specs.inner.Course.{known_in, past_of};
+ghost use Rattle.run_core.specs.inner.Follows.{AfterBytes, AfterFailure, AsksIn, Drains, FollowsFrom, IsReady};
+ghost use Rattle.run_core.specs.inner.Parts.{job_in, kept_in};
+ghost use Rattle.run_core.specs.inner.Picks.{AfterChild, AfterListing, AfterStaging, AfterStart, AfterTemporary, IsSite, Turns};
+ghost use Rattle.run_core.specs.inner.Standing.{HasRoom};
+ghost use Rattle.run_rules.specs.Answers.{MayAnswer, flying_after};
 
 use crate::choice::{pick, staging};
 use crate::collects::{listed, read, scanning};
@@ -27,7 +38,16 @@ pub(crate) fn follows<'a>(
     course: &mut Course<'a>,
     turn: &mut Turn,
     answer: &Answer,
-) -> Result<Turn, AllocError> {
+) -> Result<Turn, AllocError>
+    requires answers { MayAnswer course.old.tickets.items turn.old.asks answer.now }
+    requires asks { AsksIn course.old turn.old }
+    requires room { HasRoom course.old turn.old.phase }
+    requires ready { IsReady course.old }
+    ensures next { IfOk result (λ next. FollowsFrom given.now course.old turn.old answer.now next course.new) }
+    ensures room { IfOk result (λ next. HasRoom course.new next.phase) }
+    ensures memory { OnErr result (course.new.tickets.items ≡ flying_after course.old.tickets.items answer.now) }
+    ensures asked { turn.new.asks ≡ turn.old.asks }
+{
     let Answer::Host(answer) = answer;
     match answer {
         HostAnswer::Done => match &turn.asks {
@@ -49,7 +69,11 @@ pub(crate) fn follows<'a>(
 }
 
 /// A job in the folders that it was staged in last.
-fn site_of<'s>(given: &'s Given<'_>, course: &'s Course<'_>, number: usize) -> Site<'s> {
+fn site_of<'s>(given: &'s Given<'_>, course: &'s Course<'_>, number: usize) -> Site<'s>
+    requires number { number < length course.now.jobs.items }
+    requires known { number < length (known_in course.now.known) }
+    ensures { IsSite given.now course.now number result.entry }
+{
     Site {
         tool: job_of(course, number).tool,
         folder: course.jobs[number].folder,
@@ -64,7 +88,13 @@ fn turn_of(
     course: &mut Course<'_>,
     number: usize,
     next: JobNext,
-) -> Result<Turn, AllocError> {
+) -> Result<Turn, AllocError>
+    requires ready { IsReady course.old }
+    requires number { number < length (known_in course.old.known) }
+    ensures is { IfOk result (λ turn. Turns given.now course.old number next turn course.new) }
+    ensures asks { (call : HostRequest) → (phase : JobPhase) → next ≡ JobNext.Asks call phase → course.new ≡ course.old }
+    ensures flying { OnErr result (course.new.tickets.items ≡ course.old.tickets.items) }
+{
     match next {
         JobNext::Asks(request, phase) => {
             working(alloc, &job_of(course, number).place, number, request, phase)
@@ -87,7 +117,11 @@ fn staged(
     course: &mut Course<'_>,
     number: usize,
     inputs: &Keyed<Value>,
-) -> Result<Turn, AllocError> {
+) -> Result<Turn, AllocError>
+    requires ready { IsReady course.old }
+    ensures is { IfOk result (λ turn. AfterStaging given.now course.old number inputs.now turn course.new) }
+    ensures flying { OnErr result (course.new.tickets.items ≡ course.old.tickets.items) }
+{
     note_staging(course, number);
     let next = filled_first(alloc, site_of(given, course, number), inputs)?;
     turn_of(alloc, given, course, number, next)
@@ -100,7 +134,11 @@ fn started(
     course: &mut Course<'_>,
     phase: &mut Phase,
     ticket: u64,
-) -> Result<Turn, AllocError> {
+) -> Result<Turn, AllocError>
+    requires ready { IsReady course.old }
+    ensures is { IfOk result (λ turn. AfterStart given.now course.old (job_in phase.old) (kept_in phase.old) ticket turn course.new) }
+    ensures flying { OnErr result (course.new.tickets.items ≡ course.old.tickets.items ++ ticket ∷ []) }
+{
     let kept = kept_in(alloc, phase);
     note_start(course, job_in(phase), kept, ticket);
     pick(alloc, given, course)
@@ -112,10 +150,15 @@ fn landed(
     given: &Given<'_>,
     course: &mut Course<'_>,
     ending: &ChildEnd,
-) -> Result<Turn, AllocError> {
+) -> Result<Turn, AllocError>
+    requires ready { IsReady course.old }
+    requires flies { Contains course.old.tickets.items ending.now.ticket }
+    ensures is { IfOk result (λ turn. AfterChild given.now course.old ending.now turn course.new) }
+    ensures flying { OnErr result (course.new.tickets.items ≡ without ending.now.ticket course.old.tickets.items) }
+{
     let Flight { job, kept } = note_end(course, ending.ticket);
     let next = match classify(&job_of(course, job).tool.exit_codes, ending.code) {
-        ExitClass::Success => scanning(alloc, site_of(given, course, job), kept)?,
+        ExitClass::Success => scanning(alloc, site_of(given, course, job), kept, ending.millis)?,
         ExitClass::Temporary => {
             mem::drop(kept);
             return gave_up(alloc, given, course, job);
@@ -135,7 +178,12 @@ fn gave_up(
     given: &Given<'_>,
     course: &mut Course<'_>,
     number: usize,
-) -> Result<Turn, AllocError> {
+) -> Result<Turn, AllocError>
+    requires ready { IsReady course.old }
+    requires number { number < length course.old.jobs.items }
+    ensures is { IfOk result (λ turn. AfterTemporary given.now course.old number turn course.new) }
+    ensures flying { OnErr result (course.new.tickets.items ≡ course.old.tickets.items) }
+{
     if note_giving_up(alloc, course, number, given.options.retries)? {
         return staging(alloc, given, course, number);
     }
@@ -149,7 +197,11 @@ fn on_listing(
     course: &mut Course<'_>,
     phase: &mut Phase,
     found: &Items<Found>,
-) -> Result<Turn, AllocError> {
+) -> Result<Turn, AllocError>
+    requires ready { IsReady course.old }
+    ensures is { IfOk result (λ turn. AfterListing given.now course.old (job_in phase.old) (kept_in phase.old) found.now turn course.new) }
+    ensures flying { OnErr result (course.new.tickets.items ≡ course.old.tickets.items) }
+{
     let number = job_in(phase);
     let kept = kept_in(alloc, phase);
     let next = listed(alloc, site_of(given, course, number), kept, found)?;
@@ -163,7 +215,11 @@ fn on_bytes(
     course: &mut Course<'_>,
     phase: &mut Phase,
     bytes: &Items<u8>,
-) -> Result<Turn, AllocError> {
+) -> Result<Turn, AllocError>
+    requires ready { IsReady course.old }
+    ensures is { IfOk result (λ turn. AfterBytes given.now course.old phase.old bytes.now turn course.new) }
+    ensures flying { OnErr result (course.new.tickets.items ≡ course.old.tickets.items) }
+{
     let number = job_in(phase);
     let site = site_of(given, course, number);
     let next = match phase {
@@ -185,7 +241,11 @@ fn failed(
     course: &mut Course<'_>,
     turn: &Turn,
     fault: HostFault,
-) -> Result<Turn, AllocError> {
+) -> Result<Turn, AllocError>
+    requires ready { IsReady course.old }
+    ensures is { IfOk result (λ next. AfterFailure given.now course.old turn.now fault next course.new) }
+    ensures flying { OnErr result (course.new.tickets.items ≡ course.old.tickets.items) }
+{
     match turn.phase {
         Phase::Collecting => {
             let running = mem::replace(&mut course.tickets, Vec::new(alloc));
@@ -203,7 +263,10 @@ fn failed(
 }
 
 /// A child has ended after memory ran out.
-fn drained(alloc: Global, course: &mut Course<'_>, ending: &ChildEnd) -> Turn {
+fn drained(alloc: Global, course: &mut Course<'_>, ending: &ChildEnd) -> Turn
+    requires flies { Contains course.old.tickets.items ending.now.ticket }
+    ensures { Drains course.old ending.now result course.new }
+{
     mem::drop(note_end(course, ending.ticket));
     lost(alloc, course)
 }
