@@ -1,5 +1,5 @@
 -- What callers see of the machine.
-use Rattle.std.specs.Prelude.{◌≡◌, ◌≢◌, ℕ, ◌+◌, ◌<◌, ◌≤◌, List, [], ◌∷◌, ◌++◌, Result, Err, IfErr, OnOk, OnErr, vec_len, vec_capacity}
+use Rattle.std.specs.Prelude.{◌≡◌, ◌≢◌, ℕ, ◌+◌, ◌<◌, ◌≤◌, true, List, [], ◌∷◌, ◌++◌, None, Result, Err, IfErr, OnOk, OnErr, vec_len, vec_capacity}
 use Rattle.document_links.specs.declared.process.Process.{Process}
 use Rattle.plan_checker.specs.declared.plan.Mark.{Mark}
 use Rattle.run_rules.specs.declared.outcome.RunFault.{RunFault}
@@ -10,7 +10,7 @@ use Rattle.run_rules.specs.declared.setting.Options.{Options}
 use Rattle.run_rules.specs.declared.setting.Setting.{Setting}
 use Rattle.run_rules.specs.Allowed.{Allowed}
 use Rattle.run_rules.specs.Answers.{flying_after}
-use Rattle.run_rules.specs.Events.{Progress}
+use Rattle.run_rules.specs.Events.{Progress, are_measured, measures, resolved}
 use Rattle.run_rules.specs.Reports.{entries_of}
 use Rattle.run_rules.specs.Run.{IsRunSoFar}
 use Rattle.run_rules.specs.Scene.{scene_of}
@@ -25,6 +25,7 @@ use Rattle.run_core.specs.Limits.{IsWithinLimits}
 use Rattle.run_core.specs.inner.Attempts.{weight_of, weight_of_past}
 use Rattle.run_core.specs.inner.Course.{known_in, past_of}
 use Rattle.run_core.specs.inner.Keeps.{AreApart, Keeps}
+use Rattle.run_core.specs.inner.Knows.{IsKnown}
 use Rattle.run_core.specs.inner.Standing.{AreCollects, Blames, HasRoom, IsAt, IsLostAt, StillCollects, pairs_ahead}
 
 abbrev pub setting_in : Given → Setting
@@ -64,7 +65,9 @@ pub record IsOnRun (core : RunCore) : Type 0 where
   pub marks : List Mark
   pub goes : IsRunSoFar (setting_of core) core.pairs.items happened marks
   pub apart : AreApart (known_in core.course.known)
-  pub keeps : Keeps (scene_of (setting_of core)) happened.events (known_in core.course.known) (past_of core.course)
+  pub keeps : core.turn.asks ≢ Request.Finished → Keeps (scene_of (setting_of core)) happened.events (known_in core.course.known) (past_of core.course)
+  pub knows : core.turn.asks ≢ Request.Finished → core.course.end ≡ None → are_measured (scene_of (setting_of core)) happened.events ≡ true →
+      IsKnown ((scene_of (setting_of core)).walker (measures happened.events)) (resolved happened.events) core.course.known
   pub at : IsAt (scene_of (setting_of core)) happened marks (known_in core.course.known) (past_of core.course) core.turn
   pub collects : StillCollects happened.events core.turn
   pub room : HasRoom core.course core.turn.phase

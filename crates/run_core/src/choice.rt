@@ -15,7 +15,7 @@ use crate::folders::in_folder;
 use crate::places::{Sources, Way, moved_fields};
 use crate::state::{Course, Given, Phase, Turn};
 use crate::turn::{collecting, ended};
-use crate::{Options, Request, RunFault};
+use crate::{Options, Request};
 use cwl_value::{Value, copy_job};
 use plain_data::Keyed;
 use proc_host::HostRequest;
@@ -57,7 +57,7 @@ fn settled(alloc: Global, course: &mut Course<'_>) -> Turn
     }
     match mem::replace(&mut course.end, None) {
         Some(end) => ended(end),
-        None => ended(Err(RunFault::OutOfMemory)),
+        None => unreachable!(),
     }
 }
 

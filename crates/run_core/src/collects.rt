@@ -123,6 +123,8 @@ fn read_on(
 ) -> Result<JobNext, AllocError>
     ensures { IfOk result (Collects site.entry kept reading.found reading.heads (reverse reading.left)) }
 {
+    // That a list has fewer items than 2^64 is a fact of its type.
+    let _few = reading.left.len();
     match reading.left.as_slice() {
         [] => gathered_from(alloc, site, kept, reading),
         [.., name] => {

@@ -76,6 +76,8 @@ fn put_contents(alloc: Global, filling: &mut Filling, bytes: &Items<u8>) -> Resu
 fn fill_on(alloc: Global, site: Site<'_>, filling: Filling) -> Result<JobNext, AllocError>
     ensures { IfOk result (λ next. Starts site.entry filling.staged filling.heads (reverse filling.left) next) }
 {
+    // That a list has fewer items than 2^64 is a fact of its type.
+    let _few = filling.left.len();
     match filling.left.as_slice() {
         [] => inputs_filled(alloc, site, filling),
         [.., path] => {

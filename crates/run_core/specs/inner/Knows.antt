@@ -19,6 +19,10 @@ pub record Knows (walks : Walker) (learned : List Resolved) (kept : Unfolding) :
   pub fault : (unfolded walks learned).fault ≡ None
   pub outputs : option_map (λ named. named.items) kept.result ≡ (unfolded walks learned).result
 
+abbrev pub IsKnown : Walker → List Resolved → Option Unfolding → Type 0
+IsKnown walks learned None = ⊥
+IsKnown walks learned (Some kept) = Knows walks learned kept
+
 abbrev pub fault_of : UnfoldFault → Fault
 fault_of UnfoldFault.TooManyJobs = too_many_jobs
 fault_of (UnfoldFault.Fault place cause) = fault_at place cause
