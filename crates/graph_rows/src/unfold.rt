@@ -15,7 +15,7 @@ pub(crate) fn answer(alloc: Global, row: &Row) -> Result<String, RowFault> {
     let inputs = inputs(alloc, row)?;
     let mut out = AnswerText::new(alloc);
     out.put("[");
-    match Unfolding::new(alloc, &process, inputs) {
+    match Unfolding::new(alloc, &process, &inputs, Keyed::new(alloc)) {
         Ok(unfolding) => learn_all(alloc, row, &mut out, unfolding)?,
         Err(error) => put_error(alloc, &mut out, &error),
     }

@@ -10,7 +10,8 @@ use Rattle.cwl_value.specs.declared.value.DirVal.{DirVal}
 use Rattle.input_files.specs.Given.{Fields, files_in, files_among, own_file, with_file, with_files}
 use Rattle.input_files.specs.Beside.{file_beside}
 use Rattle.input_files.specs.Laws.{some_true, holds_files, UntouchedWithoutFiles}
-use Rattle.input_files.specs.Measured.{Measures, all_true, is_there, as_measured}
+use Rattle.input_files.specs.Measured.{Measures, is_there, as_measured}
+use Rattle.input_files.specs.Present.{all_true}
 use Rattle.input_files.specs.Paths.{Paths, joined, paths_of}
 
 no_left : (a b : Bool) → (a || b) ≡ false → a ≡ false

@@ -1,9 +1,13 @@
 pub mod Beside
+pub mod Carried
 pub mod Contents
 pub mod Given
 pub mod Inputs
 pub mod Laws
 pub mod Listing
 pub mod Measured
+pub mod Parameters
 pub mod Paths
+pub mod Present
 pub mod Refusals
+pub mod Taken

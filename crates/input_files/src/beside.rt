@@ -240,8 +240,8 @@ fn lacked(
     Ok(Some((name, beside)))
 }
 
-// The name that the pattern gives.
-fn name_beside(
+/// The name that the pattern gives.
+pub(crate) fn name_beside(
     alloc: Global,
     file: &FileVal,
     path: &str,
@@ -256,8 +256,8 @@ fn name_beside(
     Ok(Text::from_string(secondary_name(alloc, declared.pattern.as_str(), primary)?))
 }
 
-// Whether the File, or one that it carries, has this name.
-fn carries(file: &FileVal, name: &Text) -> bool
+/// Whether the File, or one that it carries, has this name.
+pub(crate) fn carries(file: &FileVal, name: &Text) -> bool
     ensures { result ≡ spec.carries file.now name.now }
 {
     let is_primary = match &file.basename {

@@ -122,8 +122,8 @@ fn measured_value(
     }
 }
 
-// A value as it was measured, with the files beside its Files.
-fn with_measures(
+/// A value as it was measured, with the files beside its Files.
+pub(crate) fn with_measures(
     alloc: Global,
     measures: &Keyed<Measure>,
     declared: &[SecondaryFile],
@@ -135,8 +135,13 @@ fn with_measures(
     all_beside(alloc, measures, declared, measured)
 }
 
-// Puts a value under a copy of a name.
-fn put(alloc: Global, named: &mut Keyed<Value>, name: &Text, value: Value) -> Result<(), AllocError>
+/// Puts a value under a copy of a name.
+pub(crate) fn put(
+    alloc: Global,
+    named: &mut Keyed<Value>,
+    name: &Text,
+    value: Value,
+) -> Result<(), AllocError>
     ensures { OnOk result (named.new ≡ with_value name.now value named.old) }
 {
     let name = name.copied(alloc)?;

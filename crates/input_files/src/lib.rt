@@ -11,6 +11,7 @@
 #![tactic(auto)]
 
 mod beside;
+mod carried;
 mod contents;
 mod fault;
 mod files;
@@ -20,11 +21,18 @@ mod laws;
 mod listing;
 mod measured;
 mod names;
+mod parameter;
 mod paths;
+mod present;
+mod taken;
 mod there;
 
 pub use contents::{MOST_CONTENTS, heads_wanted, with_contents};
 pub use fault::{ContentsError, ContentsFault, InputError, InputFault};
 pub use inputs::inputs_for;
 pub use laws::values_without_files_stay;
-pub use paths::input_paths;
+pub use measured::as_measured;
+pub use names::each_once;
+pub use parameter::Parameter;
+pub use paths::{input_paths, push_defaults, push_fields, push_root_inputs, push_value};
+pub use taken::{process_inputs, root_fields};

@@ -1,19 +1,23 @@
 //! Values whose Files and Directories are as they were measured.
-ghost use Rattle.std.specs.Prelude.{◌≡◌, IfOk, map};
+ghost use Rattle.std.specs.Prelude.{◌≡◌, IfOk, map, option_map, true};
+ghost use Rattle.std.specs.Option.{option_map_or};
 ghost use Rattle.plain_data.specs.ByName.{map_values};
 ghost use Rattle.cwl_value.specs.declared.value.FileVal.{out-FileVal};
 ghost use Rattle.input_files.specs.Measured as spec;
+ghost use Rattle.input_files.specs.Present.{all_true, is_present};
 
 use crate::listing::{checksum_of, values_below};
+use crate::present::are_present;
 use crate::there::measure_at;
 use cwl_value::{DirVal, FileVal, Place, Value};
 use plain_data::{Items, Keyed, Text};
 use staging::Measure;
 use std::alloc::{AllocError, Global};
 
-/// A copy of the value in which each File and Directory is as it was measured.
+/// A copy of the value, as the input object or a default has it, in which each File and Directory is as it was measured.
+/// What is absent has no sum and no listing.
 #[cycle(measured)]
-pub(crate) fn as_measured(
+pub fn as_measured(
     alloc: Global,
     measures: &Keyed<Measure>,
     value: &Value,
@@ -61,12 +65,10 @@ fn measured_dir(
 ) -> Result<DirVal, AllocError>
     ensures { IfOk result (λ d. d ≡ spec.dir_as_measured measures.now dir.now) }
 {
-    let listing = match found_listing(alloc, measures, &dir.place)? {
-        Some(found) => Some(found),
-        None => match &dir.listing {
-            None => None,
-            Some(items) => Some(measured_items(alloc, measures, items)?),
-        },
+    let listing = if are_listed_there(alloc, measures, &dir.listing)? {
+        found_listing(alloc, measures, &dir.place)?
+    } else {
+        None
     };
     let basename = copy_if_any(alloc, &dir.basename)?;
     Ok(DirVal {
@@ -74,6 +76,21 @@ fn measured_dir(
         basename,
         listing,
     })
+}
+
+// Whether all that a Directory lists is there.
+#[cycle(measured)]
+fn are_listed_there(
+    alloc: Global,
+    measures: &Keyed<Measure>,
+    listing: &Option<Items<Value>>,
+) -> Result<bool, AllocError>
+    ensures { IfOk result (λ are. are ≡ option_map_or (λ listed. all_true (map is_present listed)) (option_map (map (spec.as_measured measures.now)) listing.now) true) }
+{
+    match listing {
+        None => Ok(true),
+        Some(items) => Ok(are_present(&measured_items(alloc, measures, items)?)),
+    }
 }
 
 #[cycle(measured)]
@@ -107,17 +124,17 @@ fn measured_fields(
     Ok(Keyed::from_sorted(found))
 }
 
-// The checksum and the size: as measured, or else as they are.
+// The checksum and the size of what was measured; none where there is no file.
 fn sum_of(
     alloc: Global,
     measures: &Keyed<Measure>,
     file: &FileVal,
 ) -> Result<(Option<Text>, Option<u64>), AllocError>
-    ensures { IfOk result (λ sum. sum ≡ spec.sum_with (spec.measure_at measures.now (out-FileVal file.now).place) (out-FileVal file.now).checksum (out-FileVal file.now).size) }
+    ensures { IfOk result (λ sum. sum ≡ spec.sum_found (spec.measure_at measures.now (out-FileVal file.now).place)) }
 {
     match measure_at(measures, &file.place) {
         Some(Measure::File { size, sum }) => Ok((Some(checksum_of(alloc, sum)?), Some(*size))),
-        _ => Ok((copy_if_any(alloc, &file.checksum)?, file.size)),
+        _ => Ok((None, None)),
     }
 }
 

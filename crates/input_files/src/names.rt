@@ -76,7 +76,7 @@ fn has_slash(name: &str) -> bool
 }
 
 /// Each name once, where it stands first.
-pub(crate) fn each_once(alloc: Global, names: &[Text]) -> Result<Items<Text>, AllocError>
+pub fn each_once(alloc: Global, names: &[Text]) -> Result<Items<Text>, AllocError>
     ensures { IfOk result (λ once. once ≡ each_once names.now) }
 {
     let mut seen = BTreeSet::new(alloc);

@@ -5,6 +5,7 @@ ghost use Rattle.input_files.specs.Paths as spec;
 
 use crate::beside::push_looked_for;
 use crate::names::each_once;
+use crate::parameter::Parameter;
 use cwl_process::ToolInput;
 use cwl_value::{DirVal, FileVal, Place, Value};
 use plain_data::{Items, Keyed, Text};
@@ -21,34 +22,64 @@ pub fn input_paths(
 {
     let mut paths = Items::new(alloc);
     push_fields(alloc, given, &mut paths)?;
-    for input in inputs {
-        push_input(alloc, given, input, &mut paths)?;
-    }
+    push_root_inputs(alloc, inputs, given, &mut paths)?;
     each_once(alloc, paths.as_slice())
 }
 
-// What an input adds to the paths of what is given.
-fn push_input(
+/// Adds what the inputs of the root add to the paths of what is given: those of the defaults, and those at which files are
+/// looked for that an input declares and a File lacks.
+pub fn push_root_inputs<P: Parameter>(
     alloc: Global,
+    inputs: &[(Text, P)],
     given: &Keyed<Value>,
-    input: &(Text, ToolInput),
     paths: &mut Items<Text>,
 ) -> Result<(), AllocError>
-    ensures { OnOk result (paths.new ≡ paths.old ++ spec.input_adds given.now input.now) }
+    ensures { OnOk result (paths.new ≡ paths.old ++ spec.root_adds P.of inputs.now given.now) }
 {
-    let declared = input.1.secondary_files.as_slice();
+    for input in inputs {
+        push_root_input(alloc, given, input, paths)?;
+    }
+    Ok(())
+}
+
+fn push_root_input<P: Parameter>(
+    alloc: Global,
+    given: &Keyed<Value>,
+    input: &(Text, P),
+    paths: &mut Items<Text>,
+) -> Result<(), AllocError>
+    ensures { OnOk result (paths.new ≡ paths.old ++ spec.root_input_adds P.of given.now input.now) }
+{
+    let declared = input.1.secondary_files();
     if let Some(value) = given.get(input.0.as_str()) {
         push_looked_for(alloc, declared, value, paths)?;
     }
-    if let Some(value) = &input.1.default {
+    if let Some(value) = input.1.default() {
         push_value(alloc, value, paths)?;
         push_looked_for(alloc, declared, value, paths)?;
     }
     Ok(())
 }
 
+/// Adds the paths of the defaults of a process that is not the root.
+pub fn push_defaults<P: Parameter>(
+    alloc: Global,
+    inputs: &[(Text, P)],
+    paths: &mut Items<Text>,
+) -> Result<(), AllocError>
+    ensures { OnOk result (paths.new ≡ paths.old ++ spec.paths_of_defaults P.of inputs.now) }
+{
+    for input in inputs {
+        if let Some(value) = input.1.default() {
+            push_value(alloc, value, paths)?;
+        }
+    }
+    Ok(())
+}
+
+/// Adds the paths of the Files and Directories of a value, at any depth.
 #[cycle(paths)]
-fn push_value(alloc: Global, value: &Value, paths: &mut Items<Text>) -> Result<(), AllocError>
+pub fn push_value(alloc: Global, value: &Value, paths: &mut Items<Text>) -> Result<(), AllocError>
     ensures { OnOk result (paths.new ≡ paths.old ++ spec.paths_of value.now) }
 {
     match value {
@@ -93,8 +124,9 @@ fn push_items(
     Ok(())
 }
 
+/// Adds the paths of the Files and Directories of named values, at any depth.
 #[cycle(paths)]
-fn push_fields(
+pub fn push_fields(
     alloc: Global,
     fields: &Keyed<Value>,
     paths: &mut Items<Text>,

@@ -3,6 +3,7 @@ ghost use Rattle.std.specs.Prelude.{◌≡◌, map};
 ghost use Rattle.std.specs.Option.{option_copied};
 ghost use Rattle.plain_data.specs.ByName.{map_values};
 ghost use Rattle.input_files.specs.Measured as spec;
+ghost use Rattle.input_files.specs.Present.{all_true};
 
 use cwl_value::{DirVal, FileVal, Place, Value};
 use plain_data::{Items, Keyed};
@@ -47,7 +48,7 @@ fn is_dir_there(measures: &Keyed<Measure>, dir: &DirVal) -> bool
 
 #[cycle(there)]
 fn are_there(measures: &Keyed<Measure>, items: &Items<Value>) -> bool
-    ensures { result ≡ spec.all_true (map (spec.is_there measures.now) items.now) }
+    ensures { result ≡ all_true (map (spec.is_there measures.now) items.now) }
 {
     for item in items.as_slice() {
         if !is_there(measures, item) {
@@ -59,7 +60,7 @@ fn are_there(measures: &Keyed<Measure>, items: &Items<Value>) -> bool
 
 #[cycle(there)]
 fn are_fields_there(measures: &Keyed<Measure>, fields: &Keyed<Value>) -> bool
-    ensures { result ≡ spec.all_true (map (λ e. e.1) (map_values (spec.is_there measures.now) fields.now)) }
+    ensures { result ≡ all_true (map (λ e. e.1) (map_values (spec.is_there measures.now) fields.now)) }
 {
     for field in fields.as_slice() {
         if !is_there(measures, &field.1) {

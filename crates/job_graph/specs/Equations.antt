@@ -12,6 +12,7 @@ use Rattle.document_links.specs.declared.process.Process.TheOpen.{Process-F, Wor
 use Rattle.document_links.specs.declared.process.Step.{Step, fold-Step}
 use Rattle.document_links.specs.declared.process.Workflow.{Workflow, fold-Workflow}
 use Rattle.link_values.specs.StepInputs.{null, value_froms, when_value}
+use Rattle.input_files.specs.Measured.{Measures}
 use Rattle.scatter_shape.specs.declared.shape.Method.{Method}
 use Rattle.scatter_shape.specs.Gathered.{gathered}
 use Rattle.param_refs.specs.declared.template.Part.{Part}
@@ -19,7 +20,7 @@ use Rattle.job_graph.specs.declared.cause.Cause.{Cause}
 use Rattle.job_graph.specs.declared.partly.Partly.{Partly}
 use Rattle.job_graph.specs.declared.partly.Partly.TheVariants.{Waits, Gives, Fails}
 use Rattle.job_graph.specs.Words.{Name, Fields, JobPlace, last_by_name}
-use Rattle.job_graph.specs.Inputs.{tool_inputs_for, workflow_inputs_for}
+use Rattle.job_graph.specs.Inputs.{tool_inputs_for, workflow_inputs_for, root_fields}
 use Rattle.job_graph.specs.Jobs.{Met, met_fault, Walk, Outs, Made, Walker, unknown, failed, tool_walk, all_there}
 use Rattle.job_graph.specs.Links.{Env, by_link, entry_value, output_value, given, all_given, out_under}
 use Rattle.job_graph.specs.Scatter.{lengths_under, tuples_for, method_of, at_tuple}
@@ -93,7 +94,7 @@ abbrev pub scattered : StepOf → Name → JobPlace → Fields → List Name →
 scattered s id place fields [] = instance s (step_place place id []) fields
 scattered s id place fields (name ∷ names) = over_lengths s id place fields (lengths_under (name ∷ names) fields)
 
--- ---- a step waits until each of its inputs is known
+-- ---- a step waits until each of its inputs is known; its defaults are as they were measured
 
 abbrev pub entered : StepOf → Name → JobPlace → List Met → Option Fields → Walk
 entered s id place faults None = record { met = faults; outs = unknown s.outputs }
@@ -103,8 +104,8 @@ abbrev pub step_at : StepOf → Name → JobPlace → List (Name × Partly) → 
 step_at s id place entries =
     entered s id place (flat_map (λ e. fault_at (step_place place id []) e.1) entries) (all_given entries)
 
-abbrev pub step_meaning : StepOf → StepMeaning
-step_meaning s id place inputs env = step_at s id place (map (λ i. (i.0, entry_value inputs env i.1)) s.inputs)
+abbrev pub step_meaning : Measures → StepOf → StepMeaning
+step_meaning measures s id place inputs env = step_at s id place (map (λ i. (i.0, entry_value measures inputs env i.1)) s.inputs)
 
 -- ---- a workflow: its steps read one another's outputs; as many rounds as it has steps make all known that can be
 
@@ -133,23 +134,26 @@ abbrev pub workflow_at : WorkflowOf → JobPlace → Result Fields Cause → Wal
 workflow_at w place (Err cause) = failed place cause (keys_of w.outputs)
 workflow_at w place (Ok inputs) = workflow_walk w place inputs (env_after (length w.steps) w.steps place inputs)
 
-abbrev pub workflow_meaning : WorkflowOf → Meaning
-workflow_meaning w place fields = workflow_at w place (workflow_inputs_for w.inputs fields)
+-- where this was measured, and the outputs of some jobs are known
+module _ (measures : Measures) where
+  abbrev pub workflow_meaning : WorkflowOf → Meaning
+  workflow_meaning w place fields = workflow_at w place (workflow_inputs_for measures w.inputs fields)
 
-abbrev pub process_level : Made → Process-F Meaning StepMeaning Meaning → Meaning
-process_level made (Process-F.Tool tool) place fields = tool_walk tool place (tool_inputs_for tool.inputs fields) made
-process_level made (Process-F.Workflow meaning) place fields = meaning place fields
+  module _ (made : Made) where
+    abbrev pub process_level : Process-F Meaning StepMeaning Meaning → Meaning
+    process_level (Process-F.Tool tool) place fields = tool_walk tool place (tool_inputs_for measures tool.inputs fields) made
+    process_level (Process-F.Workflow meaning) place fields = meaning place fields
 
--- a process at a place, where the outputs of some jobs are known
-abbrev pub meaning_of : Made → Process → Meaning
-meaning_of made = fold-Process Meaning StepMeaning Meaning (process_level made) step_meaning workflow_meaning
+    -- a process at a place
+    abbrev pub meaning_of : Process → Meaning
+    meaning_of = fold-Process Meaning StepMeaning Meaning process_level (step_meaning measures) workflow_meaning
 
-abbrev pub step_meaning_of : Made → Step → StepMeaning
-step_meaning_of made = fold-Step Meaning StepMeaning Meaning (process_level made) step_meaning workflow_meaning
+    abbrev pub step_meaning_of : Step → StepMeaning
+    step_meaning_of = fold-Step Meaning StepMeaning Meaning process_level (step_meaning measures) workflow_meaning
 
-abbrev pub workflow_meaning_of : Made → Workflow → Meaning
-workflow_meaning_of made = fold-Workflow Meaning StepMeaning Meaning (process_level made) step_meaning workflow_meaning
+    abbrev pub workflow_meaning_of : Workflow → Meaning
+    workflow_meaning_of = fold-Workflow Meaning StepMeaning Meaning process_level (step_meaning measures) workflow_meaning
 
 -- the walk from the root
-abbrev pub walker : Process → Fields → Walker
-walker process inputs made = meaning_of made process [] inputs
+abbrev pub walker : Process → Fields → Measures → Walker
+walker process given measures made = meaning_of measures made process [] (root_fields process given measures)

@@ -3,6 +3,7 @@ use Rattle.std.specs.Prelude.{Option, option_map}
 use Rattle.cwl_value.specs.Erased.{fields_erased}
 use Rattle.cwl_process.specs.declared.tool.Tool.{Tool}
 use Rattle.document_links.specs.declared.process.Process.{Process}
+use Rattle.input_files.specs.Measured.{Measures}
 use Rattle.job_graph.specs.Words.{Name, Fields}
 use Rattle.job_graph.specs.Jobs.{Made, Walker, result}
 use Rattle.job_graph.specs.Equations.{walker}
@@ -26,6 +27,6 @@ module _ (key : Tool → Fields → Key) (world : World) where
   abbrev pub eval_by : Walker → Option Fields
   eval_by walks = option_map fields_erased (result walks made_in)
 
-  -- the outputs of a process on its inputs, without places; none where a job or an equation fails
-  abbrev pub eval : Process → Fields → Option Fields
-  eval process inputs = eval_by (walker process inputs)
+  -- the outputs of a process on its inputs, whose files were measured so, without places; none where a job or an equation fails
+  abbrev pub eval : Process → Fields → Measures → Option Fields
+  eval process inputs measures = eval_by (walker process inputs measures)

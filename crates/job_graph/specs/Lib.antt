@@ -5,6 +5,7 @@ pub mod Inputs
 pub mod Jobs
 pub mod Links
 pub mod Made
+pub mod Paths
 pub mod Scatter
 pub mod Unfold
 pub mod Words

@@ -1,11 +1,12 @@
 -- The values of a step's inputs and of a workflow's outputs, where the outputs of steps are known or not (CWL v1.2, Workflow,
 -- "WorkflowStepInput", "WorkflowOutputParameter": `source`, `outputSource`).
-use Rattle.std.specs.Prelude.{List, [], ◌∷◌, Option, Some, None, Result, Ok, Err, map, fold, unwrap_or}
+use Rattle.std.specs.Prelude.{List, [], ◌∷◌, Option, Some, None, Result, Ok, Err, map, option_map, fold, unwrap_or}
 use Rattle.plain_data.specs.ByName.{value_at, with_value}
 use Rattle.cwl_value.specs.declared.value.Value.{Value}
 use Rattle.cwl_process.specs.declared.links.Links.{Links}
 use Rattle.cwl_process.specs.declared.links.Source.{Source}
 use Rattle.cwl_process.specs.declared.workflow.StepInput.{StepInput}
+use Rattle.input_files.specs.Measured.{Measures, as_measured}
 use Rattle.link_values.specs.declared.fault.LinkFault.{LinkFault}
 use Rattle.link_values.specs.declared.fault.LinkFault.TheVariants as link_fault
 use Rattle.link_values.specs.Merged.{merged}
@@ -58,10 +59,15 @@ abbrev pub once_known : (List Value → Result Value Cause) → Option (List Val
 once_known made None = Waits
 once_known made (Some values) = partly (made values)
 
+-- a step's input with its default as it was measured
+abbrev pub measured : Measures → StepInput → StepInput
+measured measures input = record input { default = option_map (as_measured measures) input.default }
+
 -- a step's input: merged, picked, and then its default
-abbrev pub entry_value : Fields → Env → StepInput → Partly
-entry_value inputs env input =
-    once_known (λ values. by_link (step_input input (merged input.links.merge values))) (linked_values inputs env (unwrap_or input.links.sources []))
+abbrev pub entry_value : Measures → Fields → Env → StepInput → Partly
+entry_value measures inputs env input =
+    once_known (λ values. by_link (step_input (measured measures input) (merged input.links.merge values)))
+    (linked_values inputs env (unwrap_or input.links.sources []))
 
 -- a workflow's output: merged and picked; null where it has no source
 abbrev pub output_from : Fields → Env → Links → Option (List Source) → Partly

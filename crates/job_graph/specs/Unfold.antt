@@ -3,10 +3,14 @@ use Rattle.std.specs.Prelude.{ℕ, ◌+◌, nat_le, ◌&&◌, Bool, not, cond, l
 use Rattle.std.specs.List.{list_any}
 use Rattle.plan_checker.specs.declared.graph.TheConstants.{MOST_VERTICES, MOST_ENTRIES}
 use Rattle.job_graph.specs.declared.cause.Cause.{Cause}
-use Rattle.job_graph.specs.declared.made.Resolved.{Resolved}
 use Rattle.job_graph.specs.Words.{Fields, JobPlace, is_same_place}
 use Rattle.job_graph.specs.Jobs.{Job, Met, met_job, met_fault, Made, Walker, result}
 use Rattle.job_graph.specs.Made.{any_made, fields_made}
+
+-- a resolved place with its named outputs
+pub record Resolved : Type 0 where
+  pub place : JobPlace
+  pub outputs : Fields
 
 -- why a process has no result
 pub data Fault : Type 0 where
@@ -44,11 +48,15 @@ is_known jobs job = list_any (is_at job.place) jobs
 abbrev pub new_in : List Job → List Met → List Job
 new_in jobs met = filter (λ job. not (is_known jobs job)) (filter_map job_met met)
 
+-- what is met where these places are resolved, the one learned last first
+abbrev pub met_after : Walker → List Resolved → List Met
+met_after walks latest_first = (walks (made_by (reverse latest_first))).met
+
 -- the jobs in the order in which they came to be known; of the places, the one learned last comes first
 abbrev pub jobs_after : Walker → List Resolved → List Job
-jobs_after walks [] = new_in [] (walks (made_by [])).met
+jobs_after walks [] = new_in [] (met_after walks [])
 jobs_after walks (r ∷ earlier) =
-    let jobs : List Job = jobs_after walks earlier in jobs ++ new_in jobs (walks (made_by (r ∷ earlier))).met
+    let jobs : List Job = jobs_after walks earlier in jobs ++ new_in jobs (met_after walks (r ∷ earlier))
 
 -- a job's parents: the jobs known before it that made a File or Directory in its inputs
 abbrev pub parents_among : List Job → Job → List Job
@@ -77,14 +85,18 @@ or_else None later = later
 
 -- the first fault: by the shortest front of what was learned, and then in the order of the walk
 abbrev pub fault_after : Walker → List Resolved → Option Fault
-fault_after walks [] = first_fault [] (walks (made_by [])).met
+fault_after walks [] = first_fault [] (met_after walks [])
 fault_after walks (r ∷ earlier) =
-    or_else (fault_after walks earlier) (first_fault (jobs_after walks earlier) (walks (made_by (r ∷ earlier))).met)
+    or_else (fault_after walks earlier) (first_fault (jobs_after walks earlier) (met_after walks (r ∷ earlier)))
 
 pub record Unfolded : Type 0 where
   pub jobs : List Job
   pub fault : Option Fault
   pub result : Option Fields
+
+-- what is known before the input files are measured
+abbrev pub nothing_known : Unfolded
+nothing_known = record { jobs = []; fault = None; result = None }
 
 -- what is known, for resolved places in the order learned
 abbrev pub unfolded : Walker → List Resolved → Unfolded

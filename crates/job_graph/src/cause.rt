@@ -1,8 +1,10 @@
 ghost use Rattle.std.specs.Prelude.{◌≡◌, IfOk};
 ghost use Rattle.job_graph.specs.Links.{cause_of};
-ghost use Rattle.job_graph.specs.inner.Told.{IsOfLink};
+ghost use Rattle.job_graph.specs.Inputs.{input_cause};
+ghost use Rattle.job_graph.specs.inner.Told.{IsOfInput, IsOfLink};
 
 use cwl_value::JobPlace;
+use input_files::{InputError, InputFault};
 use link_values::{LinkError, LinkFault};
 use param_refs::RefFault;
 use plain_data::Text;
@@ -60,5 +62,27 @@ pub(crate) fn of_link<T>(found: Result<T, LinkError>) -> Result<Result<T, Cause>
         Ok(value) => Ok(Ok(value)),
         Err(LinkError::Refused(fault)) => Ok(Err(cause_of(fault))),
         Err(LinkError::OutOfMemory) => Err(AllocError),
+    }
+}
+
+/// The cause of an input's fault.
+fn input_cause(fault: InputFault) -> Cause
+    ensures { result ≡ input_cause fault }
+{
+    match fault {
+        InputFault::Kind(param) => Cause::Kind(param),
+        InputFault::Missing(param) => Cause::Missing(param),
+        InputFault::Secondary(param) => Cause::Secondary(param),
+    }
+}
+
+/// The inputs of a process or the cause why there are none.
+pub(crate) fn of_input<T>(found: Result<T, InputError>) -> Result<Result<T, Cause>, AllocError>
+    ensures { IsOfInput found result }
+{
+    match found {
+        Ok(inputs) => Ok(Ok(inputs)),
+        Err(InputError::Refused(fault)) => Ok(Err(input_cause(fault))),
+        Err(InputError::OutOfMemory) => Err(AllocError),
     }
 }

@@ -1,5 +1,6 @@
 //! The jobs of a process, as they come to be known (CWL v1.2, Workflow).
 //!
+//! - `input_paths` has the paths that are measured before a run.
 //! - `Unfolding::new` finds the jobs that can run at once; `learn` takes a job's outputs, and then more jobs are known.
 //! - `known` has the jobs in the order in which they came to be known, `result` the process's outputs once all are.
 //!
@@ -15,6 +16,7 @@ mod links;
 mod made;
 mod parents;
 mod partly;
+mod paths;
 mod place;
 mod scatter;
 mod step;
@@ -24,5 +26,7 @@ mod workflow;
 
 pub use cause::Cause;
 pub use fault::{UnfoldError, UnfoldFault};
+pub use paths::input_paths;
+pub use place::is_same_place;
 pub use unfolding::{KnownJob, Unfolding};
 pub use walk::Job;

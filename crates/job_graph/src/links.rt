@@ -1,17 +1,20 @@
 //! The values of a step's inputs and of a workflow's outputs.
-ghost use Rattle.std.specs.Prelude.{◌≡◌, Some, IfOk, [], option_map, unwrap_or};
+ghost use Rattle.std.specs.Prelude.{◌≡◌, Some, Ok, IfOk, IfErr, [], option_map, unwrap_or};
 ghost use Rattle.std.specs.Option.{option_copied};
 ghost use Rattle.plain_data.specs.ByName.{value_at};
-ghost use Rattle.link_values.specs.StepInputs.{value_under};
-ghost use Rattle.job_graph.specs.Links.{entry_value, linked_values, out_under, output_value, partly, source_value};
+ghost use Rattle.link_values.specs.Refused.{IsError};
+ghost use Rattle.link_values.specs.StepInputs.{or_default, step_input, value_under};
+ghost use Rattle.job_graph.specs.Links.{entry_value, linked_values, measured, out_under, output_value, partly, source_value};
 
 use crate::cause::{Cause, of_link};
 use crate::partly::Partly;
 use crate::walk::Out;
 use cwl_process::{Links, Source, StepInput, WorkflowOutput};
 use cwl_value::Value;
-use link_values::{merge, pick, step_input};
+use input_files::as_measured;
+use link_values::{LinkError, merge, pick};
 use plain_data::{Items, Keyed};
+use staging::Measure;
 use std::alloc::{AllocError, Global};
 
 /// The outputs of each step, by the steps' ids.
@@ -108,18 +111,51 @@ fn sources_of(links: &Links) -> &[Source]
 /// The value of a step's input.
 pub(crate) fn entry_value(
     alloc: Global,
+    measures: &Keyed<Measure>,
     inputs: &Keyed<Value>,
     env: &Env,
     input: &StepInput,
 ) -> Result<Partly, AllocError>
-    ensures { IfOk result (λ found. found ≡ entry_value inputs.now env.now input.now) }
+    ensures { IfOk result (λ found. found ≡ entry_value measures.now inputs.now env.now input.now) }
 {
     let sources = sources_of(&input.links);
     let Some(values) = linked_values(alloc, inputs, env, sources)? else {
         return Ok(Partly::Waits);
     };
     let linked = merge(alloc, input.links.merge, values)?;
-    Ok(partly(of_link(step_input(alloc, input, linked))?))
+    Ok(partly(of_link(step_input(alloc, measures, input, linked))?))
+}
+
+/// The value of a step's input whose links give this together.
+fn step_input(
+    alloc: Global,
+    measures: &Keyed<Measure>,
+    input: &StepInput,
+    linked: Value,
+) -> Result<Value, LinkError>
+    ensures ok { IfOk result (λ value. step_input (measured measures.now input.now) linked ≡ Ok value) }
+    ensures err { IfErr result (IsError (step_input (measured measures.now input.now) linked)) }
+{
+    let value = pick(alloc, input.links.pick, linked)?;
+    Ok(or_default(alloc, measures, input, value)?)
+}
+
+/// The default where the input has no source, and in place of null.
+fn or_default(
+    alloc: Global,
+    measures: &Keyed<Measure>,
+    input: &StepInput,
+    value: Value,
+) -> Result<Value, AllocError>
+    ensures { IfOk result (λ found. found ≡ or_default (measured measures.now input.now) value) }
+{
+    if input.links.sources.is_some() && !matches!(&value, Value::Null) {
+        return Ok(value);
+    }
+    match &input.default {
+        Some(default) => as_measured(alloc, measures, default),
+        None => Ok(value),
+    }
 }
 
 /// The value of a workflow's output.

@@ -12,13 +12,23 @@ use crate::walk::Out;
 use cwl_process::{Entries, ToolOutput};
 use cwl_value::{DirVal, FileVal, JobPlace, Place, Value, copy_job};
 use plain_data::{Items, Keyed, Text};
+use staging::Measure;
 use std::alloc::{AllocError, Global};
 
-/// A place whose job's outputs are known, with them: the files are named relative to the job's output folder.
+/// A place whose job has ended, with its outputs: their files are named relative to the job's output folder.
 #[derive(Drop)]
 pub(crate) struct Resolved {
     pub place: JobPlace,
     pub outputs: Keyed<Value>,
+}
+
+/// What is known of the world outside the process.
+#[derive(Drop)]
+pub(crate) struct Facts {
+    /// What stands at the paths of the input files.
+    pub measures: Keyed<Measure>,
+    /// The jobs that have ended, in the order learned.
+    pub learned: Items<Resolved>,
 }
 
 /// The outputs of the job at a place, where they are known.

@@ -8,7 +8,7 @@ ghost use Rattle.job_graph.specs.inner.Views.{met_of};
 use crate::cause::{Cause, of_link};
 use crate::gather::all_instances;
 use crate::links::{Env, entry_value};
-use crate::made::Resolved;
+use crate::made::Facts;
 use crate::partly::Partly;
 use crate::place::step_place;
 use crate::scatter::{at_tuple, lengths_under, tuples_for};
@@ -20,6 +20,7 @@ use link_values::{value_froms, when_value};
 use param_refs::Template;
 use plain_data::{Items, Keyed, Text};
 use scatter_shape::{Method, Shape};
+use staging::Measure;
 use std::alloc::{AllocError, Global};
 use std::mem;
 
@@ -27,14 +28,14 @@ use std::mem;
 #[cycle(walk)]
 pub(crate) fn walk_process<'a>(
     alloc: Global,
-    learned: &[Resolved],
+    facts: &Facts,
     process: &'a Process,
     place: &JobPlace,
     given: &Keyed<Value>,
 ) -> Result<Walk<'a>, AllocError> {
     match process {
-        Process::Tool(tool) => walk_tool(alloc, learned, tool, place, given),
-        Process::Workflow(workflow) => walk_workflow(alloc, learned, workflow, place, given),
+        Process::Tool(tool) => walk_tool(alloc, facts, tool, place, given),
+        Process::Workflow(workflow) => walk_workflow(alloc, facts, workflow, place, given),
     }
 }
 
@@ -49,19 +50,19 @@ struct Entered<'a> {
 #[cycle(walk)]
 pub(crate) fn walk_step<'a>(
     alloc: Global,
-    learned: &[Resolved],
+    facts: &Facts,
     id: &Text,
     step: &'a Step,
     place: &JobPlace,
     inputs: &Keyed<Value>,
     env: &Env,
 ) -> Result<Walk<'a>, AllocError> {
-    let entered = enter(alloc, id, step, place, inputs, env)?;
+    let entered = enter(alloc, &facts.measures, id, step, place, inputs, env)?;
     let Entered { faults, values } = entered;
     match values {
         Some(values) => {
             drop(faults);
-            let walk = scattered(alloc, learned, id, step, place, &values);
+            let walk = scattered(alloc, facts, id, step, place, &values);
             drop(values);
             walk
         }
@@ -74,6 +75,7 @@ pub(crate) fn walk_step<'a>(
 
 fn enter<'a>(
     alloc: Global,
+    measures: &Keyed<Measure>,
     id: &Text,
     step: &Step,
     place: &JobPlace,
@@ -86,7 +88,7 @@ fn enter<'a>(
         values: Some(Keyed::new(alloc)),
     };
     for input in step.inputs.as_slice() {
-        let value = entry_value(alloc, inputs, env, &input.1)?;
+        let value = entry_value(alloc, measures, inputs, env, &input.1)?;
         put_entry(alloc, &mut entered, &own, &input.0, value)?;
     }
     Ok(entered)
@@ -136,7 +138,7 @@ fn put_value(
 #[cycle(walk)]
 fn scattered<'a>(
     alloc: Global,
-    learned: &[Resolved],
+    facts: &Facts,
     id: &Text,
     step: &'a Step,
     place: &JobPlace,
@@ -146,9 +148,9 @@ fn scattered<'a>(
     match lengths_under(alloc, step.scatter.as_slice(), values)? {
         Ok(lengths) => {
             if lengths.is_empty() {
-                return instance(alloc, learned, step, &own, values);
+                return instance(alloc, facts, step, &own, values);
             }
-            over_lengths(alloc, learned, id, step, place, values, lengths)
+            over_lengths(alloc, facts, id, step, place, values, lengths)
         }
         Err(cause) => failed(alloc, &own, cause, step.outputs.as_slice()),
     }
@@ -157,7 +159,7 @@ fn scattered<'a>(
 #[cycle(walk)]
 fn over_lengths<'a>(
     alloc: Global,
-    learned: &[Resolved],
+    facts: &Facts,
     id: &Text,
     step: &'a Step,
     place: &JobPlace,
@@ -169,7 +171,7 @@ fn over_lengths<'a>(
     let method = step.method.unwrap_or(Method::Dotproduct);
     match tuples_for(alloc, method, lengths.as_slice())? {
         Ok(tuples) => {
-            let walks = instances(alloc, learned, id, step, place, values, tuples.as_slice())?;
+            let walks = instances(alloc, facts, id, step, place, values, tuples.as_slice())?;
             let shape = Shape { method, lengths };
             all_instances(alloc, &shape, walks, step.outputs.as_slice())
         }
@@ -183,7 +185,7 @@ fn over_lengths<'a>(
 #[cycle(walk)]
 fn instances<'a>(
     alloc: Global,
-    learned: &[Resolved],
+    facts: &Facts,
     id: &Text,
     step: &'a Step,
     place: &JobPlace,
@@ -194,7 +196,7 @@ fn instances<'a>(
 {
     let mut walks = Vec::new(alloc);
     for tuple in tuples {
-        walks.push(instance_at(alloc, learned, id, step, place, values, tuple)?)?;
+        walks.push(instance_at(alloc, facts, id, step, place, values, tuple)?)?;
     }
     Ok(walks)
 }
@@ -202,7 +204,7 @@ fn instances<'a>(
 #[cycle(walk)]
 fn instance_at<'a>(
     alloc: Global,
-    learned: &[Resolved],
+    facts: &Facts,
     id: &Text,
     step: &'a Step,
     place: &JobPlace,
@@ -211,21 +213,21 @@ fn instance_at<'a>(
 ) -> Result<Walk<'a>, AllocError> {
     let own = step_place(alloc, place, id, tuple)?;
     let fields = at_tuple(alloc, step.scatter.as_slice(), tuple.as_slice(), values)?;
-    instance(alloc, learned, step, &own, &fields)
+    instance(alloc, facts, step, &own, &fields)
 }
 
 /// One value of a step: `valueFrom`, then `when`, then its process.
 #[cycle(walk)]
 fn instance<'a>(
     alloc: Global,
-    learned: &[Resolved],
+    facts: &Facts,
     step: &'a Step,
     place: &JobPlace,
     values: &Keyed<Value>,
 ) -> Result<Walk<'a>, AllocError> {
     match of_link(value_froms(alloc, step.inputs.as_slice(), values))? {
         Ok(fields) => {
-            let walk = run_where(alloc, learned, step, place, &fields);
+            let walk = run_where(alloc, facts, step, place, &fields);
             drop(fields);
             walk
         }
@@ -236,13 +238,13 @@ fn instance<'a>(
 #[cycle(walk)]
 fn run_where<'a>(
     alloc: Global,
-    learned: &[Resolved],
+    facts: &Facts,
     step: &'a Step,
     place: &JobPlace,
     fields: &Keyed<Value>,
 ) -> Result<Walk<'a>, AllocError> {
     match goes_on(&step.when, fields)? {
-        Ok(true) => walk_process(alloc, learned, &step.process, place, fields),
+        Ok(true) => walk_process(alloc, facts, &step.process, place, fields),
         Ok(false) => Ok(Walk {
             met: Items::new(alloc),
             outs: nulls(alloc, step.outputs.as_slice())?,

@@ -1,6 +1,7 @@
 //! What is known of a process, once the outputs of some of its jobs are.
 use crate::fault::{UnfoldError, UnfoldFault};
-use crate::made::{Resolved, outputs_at};
+use crate::inputs::root_fields;
+use crate::made::{Facts, Resolved, outputs_at};
 use crate::parents::any_made;
 use crate::place::is_same_place;
 use crate::step::walk_process;
@@ -9,6 +10,7 @@ use cwl_value::{JobPlace, Value};
 use document_links::Process;
 use plain_data::{Items, Keyed, Text};
 use plan_checker::{MOST_ENTRIES, MOST_VERTICES};
+use staging::Measure;
 use std::alloc::{AllocError, Global};
 use std::mem;
 
@@ -25,8 +27,9 @@ pub struct KnownJob<'a> {
 pub struct Unfolding<'a> {
     alloc: Global,
     process: &'a Process,
-    inputs: Keyed<Value>,
-    learned: Vec<Resolved>,
+    /// What is handed to the process.
+    fields: Keyed<Value>,
+    facts: Facts,
     known: Vec<KnownJob<'a>>,
     entries: usize,
     fault: Option<UnfoldFault>,
@@ -34,17 +37,22 @@ pub struct Unfolding<'a> {
 }
 
 impl<'a> Unfolding<'a> {
-    /// What is known before any job has run, or why the process has no result.
+    /// What is known before any job has run, where the input files were measured, or why the process has no result.
     pub fn new(
         alloc: Global,
         process: &'a Process,
-        inputs: Keyed<Value>,
+        inputs: &Keyed<Value>,
+        measures: Keyed<Measure>,
     ) -> Result<Unfolding<'a>, UnfoldError> {
+        let fields = root_fields(alloc, process, inputs, &measures)?;
         let mut unfolding = Unfolding {
             alloc,
             process,
-            inputs,
-            learned: Vec::new(alloc),
+            fields,
+            facts: Facts {
+                measures,
+                learned: Items::new(alloc),
+            },
             known: Vec::new(alloc),
             entries: 0,
             fault: None,
@@ -84,10 +92,10 @@ impl<'a> Unfolding<'a> {
 
     /// Adds what was learned, and what is known then. Out of memory, nothing changes.
     fn resolve(&mut self, resolved: Resolved) -> Result<(), AllocError> {
-        self.learned.push(resolved)?;
+        self.facts.learned.push(resolved)?;
         let unfolded = self.unfold();
         if unfolded.is_err() {
-            mem::drop(self.learned.pop());
+            mem::drop(self.facts.learned.pop());
         }
         unfolded
     }
@@ -95,15 +103,9 @@ impl<'a> Unfolding<'a> {
     /// Makes what is known anew. Out of memory, nothing changes.
     fn unfold(&mut self) -> Result<(), AllocError> {
         let root = Items::new(self.alloc);
-        let walk = walk_process(
-            self.alloc,
-            self.learned.as_slice(),
-            self.process,
-            &root,
-            &self.inputs,
-        )?;
+        let walk = walk_process(self.alloc, &self.facts, self.process, &root, &self.fields)?;
         let Walk { met, outs } = walk;
-        let is_whole = are_well(self.learned.as_slice(), met.as_slice());
+        let is_whole = are_well(self.facts.learned.as_slice(), met.as_slice());
         let before = self.known.len();
         let grown = grow(self.alloc, &mut self.known, self.entries, met);
         match grown {

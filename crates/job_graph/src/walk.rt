@@ -4,12 +4,11 @@ ghost use Rattle.std.specs.Map.{keys_of};
 ghost use Rattle.job_graph.specs.Inputs.{tool_inputs_for};
 ghost use Rattle.job_graph.specs.Jobs.{failed, met_fault, tool_walk, unknown};
 ghost use Rattle.job_graph.specs.Equations.{skipped};
-ghost use Rattle.job_graph.specs.Unfold.{made_by};
-ghost use Rattle.job_graph.specs.inner.Views.{met_of, walk_of};
+ghost use Rattle.job_graph.specs.inner.Views.{made_from, met_of, walk_of};
 
 use crate::cause::Cause;
-use crate::inputs::inputs_for;
-use crate::made::{Resolved, job_outs, outputs_at};
+use crate::inputs::tool_inputs;
+use crate::made::{Facts, job_outs, outputs_at};
 use cwl_process::{Entries, Tool};
 use cwl_value::{JobPlace, Value, copy_job};
 use plain_data::{Items, Keyed, Text};
@@ -118,30 +117,30 @@ pub(crate) fn failed_process<'a, T>(
 /// The walk through a tool: one job.
 pub(crate) fn walk_tool<'a>(
     alloc: Global,
-    learned: &[Resolved],
+    facts: &Facts,
     tool: &'a Tool,
     place: &JobPlace,
     given: &Keyed<Value>,
 ) -> Result<Walk<'a>, AllocError>
-    ensures { IfOk result (λ walk. walk_of walk ≡ tool_walk tool.now place.now (tool_inputs_for tool.now.inputs given.now) (made_by learned.now)) }
+    ensures { IfOk result (λ walk. walk_of walk ≡ tool_walk tool.now place.now (tool_inputs_for facts.now.measures tool.now.inputs given.now) (made_from facts.now)) }
 {
-    match inputs_for(alloc, tool.inputs.as_slice(), given)? {
-        Ok(inputs) => job_walk(alloc, learned, tool, place, inputs),
+    match tool_inputs(alloc, &facts.measures, tool.inputs.as_slice(), given)? {
+        Ok(inputs) => job_walk(alloc, facts, tool, place, inputs),
         Err(cause) => failed_process(alloc, place, cause, &tool.outputs),
     }
 }
 
 fn job_walk<'a>(
     alloc: Global,
-    learned: &[Resolved],
+    facts: &Facts,
     tool: &'a Tool,
     place: &JobPlace,
     inputs: Keyed<Value>,
 ) -> Result<Walk<'a>, AllocError>
-    ensures { IfOk result (λ walk. walk_of walk ≡ tool_walk tool.now place.now (Ok inputs) (made_by learned.now)) }
+    ensures { IfOk result (λ walk. walk_of walk ≡ tool_walk tool.now place.now (Ok inputs) (made_from facts.now)) }
 {
     let place = copy_job(alloc, place)?;
-    let outs = job_outs(alloc, outputs_at(learned, &place), &tool.outputs, &place)?;
+    let outs = job_outs(alloc, outputs_at(facts.learned.as_slice(), &place), &tool.outputs, &place)?;
     let mut met = Items::new(alloc);
     met.push(Met::Job(Job {
         place,

@@ -6,9 +6,9 @@ ghost use Rattle.job_graph.specs.Links.{given, output_value};
 ghost use Rattle.job_graph.specs.inner.Views.{met_of};
 
 use crate::gather::push_met;
-use crate::inputs::inputs_for;
+use crate::inputs::workflow_inputs;
 use crate::links::{Env, output_value};
-use crate::made::Resolved;
+use crate::made::Facts;
 use crate::partly::Partly;
 use crate::step::walk_step;
 use crate::walk::{Met, Out, Walk, failed_process};
@@ -23,15 +23,15 @@ use std::mem;
 #[cycle(walk)]
 pub(crate) fn walk_workflow<'a>(
     alloc: Global,
-    learned: &[Resolved],
+    facts: &Facts,
     workflow: &'a Workflow,
     place: &JobPlace,
     given: &Keyed<Value>,
 ) -> Result<Walk<'a>, AllocError> {
-    match inputs_for(alloc, workflow.inputs.as_slice(), given)? {
+    match workflow_inputs(alloc, &facts.measures, workflow.inputs.as_slice(), given)? {
         Ok(inputs) => {
             let outputs = workflow.outputs.as_slice();
-            let walk = walk_steps(alloc, learned, &workflow.steps, outputs, place, &inputs);
+            let walk = walk_steps(alloc, facts, &workflow.steps, outputs, place, &inputs);
             drop(inputs);
             walk
         }
@@ -42,14 +42,14 @@ pub(crate) fn walk_workflow<'a>(
 #[cycle(walk)]
 fn walk_steps<'a>(
     alloc: Global,
-    learned: &[Resolved],
+    facts: &Facts,
     steps: &'a Entries<Step>,
     outputs: &[(Text, WorkflowOutput)],
     place: &JobPlace,
     inputs: &Keyed<Value>,
 ) -> Result<Walk<'a>, AllocError> {
-    let env = env_after(alloc, learned, steps, place, inputs)?;
-    let met = steps_met(alloc, learned, steps, place, inputs, &env);
+    let env = env_after(alloc, facts, steps, place, inputs)?;
+    let met = steps_met(alloc, facts, steps, place, inputs, &env);
     match met {
         Ok(met) => {
             let walk = with_outputs(alloc, met, outputs, place, inputs, &env);
@@ -64,14 +64,14 @@ fn walk_steps<'a>(
 #[cycle(walk)]
 fn env_after(
     alloc: Global,
-    learned: &[Resolved],
+    facts: &Facts,
     steps: &Entries<Step>,
     place: &JobPlace,
     inputs: &Keyed<Value>,
 ) -> Result<Env, AllocError> {
     let mut env = Keyed::new(alloc);
     for _ in 0..steps.len() {
-        let next = next_env(alloc, learned, steps, place, inputs, &env)?;
+        let next = next_env(alloc, facts, steps, place, inputs, &env)?;
         drop(mem::replace(&mut env, next));
     }
     Ok(env)
@@ -81,7 +81,7 @@ fn env_after(
 #[cycle(walk)]
 fn next_env(
     alloc: Global,
-    learned: &[Resolved],
+    facts: &Facts,
     steps: &Entries<Step>,
     place: &JobPlace,
     inputs: &Keyed<Value>,
@@ -90,7 +90,7 @@ fn next_env(
     let mut next = Keyed::new(alloc);
     for step in steps.as_slice() {
         let name = step.0.copied(alloc)?;
-        let outs = step_outs(alloc, learned, &step.0, &step.1, place, inputs, env)?;
+        let outs = step_outs(alloc, facts, &step.0, &step.1, place, inputs, env)?;
         drop(next.insert(name, outs)?);
     }
     Ok(next)
@@ -99,14 +99,14 @@ fn next_env(
 #[cycle(walk)]
 fn step_outs(
     alloc: Global,
-    learned: &[Resolved],
+    facts: &Facts,
     id: &Text,
     step: &Step,
     place: &JobPlace,
     inputs: &Keyed<Value>,
     env: &Env,
 ) -> Result<Items<Out>, AllocError> {
-    let Walk { met, outs } = walk_step(alloc, learned, id, step, place, inputs, env)?;
+    let Walk { met, outs } = walk_step(alloc, facts, id, step, place, inputs, env)?;
     drop(met);
     Ok(outs)
 }
@@ -115,7 +115,7 @@ fn step_outs(
 #[cycle(walk)]
 fn steps_met<'a>(
     alloc: Global,
-    learned: &[Resolved],
+    facts: &Facts,
     steps: &'a Entries<Step>,
     place: &JobPlace,
     inputs: &Keyed<Value>,
@@ -125,7 +125,7 @@ fn steps_met<'a>(
     for step in steps.as_slice() {
         push_met(
             &mut met,
-            walk_step(alloc, learned, &step.0, &step.1, place, inputs, env)?,
+            walk_step(alloc, facts, &step.0, &step.1, place, inputs, env)?,
         )?;
     }
     Ok(met)

@@ -1,6 +1,9 @@
--- What is kept of a walk, as the walk that it stands for.
+-- What is kept of a walk and of the jobs that have ended, as what it stands for.
 use Rattle.std.specs.Prelude.{List, map}
-use Rattle.job_graph.specs.Jobs.{Job, Met, met_job, met_fault, Walk}
+use Rattle.job_graph.specs.Jobs.{Job, Made, Met, met_job, met_fault, Walk}
+use Rattle.job_graph.specs.Unfold.{Resolved, made_by}
+use Rattle.job_graph.specs.declared.made.Facts.{Facts}
+use Rattle.job_graph.specs.declared.made.Resolved.{Resolved as KeptResolved}
 use Rattle.job_graph.specs.declared.walk.Job.{Job as KeptJob}
 use Rattle.job_graph.specs.declared.walk.Met.{Met as KeptMet}
 use Rattle.job_graph.specs.declared.walk.Met.TheVariants as kept
@@ -15,3 +18,10 @@ met_of (kept.Fault place cause) = met_fault place cause
 
 abbrev pub walk_of : KeptWalk → Walk
 walk_of walk = record { met = map met_of walk.met; outs = walk.outs }
+
+abbrev pub resolved_of : KeptResolved → Resolved
+resolved_of kept = record { place = kept.place; outputs = kept.outputs }
+
+-- the outputs of the jobs that have ended
+abbrev pub made_from : Facts → Made
+made_from facts = made_by (map resolved_of facts.learned)

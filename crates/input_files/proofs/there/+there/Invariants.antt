@@ -1,6 +1,7 @@
 use Rattle.std.proofs.Common.{◌≡◌, map, drop}
 use Rattle.plain_data.specs.ByName.{map_values}
-use Rattle.input_files.specs.Measured.{all_true, is_there}
+use Rattle.input_files.specs.Measured.{is_there}
+use Rattle.input_files.specs.Present.{all_true}
 use Rattle.input_files.proofs.there.+there.Given as goal
 
 abbrev pub invariant-are_fields_there-loop-field : goal.invariant-are_fields_there-loop-field
