@@ -3,11 +3,13 @@ pub mod Meaning
 pub mod OneJob
 pub mod Few
 pub mod TranscriptTells
-pub mod Known
 pub mod Measuring
+pub mod Places
+pub mod Staying
+pub mod Finding
+pub mod Agreeing
 pub mod NothingFollows
 pub mod Leads
-pub mod Scenes
 pub mod SuccessCollects
 pub mod PlacesErased
 pub mod RightEnds

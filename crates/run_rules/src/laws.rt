@@ -8,21 +8,22 @@ ghost use Rattle.document_links.specs.declared.process.Process as process;
 ghost use Rattle.cwl_process.specs.declared.tool.Tool.{Tool};
 ghost use Rattle.input_files.specs.Measured.{Measures};
 ghost use Rattle.cwl_value.specs.Erased.{erased, fields_erased};
-ghost use Rattle.run_rules.specs.Words.{Fields};
+ghost use Rattle.job_graph.specs.Equations.{walker};
+ghost use Rattle.job_graph.specs.Eval.{World};
+ghost use Rattle.job_graph.specs.Jobs.{Job};
+ghost use Rattle.job_graph.specs.Unfold.{Resolved, too_many_jobs, unfolded};
+ghost use Rattle.job_graph.specs.Words.{Fields};
 ghost use Rattle.run_rules.specs.Allowed.{Allowed};
 ghost use Rattle.run_rules.specs.Delivered.{located, object_of};
 ghost use Rattle.run_rules.specs.End.{End, succeeds_with};
 ghost use Rattle.run_rules.specs.EndsSo.{EndsSo, IsDelivered};
-ghost use Rattle.run_rules.specs.Eval.{World};
 ghost use Rattle.run_rules.specs.Events.{Event, Progress, measures, unfolding_at};
 ghost use Rattle.run_rules.specs.Honest.{IsHonest, Means};
-ghost use Rattle.run_rules.specs.Jobs.{Job, walker};
 ghost use Rattle.plan_checker.specs.declared.plan.Mark.{Mark};
 ghost use Rattle.run_rules.specs.Reports.{IsRight, report_of};
 ghost use Rattle.run_rules.specs.Run.{IsRun};
 ghost use Rattle.run_rules.specs.Scene.{Scene, scene_of};
 ghost use Rattle.run_rules.specs.RanWell.{RanWell};
-ghost use Rattle.run_rules.specs.Unfold.{Resolved, too_many_jobs, unfolded};
 
 /// In a run that ends in success each known job ran well: a child was started for the job at its place, and it ended well.
 pub fn success_ran_each_job()
