@@ -13,6 +13,7 @@ pub mod Leads
 pub mod SuccessCollects
 pub mod PlacesErased
 pub mod RightEnds
+pub mod Evaluating
 pub mod Reported
 pub mod TwoJobs
 pub mod MeasuredFile

@@ -121,7 +121,7 @@ pub record Finishes (walks : Walker) : Type 0 where
   pub found_again : (known : List Resolved) (job : Job) → Contains (unfolded walks known).jobs job →
       find (is_at job.place) (unfolded walks known).jobs ≡ Some job
 
-mapped_some : {X Y : Type 0} (f : X → Y) (o : Option X) → is_some (option_map f o) ≡ true → is_some o ≡ true
+pub mapped_some : {X Y : Type 0} (f : X → Y) (o : Option X) → is_some (option_map f o) ≡ true → is_some o ≡ true
 mapped_some f None is = is
 mapped_some f (Some x) is = refl
 
