@@ -1,2 +1,3 @@
 mod Loops
 mod Outs
+mod laws_of_walks

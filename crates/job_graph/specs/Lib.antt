@@ -1,3 +1,4 @@
+pub mod Agrees
 pub mod Codes
 pub mod Equations
 pub mod Eval
@@ -5,6 +6,7 @@ pub mod Inputs
 pub mod Jobs
 pub mod Links
 pub mod Made
+pub mod More
 pub mod Paths
 pub mod Scatter
 pub mod Unfold

@@ -12,6 +12,7 @@ mod cause;
 mod fault;
 mod gather;
 mod inputs;
+mod laws;
 mod links;
 mod made;
 mod parents;
@@ -26,6 +27,10 @@ mod workflow;
 
 pub use cause::Cause;
 pub use fault::{UnfoldError, UnfoldFault};
+pub use laws::{
+    faults_fail_eval, faults_stay, known_jobs_stay, learned_results_stay, more_is_met,
+    results_are_eval, results_stay,
+};
 pub use paths::input_paths;
 pub use place::is_same_place;
 pub use unfolding::{KnownJob, Unfolding};

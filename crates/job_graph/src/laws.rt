@@ -1,0 +1,67 @@
+//! What follows from the definitions alone, for any process: each law is the contract of a function that does nothing.
+ghost use Rattle.std.specs.Prelude.{◌≡◌, ◌++◌, List, Some, None};
+ghost use Rattle.cwl_process.specs.declared.tool.Tool.{Tool};
+ghost use Rattle.cwl_value.specs.Erased.{fields_erased};
+ghost use Rattle.document_links.specs.declared.process.Process.{Process};
+ghost use Rattle.input_files.specs.Measured.{Measures};
+ghost use Rattle.job_graph.specs.declared.cause.Cause.{Cause};
+ghost use Rattle.job_graph.specs.Words.{Fields, JobPlace};
+ghost use Rattle.job_graph.specs.Jobs.{Made, Walker, result_in};
+ghost use Rattle.job_graph.specs.Equations.{walker};
+ghost use Rattle.job_graph.specs.Unfold.{Fault, Resolved, fault_at, unfolded};
+ghost use Rattle.job_graph.specs.Eval.{Key, World, eval};
+ghost use Rattle.job_graph.specs.Agrees.{Agrees};
+ghost use Rattle.job_graph.specs.More.{IsFront, IsGrown, StaysOn};
+
+/// Says that jobs which are known stay, in their order, when more is learned; of any walk.
+pub fn known_jobs_stay()
+    ensures { (walks : Walker) (learned later : List Resolved)
+        → IsFront (unfolded walks learned).jobs (unfolded walks (learned ++ later)).jobs }
+{}
+
+/// Says that the first fault stays when more is learned; of any walk.
+pub fn faults_stay()
+    ensures { (walks : Walker) (learned later : List Resolved) (fault : Fault)
+        → (unfolded walks learned).fault ≡ Some fault → (unfolded walks (learned ++ later)).fault ≡ Some fault }
+{}
+
+/// Says that a walk, where more is known of the jobs that it meets, meets no less, in the same order, and that the outputs
+/// that were known stay.
+pub fn more_is_met()
+    ensures { (process : Process) (given : Fields) (measures : Measures) (made more : Made)
+        → StaysOn made more (walker process given measures made).met
+        → IsGrown (walker process given measures made) (walker process given measures more) }
+{}
+
+/// Says that the result stays where more is known.
+pub fn results_stay()
+    ensures { (process : Process) (given : Fields) (measures : Measures) (made more : Made) (outputs : Fields)
+        → StaysOn made more (walker process given measures made).met
+        → result_in made (walker process given measures made) ≡ Some outputs
+        → result_in more (walker process given measures more) ≡ Some outputs }
+{}
+
+/// Says that the result stays when more is learned.
+pub fn learned_results_stay()
+    ensures { (process : Process) (given : Fields) (measures : Measures) (learned later : List Resolved) (outputs : Fields)
+        → (unfolded (walker process given measures) learned).result ≡ Some outputs
+        → (unfolded (walker process given measures) (learned ++ later)).result ≡ Some outputs }
+{}
+
+/// Says that the result is what computing every job gives, in each world that agrees with what was learned.
+pub fn results_are_eval()
+    ensures { (key : Tool → Fields → Key) (world : World) (process : Process) (given : Fields) (measures : Measures)
+        (learned : List Resolved) (outputs : Fields)
+        → Agrees key world (walker process given measures) learned
+        → (unfolded (walker process given measures) learned).result ≡ Some outputs
+        → eval key world process given measures ≡ Some (fields_erased outputs) }
+{}
+
+/// Says that computing every job fails where an equation does, in each world that agrees with what was learned.
+pub fn faults_fail_eval()
+    ensures { (key : Tool → Fields → Key) (world : World) (process : Process) (given : Fields) (measures : Measures)
+        (learned : List Resolved) (place : JobPlace) (cause : Cause)
+        → Agrees key world (walker process given measures) learned
+        → (unfolded (walker process given measures) learned).fault ≡ Some (fault_at place cause)
+        → eval key world process given measures ≡ None }
+{}
