@@ -80,7 +80,7 @@ it_is_missing = fails _ refl refl refl refl
 a_measure_that_fails : EndsSo waiting (at (host_failed [] HostFault.Measure ∷ [])) [] (ended_by_host HostFault.Measure [])
 a_measure_that_fails = fails _ refl refl refl refl
 
--- A tool that calls 1 a success, 2 a failure for now and 0 a failure for good
+-- A tool that calls 1 a success, 2 a temporary failure and 0 a permanent one
 
 abbrev its_codes : ExitCodes
 its_codes = record { success = pos 1 ∷ []; temporary = pos 2 ∷ pos 1 ∷ []; permanent = pos 0 ∷ [] }

@@ -16,7 +16,7 @@ use Rattle.job_graph.specs.Words.{Name, Fields, JobPlace, is_same_place}
 use Rattle.run_rules.specs.Scene.{Scene}
 
 pub data Event : Type 0 where
-  -- this stands at the path of an input file
+  -- what is at the path of an input file
   file_measured : (path : Name) (measure : Measure) → Event
   -- the job's folders, of this number, are made
   job_staged : (place : JobPlace) (number : ℕ) → Event
