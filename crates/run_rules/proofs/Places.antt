@@ -1,10 +1,10 @@
--- Places that are found to be the same are the same.
+-- Two places are found to be the same where they are.
 use Rattle.std.specs.Prelude.{bytes_eq}
 use Rattle.std.specs.Cmp.Lexicographic.{bytes_decides}
 use Rattle.std.proofs.Common.{◌≡◌, true, [], ◌∷◌, refl}
 use Rattle.cwl_value.specs.declared.place.Segment.{Segment}
 use Rattle.job_graph.specs.Words.{JobPlace, is_same_place, segment_eq}
-use Rattle.run_rules.proofs.Measuring.{left_true, right_true}
+use Rattle.run_rules.proofs.Measuring.{both_true, left_true, right_true}
 
 same_segment : (a b : Segment) → segment_eq a b ≡ true → a ≡ b
 same_segment a b same =
@@ -20,3 +20,10 @@ same_place (a ∷ p) (b ∷ q) same =
     let first : a ≡ b = same_segment a b (left_true (segment_eq a b) (is_same_place p q) same) in
     let rest : p ≡ q = same_place p q (right_true (segment_eq a b) (is_same_place p q) same) in
     λ i. first i ∷ rest i
+
+same_segment_itself : (a : Segment) → segment_eq a a ≡ true
+same_segment_itself a = both_true (bytes_eq a.step a.step) (bytes_eq a.index a.index) ((bytes_decides a.step a.step).1 refl) ((bytes_decides a.index a.index).1 refl)
+
+pub same_itself : (p : JobPlace) → is_same_place p p ≡ true
+same_itself [] = refl
+same_itself (a ∷ p) = both_true (segment_eq a a) (is_same_place p p) (same_segment_itself a) (same_itself p)
