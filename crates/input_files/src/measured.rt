@@ -1,10 +1,8 @@
 //! Values whose Files and Directories are as they were measured.
-ghost use Rattle.std.specs.Prelude.{◌≡◌, IfOk, map, option_map, true};
-ghost use Rattle.std.specs.Option.{option_map_or};
+ghost use Rattle.std.specs.Prelude.{◌≡◌, IfOk, map};
 ghost use Rattle.plain_data.specs.ByName.{map_values};
 ghost use Rattle.cwl_value.specs.declared.value.FileVal.{out-FileVal};
 ghost use Rattle.input_files.specs.Measured as spec;
-ghost use Rattle.input_files.specs.Present.{all_true, is_present};
 
 use crate::listing::{checksum_of, values_below};
 use crate::present::are_present;
@@ -65,7 +63,11 @@ fn measured_dir(
 ) -> Result<DirVal, AllocError>
     ensures { IfOk result (λ d. d ≡ spec.dir_as_measured measures.now dir.now) }
 {
-    let listing = if are_listed_there(alloc, measures, &dir.listing)? {
+    let are_listed_there = match &dir.listing {
+        None => true,
+        Some(items) => are_present(&measured_items(alloc, measures, items)?),
+    };
+    let listing = if are_listed_there {
         found_listing(alloc, measures, &dir.place)?
     } else {
         None
@@ -76,21 +78,6 @@ fn measured_dir(
         basename,
         listing,
     })
-}
-
-// Whether all that a Directory lists is there.
-#[cycle(measured)]
-fn are_listed_there(
-    alloc: Global,
-    measures: &Keyed<Measure>,
-    listing: &Option<Items<Value>>,
-) -> Result<bool, AllocError>
-    ensures { IfOk result (λ are. are ≡ option_map_or (λ listed. all_true (map is_present listed)) (option_map (map (spec.as_measured measures.now)) listing.now) true) }
-{
-    match listing {
-        None => Ok(true),
-        Some(items) => Ok(are_present(&measured_items(alloc, measures, items)?)),
-    }
 }
 
 #[cycle(measured)]

@@ -70,8 +70,8 @@ pub fn push_defaults<P: Parameter>(
     ensures { OnOk result (paths.new ≡ paths.old ++ spec.paths_of_defaults P.of inputs.now) }
 {
     for input in inputs {
-        if let Some(value) = input.1.default() {
-            push_value(alloc, value, paths)?;
+        if let Some(default) = input.1.default() {
+            push_value(alloc, default, paths)?;
         }
     }
     Ok(())

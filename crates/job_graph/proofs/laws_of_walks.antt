@@ -1,6 +1,8 @@
 pub mod Grown
+pub mod Known
 pub mod Learned
 pub mod Part
+pub mod Places
 pub mod Processes
 pub mod Rounds
 pub mod Same

@@ -75,11 +75,15 @@ step_place place id tuple = place ++ record { step = id; index = tuple } ∷ []
 abbrev pub out_gathered : Method → List ℕ → List Walk → Name → Option Value
 out_gathered method lengths walks name = option_map (gathered method lengths) (all_there (map (λ w. out_under name (Some w.outs)) walks))
 
-abbrev pub all_instances : StepOf → List ℕ → List Walk → Walk
-all_instances s lengths walks = record {
+-- all that they meet, and each output put together
+abbrev pub walks_together : Method → List ℕ → List Name → List Walk → Walk
+walks_together method lengths names walks = record {
   met = flat_map (λ w. w.met) walks;
-  outs = map (λ name. (name, out_gathered (method_of s.method) lengths walks name)) s.outputs;
+  outs = map (λ name. (name, out_gathered method lengths walks name)) names;
 }
+
+abbrev pub all_instances : StepOf → List ℕ → List Walk → Walk
+all_instances s lengths walks = walks_together (method_of s.method) lengths s.outputs walks
 
 abbrev pub over_tuples : StepOf → Name → JobPlace → Fields → List ℕ → Result (List (List ℕ)) Cause → Walk
 over_tuples s id place fields lengths (Err cause) = failed (step_place place id []) cause s.outputs

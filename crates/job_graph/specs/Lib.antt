@@ -1,4 +1,5 @@
 pub mod Agrees
+pub mod Apart
 pub mod Codes
 pub mod Equations
 pub mod Eval

@@ -1,5 +1,5 @@
 -- The jobs that are known once the outputs of some places are, from scratch.
-use Rattle.std.specs.Prelude.{ℕ, ◌+◌, nat_le, ◌&&◌, Bool, not, cond, length, List, [], ◌∷◌, ◌++◌, Option, Some, None, filter, filter_map, find, option_map, reverse}
+use Rattle.std.specs.Prelude.{ℕ, suc, ◌+◌, nat_le, ◌&&◌, Bool, cond, length, List, [], ◌∷◌, ◌++◌, Option, Some, None, filter_map, find, fold, option_map, reverse}
 use Rattle.std.specs.List.{list_any}
 use Rattle.plan_checker.specs.declared.graph.TheConstants.{MOST_VERTICES, MOST_ENTRIES}
 use Rattle.job_graph.specs.declared.cause.Cause.{Cause}
@@ -44,9 +44,13 @@ job_met (met_fault place cause) = None
 abbrev pub is_known : List Job → Job → Bool
 is_known jobs job = list_any (is_at job.place) jobs
 
--- the jobs that are met at places where none of these jobs is
-abbrev pub new_in : List Job → List Met → List Job
-new_in jobs met = filter (λ job. not (is_known jobs job)) (filter_map job_met met)
+-- these jobs with one more, where none of them is at its place
+abbrev pub with_job : List Job → Job → List Job
+with_job jobs job = cond (is_known jobs job) jobs (jobs ++ job ∷ [])
+
+-- these jobs with those that are met
+abbrev pub with_met : List Job → List Met → List Job
+with_met jobs met = fold with_job jobs (filter_map job_met met)
 
 -- what is met where these places are resolved, the one learned last first
 abbrev pub met_after : Walker → List Resolved → List Met
@@ -54,13 +58,27 @@ met_after walks latest_first = (walks (made_by (reverse latest_first))).met
 
 -- the jobs in the order in which they came to be known; of the places, the one learned last comes first
 abbrev pub jobs_after : Walker → List Resolved → List Job
-jobs_after walks [] = new_in [] (met_after walks [])
-jobs_after walks (r ∷ earlier) =
-    let jobs : List Job = jobs_after walks earlier in jobs ++ new_in jobs (met_after walks (r ∷ earlier))
+jobs_after walks [] = with_met [] (met_after walks [])
+jobs_after walks (r ∷ earlier) = with_met (jobs_after walks earlier) (met_after walks (r ∷ earlier))
 
--- a job's parents: the jobs known before it that made a File or Directory in its inputs
-abbrev pub parents_among : List Job → Job → List Job
-parents_among earlier job = filter (λ maker. any_made maker.place job.inputs) earlier
+-- the numbers of those of the jobs, the first of which has this number, that made a File or Directory in the inputs
+abbrev pub parents_from : ℕ → List Job → Fields → List ℕ
+parents_from n [] inputs = []
+parents_from n (maker ∷ makers) inputs = cond (any_made maker.place inputs) (n ∷ parents_from (suc n) makers inputs) (parents_from (suc n) makers inputs)
+
+-- a job's parents, by their numbers: the jobs known before it that made a File or Directory in its inputs
+abbrev pub parents_among : List Job → Job → List ℕ
+parents_among earlier job = parents_from 0 earlier job.inputs
+
+-- a job that is known, with its parents
+pub record Known : Type 0 where
+  pub job : Job
+  pub parents : List ℕ
+
+-- jobs in the order in which they came to be known, after the earlier ones, each with its parents
+abbrev pub known_from : List Job → List Job → List Known
+known_from earlier [] = []
+known_from earlier (job ∷ jobs) = record { job = job; parents = parents_among earlier job } ∷ known_from (earlier ++ job ∷ []) jobs
 
 -- how many parents these jobs have in all, where those before them have n
 abbrev pub entries_from : ℕ → List Job → List Job → ℕ

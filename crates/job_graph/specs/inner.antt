@@ -1,2 +1,4 @@
+pub mod Entered
+pub mod Levels
 pub mod Told
 pub mod Views

@@ -1,5 +1,10 @@
 //! The outputs of a scattered step: those of its jobs, put together.
-ghost use Rattle.std.specs.Prelude.{◌≡◌, ◌≢◌, [], length, IfOk, IfSome};
+ghost use Rattle.std.specs.Prelude.{◌≡◌, ◌≢◌, ◌++◌, [], Some, length, map, IfOk, IfSome, OnOk, option_map};
+ghost use Rattle.std.specs.List.{flat_map};
+ghost use Rattle.job_graph.specs.Equations.{out_gathered, walks_together};
+ghost use Rattle.job_graph.specs.Jobs.{all_there};
+ghost use Rattle.job_graph.specs.Links.{out_under};
+ghost use Rattle.job_graph.specs.inner.Views.{met_of, walk_of};
 ghost use Rattle.scatter_shape.specs.Tuples.{IsTaken, tuples_of};
 
 use crate::links::out_under;
@@ -10,12 +15,14 @@ use scatter_shape::{Shape, gather};
 use std::alloc::{AllocError, Global};
 
 /// The values that all walks have under a name, once each is known.
+#[tactic(auto, using(crate::proofs::Loops::before_none, crate::proofs::Loops::before_one))]
 fn all_under(
     alloc: Global,
     walks: &[Walk<'_>],
     name: &str,
 ) -> Result<Option<Vec<Value>>, AllocError>
-    ensures { IfOk result (λ found. IfSome found (λ values. length values.items ≡ length walks.now)) }
+    ensures values { IfOk result (λ found. option_map (λ values. values.items) found ≡ all_there (map (λ w. out_under name.now (Some w.outs)) (map walk_of walks.now))) }
+    ensures one_each { IfOk result (λ found. IfSome found (λ values. length values.items ≡ length walks.now)) }
 {
     let mut values = Vec::new(alloc);
     for walk in walks {
@@ -37,6 +44,7 @@ fn out_gathered(
     requires some { shape.now.lengths ≢ [] }
     requires taken { IsTaken shape.now.method shape.now.lengths }
     requires one_each { length walks.now ≡ length (tuples_of shape.now.method shape.now.lengths) }
+    ensures { IfOk result (λ value. value ≡ out_gathered shape.now.method shape.now.lengths (map walk_of walks.now) name.now) }
 {
     match all_under(alloc, walks, name)? {
         None => Ok(None),
@@ -54,6 +62,7 @@ fn outs_gathered(
     requires some { shape.now.lengths ≢ [] }
     requires taken { IsTaken shape.now.method shape.now.lengths }
     requires one_each { length walks.now ≡ length (tuples_of shape.now.method shape.now.lengths) }
+    ensures { IfOk result (λ outs. outs ≡ map (λ name. (name, out_gathered shape.now.method shape.now.lengths (map walk_of walks.now) name)) names.now) }
 {
     let mut outs = Items::new(alloc);
     for name in names {
@@ -64,7 +73,9 @@ fn outs_gathered(
 }
 
 /// What all walks met, one walk after another.
-fn all_met<'a>(alloc: Global, walks: Vec<Walk<'a>>) -> Result<Items<Met<'a>>, AllocError> {
+fn all_met<'a>(alloc: Global, walks: Vec<Walk<'a>>) -> Result<Items<Met<'a>>, AllocError>
+    ensures { IfOk result (λ met. map met_of met ≡ flat_map (λ w. w.met) (map walk_of walks.entry.items)) }
+{
     let mut met = Items::new(alloc);
     for walk in walks {
         push_met(&mut met, walk)?;
@@ -73,7 +84,9 @@ fn all_met<'a>(alloc: Global, walks: Vec<Walk<'a>>) -> Result<Items<Met<'a>>, Al
 }
 
 /// Adds what a walk met.
-pub(crate) fn push_met<'a>(met: &mut Items<Met<'a>>, walk: Walk<'a>) -> Result<(), AllocError> {
+pub(crate) fn push_met<'a>(met: &mut Items<Met<'a>>, walk: Walk<'a>) -> Result<(), AllocError>
+    ensures { OnOk result (met.new ≡ met.old ++ walk.entry.met) }
+{
     let Walk { met: more, outs } = walk;
     drop(outs);
     for one in more.into_vec() {
@@ -92,6 +105,7 @@ pub(crate) fn all_instances<'a>(
     requires some { shape.now.lengths ≢ [] }
     requires taken { IsTaken shape.now.method shape.now.lengths }
     requires one_each { length walks.items ≡ length (tuples_of shape.now.method shape.now.lengths) }
+    ensures { IfOk result (λ walk. walk_of walk ≡ walks_together shape.now.method shape.now.lengths names.now (map walk_of walks.entry.items)) }
 {
     let outs = outs_gathered(alloc, shape, walks.as_slice(), names)?;
     let met = all_met(alloc, walks)?;

@@ -1,16 +1,18 @@
 //! What follows from the definitions alone, for any process: each law is the contract of a function that does nothing.
-ghost use Rattle.std.specs.Prelude.{◌≡◌, ◌++◌, List, Some, None};
+ghost use Rattle.std.specs.Prelude.{◌≡◌, ◌++◌, true, List, map, find, Some, None, is_some, Contains};
+ghost use Rattle.std.specs.List.{IsDistinct};
 ghost use Rattle.cwl_process.specs.declared.tool.Tool.{Tool};
 ghost use Rattle.cwl_value.specs.Erased.{fields_erased};
 ghost use Rattle.document_links.specs.declared.process.Process.{Process};
 ghost use Rattle.input_files.specs.Measured.{Measures};
 ghost use Rattle.job_graph.specs.declared.cause.Cause.{Cause};
-ghost use Rattle.job_graph.specs.Words.{Fields, JobPlace};
-ghost use Rattle.job_graph.specs.Jobs.{Made, Walker, result_in};
+ghost use Rattle.job_graph.specs.Words.{Fields, JobPlace, is_same_place};
+ghost use Rattle.job_graph.specs.Jobs.{Job, Made, Walker, met_job, result_in};
 ghost use Rattle.job_graph.specs.Equations.{walker};
-ghost use Rattle.job_graph.specs.Unfold.{Fault, Resolved, fault_at, unfolded};
+ghost use Rattle.job_graph.specs.Unfold.{Fault, Resolved, fault_at, is_at, made_by, outputs_at, unfolded};
 ghost use Rattle.job_graph.specs.Eval.{Key, World, eval};
-ghost use Rattle.job_graph.specs.Agrees.{Agrees};
+ghost use Rattle.job_graph.specs.Agrees.{Agrees, AgreesKnown};
+ghost use Rattle.job_graph.specs.Apart.{ids_differ};
 ghost use Rattle.job_graph.specs.More.{IsFront, IsGrown, StaysOn};
 
 /// Says that jobs which are known stay, in their order, when more is learned; of any walk.
@@ -64,4 +66,44 @@ pub fn faults_fail_eval()
         → Agrees key world (walker process given measures) learned
         → (unfolded (walker process given measures) learned).fault ≡ Some (fault_at place cause)
         → eval key world process given measures ≡ None }
+{}
+
+/// Says that jobs which are known are at different places; of any walk.
+pub fn known_places_differ()
+    ensures { (walks : Walker) (learned : List Resolved)
+        → IsDistinct is_same_place (map (λ (job : Job). job.place) (unfolded walks learned).jobs) }
+{}
+
+/// Says that a job which is met is the one that is known at its place, in each process where no two steps of a workflow have
+/// one id.
+pub fn met_jobs_are_known()
+    ensures { (process : Process) (given : Fields) (measures : Measures) (learned : List Resolved) (job : Job)
+        → ids_differ process ≡ true
+        → Contains (walker process given measures (made_by learned)).met (met_job job)
+        → find (is_at job.place) (unfolded (walker process given measures) learned).jobs ≡ Some job }
+{}
+
+/// Says that a world which agrees with the known jobs does so with those that are met.
+pub fn known_jobs_agree()
+    ensures { (key : Tool → Fields → Key) (world : World) (process : Process) (given : Fields) (measures : Measures)
+        (learned : List Resolved)
+        → ids_differ process ≡ true → AgreesKnown key world (walker process given measures) learned
+        → Agrees key world (walker process given measures) learned }
+{}
+
+/// Says that computing every job fails where a known job does, in each world that agrees with what was learned.
+pub fn failed_jobs_fail_eval()
+    ensures { (key : Tool → Fields → Key) (world : World) (process : Process) (given : Fields) (measures : Measures)
+        (learned : List Resolved) (job : Job)
+        → Agrees key world (walker process given measures) learned
+        → Contains (unfolded (walker process given measures) learned).jobs job → world (key job.tool job.inputs) ≡ None
+        → eval key world process given measures ≡ None }
+{}
+
+/// Says that each known job was learned where there is a result.
+pub fn results_learned_each_job()
+    ensures { (process : Process) (given : Fields) (measures : Measures) (learned : List Resolved) (outputs : Fields) (job : Job)
+        → (unfolded (walker process given measures) learned).result ≡ Some outputs
+        → Contains (unfolded (walker process given measures) learned).jobs job
+        → is_some (outputs_at learned job.place) ≡ true }
 {}

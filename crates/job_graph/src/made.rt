@@ -5,6 +5,7 @@ ghost use Rattle.std.specs.Option.{option_copied};
 ghost use Rattle.link_values.specs.StepInputs.{null, value_under};
 ghost use Rattle.job_graph.specs.Jobs.{outs_of};
 ghost use Rattle.job_graph.specs.Unfold.{outputs_at};
+ghost use Rattle.job_graph.specs.inner.Views.{resolved_of};
 ghost use Rattle.job_graph.specs.Made.{dir_value_moved, fields_made, file_value_moved, made_place, value_moved};
 
 use crate::place::is_same_place;
@@ -33,7 +34,7 @@ pub(crate) struct Facts {
 
 /// The outputs of the job at a place, where they are known.
 pub(crate) fn outputs_at<'a>(learned: &'a [Resolved], place: &JobPlace) -> Option<&'a Keyed<Value>>
-    ensures { option_copied result ≡ outputs_at learned.now place.now }
+    ensures { option_copied result ≡ outputs_at (map resolved_of learned.now) place.now }
 {
     for resolved in learned {
         if is_same_place(resolved.place.as_slice(), place.as_slice()) {

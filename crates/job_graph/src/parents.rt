@@ -1,6 +1,7 @@
 //! Which jobs made the files in a job's inputs.
-ghost use Rattle.std.specs.Prelude.{◌≡◌};
-ghost use Rattle.job_graph.specs.Made.{is_of};
+ghost use Rattle.std.specs.Prelude.{◌≡◌, map};
+ghost use Rattle.plain_data.specs.ByName.{map_values};
+ghost use Rattle.job_graph.specs.Made.{any_made, dir_holds, file_holds, holds_made, is_of, some_true};
 
 use crate::place::is_same_place;
 use cwl_value::{DirVal, FileVal, JobPlace, Place, Value};
@@ -17,23 +18,29 @@ fn is_of(job: &JobPlace, place: &Place) -> bool
 
 /// Whether a value holds, at any depth, a File or Directory that the job at a place made.
 #[cycle(holds)]
-fn holds_made(job: &JobPlace, value: &Value) -> bool {
+fn holds_made(job: &JobPlace, value: &Value) -> bool
+    ensures { result ≡ holds_made job.now value.now }
+{
     match value {
         Value::FileVal(file) => file_holds(job, file),
         Value::DirVal(dir) => dir_holds(job, dir),
         Value::List(items) => items_hold(job, items),
-        Value::Fields(fields) => any_made(job, fields),
+        Value::Fields(fields) => fields_hold(job, fields),
         _ => false,
     }
 }
 
 #[cycle(holds)]
-fn file_holds(job: &JobPlace, file: &FileVal) -> bool {
+fn file_holds(job: &JobPlace, file: &FileVal) -> bool
+    ensures { result ≡ file_holds job.now file.now }
+{
     is_of(job, &file.place) || items_hold(job, &file.secondary)
 }
 
 #[cycle(holds)]
-fn dir_holds(job: &JobPlace, dir: &DirVal) -> bool {
+fn dir_holds(job: &JobPlace, dir: &DirVal) -> bool
+    ensures { result ≡ dir_holds job.now dir.now }
+{
     if is_of(job, &dir.place) {
         return true;
     }
@@ -44,7 +51,9 @@ fn dir_holds(job: &JobPlace, dir: &DirVal) -> bool {
 }
 
 #[cycle(holds)]
-fn items_hold(job: &JobPlace, items: &Items<Value>) -> bool {
+fn items_hold(job: &JobPlace, items: &Items<Value>) -> bool
+    ensures { result ≡ some_true (map (holds_made job.now) items.now) }
+{
     for item in items.as_slice() {
         if holds_made(job, item) {
             return true;
@@ -53,9 +62,22 @@ fn items_hold(job: &JobPlace, items: &Items<Value>) -> bool {
     false
 }
 
-/// Whether one of the values holds a File or Directory that the job at a place made.
 #[cycle(holds)]
-pub(crate) fn any_made(job: &JobPlace, fields: &Keyed<Value>) -> bool {
+fn fields_hold(job: &JobPlace, fields: &Keyed<Value>) -> bool
+    ensures { result ≡ some_true (map (λ f. f.1) (map_values (holds_made job.now) fields.now)) }
+{
+    for field in fields.as_slice() {
+        if holds_made(job, &field.1) {
+            return true;
+        }
+    }
+    false
+}
+
+/// Whether one of the values holds a File or Directory that the job at a place made.
+pub(crate) fn any_made(job: &JobPlace, fields: &Keyed<Value>) -> bool
+    ensures { result ≡ any_made job.now fields.now }
+{
     for field in fields.as_slice() {
         if holds_made(job, &field.1) {
             return true;

@@ -1,12 +1,10 @@
 //! The tuples of a scattered step, and the inputs of each.
-ghost use Rattle.std.specs.Prelude.{◌≡◌, ◌≢◌, [], Some, IfErr, IfOk, OnOk, unwrap_or};
+ghost use Rattle.std.specs.Prelude.{◌≡◌, ◌≢◌, [], Some, IfOk, OnOk, unwrap_or};
 ghost use Rattle.std.specs.Option.{option_copied};
 ghost use Rattle.plain_data.specs.ByName.{with_value};
 ghost use Rattle.link_values.specs.StepInputs.{null};
-ghost use Rattle.scatter_shape.specs.Tuples.{IsRefused, IsTaken, tuples_of};
-ghost use Rattle.scatter_shape.specs.declared.refusal.ScatterFault.{ScatterFault};
-ghost use Rattle.job_graph.specs.declared.cause.Cause.TheVariants.{Scatter};
-ghost use Rattle.job_graph.specs.Scatter.{at_tuple, index_for, item_at, lengths_under};
+ghost use Rattle.scatter_shape.specs.Tuples.{IsTaken};
+ghost use Rattle.job_graph.specs.Scatter.{at_tuple, index_for, item_at, lengths_under, tuples_for};
 
 use crate::cause::Cause;
 use cwl_value::Value;
@@ -33,14 +31,14 @@ pub(crate) fn lengths_under(
 }
 
 /// The tuples, or why there are none.
+#[tactic(auto, using(crate::proofs::Tuples::taken_tuples, crate::proofs::Tuples::refused_tuples))]
 pub(crate) fn tuples_for(
     alloc: Global,
     method: Method,
     lengths: &[usize],
 ) -> Result<Result<Items<Items<usize>>, Cause>, AllocError>
     requires { lengths.now ≢ [] }
-    ensures ok { IfOk result (λ found. IfOk found (λ tuples. tuples ≡ tuples_of method lengths.now)) }
-    ensures err { IfOk result (λ found. IfErr found (λ cause. (fault : ScatterFault) × (cause ≡ Scatter fault) × IsRefused method lengths.now fault)) }
+    ensures value { IfOk result (λ found. found ≡ tuples_for method lengths.now) }
     ensures taken { IfOk result (λ found. OnOk found (IsTaken method lengths.now)) }
 {
     match jobs_of(alloc, method, lengths) {

@@ -1,6 +1,6 @@
 -- What stays where one more place is learned, and what it is worth in a world.
 use Rattle.std.proofs.Common.{◌≡◌, ◌∙◌, ◌⊎◌, ◌≢◌, inl, inr, ⊎_elim, List, [], ◌∷◌, ◌++◌, reverse, find, Bool, true, false, cond, Option, Some, None, option_map, refl, sym, ap, ap₂, subst, append_assoc, append-nil}
-use Rattle.std.specs.Prelude.{Contains, is_some, ◌&&◌}
+use Rattle.std.specs.Prelude.{filter_map, fold, Contains, is_some, ◌&&◌}
 use Rattle.std.specs.List.{AllByRecursion, list_all}
 use Rattle.std.specs.Option.{option_or}
 use Rattle.std.proofs.lemmas.List.{reverse-append, reverse-reverse}
@@ -16,11 +16,11 @@ use Rattle.job_graph.specs.Made.{fields_made}
 use Rattle.job_graph.specs.Jobs.{Job, Met, met_job, met_fault, Made, Walker, is_well, all_named, result_in, result}
 use Rattle.job_graph.specs.Inputs.{root_fields}
 use Rattle.job_graph.specs.Equations.{walker}
-use Rattle.job_graph.specs.Unfold.{Resolved, Fault, fault_at, too_many_jobs, outputs_at, made_by, is_known, is_within_limits, new_in, met_after, jobs_after, first_fault, or_else, fault_after, unfolded}
+use Rattle.job_graph.specs.Unfold.{Resolved, Fault, fault_at, too_many_jobs, outputs_at, made_by, is_known, is_within_limits, job_met, with_job, met_after, jobs_after, first_fault, or_else, fault_after, unfolded}
 use Rattle.job_graph.specs.Eval.{Key, World, made_in, eval}
 use Rattle.job_graph.specs.Agrees.{Agrees}
 use Rattle.job_graph.specs.More.{Stays, IsPart, nothing, kept, left_out, StaysOn, IsGrown}
-use Rattle.job_graph.proofs.laws_of_walks.Part.{each_part, stays_map}
+use Rattle.job_graph.proofs.laws_of_walks.Part.{and_left, and_right, each_part, stays_map, weaker}
 use Rattle.job_graph.proofs.laws_of_walks.Part.{AllIn}
 use Rattle.job_graph.proofs.laws_of_walks.Grown.{goes}
 use Rattle.job_graph.proofs.laws_of_walks.Same.{agrees}
@@ -37,25 +37,17 @@ all_met G met holds = each_met G met holds met (recursion_from_All (Contains met
 
 -- ---- walks, where more is known
 
-abbrev Later : Made → Made → Job → Type 0
+abbrev pub Later : Made → Made → Job → Type 0
 Later made more job = Stays (made job) (more job)
 
-abbrev Alike : Made → Made → Job → Type 0
+abbrev pub Alike : Made → Made → Job → Type 0
 Alike made more job = made job ≡ more job
 
 is_there : {T : Type 0} (a b : Option T) → is_some a ≡ true → Stays a b → (a ≡ b) × (is_some b ≡ true)
 is_there None b there stays = absurd cc
 is_there (Some v) b there stays = (sym stays, ap is_some stays)
 
-and_left : (a b : Bool) → (a && b) ≡ true → a ≡ true
-and_left true b both = refl
-and_left false b both = absurd cc
-
-and_right : (a b : Bool) → (a && b) ≡ true → b ≡ true
-and_right true b both = both
-and_right false b both = absurd cc
-
-all_well : (made more : Made) (met : List Met) → list_all (is_well made) met ≡ true → AllIn (Later made more) met → AllIn (Alike made more) met × (list_all (is_well more) met ≡ true)
+pub all_well : (made more : Made) (met : List Met) → list_all (is_well made) met ≡ true → AllIn (Later made more) met → AllIn (Alike made more) met × (list_all (is_well more) met ≡ true)
 all_well made more [] well stay = (tt, refl)
 all_well made more (met_job job ∷ met) well stay =
     let here : (made job ≡ more job) × (is_some (more job) ≡ true) = is_there (made job) (more job) (and_left (is_some (made job)) (list_all (is_well made) met) well) stay.0 in
@@ -63,7 +55,7 @@ all_well made more (met_job job ∷ met) well stay =
     ((here.0, rest.0), ap₂ (λ (a b : Bool). a && b) here.1 rest.1)
 all_well made more (met_fault place cause ∷ met) well stay = absurd cc
 
-well_of : (well : Bool) (outs : Option Fields) (outputs : Fields) → cond well outs None ≡ Some outputs → (well ≡ true) × (outs ≡ Some outputs)
+pub well_of : (well : Bool) (outs : Option Fields) (outputs : Fields) → cond well outs None ≡ Some outputs → (well ≡ true) × (outs ≡ Some outputs)
 well_of true outs outputs is = (refl, is)
 well_of false outs outputs is = absurd cc
 
@@ -100,12 +92,24 @@ pub made_stays : (learned later : List Resolved) (job : Job) → Stays (made_by 
 made_stays learned later job = stays_map (fields_made job.place) (outputs_at learned job.place) (outputs_at (learned ++ later) job.place) (outputs_stay learned later job.place)
 
 -- the jobs that become known by more, of any walker
+one_more : (b : Bool) (jobs : List Job) (job : Job) → (more : List Job) × (cond b jobs (jobs ++ job ∷ []) ≡ jobs ++ more)
+one_more true jobs job = ([], sym (append-nil jobs))
+one_more false jobs job = (job ∷ [], refl)
+
+jobs_put : (new jobs : List Job) → (more : List Job) × (fold with_job jobs new ≡ jobs ++ more)
+jobs_put [] jobs = ([], sym (append-nil jobs))
+jobs_put (job ∷ new) jobs =
+    let first : (more : List Job) × (with_job jobs job ≡ jobs ++ more) = one_more (is_known jobs job) jobs job in
+    let rest : (more : List Job) × (fold with_job (with_job jobs job) new ≡ with_job jobs job ++ more) = jobs_put new (with_job jobs job) in
+    (first.0 ++ rest.0, rest.1 ∙ ap (λ (known : List Job). known ++ rest.0) first.1 ∙ append_assoc jobs first.0 rest.0)
+
 jobs_by : (walks : Walker) (latest before : List Resolved) → (more : List Job) × (jobs_after walks (latest ++ before) ≡ jobs_after walks before ++ more)
 jobs_by walks [] before = ([], sym (append-nil (jobs_after walks before)))
 jobs_by walks (r ∷ latest) before =
     let known : (more : List Job) × (jobs_after walks (latest ++ before) ≡ jobs_after walks before ++ more) = jobs_by walks latest before in
-    let new : List Job = new_in (jobs_after walks (latest ++ before)) (met_after walks (r ∷ (latest ++ before))) in
-    (known.0 ++ new, ap (λ (jobs : List Job). jobs ++ new) known.1 ∙ append_assoc (jobs_after walks before) known.0 new)
+    let new : (more : List Job) × (jobs_after walks (r ∷ (latest ++ before)) ≡ jobs_after walks (latest ++ before) ++ more) =
+    jobs_put (filter_map job_met (met_after walks (r ∷ (latest ++ before)))) (jobs_after walks (latest ++ before)) in
+    (known.0 ++ new.0, new.1 ∙ ap (λ (jobs : List Job). jobs ++ new.0) known.1 ∙ append_assoc (jobs_after walks before) known.0 new.0)
 
 pub jobs_stay : (walks : Walker) (learned later : List Resolved) → (more : List Job) × ((unfolded walks (learned ++ later)).jobs ≡ (unfolded walks learned).jobs ++ more)
 jobs_stay walks learned later =
@@ -122,11 +126,11 @@ fault_stays walks learned later fault is = ap (fault_after walks) (reverse-appen
 
 -- ---- faults are met
 
-abbrev IsIn : Met → List Met → Type 0
+abbrev pub IsIn : Met → List Met → Type 0
 IsIn m [] = ⊥
 IsIn m (x ∷ xs) = (m ≡ x) ⊎ IsIn m xs
 
-in_part : (m : Met) (xs ys : List Met) → IsPart xs ys → IsIn m xs → IsIn m ys
+pub in_part : (m : Met) (xs ys : List Met) → IsPart xs ys → IsIn m xs → IsIn m ys
 in_part m xs ys nothing at = at
 in_part m xs ys (kept x us vs part) (inl here) = inl here
 in_part m xs ys (kept x us vs part) (inr later) = inr (in_part m us vs part later)
@@ -150,7 +154,7 @@ fault_in jobs (met_job job ∷ met) place cause is =
     inr (⊎_elim (λ seen. fault_in jobs met place cause seen) (λ later. fault_in (jobs ++ job ∷ []) met place cause later)
     (either (is_known jobs job) (is_within_limits (jobs ++ job ∷ [])) (first_fault jobs met) (first_fault (jobs ++ job ∷ []) met) (fault_at place cause) (of_place place cause) is))
 
-not_well : (made : Made) (met : List Met) (place : JobPlace) (cause : Cause) → IsIn (met_fault place cause) met → list_all (is_well made) met ≡ false
+pub not_well : (made : Made) (met : List Met) (place : JobPlace) (cause : Cause) → IsIn (met_fault place cause) met → list_all (is_well made) met ≡ false
 not_well made [] place cause at = absurd at
 not_well made (x ∷ xs) place cause (inl here) = ap (λ (m : Met). is_well made m && list_all (is_well made) xs) (sym here)
 not_well made (x ∷ xs) place cause (inr later) = ap (λ (b : Bool). is_well made x && b) (not_well made xs place cause later) ∙ and_false (is_well made x)
@@ -169,11 +173,6 @@ stays_on : {T : Type 0} (a b c : Option T) → Stays a b → Stays b c → Stays
 stays_on None b c one other = tt
 stays_on {T} (Some v) b c one other = subst (λ (o : Option T). Stays o c) one other
 
-weaker : (G H : Job → Type 0) → ((job : Job) → G job → H job) → (met : List Met) → AllIn G met → AllIn H met
-weaker G H means [] all = tt
-weaker G H means (met_job job ∷ met) all = (means job all.0, weaker G H means met all.1)
-weaker G H means (met_fault place cause ∷ met) all = (tt, weaker G H means met all.1)
-
 -- one more place learned, the one learned last first
 made_more : (r : Resolved) (earlier : List Resolved) (job : Job) → Stays (made_by (reverse earlier) job) (made_by (reverse (r ∷ earlier)) job)
 made_more r earlier job =
@@ -186,7 +185,7 @@ module _ (process : Process) (given : Fields) (measures : Measures) (more : Made
   abbrev IsLater : List Resolved → Type 0
   IsLater latest = AllIn (Later (made_by (reverse latest)) more) (met_after the_walks latest)
 
-  earlier_met : (r : Resolved) (earlier : List Resolved) → IsPart (met_after the_walks earlier) (met_after the_walks (r ∷ earlier))
+  pub earlier_met : (r : Resolved) (earlier : List Resolved) → IsPart (met_after the_walks earlier) (met_after the_walks (r ∷ earlier))
   earlier_met r earlier =
       (grows_in process given measures (made_by (reverse earlier)) (made_by (reverse (r ∷ earlier)))
       (all_met (Later (made_by (reverse earlier)) (made_by (reverse (r ∷ earlier)))) (met_after the_walks earlier) (λ job at. made_more r earlier job))).met
@@ -226,7 +225,7 @@ module _ (key : Tool → Fields → Key) (world : World) (process : Process) (gi
   abbrev known : Walker
   known = walker process given measures
 
-  agrees_on : Agrees key world known learned → StaysOn (made_by learned) (made_in key world) (known (made_by learned)).met
+  pub agrees_on : Agrees key world known learned → StaysOn (made_by learned) (made_in key world) (known (made_by learned)).met
   agrees_on rightly job at = stays_map (fields_made job.place) (outputs_at learned job.place) (world (key job.tool job.inputs)) (rightly job at)
 
   pub result_is_eval : Agrees key world known learned → (outputs : Fields) → (unfolded known learned).result ≡ Some outputs → eval key world process given measures ≡ Some (fields_erased outputs)

@@ -1,5 +1,6 @@
 -- Lists with some elements left out, and optional values that stay.
 use Rattle.std.proofs.Common.{◌≡◌, List, [], ◌∷◌, ◌++◌, map, Bool, true, false, cond, Option, Some, None, option_map, unwrap_or, bytes_eq, refl, ap, ap₂}
+use Rattle.std.specs.Prelude.{◌&&◌}
 use Rattle.std.specs.List.{AllByRecursion}
 use Rattle.cwl_value.specs.declared.value.Value.{Value}
 use Rattle.plain_data.specs.ByName.{value_at}
@@ -30,6 +31,23 @@ module _ (G : Job → Type 0) where
   each_part xs ys nothing all = all
   each_part xs ys (kept x us vs part) all = (all.0, each_part us vs part all.1)
   each_part xs ys (left_out y us vs part) all = each_part us vs part all.1
+
+  pub each_both : (xs ys : List Met) → AllIn xs → AllIn ys → AllIn (xs ++ ys)
+  each_both [] ys one other = other
+  each_both (x ∷ xs) ys one other = (one.0, each_both xs ys one.1 other)
+
+pub weaker : (G H : Job → Type 0) → ((job : Job) → G job → H job) → (met : List Met) → AllIn G met → AllIn H met
+weaker G H means [] all = tt
+weaker G H means (met_job job ∷ met) all = (means job all.0, weaker G H means met all.1)
+weaker G H means (met_fault place cause ∷ met) all = (tt, weaker G H means met all.1)
+
+pub and_left : (a b : Bool) → (a && b) ≡ true → a ≡ true
+and_left true b both = refl
+and_left false b both = absurd cc
+
+pub and_right : (a b : Bool) → (a && b) ≡ true → b ≡ true
+and_right true b both = both
+and_right false b both = absurd cc
 
 -- ---- lists with some elements left out
 

@@ -1,7 +1,9 @@
-use Rattle.std.proofs.Common.{◌≡◌, drop, find}
+use Rattle.std.proofs.Common.{◌≡◌, drop, find, map}
 use Rattle.job_graph.specs.Words.{is_same_place}
+use Rattle.job_graph.specs.inner.Views.{resolved_of}
 use Rattle.job_graph.proofs.made.outputs_at.Given as goal
 
 abbrev pub invariant-loop-resolved : goal.invariant-loop-resolved
 invariant-loop-resolved l =
-    find (λ r. is_same_place r.place l.place) l.learned ≡ find (λ r. is_same_place r.place l.place) (drop l.resolved-index l.learned)
+    find (λ r. is_same_place r.place l.place) (map resolved_of l.learned)
+    ≡ find (λ r. is_same_place r.place l.place) (map resolved_of (drop l.resolved-index l.learned))

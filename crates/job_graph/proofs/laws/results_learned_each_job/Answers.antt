@@ -1,0 +1,5 @@
+use Rattle.job_graph.proofs.laws_of_walks.Known.{each_learned}
+use Rattle.job_graph.proofs.laws.results_learned_each_job.Goals as goal
+
+pub returns : goal.returns
+returns c = each_learned
