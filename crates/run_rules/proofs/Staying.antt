@@ -1,11 +1,11 @@
 -- What is known stays known: a job that is known at a place is known there from then on.
-use Rattle.std.proofs.Common.{◌≡◌, ◌∙◌, Bool, true, false, cond, List, [], ◌∷◌, ◌++◌, append-nil, find, reverse, Option, Some, None, refl, sym, ap, subst}
+use Rattle.std.proofs.Common.{◌≡◌, ◌∙◌, Bool, true, false, cond, List, [], ◌∷◌, ◌++◌, append-nil, filter_map, find, fold, reverse, Option, Some, None, refl, sym, ap, subst}
 use Rattle.std.specs.Option.{option_or}
 use Rattle.std.proofs.lemmas.List.{append_assoc, reverse-append}
 use Rattle.std.proofs.lemmas.List.Folds.{find-append}
 use Rattle.input_files.specs.Measured.{Measures}
-use Rattle.job_graph.specs.Jobs.{Job, Walker, result}
-use Rattle.job_graph.specs.Unfold.{Resolved, Unfolded, is_at, jobs_after, met_after, made_by, new_in, nothing_known, unfolded}
+use Rattle.job_graph.specs.Jobs.{Job, Walker}
+use Rattle.job_graph.specs.Unfold.{Resolved, Unfolded, is_at, is_known, job_met, jobs_after, met_after, nothing_known, unfolded, with_job}
 use Rattle.job_graph.specs.Words.{Fields, JobPlace}
 use Rattle.run_rules.specs.Scene.{Scene}
 use Rattle.run_rules.specs.Events.{Event, file_measured, job_staged, job_started, child_exited, job_succeeded, job_failed, job_failed_for_now, result_delivered, host_failed, collect_failed, measures, are_measured, resolved, unfolding_at, job_at}
@@ -22,13 +22,15 @@ pub has_result : (measured : Bool) (known : Unfolded) (outputs : Fields) → (kn
 has_result true known outputs is = refl
 has_result false known outputs is = absurd cc
 
--- with one more resolved place, the jobs that were known come first
-pub one_more_resolved : (walks : Walker) (known : List Resolved) (r : Resolved) →
-    (unfolded walks (known ++ r ∷ [])).jobs ≡ (unfolded walks known).jobs ++ new_in (unfolded walks known).jobs (met_after walks (r ∷ reverse known))
-one_more_resolved walks known r = ap (jobs_after walks) (reverse-append known (r ∷ []))
+-- a job that is found is found still where more are met
+module _ (p : Job → Bool) (job : Job) where
+  found_if : (jobs : List Job) (other : Job) (is_there : Bool) → find p jobs ≡ Some job → find p (cond is_there jobs (jobs ++ other ∷ [])) ≡ Some job
+  found_if jobs other true is = is
+  found_if jobs other false is = find-append p jobs (other ∷ []) ∙ ap (λ (o : Option Job). option_or o (find p (other ∷ []))) is
 
-found_before : (p : Job → Bool) (jobs more : List Job) (job : Job) → find p jobs ≡ Some job → find p (jobs ++ more) ≡ Some job
-found_before p jobs more job is = find-append p jobs more ∙ ap (λ (o : Option Job). option_or o (find p more)) is
+  found_still : (jobs others : List Job) → find p jobs ≡ Some job → find p (fold with_job jobs others) ≡ Some job
+  found_still jobs [] is = is
+  found_still jobs (other ∷ others) is = found_still (with_job jobs other) others (found_if jobs other (is_known jobs other) is)
 
 module _ (s : Scene) where
   -- all is measured where a job is known
@@ -60,8 +62,8 @@ module _ (s : Scene) where
       let walks : Walker = s.walker (measures es) in
       let r : Resolved = record { place = at; outputs = outputs } in
       ap (λ (u : Unfolded). find (is_at place) u.jobs) (after_success es at outputs all)
-      ∙ ap (find (is_at place)) (one_more_resolved walks (resolved es) r)
-      ∙ found_before (is_at place) (unfolded walks (resolved es)).jobs (new_in (unfolded walks (resolved es)).jobs (met_after walks (r ∷ reverse (resolved es)))) job
+      ∙ ap (λ (known : List Resolved). find (is_at place) (jobs_after walks known)) (reverse-append (resolved es) (r ∷ []))
+      ∙ found_still (is_at place) job (unfolded walks (resolved es)).jobs (filter_map job_met (met_after walks (r ∷ reverse (resolved es))))
       (sym (ap (λ (u : Unfolded). find (is_at place) u.jobs) (unfolding_if es all)) ∙ is)
 
   pub stays_one : (es : List Event) (place : JobPlace) (job : Job) (e : Event) → FitsAt s es e → job_at s es place ≡ Some job → job_at s (es ++ e ∷ []) place ≡ Some job
