@@ -2,6 +2,7 @@
 use Rattle.std.specs.Prelude.{is_some, Contains}
 use Rattle.std.specs.List.{AllByRecursion, IsDistinct}
 use Rattle.std.proofs.Common.{◌≡◌, ◌∙◌, zero, suc, Bool, true, false, cond, List, [], ◌∷◌, map, find, Some, None, sym, ap, arith}
+use Rattle.std.proofs.lemmas.Map.Keys.{IsDistinct-head, IsDistinct-tail}
 use Rattle.cwl_process.specs.declared.tool.Tool.{Tool}
 use Rattle.cwl_value.specs.Erased.{fields_erased}
 use Rattle.document_links.specs.declared.process.Process.{Process}
@@ -34,7 +35,7 @@ found_at_its_place (j ∷ jobs) job distinct (zero, within, is) =
     ap (λ (b : Bool). cond b (Some j) (find (is_at job.place) jobs)) (ap (λ (k : Job). is_same_place k.place job.place) is ∙ same_itself job.place) ∙ ap Some is
 found_at_its_place (j ∷ jobs) job distinct (suc n, within, is) =
     let there : Contains jobs job = (n, omega (arith, within), is) in
-    ap (λ (b : Bool). cond b (Some j) (find (is_at job.place) jobs)) (apart_from j.place jobs job distinct.0 there) ∙ found_at_its_place jobs job distinct.1 there
+    ap (λ (b : Bool). cond b (Some j) (find (is_at job.place) jobs)) (apart_from j.place jobs job (IsDistinct-head is_same_place j.place (map (λ (k : Job). k.place) jobs) distinct) there) ∙ found_at_its_place jobs job (IsDistinct-tail is_same_place j.place (map (λ (k : Job). k.place) jobs) distinct) there
 
 -- The laws
 
