@@ -95,7 +95,10 @@ fn inputs_measured(alloc: Global, lone: &Lone, measuring: Measuring) -> Result<S
     mem::drop(measuring);
     match found {
         Ok(inputs) => staging(alloc, lone, inputs),
-        Err(InputError::Refused(fault)) => Ok(failed_for_good(alloc, Cause::Equation(cause_of(fault)))),
+        Err(InputError::Refused(fault)) => Ok(failed_for_good(
+            alloc,
+            Cause::Equation(cause_of(fault)),
+        )),
         Err(InputError::OutOfMemory) => Err(AllocError),
     }
 }

@@ -23,7 +23,7 @@ pub fn listing_json(alloc: Global, listing: &Items<Found>) -> Result<String, Row
     Ok(list.close()?)
 }
 
-/// What stands at a path as JSON, as it is written in a script.
+/// A measure as JSON, as it is written in a script.
 pub fn measure_json(alloc: Global, measure: &Measure) -> Result<String, RowFault> {
     match measure {
         Measure::Absent => Ok(String::from_str(alloc, "null")?),

@@ -31,7 +31,7 @@ fn reply_of(alloc: Global, json: &Json) -> Result<Reply, RowFault> {
     bare_reply(json).ok_or(RowFault::BadArgument)
 }
 
-/// What stands at a path: null for nothing, `[SIZE,SUM]` for a file, and a listing for a folder.
+/// A measure: null for nothing, `[SIZE,SUM]` for a file, and a listing for a folder.
 fn measure_of(alloc: Global, json: &Json) -> Result<Measure, RowFault> {
     if json.is_null() {
         return Ok(Measure::Absent);
