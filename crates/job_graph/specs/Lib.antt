@@ -8,5 +8,6 @@ pub mod Made
 pub mod Paths
 pub mod Scatter
 pub mod Unfold
+pub mod Unfolding
 pub mod Words
 pub mod inner
