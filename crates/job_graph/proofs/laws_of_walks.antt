@@ -1,3 +1,4 @@
+pub mod Gives
 pub mod Grown
 pub mod Known
 pub mod Learned

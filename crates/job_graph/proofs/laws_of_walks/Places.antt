@@ -105,7 +105,7 @@ beyond : (place : JobPlace) (id : Name) (tuple : List ℕ) (met : List Met) → 
 beyond place id tuple met at =
     (weaker (IsUnder (step_place place id tuple)) (IsBeyond place (λ s. s ≡ segment id tuple)) (λ job under. (segment id tuple, under.0, refl, under.1 ∙ append_assoc place (segment id tuple ∷ []) under.0)) met at.0, at.1)
 
-abbrev IsAmong : List ℕ → List (List ℕ) → Type 0
+abbrev pub IsAmong : List ℕ → List (List ℕ) → Type 0
 IsAmong name [] = ⊥
 IsAmong name (other ∷ others) = (name ≡ other) ⊎ IsAmong name others
 
