@@ -18,3 +18,4 @@ pub mod Reported
 pub mod TwoJobs
 pub mod MeasuredFile
 pub mod Rows
+pub mod events
