@@ -6,3 +6,4 @@ pub mod Settled
 pub mod Turning
 pub mod Work
 pub mod Working
+pub mod events

@@ -15,3 +15,4 @@ pub mod Reported
 pub mod TwoJobs
 pub mod MeasuredFile
 pub mod Rows
+pub mod events

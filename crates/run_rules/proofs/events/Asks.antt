@@ -1,0 +1,78 @@
+-- What may be asked where nothing is due, from what is known of jobs by their numbers.
+use Rattle.std.specs.Prelude.{◌<◌, ◌≤◌, Contains}
+use Rattle.std.specs.List.{list_any}
+use Rattle.std.proofs.Common.{◌≡◌, ◌∙◌, ◌+◌, ℕ, true, false, List, [], length, filter, Some, None, refl, sym, ap, subst, arith}
+use Rattle.plan_checker.specs.declared.plan.Mark.{Mark}
+use Rattle.staging.specs.Plan.{IsPlan}
+use Rattle.staging.specs.declared.plan.StagePlan.{StagePlan}
+use Rattle.run_rules.specs.declared.request.Pair.{Pair}
+use Rattle.run_rules.specs.declared.request.Request.{Request}
+use Rattle.run_rules.specs.Words.{Fields, JobPlace}
+use Rattle.run_rules.specs.Folders.{in_folder}
+use Rattle.run_rules.specs.Jobs.{Job}
+use Rattle.run_rules.specs.Scene.{Scene}
+use Rattle.run_rules.specs.Delivered.{any_file}
+use Rattle.run_rules.specs.Events.{Work, nothing_due, Progress, in_flight, is_held, is_staging, delivered_at, unfolding_at}
+use Rattle.run_rules.specs.End.{End, settled, IsDelivery, is_lost_collect}
+use Rattle.run_rules.specs.Allowed.{IsFree, MayStage, IsBusy, MayCollect, MayDeliver, due, due_in}
+use Rattle.run_rules.specs.Plans.{LoadsHeld}
+use Rattle.run_rules.specs.Run.{Goes}
+use Rattle.run_rules.proofs.events.Flights.{Flight}
+use Rattle.run_rules.proofs.events.Places.{AreApart, IsFound, IsJob, found_at, found_is}
+use Rattle.run_rules.proofs.SuccessCollects.{same_place}
+use Rattle.run_rules.proofs.events.Planned.{computed, jobs_in}
+
+module _ (s : Scene) (f : Progress) (marks : List Mark) where
+  -- what is due is asked
+  pub due_when : (work : Work) (request : Request) → f.work ≡ work → due_in s f.events work ≡ Some request → due s f ≡ Some request
+  due_when work request is asked = ap (due_in s f.events) is ∙ asked
+
+  -- a job may be staged that is not held
+  pub may_stage : {t : List Pair} (n : ℕ) (job : Job) (plan : StagePlan) (number : ℕ) → Goes s (LoadsHeld s) t f marks → IsFree s f → AreApart (jobs_in s f) →
+      IsJob (jobs_in s f) n job → is_held f.events job.place ≡ false → length (in_flight f.events) < s.options.slots →
+      number ≡ length (filter is_staging f.events) + 1 → IsPlan false (in_folder s.options.work number) job.inputs plan →
+      MayStage s f marks job.place plan number
+  may_stage n job plan number goes free apart it away slot next staged = record {
+    free = free;
+    job = job;
+    known = found_at (jobs_in s f) apart n job it;
+    computed = computed s n job goes free.still.idle free.still.unsettled apart it away;
+    not_held = away;
+    slot = slot;
+    next_number = next;
+    staged = staged;
+  }
+
+  -- none may where no slot is free
+  pub busy_when_full : IsFree s f → s.options.slots ≤ length (in_flight f.events) → IsBusy s f marks
+  busy_when_full free full = record {
+    free = free;
+    no_stage = λ place plan number may. absurd (omega (arith, may.slot, full));
+  }
+
+  -- or each known job is held
+  pub busy_when_held : IsFree s f → ((n : ℕ) (job : Job) → IsJob (jobs_in s f) n job → is_held f.events job.place ≡ true) → IsBusy s f marks
+  busy_when_held free held = record {
+    free = free;
+    no_stage = λ place plan number may.
+        let it : IsFound (jobs_in s f) place may.job = found_is (jobs_in s f) place may.job may.known in
+        let at : may.job.place ≡ place = same_place may.job.place place it.same in
+        let is : is_held f.events place ≡ true = subst (λ (p : JobPlace). is_held f.events p ≡ true) at (held it.number may.job it.there) in
+        let never : true ≡ false = sym is ∙ may.not_held in cc;
+  }
+
+  -- a child is waited for
+  pub may_collect : (x : Flight) → f.work ≡ nothing_due → list_any is_lost_collect f.events ≡ false → Contains (in_flight f.events) x →
+      (settled s f.events ≡ None → IsBusy s f marks) → MayCollect s f marks []
+  may_collect x idle none there busy = record { at_root = refl; idle = idle; collects = none; flying = (x, there); busy = busy }
+
+  -- after a failure whatever might be staged
+  pub may_collect_settled : (x : Flight) (end : End) → f.work ≡ nothing_due → list_any is_lost_collect f.events ≡ false → Contains (in_flight f.events) x →
+      settled s f.events ≡ Some end → MayCollect s f marks []
+  may_collect_settled x end idle none there is =
+      may_collect x idle none there (λ still. let never : Some end ≡ None = sym is ∙ still in absurd cc)
+
+  pub may_deliver : (outputs : Fields) (plan : StagePlan) → IsBusy s f marks → in_flight f.events ≡ [] → (unfolding_at s f.events).result ≡ Some outputs →
+      any_file outputs ≡ true → delivered_at f.events ≡ None → IsDelivery s f.events outputs plan → MayDeliver s f marks [] plan
+  may_deliver outputs plan busy landed result files only delivery =
+      record { at_root = refl; busy = busy; landed = landed; outputs = outputs; result = result; files = files; only = only; delivery = delivery }
