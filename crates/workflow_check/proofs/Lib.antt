@@ -5,4 +5,6 @@ pub mod Nested
 pub mod Ordered
 pub mod Overlap
 pub mod Variants
-pub mod Waiting
+mod Circle
+mod Rounds
+pub mod Left

@@ -14,7 +14,8 @@ mod order;
 mod overlapping;
 mod scope;
 mod shapes;
+mod sources_first;
 
 pub use accepted::{Accepted, accept};
 pub use fault::{AcceptError, LinkCheckFault, LinkRule};
-pub use laws::{accepted_workflows_are_sound, steps_have_an_order};
+pub use laws::{accepted_workflows_are_sound, cycles_are_circles, steps_have_an_order};

@@ -1,10 +1,12 @@
-use Rattle.std.proofs.Common.{◌≡◌, ◌++◌, ◌-◌, drop, length, map}
-use Rattle.workflow_check.specs.Order.{left_after}
-use Rattle.workflow_check.specs.inner.Seen.{lent}
+use Rattle.std.proofs.Common.{◌≡◌, ◌+◌, ◌≤◌, ℕ, List, length, true}
+use Rattle.std.specs.BTreeSet.{btree_set_len}
+use Rattle.workflow_check.specs.Order.{is_of, left_after}
+use Rattle.workflow_check.specs.inner.Left.{AreLeft, is_left}
 use Rattle.workflow_check.proofs.order.is_cyclic.Given as goal
 
-abbrev pub invariant-loop-entry : goal.invariant-loop-entry
-invariant-loop-entry l = map lent l.left.items ++ drop l.entry-index l.entry-items ≡ l.fn.steps
-
 abbrev pub invariant-rounds : goal.invariant-rounds
-invariant-rounds l = left_after (length l.fn.steps - l.round) (map lent l.left.items) ≡ left_after (length l.fn.steps) l.fn.steps
+invariant-rounds l = record {
+  of : (id : List ℕ) → is_left l.left id ≡ true → is_of l.fn.steps id ≡ true;
+  they_stay : AreLeft (left_after (length l.fn.steps) l.fn.steps) (is_left l.left);
+  len : btree_set_len l.left + l.round ≤ length l.fn.steps;
+}
