@@ -1,3 +1,4 @@
 mod Fileless
+mod Folders
 mod Heads
 mod Once

@@ -3,12 +3,13 @@ use crate::arguments::{fields_of, heads_of, measures_of};
 use cwl_process::{Process, ToolInput, read_unlinked};
 use cwl_value::{Value, canonical_text};
 use input_files::{
-    ContentsError, ContentsFault, InputError, InputFault, heads_wanted, input_paths, inputs_for,
-    with_contents,
+    ContentsError, ContentsFault, InputError, InputFault, Parameter, heads_wanted, input_paths,
+    inputs_for, process_inputs, root_fields, with_contents,
 };
 use plain_data::{Keyed, Text};
 use row_io::{Row, RowFault, json_text, quoted};
 use std::alloc::Global;
+use std::mem;
 
 /// The answer of the row's call for the inputs of its tool.
 pub(crate) fn answer(alloc: Global, row: &Row) -> Result<String, RowFault> {
@@ -16,7 +17,7 @@ pub(crate) fn answer(alloc: Global, row: &Row) -> Result<String, RowFault> {
     let process = read_unlinked(alloc, text.as_bytes()).map_err(|_fault| RowFault::BadArgument)?;
     let answer = match &process {
         Process::Tool(tool) => answer_for(alloc, row, tool.inputs.as_slice()),
-        Process::Workflow(_) => Err(RowFault::BadArgument),
+        Process::Workflow(workflow) => answer_for_any(alloc, row, workflow.inputs.as_slice()),
     };
     drop(process);
     answer
@@ -35,8 +36,38 @@ fn answer_for(alloc: Global, row: &Row, inputs: &[(Text, ToolInput)]) -> Result<
         }
         "inputs_for" => measured(alloc, row, inputs, &given),
         "with_contents" => loaded(alloc, row, inputs, given),
+        _ => answer_for_any(alloc, row, inputs),
+    }
+}
+
+// The answer of a call for the inputs of a tool or workflow.
+fn answer_for_any<P: Parameter>(
+    alloc: Global,
+    row: &Row,
+    inputs: &[(Text, P)],
+) -> Result<String, RowFault> {
+    match row.call() {
+        "root_fields" => at_the_root(alloc, row, inputs),
+        "process_inputs" => taken(alloc, row, inputs),
         _ => Err(RowFault::UnknownCall),
     }
+}
+
+fn at_the_root<P: Parameter>(
+    alloc: Global,
+    row: &Row,
+    inputs: &[(Text, P)],
+) -> Result<String, RowFault> {
+    let given = fields_of(alloc, row, "given")?;
+    let measures = measures_of(alloc, row)?;
+    let fields = root_fields(alloc, inputs, &given, &measures)?;
+    fields_text(alloc, fields)
+}
+
+fn taken<P: Parameter>(alloc: Global, row: &Row, inputs: &[(Text, P)]) -> Result<String, RowFault> {
+    let fields = fields_of(alloc, row, "given")?;
+    let measures = measures_of(alloc, row)?;
+    inputs_text(alloc, process_inputs(alloc, inputs, &fields, &measures))
 }
 
 fn measured(
@@ -46,7 +77,14 @@ fn measured(
     given: &Keyed<Value>,
 ) -> Result<String, RowFault> {
     let measures = measures_of(alloc, row)?;
-    match inputs_for(alloc, inputs, given, &measures) {
+    inputs_text(alloc, inputs_for(alloc, inputs, given, &measures))
+}
+
+fn inputs_text(
+    alloc: Global,
+    inputs: Result<Keyed<Value>, InputError>,
+) -> Result<String, RowFault> {
+    match inputs {
         Ok(named) => fields_text(alloc, named),
         Err(InputError::Refused(fault)) => input_fault_text(alloc, &fault),
         Err(InputError::OutOfMemory) => Err(RowFault::OutOfMemory),
@@ -83,7 +121,10 @@ fn contents_fault_text(alloc: Global, fault: &ContentsFault) -> Result<String, R
 }
 
 fn fields_text(alloc: Global, named: Keyed<Value>) -> Result<String, RowFault> {
-    Ok(canonical_text(alloc, &Value::Fields(named))?.into_string())
+    let value = Value::Fields(named);
+    let text = canonical_text(alloc, &value);
+    mem::drop(value);
+    Ok(text?.into_string())
 }
 
 fn paths_text(alloc: Global, paths: &[Text]) -> Result<String, RowFault> {
