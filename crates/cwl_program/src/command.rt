@@ -4,6 +4,7 @@ ghost use Rattle.cwl_program.specs.CommandLine.{Asks, check_command as checking,
 ghost use Rattle.cwl_program.specs.RunWords.{IsLocal};
 ghost use Rattle.std.specs.Prelude.{string_bytes};
 
+use crate::record_words::{RecordWords, record_command, record_words};
 use crate::run_words::{RunWords, run_command, run_words};
 use clap::error::ErrorKind;
 use clap::{Arg, ArgAction, ArgMatches, Command, Error};
@@ -16,8 +17,10 @@ pub enum Choice<'a> {
     Demo,
     /// Check the certificate in this file.
     Check(&'a str),
-    /// Run a tool.
+    /// Run a process.
     Run(RunWords<'a>),
+    /// Show a record.
+    Record(RecordWords<'a>),
 }
 
 // The subcommand `check`.
@@ -57,6 +60,8 @@ fn command<'a>(alloc: Global) -> Result<Command<'a>, Error>
     let whole = demo_command(alloc)?.subcommand(check)?;
     let run = run_command(alloc)?;
     let whole = whole.subcommand(run)?;
+    let record = record_command(alloc)?;
+    let whole = whole.subcommand(record)?;
     Ok(whole)
 }
 
@@ -75,6 +80,7 @@ fn chosen<'a>(matches: &ArgMatches<'a>) -> Choice<'a>
     match matches.subcommand() {
         Some(("check", words)) => Choice::Check(words.get_str("CERTIFICATE").unwrap_or("")),
         Some(("run", words)) => Choice::Run(run_words(words)),
+        Some(("record", words)) => Choice::Record(record_words(words)),
         _ => Choice::Demo,
     }
 }

@@ -5,13 +5,16 @@ ghost use Rattle.cwl_program.specs.Words.{name_of, word_of, refusal_code};
 
 use cwl_value::ValueRefusal;
 use document_links::LinkFault;
-use document_table::Cause;
+use document_table::Cause as DocumentCause;
 use file_values::FileFault;
 use plain_data::Text;
 use plan_checker::Broken;
 use proc_host::HostFault;
+use record_program::Ending;
+use run_core::Cause;
 use std::io;
 use std::io::Write;
+use workflow_check::LinkCheckFault;
 
 /// How the program ends, and what it says.
 #[derive(Drop)]
@@ -20,8 +23,10 @@ pub enum Exit {
     Output(Text),
     /// A certificate breaks this rule.
     Broken(Broken),
-    /// A job failed permanently; its place as JSON text.
-    Permanent(Text),
+    /// The rows of a record, or why they can't be shown.
+    Record(Ending),
+    /// A job failed permanently: its place as JSON text, and why.
+    Permanent(Text, Cause),
     /// A job failed temporarily; its place as JSON text.
     Temporary(Text),
     /// What the program was given is refused.
@@ -33,15 +38,14 @@ pub enum Exit {
 /// Why what the program was given is no document, input object or certificate, or none that is run so far.
 #[derive(Drop)]
 pub enum Refusal {
-    Document(Cause),
-    /// The document can't be put together, or its defaults have no path.
-    Links(LinkFault),
-    /// The document is a workflow.
+    /// The document, or one that it leads to, represents no process.
+    Document(LinkFault),
+    /// The process has a link that is wrong.
+    Links(LinkCheckFault),
+    /// The process is a workflow, which is not run so far.
     Workflow,
-    /// The document is a tool that is not run so far, or not on such inputs.
-    Tool,
     Inputs(ValueRefusal),
-    /// A file of the inputs has no path.
+    /// A document or a file of the inputs has no path.
     Location(FileFault),
     Certificate,
 }
@@ -65,10 +69,9 @@ impl Refusal {
         ensures { result.now ≡ refusal_code self.now }
     {
         match self {
-            Refusal::Document(cause) => cause.code(),
+            Refusal::Document(fault) => fault.code(),
             Refusal::Links(fault) => fault.code(),
-            Refusal::Workflow => Cause::WrongClass.code(),
-            Refusal::Tool => Cause::UnknownField.code(),
+            Refusal::Workflow => DocumentCause::WrongClass.code(),
             Refusal::Inputs(refusal) => refusal.code(),
             Refusal::Location(fault) => fault.code(),
             Refusal::Certificate => "X1",
@@ -117,8 +120,9 @@ impl Exit {
     {
         match self {
             Exit::Output(_) => 0,
-            Exit::Broken(_) | Exit::Permanent(_) => 1,
+            Exit::Broken(_) | Exit::Permanent(_, _) => 1,
             Exit::Temporary(_) => 2,
+            Exit::Record(ending) => ending.status(),
             Exit::Fault(_) => 3,
             Exit::Refused(_) => 33,
         }
@@ -131,7 +135,8 @@ impl Exit {
         match self {
             Exit::Output(line) => writeln!(out, "{line}"),
             Exit::Broken(broken) => writeln!(out, "broken {}", rule_name(*broken)),
-            Exit::Permanent(place) => writeln!(err, "permanentFail {place}"),
+            Exit::Record(ending) => ending.print(out, err),
+            Exit::Permanent(place, _) => writeln!(err, "permanentFail {place}"),
             Exit::Temporary(place) => writeln!(err, "temporaryFail {place}"),
             Exit::Refused(refusal) => writeln!(err, "refused: {}", refusal.code()),
             Exit::Fault(fault) => writeln!(err, "fault: {}", fault.word()),

@@ -24,7 +24,7 @@ fn put_entry(out: &mut AnswerText, entry: &Found) {
     out.put("]");
 }
 
-/// Adds what stands at a path: null where nothing does, size and sum of a file, the listing of a folder.
+/// Adds what is at a path: null where nothing is, size and sum of a file, the listing of a folder.
 pub fn put_measure(out: &mut AnswerText, measure: &Measure) {
     match measure {
         Measure::Absent => out.put("null"),

@@ -67,7 +67,7 @@ fn unwritten(rt: &HostRuntime, argument: &str, place: &str) -> Result<(), RowFau
     Ok(())
 }
 
-// The row's words, in which `@` stands for its folder.
+// The words of the row, where `@` means its folder.
 fn words_of(alloc: Global, row: &Row, place: &str) -> Result<Vec<String>, RowFault> {
     let mut words = Vec::new(alloc);
     for word in row.list("words")? {

@@ -13,7 +13,7 @@ use std::fmt;
 /// What was asked of a host.
 #[derive(Drop)]
 pub enum HostRequest {
-    /// To say what stands at a path.
+    /// To say what is at a path.
     Measure(Text),
     /// To lay out the folder of a job, by its number, from 1.
     Stage(StagePlan, u64),

@@ -20,7 +20,7 @@ pub trait Host {
     /// The tickets that were started and not closed yet.
     ghost running: { Self → List ℕ };
 
-    /// Says what stands at a path. A link is taken as what it points to.
+    /// Returns what is at a path. A link is taken as what it points to.
     fn measure(&mut self, path: &Text) -> Result<Measure, HostError>
         ensures logged { log self.new ≡ log self.old
             ++ entries_of (HostRequest.Measure path.now) (answer_behind (λ measure. HostAnswer.Measured measure) result) }

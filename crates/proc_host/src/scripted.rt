@@ -188,7 +188,7 @@ fn note_start(
     Ok(())
 }
 
-// Notes in the log what stands at a path.
+// Notes in the log what is at a path.
 fn note_measure(
     alloc: Global,
     log: &mut Vec<Entry>,

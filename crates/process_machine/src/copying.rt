@@ -18,8 +18,8 @@ const OWNERS_RIGHTS: u32 = 0o700;
 
 /// Copies a file, or a folder with all that is below it, to a path. A link is taken as what it points to.
 ///
-/// A file or link that stands where a file is copied to goes, and what the link points to is left alone. A folder that
-/// stands at the path stays as it is, and so does a file where a folder is copied to: both are trouble. Where the copy
+/// Replaces a file or link that is at the path a file is copied to; what the link points to is left alone. A folder
+/// that is at the path stays as it is, and so does a file where a folder is copied to: both are trouble. Where the copy
 /// fails, nothing of it is left.
 pub(crate) fn copy<R: World>(rt: &R, source: &str, target: &str) -> Result<(), Trouble> {
     if is_folder(rt, source)? {

@@ -1,4 +1,4 @@
-//! What stands at a path.
+//! What is at a path.
 
 use crate::listing::{listing_of, sum_at};
 use crate::trouble::Trouble;
@@ -47,7 +47,7 @@ fn is_link<R: World>(rt: &R, path: &str) -> Result<bool, Trouble> {
     }
 }
 
-// Whether an error says that nothing stands there: a name is absent, or stands below a file.
+// Whether an error says that nothing is there: a name is absent, or is below a file.
 fn is_absence(error: &io::Error) -> bool {
     matches!(
         error.kind(),

@@ -1,4 +1,4 @@
-//! What stands below a folder, by names and kinds.
+//! What is below a folder, by names and kinds.
 
 use crate::layout::joined;
 use crate::trouble::Trouble;
@@ -12,7 +12,7 @@ const MOST_LEVELS: usize = 32;
 
 const MOST_ENTRIES: usize = 65_536;
 
-/// A file or a folder that stands below another folder.
+/// A file or a folder that is below another folder.
 #[derive(Drop)]
 pub(crate) struct Below {
     /// The path below that folder, its components joined by `/`.
@@ -20,7 +20,7 @@ pub(crate) struct Below {
     pub is_dir: bool,
 }
 
-/// All that stands below a folder, by name, so that each folder comes before what is in it. A link is taken as what it
+/// Returns all that is below a folder, by name, so that each folder comes before what is in it. A link is taken as what it
 /// points to.
 ///
 /// A name that is no UTF-8, a link that leads nowhere, a pipe or a device, more than 32 levels or 65,536 entries, and a
