@@ -1,8 +1,7 @@
 //! What ends the program before anything is run.
-ghost use Rattle.std.specs.Prelude.{IfOk};
+ghost use Rattle.std.specs.Prelude.{◌≡◌, IfOk};
 ghost use Rattle.cwl_program.specs.Runs.{IsRunExit, IsStop};
 ghost use Rattle.cwl_program.specs.declared.stop.Stop.TheVariants.{OutOfMemory};
-ghost use Rattle.std.specs.Prelude.{◌≡◌};
 
 use crate::exit::{Exit, Fault};
 use std::alloc::AllocError;
@@ -36,7 +35,7 @@ pub fn stopped(stop: Stop) -> Result<Exit, AllocError>
 }
 
 /// A file that can't be read is a fault of the input, except for a read that was out of memory.
-#[tactic(auto, using(crate::specs::Runs::no_object))]
+#[tactic(auto, using(crate::specs::Runs::unread))]
 pub fn unread(error: &io::Error) -> Stop
     ensures { IsStop result }
 {
