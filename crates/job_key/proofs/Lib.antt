@@ -1,2 +1,3 @@
+mod Distinct
 mod Exact
 mod Told

@@ -1,9 +1,10 @@
 //! The key of a job: one text that tells its tool, its inputs and its environment.
 //!
 //! `key_text` gives exactly the text that `specs/Key.antt` defines. `keys_tell_jobs_apart` is the law that equal keys
-//! come only from equal tools and equal inputs, places apart.
+//! come only from equal tools, environments and inputs, places apart.
 #![tactic(auto)]
 
+mod env;
 mod key;
 mod laws;
 
