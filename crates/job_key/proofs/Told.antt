@@ -6,8 +6,8 @@ use Rattle.std.proofs.lemmas.List.{append_assoc}
 use Rattle.std.proofs.lemmas.Slice.Eq.{bytes_eq-Decides}
 use Rattle.json.specs.Print.{escape_byte}
 use Rattle.plain_data.specs.ByName.{value_at}
-use Rattle.serde_json.specs.Data.{Data, null, array, object, no_items, Members, no_members, member, put}
-use Rattle.serde_json.specs.Find.{get, get_member}
+use Rattle.serde_json.specs.Data.{Data, null, object, Members, no_members, member, put}
+use Rattle.serde_json.specs.Find.{get_member}
 use Rattle.serde_json.specs.View.{items_of}
 use Rattle.serde_json.specs.Written.{compact_text}
 use Rattle.serde_json.proofs.Views.{get_member-put, get_member-put_other}
@@ -24,7 +24,7 @@ use Rattle.cwl_value.proofs.JsonOf.{json_of-Null}
 use Rattle.cwl_process.specs.declared.tool.Tool.{Tool}
 use Rattle.cwl_process.specs.declared.tool.ToolInput.{ToolInput}
 use Rattle.job_key.specs.Key.{Fields, input_json, inputs_members, inputs_json, variable_json, variables_json, variables_of, key}
-use Rattle.job_key.specs.Laws.{is_input, erased_input, IsTold, AreEqualJobs, KeysTellJobsApart}
+use Rattle.job_key.specs.Laws.{erased_input, IsTold, AreEqualJobs, KeysTellJobsApart}
 
 -- ---- the key is the text of one object
 

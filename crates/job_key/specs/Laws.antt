@@ -1,5 +1,5 @@
 -- What equal keys say: equal tools, equal environments, and equal inputs without their places.
-use Rattle.std.specs.Prelude.{◌≡◌, ℕ, Bool, IsTrue, List, ◌∷◌, [], Option, Some, option_map, unwrap_or, bytes_eq}
+use Rattle.std.specs.Prelude.{◌≡◌, ℕ, Bool, IsTrue, List, Some, option_map, unwrap_or, bytes_eq}
 use Rattle.std.specs.List.{list_any}
 use Rattle.plain_data.specs.ByName.{value_at}
 use Rattle.serde_json.specs.Data.{Data}
