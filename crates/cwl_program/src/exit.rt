@@ -10,6 +10,7 @@ use file_values::FileFault;
 use plain_data::Text;
 use plan_checker::Broken;
 use proc_host::HostFault;
+use record_program::Ending;
 use std::io;
 use std::io::Write;
 
@@ -20,6 +21,8 @@ pub enum Exit {
     Output(Text),
     /// A certificate breaks this rule.
     Broken(Broken),
+    /// The rows of a record, or why they can't be shown.
+    Record(Ending),
     /// A job failed permanently; its place as JSON text.
     Permanent(Text),
     /// A job failed temporarily; its place as JSON text.
@@ -119,6 +122,7 @@ impl Exit {
             Exit::Output(_) => 0,
             Exit::Broken(_) | Exit::Permanent(_) => 1,
             Exit::Temporary(_) => 2,
+            Exit::Record(ending) => ending.status(),
             Exit::Fault(_) => 3,
             Exit::Refused(_) => 33,
         }
@@ -131,6 +135,7 @@ impl Exit {
         match self {
             Exit::Output(line) => writeln!(out, "{line}"),
             Exit::Broken(broken) => writeln!(out, "broken {}", rule_name(*broken)),
+            Exit::Record(ending) => ending.print(out, err),
             Exit::Permanent(place) => writeln!(err, "permanentFail {place}"),
             Exit::Temporary(place) => writeln!(err, "temporaryFail {place}"),
             Exit::Refused(refusal) => writeln!(err, "refused: {}", refusal.code()),

@@ -1,4 +1,5 @@
-//! The program behind a command line: `deparohi run DOCUMENT [INPUTS]`, `deparohi demo` and `deparohi check CERTIFICATE`.
+//! The program behind a command line: `deparohi run DOCUMENT [INPUTS]`, `deparohi check CERTIFICATE`, `deparohi record FILE` and
+//! `deparohi demo`.
 //!
 //! `main_run` is the whole program over two writers, and `program` hands it the words, `PATH`, the standard output and
 //! the standard error. Its contract, `Tells`, says which words lead to which end, and which line and status say it:
@@ -12,6 +13,7 @@ mod demo;
 mod entry;
 mod exit;
 mod paths;
+mod record_words;
 mod refused;
 mod report;
 mod run;
