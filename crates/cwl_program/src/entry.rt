@@ -9,7 +9,7 @@ use crate::command::{Choice, choice_of};
 use crate::demo::exit_of_demo;
 use crate::exit::{Exit, Fault};
 use crate::record_words::RecordWords;
-use crate::run::exit_of_tool;
+use crate::run::exit_of_process;
 use clap::Error;
 use clap::error::ErrorKind;
 use process_machine::World;
@@ -117,7 +117,7 @@ where
     match choice {
         Choice::Demo => exit_of_demo(rt.alloc(), path),
         Choice::Check(file) => exit_of_check(rt, file),
-        Choice::Run(words) => exit_of_tool(rt, words, path),
+        Choice::Run(words) => exit_of_process(rt, words, path),
         Choice::Record(words) => Ok(exit_of_record(rt, words)),
     }
 }

@@ -13,6 +13,7 @@ use proc_host::HostFault;
 use record_program::Ending;
 use std::io;
 use std::io::Write;
+use workflow_check::LinkCheckFault;
 
 /// How the program ends, and what it says.
 #[derive(Drop)]
@@ -36,15 +37,14 @@ pub enum Exit {
 /// Why what the program was given is no document, input object or certificate, or none that is run so far.
 #[derive(Drop)]
 pub enum Refusal {
-    Document(Cause),
-    /// The document can't be put together, or its defaults have no path.
-    Links(LinkFault),
-    /// The document is a workflow.
+    /// The document, or one that it leads to, represents no process.
+    Document(LinkFault),
+    /// A link of the process is wrong.
+    Links(LinkCheckFault),
+    /// The process is a workflow, which is not run so far.
     Workflow,
-    /// The document is a tool that is not run so far, or not on such inputs.
-    Tool,
     Inputs(ValueRefusal),
-    /// A file of the inputs has no path.
+    /// A document or a file of the inputs has no path.
     Location(FileFault),
     Certificate,
 }
@@ -68,10 +68,9 @@ impl Refusal {
         ensures { result.now ≡ refusal_code self.now }
     {
         match self {
-            Refusal::Document(cause) => cause.code(),
+            Refusal::Document(fault) => fault.code(),
             Refusal::Links(fault) => fault.code(),
             Refusal::Workflow => Cause::WrongClass.code(),
-            Refusal::Tool => Cause::UnknownField.code(),
             Refusal::Inputs(refusal) => refusal.code(),
             Refusal::Location(fault) => fault.code(),
             Refusal::Certificate => "X1",

@@ -10,13 +10,16 @@
 mod certificate;
 mod command;
 mod demo;
+mod documents;
 mod entry;
 mod exit;
+mod inputs;
 mod paths;
 mod record_words;
-mod refused;
 mod report;
 mod run;
 mod run_words;
+mod search;
+mod stop;
 
 pub use entry::{main_run, program};
