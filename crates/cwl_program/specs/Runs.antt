@@ -7,7 +7,7 @@ use Rattle.cwl_value.specs.Places.{job_text}
 use Rattle.cwl_value.specs.declared.value.Value.TheVariants as values
 use Rattle.cwl_value.specs.declared.place.Segment.{Segment}
 use Rattle.proc_host.specs.declared.call.Entry.{Entry}
-use Rattle.run_rules.specs.Words.{Fields}
+use Rattle.job_graph.specs.Words.{Fields}
 use Rattle.run_rules.specs.declared.outcome.Outcome.{Outcome}
 use Rattle.run_rules.specs.declared.outcome.Outcome.TheVariants as outcomes
 use Rattle.run_rules.specs.declared.outcome.Report.{Report}

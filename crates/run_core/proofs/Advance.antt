@@ -17,9 +17,9 @@ use Rattle.proc_host.specs.declared.call.HostRequest.{HostRequest}
 use Rattle.run_rules.specs.declared.request.Pair.{Pair}
 use Rattle.run_rules.specs.declared.request.Request.{Request}
 use Rattle.run_rules.specs.declared.setting.Options.{Options}
-use Rattle.run_rules.specs.Words.{Name, Fields, JobPlace}
-use Rattle.run_rules.specs.Jobs.{Walker}
-use Rattle.run_rules.specs.Unfold.{Unfolded}
+use Rattle.job_graph.specs.Jobs.{Walker}
+use Rattle.job_graph.specs.Unfold.{Unfolded}
+use Rattle.job_graph.specs.Words.{Name, Fields, JobPlace}
 use Rattle.run_rules.specs.Scene.{Scene}
 use Rattle.run_rules.specs.Delivered.{sources}
 use Rattle.collected_outputs.specs.HeadsWanted.{limit_of}

@@ -11,7 +11,10 @@ use Rattle.run_rules.specs.declared.request.Request.{Request}
 use Rattle.run_rules.specs.declared.request.Pair.{Pair}
 use Rattle.run_core.specs.declared.state.Lone.{Lone}
 use Rattle.run_core.specs.declared.state.State.{State}
-use Rattle.run_rules.specs.Words.{Name, Fields}
+use Rattle.job_graph.specs.Equations.{walker}
+use Rattle.job_graph.specs.Jobs.{Walker, tool_walk}
+use Rattle.job_graph.specs.Paths.{paths}
+use Rattle.job_graph.specs.Words.{Name, Fields}
 use Rattle.run_rules.specs.Events.{Event, Work, Progress}
 use Rattle.run_rules.specs.Steps.{Steps, progress_with}
 use Rattle.run_rules.specs.Scene.{Scene}
@@ -22,7 +25,6 @@ use Rattle.run_rules.specs.Plans.{LoadsHeld}
 use Rattle.run_rules.specs.Allowed.{Allowed}
 use Rattle.run_rules.specs.Run.{IsRunSoFar, Replans, asks}
 use Rattle.run_rules.specs.Reports.{report_of}
-use Rattle.run_rules.specs.Jobs.{Walker, walker, walker_at, paths, tool_walk, inputs_of}
 use Rattle.document_links.specs.declared.process.Process.{out-Process, out-roll-Process}
 use Rattle.document_links.specs.declared.process.Process.TheOpen.{Process-F}
 use Rattle.document_links.specs.declared.process.Process.TheVariants.{rolls-Tool}

@@ -22,7 +22,7 @@ use Rattle.run_core.specs.declared.state.Measuring.{Measuring}
 use Rattle.run_core.specs.declared.state.Phase.{Phase}
 use Rattle.run_core.specs.declared.state.Reading.{Reading}
 use Rattle.run_core.specs.declared.state.State.{State}
-use Rattle.run_rules.specs.Words.{Fields}
+use Rattle.job_graph.specs.Words.{Fields}
 use Rattle.run_rules.specs.Answers.{MayAnswer, by_host}
 use Rattle.run_rules.specs.Blame.{logged_answers, WereStarted}
 use Rattle.run_rules.specs.Reports.{entries_of, entry_of}

@@ -9,11 +9,11 @@ use Rattle.run_rules.specs.declared.request.Pair.{Pair}
 use Rattle.run_core.specs.declared.state.Lone.{Lone}
 use Rattle.run_core.specs.declared.state.Reading.{Reading}
 use Rattle.run_core.specs.declared.state.State.{State}
-use Rattle.run_rules.specs.Words.{Name, Fields, last_by_name}
+use Rattle.job_graph.specs.Jobs.{Job, output_names}
+use Rattle.job_graph.specs.Made.{fields_made}
+use Rattle.job_graph.specs.Words.{Name, Fields, last_by_name}
 use Rattle.run_rules.specs.Delivered.{any_file, located}
 use Rattle.run_rules.specs.Events.{Event, Work, Started, job_succeeded, job_failed, nothing_due, output_heads_due}
-use Rattle.run_rules.specs.Jobs.{Job, output_names}
-use Rattle.run_rules.specs.Made.{fields_made}
 use Rattle.run_rules.specs.CollectsOn.{CollectsOn, left_of, reads_on, collects, collects_none}
 use Rattle.run_rules.specs.End.{succeeds_with, fails_permanently}
 use Rattle.run_rules.specs.EndsSo.{fails, succeeds, no_file}

@@ -6,11 +6,12 @@ use Rattle.input_files.specs.Measured.{Measures}
 use Rattle.staging.specs.Plan.{IsPlan}
 use Rattle.staging.specs.declared.plan.StagePlan.{StagePlan}
 use Rattle.run_rules.specs.declared.setting.Options.{Options}
-use Rattle.run_rules.specs.Words.{Name, Fields, JobPlace, value_under}
+use Rattle.job_graph.specs.Jobs.{Job, Walker, all_named, outs_of, output_names, with_first}
+use Rattle.job_graph.specs.Made.{fields_made}
+use Rattle.job_graph.specs.Words.{Name, Fields, JobPlace}
+use Rattle.link_values.specs.StepInputs.{value_under}
 use Rattle.run_rules.specs.Delivered.{any_file, sources}
 use Rattle.run_rules.specs.Folders.{in_folder}
-use Rattle.run_rules.specs.Jobs.{Job, Walker, all_named, outs_of, output_names, with_first}
-use Rattle.run_rules.specs.Made.{fields_made}
 use Rattle.run_rules.specs.Scene.{Scene}
 use Rattle.run_rules.specs.Events.{Event, job_staged, job_started, child_exited, job_succeeded, result_delivered, nothing_due, Progress, at_first, number_at, unfolding_at}
 use Rattle.plan_checker.specs.declared.plan.Mark.TheVariants.{Load, Compute}

@@ -6,8 +6,9 @@ use Rattle.cwl_value.specs.declared.value.Value.{Value, roll-Value, fold-roll-Va
 use Rattle.cwl_value.specs.declared.value.Value.TheOpen.{Value-F}
 use Rattle.cwl_value.specs.declared.value.FileVal.{FileVal}
 use Rattle.cwl_value.specs.declared.value.DirVal.{DirVal}
-use Rattle.run_rules.specs.Words.{Name, Fields, JobPlace, last_by_name, null, value_under, is_same_place}
-use Rattle.run_rules.specs.Made.{value_moved, fields_moved, fields_made, made_place, file_moved, dir_moved}
+use Rattle.job_graph.specs.Made.{value_moved, fields_moved, fields_made, made_place, file_moved, dir_moved}
+use Rattle.job_graph.specs.Words.{Name, Fields, JobPlace, last_by_name, is_same_place}
+use Rattle.link_values.specs.StepInputs.{null, value_under}
 use Rattle.run_rules.specs.Delivered.{sources}
 use Rattle.run_rules.proofs.PlacesErased.{map_by_name}
 use Rattle.run_core.specs.inner.Machine.{NamedOutput, outputs_made}

@@ -20,10 +20,11 @@ use Rattle.run_rules.specs.declared.request.Pair.{Pair}
 use Rattle.run_rules.specs.declared.request.Request.{Request}
 use Rattle.run_core.specs.declared.state.Lone.{Lone}
 use Rattle.run_core.specs.declared.state.State.{State}
-use Rattle.run_rules.specs.Words.{Name, Fields, Heads}
+use Rattle.collected_outputs.specs.Contents.{Heads}
+use Rattle.job_graph.specs.Jobs.{Job}
+use Rattle.job_graph.specs.Words.{Name, Fields}
 use Rattle.run_rules.specs.Answers.{MayAnswer, by_host}
 use Rattle.run_rules.specs.Folders.{out_folder, runtime_of}
-use Rattle.run_rules.specs.Jobs.{Job}
 use Rattle.run_rules.specs.Scene.{Scene, scene_of}
 use Rattle.run_rules.specs.Events.{Event, Work, Started, file_measured, job_staged, child_exited, job_succeeded, job_failed, job_failed_for_now, result_delivered, nothing_due, input_heads_due, scan_due, output_heads_due, start_due, Progress, at_first}
 use Rattle.run_rules.specs.StartsOn.{StartsOn, reads_on, has_launch, has_no_launch, has_no_contents}

@@ -27,9 +27,11 @@ use Rattle.run_rules.specs.declared.request.Pair.{Pair}
 use Rattle.run_core.specs.declared.state.Lone.{Lone}
 use Rattle.run_core.specs.declared.state.Measuring.{Measuring}
 use Rattle.run_core.specs.declared.state.State.{State}
-use Rattle.run_rules.specs.Words.{Name, Fields}
-use Rattle.run_rules.specs.Jobs.{Walker, paths, paths_at, tool_walk, inputs_of, input_cause, or_cause}
-use Rattle.run_rules.specs.Unfold.{Resolved, Unfolded, unfolded, nothing_known}
+use Rattle.job_graph.specs.Inputs.{input_cause, or_cause}
+use Rattle.job_graph.specs.Jobs.{Walker, tool_walk}
+use Rattle.job_graph.specs.Paths.{paths}
+use Rattle.job_graph.specs.Unfold.{Resolved, Unfolded, unfolded, nothing_known}
+use Rattle.job_graph.specs.Words.{Name, Fields}
 use Rattle.run_rules.specs.Scene.{Scene, scene_of}
 use Rattle.run_rules.specs.Events.{Event, file_measured, host_failed, nothing_due, Progress, at_first, in_flight, is_at_hand, measures, measures_after, is_measured, are_measured, resolved, unfolding_at}
 use Rattle.run_rules.specs.End.{End, fails_permanently, ended_by_host, fault_end, is_lost_collect, unfold_end, settled}

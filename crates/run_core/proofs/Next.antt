@@ -22,13 +22,14 @@ use Rattle.run_core.specs.declared.state.Filling.{Filling}
 use Rattle.run_core.specs.declared.state.Lone.{Lone}
 use Rattle.run_core.specs.declared.state.Reading.{Reading}
 use Rattle.run_core.specs.declared.state.State.{State}
-use Rattle.run_rules.specs.Words.{Name, Fields, Heads, JobPlace}
+use Rattle.collected_outputs.specs.Contents.{Heads}
+use Rattle.job_graph.specs.Jobs.{Job}
+use Rattle.job_graph.specs.Made.{fields_moved}
+use Rattle.job_graph.specs.Words.{Name, Fields, JobPlace}
 use Rattle.run_rules.specs.CollectsOn.{CollectsOn}
 use Rattle.run_rules.specs.StartsOn.{StartsOn}
 use Rattle.run_rules.specs.Delivered.{any_file, sources}
 use Rattle.run_rules.specs.Folders.{in_folder, out_folder}
-use Rattle.run_rules.specs.Jobs.{Job}
-use Rattle.run_rules.specs.Made.{fields_moved}
 use Rattle.run_rules.specs.Events.{Event, Started, job_staged, job_started, child_exited, job_succeeded, job_failed, job_failed_for_now, result_delivered, host_failed, collect_failed, nothing_due, input_heads_due, start_due, scan_due, output_heads_due, Progress, at_first, in_flight, number_at}
 use Rattle.run_rules.specs.Steps.{stages, reads_input, starts, exits_well, exits_for_now, exits_badly, scans, reads_output, delivers, loses_collect, call_fails}
 use Rattle.run_rules.specs.End.{succeeds_with, fails_permanently, fails_temporarily, ended_by_host}

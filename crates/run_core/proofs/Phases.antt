@@ -6,9 +6,9 @@ use Rattle.run_rules.specs.declared.request.Pair.{Pair}
 use Rattle.run_core.specs.declared.state.Filling.{Filling}
 use Rattle.run_core.specs.declared.state.Lone.{Lone}
 use Rattle.run_core.specs.declared.state.State.{State}
-use Rattle.run_rules.specs.Words.{Name, Fields}
+use Rattle.job_graph.specs.Jobs.{Job}
+use Rattle.job_graph.specs.Words.{Name, Fields}
 use Rattle.run_rules.specs.Events.{Event, Work, job_staged, job_failed, nothing_due, input_heads_due, start_due}
-use Rattle.run_rules.specs.Jobs.{Job}
 use Rattle.run_rules.specs.StartsOn.{StartsOn, reads_on, has_launch as a_launch, has_no_launch, has_no_contents as no_contents}
 use Rattle.run_rules.specs.End.{fails_permanently}
 use Rattle.run_rules.specs.EndsSo.{fails}

@@ -7,7 +7,7 @@ use Rattle.document_links.specs.declared.process.Process.TheVariants.{rolls-Tool
 use Rattle.cwl_process.specs.declared.tool.Tool.{Tool}
 use Rattle.document_links.specs.declared.process.Step.{Step}
 use Rattle.document_links.specs.declared.process.Workflow.{Workflow}
-use Rattle.run_rules.specs.Words.{Fields}
+use Rattle.job_graph.specs.Words.{Fields}
 use Rattle.run_rules.specs.RunsToday.{RunsToday, runs_tool}
 use Rattle.run_core.specs.inner.Lone.{IsTool, IsToolAt}
 

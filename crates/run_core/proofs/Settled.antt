@@ -1,6 +1,6 @@
 -- What settles the end of a run, one event after another.
 use Rattle.std.proofs.Common.{◌≡◌, ◌∙◌, List, [], ◌∷◌, ◌++◌, Option, Some, None, refl, sym, ap, append_assoc, append-nil}
-use Rattle.run_rules.specs.Unfold.{or_else}
+use Rattle.job_graph.specs.Unfold.{or_else}
 use Rattle.run_rules.specs.Scene.{Scene}
 use Rattle.run_rules.specs.Events.{Event}
 use Rattle.run_rules.specs.End.{End, settled_by, unfold_end, settled_from, settled}

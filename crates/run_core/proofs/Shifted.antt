@@ -6,9 +6,9 @@ use Rattle.input_files.specs.Measured.{Measures}
 use Rattle.staging.specs.declared.measure.Measure.{Measure}
 use Rattle.cwl_process.specs.declared.tool.Tool.{Tool}
 use Rattle.run_rules.specs.declared.setting.Options.{Options}
-use Rattle.run_rules.specs.Words.{Name, Fields, JobPlace}
-use Rattle.run_rules.specs.Jobs.{Walker, tool_walk}
-use Rattle.run_rules.specs.Unfold.{Resolved, Unfolded, unfolded, or_else, nothing_known, is_at}
+use Rattle.job_graph.specs.Jobs.{Walker, tool_walk}
+use Rattle.job_graph.specs.Unfold.{Resolved, Unfolded, unfolded, or_else, nothing_known, is_at}
+use Rattle.job_graph.specs.Words.{Name, Fields, JobPlace}
 use Rattle.run_rules.specs.Scene.{Scene}
 use Rattle.run_rules.specs.Events.{Event, file_measured, job_staged, job_started, child_exited, job_succeeded, job_failed, job_failed_for_now, result_delivered, host_failed, collect_failed, resolved, flight_after, in_flight, brings, is_at_hand, is_held, number_if, number_at, started_if, started_at, delivered_if, delivered_at, is_staging, measures_after, measures, measures_path, is_measured, are_measured, unfolding_at, job_at}
 use Rattle.run_core.specs.inner.Measured.{measures_one, AreMeasures, NoMeasures}

@@ -23,7 +23,7 @@ use Rattle.run_core.specs.declared.state.Phase.{Phase}
 use Rattle.run_core.specs.declared.state.Reading.{Reading}
 use Rattle.run_core.specs.declared.state.State.{State}
 use Rattle.run_core.specs.inner.Lone.{setting_in}
-use Rattle.run_rules.specs.Words.{Name, Fields, JobPlace}
+use Rattle.job_graph.specs.Words.{Name, Fields, JobPlace}
 use Rattle.run_rules.specs.Answers.{MayAnswer, by_host, flying_after}
 use Rattle.run_rules.specs.Events.{Progress}
 use Rattle.plan_checker.specs.declared.plan.Mark.{Mark}

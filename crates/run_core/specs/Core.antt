@@ -9,7 +9,7 @@ use Rattle.run_rules.specs.declared.setting.Options.{Options}
 use Rattle.run_rules.specs.declared.setting.Setting.{Setting}
 use Rattle.run_core.specs.declared.state.Phase.{Phase}
 use Rattle.run_core.specs.declared.runner.RunCore.{RunCore}
-use Rattle.run_rules.specs.Words.{Fields}
+use Rattle.job_graph.specs.Words.{Fields}
 use Rattle.run_rules.specs.Events.{Progress}
 use Rattle.plan_checker.specs.declared.plan.Mark.{Mark}
 use Rattle.run_rules.specs.Answers.{flying_after}

@@ -4,7 +4,7 @@ ghost use Rattle.run_core.specs.inner.Machine.{AreLeft, Delivers, DeliversFiles,
 ghost use Rattle.run_core.specs.inner.Places.{left_place};
 ghost use Rattle.run_core.specs.inner.Turns.{PutsNext};
 ghost use Rattle.run_rules.specs.Delivered.{any_file, located};
-ghost use Rattle.run_rules.specs.Made.{fields_moved};
+ghost use Rattle.job_graph.specs.Made.{fields_moved};
 ghost use Rattle.run_rules.specs.Reports.{reported};
 ghost use Rattle.staging.specs.Plan.{IsPlan};
 

@@ -1,7 +1,7 @@
 //! Values whose files stand elsewhere.
 ghost use Rattle.std.specs.Prelude.{◌≡◌, [], IfOk, map};
 ghost use Rattle.run_rules.specs.Delivered.{location_place, made_path};
-ghost use Rattle.run_rules.specs.Made.{value_moved, fields_moved, made_place};
+ghost use Rattle.job_graph.specs.Made.{value_moved, fields_moved, made_place};
 ghost use Rattle.run_core.specs.inner.Places.{file_elsewhere, dir_elsewhere, file_with, left_place, number_of, place_by};
 
 use crate::folders::{out_folder, path_in};

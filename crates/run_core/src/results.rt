@@ -1,8 +1,9 @@
 //! The result of the run.
 ghost use Rattle.std.specs.Prelude.{◌≡◌, [], IfOk};
 ghost use Rattle.run_rules.specs.Delivered.{any_file};
-ghost use Rattle.run_rules.specs.Made.{made_place, value_moved};
-ghost use Rattle.run_rules.specs.Words.{last_by_name, value_under};
+ghost use Rattle.job_graph.specs.Made.{made_place, value_moved};
+ghost use Rattle.job_graph.specs.Words.{last_by_name};
+ghost use Rattle.link_values.specs.StepInputs.{value_under};
 ghost use Rattle.run_core.specs.inner.Machine.{outputs_made};
 
 use crate::fields::put;

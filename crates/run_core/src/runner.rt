@@ -12,7 +12,7 @@ ghost use Rattle.run_rules.specs.Answers.{MayAnswer};
 ghost use Rattle.run_rules.specs.Blame.{BlamesRightly};
 ghost use Rattle.run_rules.specs.RunsToday.{RunsToday};
 ghost use Rattle.run_core.specs.Limits.{IsWithinLimits};
-ghost use Rattle.run_rules.specs.Words.{JobPlace};
+ghost use Rattle.job_graph.specs.Words.{JobPlace};
 ghost use Rattle.run_rules.specs.Reports.{entries_of, Concludes};
 
 use crate::starts::begun;

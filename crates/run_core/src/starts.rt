@@ -4,7 +4,7 @@ ghost use Rattle.command_line.specs.Launch.{IsError, IsLaunch};
 ghost use Rattle.run_core.specs.inner.Machine.{AfterContents, AfterInputs, AfterStage, Begins, FillsOn, IsFirstFilling, Launches, MeasuresOn, Stages, TakesContents, TakesMeasure, contents_of, filling_in, kept_of, measure_of, measuring_in, starts};
 ghost use Rattle.run_core.specs.inner.Turns.{PutsNext};
 ghost use Rattle.run_rules.specs.Folders.{in_folder, runtime_of};
-ghost use Rattle.run_rules.specs.Jobs.{input_cause};
+ghost use Rattle.job_graph.specs.Inputs.{input_cause};
 ghost use Rattle.staging.specs.Plan.{IsPlan};
 
 use crate::folders::{in_folder, runtime_of};

@@ -1,7 +1,7 @@
 //! Which processes are run so far.
 ghost use Rattle.std.specs.Prelude.{◌≡◌, ◌↔◌, IsTrue, map};
 ghost use Rattle.run_rules.specs.Delivered.{has_file};
-ghost use Rattle.run_rules.specs.Made.{some_true};
+ghost use Rattle.job_graph.specs.Made.{some_true};
 ghost use Rattle.run_rules.specs.RunsToday.{RunsToday};
 
 use cwl_value::Value;

@@ -2,7 +2,7 @@
 use Rattle.document_links.specs.declared.process.Process.{Process}
 use Rattle.document_links.specs.declared.process.Process as process
 use Rattle.cwl_process.specs.declared.tool.Tool.{Tool}
-use Rattle.run_rules.specs.Words.{Fields}
+use Rattle.job_graph.specs.Words.{Fields}
 
 -- a process that is run so far, on these inputs
 pub data RunsToday : Process → Fields → Type 0 where

@@ -47,11 +47,12 @@ use Rattle.run_core.specs.declared.state.Measuring.{Measuring}
 use Rattle.run_core.specs.declared.state.Phase.{Phase}
 use Rattle.run_core.specs.declared.state.Reading.{Reading}
 use Rattle.run_core.specs.declared.state.State.{State}
-use Rattle.run_rules.specs.Words.{Name, Fields, last_by_name, null, value_under}
+use Rattle.job_graph.specs.Inputs.{input_cause}
+use Rattle.job_graph.specs.Made.{fields_moved, made_place, value_moved}
+use Rattle.job_graph.specs.Words.{Name, Fields, last_by_name}
+use Rattle.link_values.specs.StepInputs.{null, value_under}
 use Rattle.run_rules.specs.Delivered.{any_file, located}
 use Rattle.run_rules.specs.Folders.{in_folder, out_folder, runtime_of}
-use Rattle.run_rules.specs.Jobs.{input_cause}
-use Rattle.run_rules.specs.Made.{fields_moved, made_place, value_moved}
 use Rattle.run_rules.specs.Reports.{reported}
 use Rattle.run_core.specs.inner.Places.{left_place}
 use Rattle.run_core.specs.inner.Turns.{PutsNext}

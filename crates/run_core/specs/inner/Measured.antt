@@ -2,7 +2,7 @@
 use Rattle.std.specs.Prelude.{◌≡◌, Bool, true, false, List, [], ◌∷◌, map}
 use Rattle.staging.specs.declared.measure.Measure.{Measure}
 use Rattle.run_rules.specs.Events.{Event, file_measured}
-use Rattle.run_rules.specs.Words.{Name}
+use Rattle.job_graph.specs.Words.{Name}
 
 abbrev pub measures_one : Event → Bool
 measures_one (file_measured path measure) = true

@@ -4,9 +4,9 @@ use Rattle.cwl_value.specs.declared.place.Place.{Place}
 use Rattle.cwl_value.specs.declared.value.Value.{Value, roll-Value}
 use Rattle.cwl_value.specs.declared.value.FileVal.{FileVal, fold-FileVal, out-FileVal, roll-FileVal}
 use Rattle.cwl_value.specs.declared.value.DirVal.{DirVal, fold-DirVal}
-use Rattle.run_rules.specs.Words.{Name, JobPlace}
+use Rattle.job_graph.specs.Made.{file_moved, dir_moved, made_place}
+use Rattle.job_graph.specs.Words.{Name, JobPlace}
 use Rattle.run_rules.specs.Delivered.{source_place, location_place}
-use Rattle.run_rules.specs.Made.{file_moved, dir_moved, made_place}
 use Rattle.run_core.specs.declared.places.Way.{Way}
 use Rattle.run_core.specs.declared.places.Way.TheVariants as way
 

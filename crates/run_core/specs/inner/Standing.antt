@@ -16,11 +16,12 @@ use Rattle.run_core.specs.declared.state.Measuring.{Measuring}
 use Rattle.run_core.specs.declared.state.Phase.{Phase}
 use Rattle.run_core.specs.declared.state.Reading.{Reading}
 use Rattle.run_core.specs.declared.state.State.{State}
-use Rattle.run_rules.specs.Words.{Fields, Heads, Name}
+use Rattle.collected_outputs.specs.Contents.{Heads}
+use Rattle.job_graph.specs.Made.{fields_moved}
+use Rattle.job_graph.specs.Words.{Fields, Name}
 use Rattle.run_rules.specs.Delivered.{any_file}
 use Rattle.run_rules.specs.Folders.{in_folder, runtime_of}
 use Rattle.run_rules.specs.Events.{Event, job_staged, job_started, child_exited, job_succeeded, nothing_due, input_heads_due, start_due, scan_due, output_heads_due, Progress, at_first, are_measured, measures}
-use Rattle.run_rules.specs.Jobs.{inputs_of}
 use Rattle.run_rules.specs.End.{End, settled}
 use Rattle.run_rules.specs.EndsSo.{EndsSo}
 use Rattle.plan_checker.specs.declared.plan.Mark.{Mark}
@@ -33,7 +34,6 @@ use Rattle.run_core.specs.inner.Measured.{AreMeasures, measured_by}
 use Rattle.run_core.specs.inner.Places.{left_place}
 use Rattle.run_core.specs.Limits.{IsWithinLimits}
 use Rattle.run_rules.specs.Blame.{WereStarted, BlamesRightly}
-use Rattle.run_rules.specs.Made.{fields_moved}
 
 -- its input files are measured, and its inputs are these
 pub record IsLone (lone : Lone) (inputs : Fields) (ms : List Event) : Type 0 where

@@ -1,6 +1,6 @@
 use Rattle.std.proofs.Common.{◌≡◌, take}
 use Rattle.run_rules.specs.Delivered.{any_file}
-use Rattle.run_rules.specs.Words.{last_by_name}
+use Rattle.job_graph.specs.Words.{last_by_name}
 use Rattle.run_core.specs.inner.Machine.{outputs_made}
 use Rattle.run_core.proofs.results.outputs_made.Given as goal
 

@@ -1,5 +1,5 @@
 use Rattle.std.proofs.Common.{◌≡◌, map, drop}
-use Rattle.run_rules.specs.Made.{some_true}
+use Rattle.job_graph.specs.Made.{some_true}
 use Rattle.run_rules.specs.Delivered.{has_file}
 use Rattle.run_core.proofs.today.+holding.Given as goal
 
