@@ -3,7 +3,6 @@ pub mod Escapes
 pub mod FileUrl
 pub mod Finding
 pub mod Levels
-pub mod OneMore
 pub mod Slashes
 pub mod Summing
 pub mod Urls

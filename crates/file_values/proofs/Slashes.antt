@@ -1,4 +1,4 @@
--- Where a path's last slash is, and what stands beside it.
+-- Where a path's last slash is, and what is before and after it.
 use Rattle.std.proofs.Common.{◌≡◌, ◌≢◌, ℕ, ◌+◌, ◌-◌, ◌<◌, true, false, not, if◌then◌else◌, List, [], ◌∷◌, ◌++◌, suc, refl, length, get_or, take, ap, ◌∙◌, arith, ne_eqb, eq-eqb}
 use Rattle.std.specs.List.{before_last, suffix_len, list_any}
 use Rattle.std.proofs.lemmas.List.Sums.{suffix_len_is}

@@ -1,5 +1,4 @@
 pub mod Codes
-pub mod Grouped
 pub mod Laws
 pub mod Location
 pub mod Names

@@ -10,7 +10,6 @@
 #![tactic(auto)]
 
 mod distinct;
-mod grouped;
 mod laws;
 mod location;
 mod names;
@@ -20,7 +19,6 @@ mod resolution;
 mod sum;
 
 pub use cwl_value::name_parts;
-pub use grouped::Grouped;
 pub use laws::there_and_back;
 pub use location::{location_to_path, path_to_location};
 pub use names::secondary_name;

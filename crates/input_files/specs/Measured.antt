@@ -67,12 +67,12 @@ abbrev pub listing_with : Name → Option Measure → Option (List Value)
 listing_with path (Some (measure.Folder listing)) = Some (values_below path listing)
 listing_with path _ = None
 
--- what stands in the folder that was measured at a place; none where there is no folder
+-- what is in the folder that was measured at a place; none where there is no folder
 abbrev pub found_listing : Measures → Place → Option (List Value)
 found_listing measures (place.Path path) = listing_with path (value_at path measures)
 found_listing measures _ = None
 
--- the Directory with what stands in it; none where something that it lists is absent
+-- the Directory with what is in it; no listing where something that it lists is absent
 abbrev pub dir_level : Measures → DirVal-F Value DirVal FileVal → DirVal
 dir_level measures d =
     roll-DirVal (record d { listing = (if option_map_or (λ listed. all_true (map is_present listed)) d.listing true then found_listing measures d.place else None) })

@@ -9,7 +9,7 @@ use Rattle.type_check.specs.Fits.{fits}
 use Rattle.input_files.specs.Given.{fits_input}
 
 pub record Parameter : Type 0 where
-  -- stands in for null
+  -- the value in place of null
   pub default : Option Value
   -- whether a value is of its type
   pub takes : Value → Bool

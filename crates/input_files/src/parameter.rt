@@ -13,7 +13,7 @@ pub trait Parameter {
     /// The input as the definitions see it.
     ghost of: { Self → Declared };
 
-    /// What stands in for null.
+    /// The value in place of null.
     fn default(&self) -> Option<&Value>
         ensures { option_copied result ≡ (of self.now).default };
 

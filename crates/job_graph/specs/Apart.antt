@@ -8,7 +8,7 @@ use Rattle.document_links.specs.declared.process.Step.{Step, fold-Step}
 use Rattle.document_links.specs.declared.process.Workflow.{Workflow, fold-Workflow}
 use Rattle.job_graph.specs.Words.{Name}
 
--- no name stands twice
+-- no name is there twice
 abbrev pub differ : List Name → Bool
 differ [] = true
 differ (name ∷ names) = not (list_any (bytes_eq name) names) && differ names

@@ -26,7 +26,7 @@ pub(crate) struct Resolved {
 /// What is known of the world outside the process.
 #[derive(Drop)]
 pub(crate) struct Facts {
-    /// What stands at the paths of the input files.
+    /// What is at the paths of the input files.
     pub measures: Keyed<Measure>,
     /// The jobs that have ended, in the order learned.
     pub learned: Items<Resolved>,

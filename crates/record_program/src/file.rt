@@ -17,19 +17,6 @@ const FAULT: u8 = 3;
 
 const META: &str = "SELECT value FROM meta WHERE name = 'version'";
 
-/// A runtime whose files may hold records.
-pub trait Records {
-    /// Forgets the rows of a file's record whose key has the SHA-1 `forget`, where one is given, and returns how that and the
-    /// rows that are left end the command.
-    fn record_ending(&self, file: &str, forget: Option<&str>) -> Ending;
-}
-
-impl Records for HostRuntime {
-    fn record_ending(&self, file: &str, forget: Option<&str>) -> Ending {
-        ending_of(self, file, forget)
-    }
-}
-
 /// Runs `record` on a file: forgets the rows whose key has the SHA-1 `forget`, where one is given, and writes a line
 /// for each row to `out`, or what went wrong to `err`.
 ///

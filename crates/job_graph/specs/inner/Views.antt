@@ -1,4 +1,4 @@
--- What is kept of a walk and of the jobs that have ended, as what it stands for.
+-- What is kept of a walk and of the jobs that have ended, as the definitions see it.
 use Rattle.std.specs.Prelude.{List, map}
 use Rattle.job_graph.specs.Jobs.{Job, Made, Met, met_job, met_fault, Walk}
 use Rattle.job_graph.specs.Unfold.{Resolved, made_by}
