@@ -7,12 +7,12 @@ use Rattle.std.proofs.lemmas.Bool.{and_from, and_parts, or_left, or_parts}
 use Rattle.std.proofs.lemmas.List.{get_or_append_left, reverse-append}
 use Rattle.std.proofs.lemmas.List.Folds.{find-append}
 use Rattle.input_files.specs.Measured.{Measures}
-use Rattle.run_rules.specs.Words.{Name, JobPlace}
-use Rattle.run_rules.specs.Jobs.{Job, Walker}
-use Rattle.run_rules.specs.Unfold.{Resolved, Unfolded, is_at, jobs_after, nothing_known, unfolded}
+use Rattle.job_graph.specs.Words.{Name, JobPlace}
+use Rattle.job_graph.specs.Jobs.{Job, Walker}
+use Rattle.job_graph.specs.Unfold.{Resolved, Unfolded, is_at, jobs_after, nothing_known, unfolded}
 use Rattle.run_rules.specs.Scene.{Scene}
 use Rattle.run_rules.specs.Events.{Event, file_measured, job_succeeded, measures_after, measures, measures_path, is_measured, are_measured, resolves, resolved, unfolding_at, job_at}
-use Rattle.run_rules.proofs.events.Places.{AreApart, IsJob, found_at}
+use Rattle.run_rules.proofs.events.Places.{IsJob}
 use Rattle.run_rules.proofs.events.Readings.{all_measures_after, is_measured_after, resolved_after}
 
 -- whether an event is the measure of an input file
@@ -200,8 +200,3 @@ module _ (s : Scene) where
       job_at s es place ≡ Some job → job_at s (es ++ e ∷ []) place ≡ Some job
   known_job_stays es e place job none is =
       found_still place job (unfolding_at s es).jobs (unfolding_at s (es ++ e ∷ [])).jobs (known_jobs_stay es e none) is
-
-  -- a job of a front of what is known is the one that is known at its place
-  pub job_known : (es : List Event) (jobs : List Job) (n : ℕ) (job : Job) → IsFront jobs (unfolding_at s es).jobs → AreApart jobs → IsJob jobs n job →
-      job_at s es job.place ≡ Some job
-  job_known es jobs n job leads apart it = found_still job.place job jobs (unfolding_at s es).jobs leads (found_at jobs apart n job it)
