@@ -1,0 +1,19 @@
+-- What a result has where it is there, and lists by their last item.
+use Rattle.std.proofs.Common.{◌≡◌, ◌∙◌, ◌+◌, ◌-◌, ◌<◌, ◌≤◌, List, [], ◌∷◌, ◌++◌, length, get_or, take, Result, Ok, Err, IfOk, refl, sym, ap, arith}
+use Rattle.std.proofs.lemmas.List.{take_more, take_all}
+
+-- what holds of any result that is there
+pub if_ok : {X E : Type 0} {P Q : X → Type 0} (result : Result X E) → ((x : X) → P x → Q x) → IfOk result P → IfOk result Q
+if_ok (Ok x) gives holds = gives x holds
+if_ok (Err error) gives holds = tt
+
+-- a list of none
+pub none_in : {X : Type 0} (xs : List X) → length xs < 1 → xs ≡ []
+none_in [] none = refl
+none_in (x ∷ xs) none = absurd (omega arith)
+
+-- a list with its last
+pub with_last : {X : Type 0} (xs : List X) (x : X) → 1 ≤ length xs → x ≡ get_or xs (length xs - 1) x → xs ≡ take (length xs - 1) xs ++ x ∷ []
+with_last xs x some is =
+    let whole : take (length xs - 1 + 1) xs ≡ xs = take_all (length xs - 1 + 1) xs (omega arith) in
+    sym whole ∙ take_more xs (length xs - 1) x (omega arith) ∙ ap (λ y. take (length xs - 1) xs ++ y ∷ []) (sym is)

@@ -1,0 +1,2 @@
+-- What the machine keeps, beside the events of its run.
+pub mod Kept
