@@ -1,5 +1,6 @@
 //! What the machine waits for after each answer.
 ghost use Rattle.std.specs.Prelude.{◌≡◌, ◌<◌, ◌≤◌, ◌+◌, ◌^◌, ◌∷◌, ◌++◌, [], Contains, IfOk, OnErr, length, vec_len, vec_capacity};
+ghost use Rattle.run_core.specs.declared.state.Phase.{Phase as Waits};
 ghost use Rattle.run_core.specs.inner.Course.{known_in};
 ghost use Rattle.run_core.specs.inner.Follows.{AfterBytes, AfterFailure, AsksIn, CanStage, Drains, FollowsFrom, IsLeftAfter, IsOneLess, IsReady, IsReadyFor};
 ghost use Rattle.run_core.specs.inner.Parts.{job_in, kept_in};
@@ -41,6 +42,7 @@ pub(crate) fn follows<'a>(
     requires ready { IsReadyFor course.old turn.old.phase }
     ensures next { IfOk result (λ next. FollowsFrom given.now course.old turn.old answer.now next course.new) }
     ensures memory { OnErr result (IsLeftAfter course.old.tickets.items answer.now course.new.tickets.items) }
+    ensures going { OnErr result (turn.old.phase ≡ Waits.Draining → ⊥) }
     ensures asked { turn.new.asks ≡ turn.old.asks }
 {
     let Answer::Host(answer) = answer;

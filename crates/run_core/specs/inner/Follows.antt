@@ -77,8 +77,8 @@ AfterEnding given old phase ending turn new = AfterChild given old ending turn n
 
 -- a call failed; after a failed collect nobody waits for the children in flight any more
 abbrev pub AfterFailureIn : Given → Course → Phase → HostFault → Turn → Course → Type 0
-AfterFailureIn given old Phase.Collecting fault turn new = (turn ≡ ends (Err (RunFault.Host fault old.tickets.items))) × (new.known ≡ old.known)
-AfterFailureIn given old Phase.Draining fault turn new = turn ≡ ends (Err RunFault.OutOfMemory)
+AfterFailureIn given old Phase.Collecting fault turn new = (turn ≡ ends (Err (RunFault.Host fault old.tickets.items))) × (new.known ≡ old.known) × (new.tickets.items ≡ [])
+AfterFailureIn given old Phase.Draining fault turn new = (turn ≡ ends (Err RunFault.OutOfMemory)) × (new.tickets.items ≡ [])
 AfterFailureIn given old phase fault turn new = AfterFault given old fault turn new
 
 abbrev pub AfterFailure : Given → Course → Turn → HostFault → Turn → Course → Type 0
@@ -107,7 +107,7 @@ IsLeftAfter old answer new = new ≡ flying_after old answer
 -- what an answer makes of the machine: what follows from it, or nothing more but the ends of the children in flight where memory ran out
 pub data Moves (given : Given) (old : Course) (before : Turn) (answer : Answer) : Turn → Course → Type 0 where
   moves : (turn : Turn) (new : Course) → FollowsFrom given old before answer turn new → Moves given old before answer turn new
-  gives_up : (new : Course) → IsLeftAfter old.tickets.items answer new.tickets.items → Moves given old before answer (lost_after (past_of new)) new
+  gives_up : (new : Course) → (before.phase ≡ Phase.Draining → ⊥) → IsLeftAfter old.tickets.items answer new.tickets.items → Moves given old before answer (lost_after (past_of new)) new
 
 -- with so many pairs and room for so many: the end of each child in flight has room
 abbrev pub HasPairs : ℕ → ℕ → Past → Turn → Type 0
