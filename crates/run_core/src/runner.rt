@@ -9,7 +9,7 @@ ghost use Rattle.job_graph.specs.Words.{JobPlace};
 ghost use Rattle.run_core.specs.declared.state.Phase.{Phase};
 ghost use Rattle.run_core.specs.Core.{setting_of, transcript, asked, flying, IsLost, IsEnded, Stands, MayAsk, Begins, Took};
 ghost use Rattle.run_core.specs.Limits.{IsWithinLimits};
-ghost use Rattle.run_core.specs.inner.Course.{nothing_past, past_of};
+ghost use Rattle.run_core.specs.inner.Course.{past_of};
 ghost use Rattle.run_core.specs.inner.Follows.{AsksIn, HasPairs, IsReadyFor, MakesRoom, Moves, told_of};
 ghost use Rattle.run_core.specs.inner.Measures.{Begins as BeginsAt};
 ghost use Rattle.run_core.specs.inner.Standing.{HasRoom};
@@ -152,7 +152,7 @@ fn start<'a>(
     course: &mut Course<'a>,
     turn: &mut Turn,
 ) -> Result<(), AllocError>
-    requires past { past_of course.old ≡ nothing_past }
+    requires { course.old.folders ≡ 0 }
     ensures items { pairs.new.items ≡ pairs.old.items }
     ensures room { OnOk result (vec_len pairs.new + 2 ≤ vec_capacity pairs.new) }
     ensures begins { OnOk result (BeginsAt given.now course.old turn.new course.new) }
