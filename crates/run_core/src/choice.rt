@@ -1,5 +1,5 @@
 //! What comes next where nothing is due.
-ghost use Rattle.std.specs.Prelude.{◌≡◌, ◌<◌, ◌+◌, ◌^◌, None, Some, IsSome, IfOk, IsTrue, ◌↔◌, OnErr, length, slice_get};
+ghost use Rattle.std.specs.Prelude.{◌≡◌, ◌<◌, ◌+◌, ◌^◌, false, None, Some, IsSome, IfOk, IsTrue, ◌↔◌, OnErr, length, slice_get};
 ghost use Rattle.job_graph.specs.inner.Views.{job_of as job_seen};
 ghost use Rattle.job_graph.specs.Jobs.{Job};
 ghost use Rattle.run_core.specs.declared.state.Given.{Given as Run};

@@ -123,9 +123,9 @@ impl<'a> RunCore<'a> {
     pub fn finish(self) -> Result<Report, RunFault>
         requires stands { Stands self }
         requires finished { asked self ≡ Request.Finished }
-        ensures concluded { Concludes (setting_of self) (transcript self) result }
-        ensures faults { IfErr result (BlamesRightly (entries_of (transcript self))) }
-        ensures lost { (result ≡ Err RunFault.OutOfMemory) ↔ IsLost self }
+        ensures concluded { Concludes (setting_of self.entry) (transcript self.entry) result }
+        ensures faults { IfErr result (BlamesRightly (entries_of (transcript self.entry))) }
+        ensures lost { (result ≡ Err RunFault.OutOfMemory) ↔ IsLost self.entry }
     {
         let mut core = self;
         let phase = mem::replace(&mut core.turn.phase, Phase::Collecting);
@@ -136,7 +136,7 @@ impl<'a> RunCore<'a> {
     /// Leaves the run as it is, since memory ran out somewhere else.
     pub fn abandon(self) -> Result<Report, RunFault>
         requires { Stands self }
-        ensures concluded { Concludes (setting_of self) (transcript self) result }
+        ensures concluded { Concludes (setting_of self.entry) (transcript self.entry) result }
         ensures memory { result ≡ Err RunFault.OutOfMemory }
     {
         mem::drop(self);

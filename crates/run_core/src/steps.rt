@@ -69,7 +69,7 @@ pub(crate) fn follows<'a>(
 fn site_of<'s>(given: &'s Given<'_>, course: &'s Course<'_>, number: usize) -> Site<'s>
     requires number { number < length course.now.jobs.items }
     requires known { number < length (known_in course.now.known) }
-    ensures { IsSite given.now course.now number result.entry }
+    ensures { IsSite given.now course.now number result }
 {
     Site {
         tool: job_of(course, number).tool,
