@@ -1,6 +1,6 @@
 -- The known jobs by number.
 use Rattle.std.specs.Prelude.{◌<◌, option_map, slice_get}
-use Rattle.std.proofs.Common.{◌≡◌, ◌∙◌, ℕ, List, length, map, Some, sym, ap, arith, get_or}
+use Rattle.std.proofs.Common.{◌≡◌, ◌∙◌, ℕ, List, length, map, Some, refl, sym, ap, get_or}
 use Rattle.std.proofs.lemmas.Option.{slice_get-map, slice_get_read}
 use Rattle.std.proofs.lemmas.List.{length-map}
 use Rattle.job_graph.specs.Jobs.{Job}

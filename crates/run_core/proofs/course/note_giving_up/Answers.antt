@@ -1,0 +1,14 @@
+use Rattle.std.proofs.Common.{rules, ◌≡◌, ◌<◌, ◌≤◌, ◌+◌, ◌^◌, ◌∷◌, [], None, Some, Contains, IsSome, IfOk, OnErr, OnOk, length, map, slice_get, vec_len, vec_capacity, ℕ, ◌-◌, ◌*◌, ◌/◌, ◌%◌, Bool, true, false, nat_eq, nat_lt, List, ◌++◌, slice_index_or, slice_set, bit_and, bit_or, Fits, w8, w32, w64, Bor, MutBor}
+use Rattle.job_graph.specs.inner.Views.{job_of as job_seen}
+use Rattle.run_core.specs.inner.Course.{GivesUp, TakesOut, known_in, nothing_past, past_of, place_at, with_end, with_staging, with_start}
+use Rattle.run_core.specs.inner.Knows.{Learns, end_by}
+use Rattle.run_core.specs.inner.Turn.{permanent}
+use Rattle.run_core.proofs.course.note_giving_up.Goals as goal
+
+-- src/course.rt:169:9
+pub returns-then-gave_up-retries-clause-ok : goal.returns-then-gave_up-retries-clause-ok
+returns-then-gave_up-retries-clause-ok c = ?
+
+-- src/course.rt:153:1
+pub returns-clause-ok : goal.returns-clause-ok
+returns-clause-ok c = ?
