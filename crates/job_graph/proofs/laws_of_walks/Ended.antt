@@ -1,23 +1,23 @@
 -- Once each known job is resolved and no equation fails, an accepted process has its result.
-use Rattle.std.proofs.Common.{◌≡◌, ◌∙◌, ◌⊎◌, inl, inr, ⊎_elim, List, [], ◌∷◌, ◌++◌, reverse, Bool, true, false, cond, Option, Some, None, option_map, refl, sym, ap, ap₂, subst}
+use Rattle.std.proofs.Common.{◌≡◌, ◌∙◌, ◌⊎◌, inl, inr, ⊎_elim, List, [], ◌∷◌, ◌++◌, reverse, Bool, true, false, cond, Option, Some, None, refl, sym, ap, ap₂, subst}
 use Rattle.std.specs.Prelude.{◌&&◌, Contains, is_some}
-use Rattle.std.specs.List.{AllByRecursion, list_all}
+use Rattle.std.specs.List.{AllByRecursion}
 use Rattle.std.proofs.lemmas.List.Elements.{All-contains_itself, recursion_from_All}
 use Rattle.document_links.specs.declared.process.Process.{Process}
 use Rattle.input_files.specs.Measured.{Measures}
 use Rattle.workflow_check.specs.Checked.{fault_in}
 use Rattle.job_graph.specs.declared.cause.Cause.{Cause}
 use Rattle.job_graph.specs.Apart.{ids_differ}
-use Rattle.job_graph.specs.Words.{Fields, JobPlace, is_same_place}
+use Rattle.job_graph.specs.Words.{Fields, JobPlace}
 use Rattle.job_graph.specs.Inputs.{root_fields}
 use Rattle.job_graph.specs.Made.{fields_made}
-use Rattle.job_graph.specs.Jobs.{Job, Met, met_job, met_fault, Made, Walker, is_well, all_named}
+use Rattle.job_graph.specs.Jobs.{Job, Met, met_job, met_fault, Made, Walker, all_named}
 use Rattle.job_graph.specs.Equations.{walker}
-use Rattle.job_graph.specs.Unfold.{Resolved, Fault, fault_at, too_many_jobs, is_at, outputs_at, made_by, is_known, is_within_limits, met_after, jobs_after, first_fault, or_else, fault_after, unfolded}
+use Rattle.job_graph.specs.Unfold.{Resolved, Fault, too_many_jobs, outputs_at, made_by, is_known, is_within_limits, met_after, jobs_after, first_fault, or_else, fault_after, unfolded}
 use Rattle.job_graph.proofs.laws_of_walks.Learned.{IsIn}
 use Rattle.job_graph.proofs.laws_of_walks.Known.{Found, same_place, found_in, all_means, after_known, in_order}
 use Rattle.job_graph.proofs.laws_of_walks.Gives.{AllWell, some_map}
-use Rattle.job_graph.proofs.laws_of_walks.Whole.{AreWhole, named_some, whole}
+use Rattle.job_graph.proofs.laws_of_walks.Whole.{named_some, whole}
 
 -- ---- where no fault is told, none is met
 

@@ -1,6 +1,6 @@
 -- What a step gives where all that it meets is well: each output that it lists.
-use Rattle.std.proofs.Common.{◌≡◌, ◌∙◌, ◌⊎◌, inl, inr, ℕ, List, [], ◌∷◌, ◌++◌, map, Bool, true, false, cond, Option, Some, None, Result, Ok, Err, option_map, unwrap_or, fold, bytes_eq, refl, sym, ap, subst}
-use Rattle.std.specs.Prelude.{◌&&◌, is_some}
+use Rattle.std.proofs.Common.{◌≡◌, ◌∙◌, inl, inr, ℕ, List, [], ◌∷◌, ◌++◌, map, Bool, true, false, cond, Option, Some, None, Result, Ok, Err, option_map, unwrap_or, fold, bytes_eq, refl, sym, ap, subst}
+use Rattle.std.specs.Prelude.{is_some}
 use Rattle.std.specs.List.{AllByRecursion, flat_map, list_all}
 use Rattle.std.proofs.lemmas.List.Folds.{list_all-append}
 use Rattle.std.proofs.lemmas.Slice.Eq.{bytes_eq-Decides}
@@ -12,10 +12,10 @@ use Rattle.job_graph.specs.declared.cause.Cause.{Cause}
 use Rattle.job_graph.specs.declared.partly.Partly.{Partly}
 use Rattle.job_graph.specs.declared.partly.Partly.TheVariants.{Waits, Gives, Fails}
 use Rattle.job_graph.specs.Words.{Name, Fields, JobPlace}
-use Rattle.job_graph.specs.Jobs.{Met, met_job, met_fault, Made, Outs, Walk, is_well, with_first, all_there}
+use Rattle.job_graph.specs.Jobs.{Met, Made, Outs, Walk, is_well, with_first, all_there}
 use Rattle.job_graph.specs.Links.{by_link, out_under, with_entry, all_given}
 use Rattle.job_graph.specs.Scatter.{lengths_under, tuples_for, method_of, at_tuple}
-use Rattle.job_graph.specs.Equations.{Meaning, StepOf, fault_at, goes_on, run_where, instance_from, instance, step_place, out_gathered, all_instances, over_tuples, over_lengths, scattered, entered}
+use Rattle.job_graph.specs.Equations.{Meaning, StepOf, goes_on, run_where, instance_from, instance, step_place, out_gathered, over_tuples, over_lengths, scattered, entered}
 use Rattle.job_graph.proofs.laws_of_walks.Processes.{StepLevel, step_of}
 use Rattle.job_graph.proofs.laws_of_walks.Part.{and_left, and_right}
 use Rattle.job_graph.proofs.laws_of_walks.Places.{IsAmong}

@@ -1,5 +1,5 @@
 -- An accepted process gives each of its outputs, where all that it meets is well.
-use Rattle.std.proofs.Common.{◌≡◌, ◌∙◌, inl, inr, List, [], ◌∷◌, map, Bool, true, false, cond, not, Option, Some, None, Result, Ok, Err, option_map, bytes_eq, refl, sym, ap, subst, subst₂}
+use Rattle.std.proofs.Common.{◌≡◌, ◌∙◌, inl, inr, List, [], ◌∷◌, map, Bool, true, false, cond, Option, Some, None, Result, Ok, Err, option_map, bytes_eq, refl, sym, ap, subst, subst₂}
 use Rattle.std.specs.Prelude.{◌&&◌, is_some}
 use Rattle.std.specs.List.{AllByRecursion, list_all}
 use Rattle.std.specs.Map.{keys_of}
@@ -17,7 +17,7 @@ use Rattle.document_links.specs.declared.process.Workflow.{Workflow, roll-Workfl
 use Rattle.input_files.specs.Measured.{Measures}
 use Rattle.link_values.specs.StepInputs.{value_under}
 use Rattle.plain_data.specs.ByName.{value_at, map_values}
-use Rattle.workflow_check.specs.Checked.{Level, fault_in, fault_in_step, fault_in_workflow, own_fault, around}
+use Rattle.workflow_check.specs.Checked.{Level, fault_in, fault_in_step, own_fault, around}
 use Rattle.workflow_check.specs.Faults.{Found, first_of, found_if, or_next}
 use Rattle.workflow_check.specs.Links.{outputs_fault, steps_fault}
 use Rattle.workflow_check.specs.Order.{is_cyclic, order_fault}
@@ -31,12 +31,12 @@ use Rattle.job_graph.specs.declared.cause.Cause.{Cause}
 use Rattle.job_graph.specs.Apart.{differ, ids_differ, step_ids_differ, workflow_ids_differ}
 use Rattle.job_graph.specs.Words.{Name, Fields, JobPlace}
 use Rattle.job_graph.specs.Inputs.{tool_inputs_for, workflow_inputs_for}
-use Rattle.job_graph.specs.Jobs.{Job, Made, Outs, with_first, all_named, output_names, tool_walk}
+use Rattle.job_graph.specs.Jobs.{Job, Made, Outs, all_named, output_names, tool_walk}
 use Rattle.job_graph.specs.Links.{Env, output_value, given}
 use Rattle.job_graph.specs.Equations.{Meaning, StepMeaning, workflow_at, meaning_of, step_meaning_of, workflow_meaning_of}
 use Rattle.job_graph.proofs.laws_of_walks.Processes.{StepLevel, WorkflowLevel, workflow_of, Cases, induction, tool_level, workflow_in, step_level, workflow_level}
 use Rattle.job_graph.proofs.laws_of_walks.Part.{and_left, and_right}
-use Rattle.job_graph.proofs.laws_of_walks.Places.{IsAmong, ids_of, workflow_differs, step_differs, steps_differ, step_is}
+use Rattle.job_graph.proofs.laws_of_walks.Places.{IsAmong, ids_of, workflow_differs, steps_differ, step_is}
 use Rattle.job_graph.proofs.laws_of_walks.Steps.{entries_of}
 use Rattle.job_graph.proofs.laws_of_walks.Rounds.{StepRises}
 use Rattle.job_graph.proofs.laws_of_walks.Grown.{step_rises}
