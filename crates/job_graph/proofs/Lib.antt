@@ -1,4 +1,4 @@
 mod Loops
 mod Outs
 mod Tuples
-mod laws_of_walks
+pub mod laws_of_walks
