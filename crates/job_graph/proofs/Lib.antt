@@ -1,4 +1,7 @@
+mod Grows
 mod Loops
+mod MetMore
 mod Outs
 mod Tuples
+mod Unfolds
 mod laws_of_walks
