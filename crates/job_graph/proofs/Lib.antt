@@ -4,4 +4,5 @@ mod MetMore
 mod Outs
 mod Tuples
 mod Unfolds
+mod Walks
 mod laws_of_walks

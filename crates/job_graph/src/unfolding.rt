@@ -59,8 +59,10 @@ impl<'a> Unfolding<'a> {
             fault: None,
             result: None,
         };
-        unfolding.unfold()?;
-        Ok(unfolding)
+        match unfolding.unfold() {
+            Ok(()) => Ok(unfolding),
+            Err(error) => Err(error),
+        }
     }
 
     /// Takes the outputs of the job at a place, whose files are named relative to its output folder. After a refusal it
@@ -106,11 +108,13 @@ impl<'a> Unfolding<'a> {
         ensures err { OnErr result (AnswersAlike self.old self.new) }
     {
         self.facts.learned.push(resolved)?;
-        let unfolded = self.unfold();
-        if unfolded.is_err() {
-            mem::drop(self.facts.learned.pop());
+        match self.unfold() {
+            Ok(()) => Ok(()),
+            Err(error) => {
+                mem::drop(self.facts.learned.pop());
+                Err(error)
+            }
         }
-        unfolded
     }
 
     /// Keeps a fault, which each later `learn` answers.
