@@ -11,11 +11,13 @@
 mod cause;
 mod fault;
 mod gather;
+mod growth;
 mod ids;
 mod inputs;
 mod laws;
 mod links;
 mod made;
+mod outcome;
 mod parents;
 mod partly;
 mod paths;
@@ -28,6 +30,7 @@ mod workflow;
 
 pub use cause::Cause;
 pub use fault::{UnfoldError, UnfoldFault};
+pub use growth::KnownJob;
 pub use ids::see_ids;
 pub use laws::{
     accepted_processes_give_results, failed_jobs_fail_eval, faults_fail_eval, faults_stay,
@@ -37,5 +40,5 @@ pub use laws::{
 };
 pub use paths::input_paths;
 pub use place::is_same_place;
-pub use unfolding::{KnownJob, Unfolding};
+pub use unfolding::Unfolding;
 pub use walk::Job;
