@@ -1,4 +1,5 @@
 pub mod Asked
+pub mod Choosing
 pub mod Holding
 pub mod Jobs
 pub mod Lists

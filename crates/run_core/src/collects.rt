@@ -12,6 +12,7 @@ use crate::Cause;
 use crate::folders::{out_folder, path_in};
 use crate::site::Site;
 use crate::state::{JobNext, JobPhase, Kept, Reading};
+use crate::turn::failing;
 use crate::turns::{last_first, put_next};
 use collected_outputs::{CollectError, StreamNames, collect_outputs, head_limit, heads_wanted};
 use plain_data::{Items, Keyed, Text};
@@ -186,7 +187,7 @@ fn gathered(
         &reading.heads,
     ) {
         Ok(outputs) => Ok(JobNext::Gives(outputs)),
-        Err(CollectError::Refused(fault)) => Ok(JobNext::Fails(Cause::Collect(fault))),
+        Err(CollectError::Refused(fault)) => Ok(failing(Cause::Collect(fault))),
         Err(CollectError::OutOfMemory) => Err(AllocError),
     }
 }

@@ -13,6 +13,7 @@ use crate::Cause;
 use crate::folders::runtime_of;
 use crate::site::Site;
 use crate::state::{Filling, JobNext, JobPhase, Kept};
+use crate::turn::failing;
 use crate::turns::{last_first, put_next};
 use command_line::{BuildError, Launch, build};
 use cwl_value::{Value, copy_fields};
@@ -101,7 +102,7 @@ fn inputs_filled(alloc: Global, site: Site<'_, '_>, filling: Filling) -> Result<
     mem::drop(heads);
     match found {
         Ok(inputs) => launched(alloc, site, inputs),
-        Err(ContentsError::Refused(fault)) => Ok(JobNext::Fails(Cause::Contents(fault))),
+        Err(ContentsError::Refused(fault)) => Ok(failing(Cause::Contents(fault))),
         Err(ContentsError::OutOfMemory) => Err(AllocError),
     }
 }
@@ -114,7 +115,7 @@ fn launched(alloc: Global, site: Site<'_, '_>, inputs: Keyed<Value>) -> Result<J
         Ok(launch) => starting(alloc, launch, inputs),
         Err(BuildError::Refused(fault)) => {
             mem::drop(inputs);
-            Ok(JobNext::Fails(Cause::Build(fault)))
+            Ok(failing(Cause::Build(fault)))
         }
         Err(BuildError::OutOfMemory) => {
             mem::drop(inputs);

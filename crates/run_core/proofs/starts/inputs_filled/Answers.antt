@@ -1,18 +1,24 @@
-use Rattle.std.proofs.Common.{rules, ◌≡◌, [], IfErr, IfOk, OnOk, reverse, ℕ, ◌+◌, ◌-◌, ◌*◌, ◌<◌, ◌≤◌, length, ◌/◌, ◌%◌, Bool, true, false, nat_eq, nat_lt, List, ◌∷◌, ◌++◌, slice_index_or, slice_set, bit_and, bit_or, Fits, w8, w32, w64, Bor, MutBor}
-use Rattle.command_line.specs.Launch.{IsError, IsLaunch}
-use Rattle.input_files.specs.Contents.{heads_wanted as wanted_heads}
-use Rattle.proc_host.specs.declared.call.HostRequest.{HostRequest as Call}
-use Rattle.run_core.specs.declared.state.JobNext.{JobNext as Next}
-use Rattle.run_core.specs.declared.state.JobPhase.{JobPhase as InPhase}
-use Rattle.run_core.specs.inner.Due.{Launches, Starts, StartsPast, kept_of}
-use Rattle.run_core.specs.inner.Turns.{PutsNext}
-use Rattle.run_rules.specs.Folders.{runtime_of}
+use Rattle.std.proofs.Common.{◌∙◌, List, [], sym, ap, subst}
+use Rattle.input_files.specs.Given.{NamedInput}
+use Rattle.input_files.specs.Contents.{with_contents}
+use Rattle.input_files.specs.Refusals.{RefusesContents}
+use Rattle.input_files.specs.declared.fault.ContentsError.{ContentsError}
+use Rattle.run_core.specs.declared.state.JobNext.{JobNext}
+use Rattle.run_core.specs.inner.Due.{Starts}
+use Rattle.run_core.proofs.Lists.{if_ok}
+use Rattle.run_core.proofs.Working.{starts_by, starts_not}
 use Rattle.run_core.proofs.starts.inputs_filled.Goals as goal
 
--- src/starts.rt:94:1
 pub returns-in-Ok : goal.returns-in-Ok
-returns-in-Ok c = ?
+returns-in-Ok c =
+    if_ok c.launched.result (λ next launches.
+    starts_by c.args.site c.args.filling.staged c.args.filling.heads c.in-Ok.inputs next
+    (ap (λ (inputs : List NamedInput). with_contents inputs c.args.filling.staged c.args.filling.heads) (sym c.as_slice.ensures.entries) ∙ c.in-Ok.ensures.ok) launches)
+    c.launched.ensures
 
--- src/starts.rt:94:1
 pub returns-in-Err-Refused : goal.returns-in-Err-Refused
-returns-in-Err-Refused c = ?
+returns-in-Err-Refused c =
+    subst (λ (x : JobNext). Starts c.args.site c.args.filling.staged c.args.filling.heads [] x) (sym c.failing.ensures)
+    (starts_not c.args.site c.args.filling.staged c.args.filling.heads c.in-Err-Refused.fault
+    (ap (λ (inputs : List NamedInput). with_contents inputs c.args.filling.staged c.args.filling.heads) (sym c.as_slice.ensures.entries)
+    ∙ subst (λ (e : ContentsError). RefusesContents (with_contents c.as_slice.result.now c.args.filling.staged c.args.filling.heads) e) c.in-Err-Refused.field-0-is c.in-Err-Refused.ensures.err))
