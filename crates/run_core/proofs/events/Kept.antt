@@ -14,7 +14,7 @@ use Rattle.job_graph.specs.Words.{Fields}
 use Rattle.job_graph.specs.Jobs.{Job}
 use Rattle.job_graph.specs.Unfold.{or_else}
 use Rattle.run_rules.specs.Events.{child_exited, job_failed_for_now, job_staged, job_started}
-use Rattle.run_rules.proofs.events.Course.{Course, Keeps, gives_over, holds, keeps_gave_up, keeps_landed, keeps_staged, keeps_started, when_landed}
+use Rattle.run_rules.proofs.events.Course.{Keeps, gives_over, holds, keeps_gave_up, keeps_landed, keeps_staged, keeps_started, when_landed}
 use Rattle.run_rules.proofs.events.Places.{IsJob}
 use Rattle.run_rules.proofs.events.Tally.{Readings, reads_after}
 use Rattle.run_rules.proofs.events.Turns.{FliesAt, flies_staged, flight_of}
@@ -22,29 +22,7 @@ use Rattle.run_core.specs.declared.state.Flight.{Flight}
 use Rattle.run_core.specs.declared.state.JobState.{JobState}
 use Rattle.run_core.specs.declared.state.Kept.{Kept}
 use Rattle.run_core.specs.inner.Course.{Past, TakesOut, given_up_in, staged_in, with_end, with_giving_up, with_staging, with_start}
-
--- of a job that was never staged
-abbrev pub untouched : JobState
-untouched = record { folder = 0; gave_up = 0 }
-
-abbrev pub state_at : List JobState → ℕ → JobState
-state_at states n = slice_index_or states n untouched
-
-abbrev pub numbers_of : List Flight → List ℕ
-numbers_of flights = map (λ flight. flight.job) flights
-
--- with the number of the job that is worked on
-abbrev pub course_of : Past → Option ℕ → Course
-course_of past at_work = record {
-  tickets = past.tickets;
-  numbers = numbers_of past.flights;
-  staged = length past.jobs;
-  folder = λ n. (state_at past.jobs n).folder;
-  gave_up = λ n. (state_at past.jobs n).gave_up;
-  folders = past.folders;
-  at_work = at_work;
-  over = is_some past.end;
-}
+use Rattle.run_core.specs.inner.Keeps.{course_of, numbers_of, state_at, untouched}
 
 -- A job is staged
 
