@@ -1,9 +1,9 @@
 -- What the machine keeps of the events of its run.
-use Rattle.std.specs.Prelude.{◌≡◌, ◌≤◌, ℕ, true, false, List, Option, Some, None, Contains, is_some, length, map, option_map, slice_get, slice_index_or}
+use Rattle.std.specs.Prelude.{◌≡◌, ◌≤◌, ℕ, true, false, List, Option, Some, None, Contains, is_some, length, map, option_map, slice_index_or}
 use Rattle.std.specs.List.{list_any}
 use Rattle.job_graph.specs.Jobs.{Job}
 use Rattle.run_rules.specs.End.{is_lost_collect, settled}
-use Rattle.run_rules.specs.Events.{Event, Progress, Started, are_measured, delivered_at, measures, resolved, started_at, unfolding_at}
+use Rattle.run_rules.specs.Events.{Event, Started, are_measured, delivered_at, measures, resolved, started_at, unfolding_at}
 use Rattle.run_rules.specs.Reports.{report_of}
 use Rattle.run_rules.specs.Scene.{Scene}
 use Rattle.run_rules.proofs.events.Course.{Course as Books, Keeps as AreKept}
@@ -27,14 +27,14 @@ state_at states n = slice_index_or states n untouched
 abbrev pub numbers_of : List Flight → List ℕ
 numbers_of flights = map (λ flight. flight.job) flights
 
--- the books of jobs by their numbers, with the number of the job that is worked on
-abbrev pub course_of : Past → Option ℕ → Books
-course_of past at_work = record {
+-- the books of jobs by their numbers, with the number of the job that is worked on, and how often each failed for now
+abbrev pub course_of : Past → Option ℕ → (ℕ → ℕ) → Books
+course_of past at_work gave_up = record {
   tickets = past.tickets;
   numbers = numbers_of past.flights;
   staged = length past.jobs;
   folder = λ n. (state_at past.jobs n).folder;
-  gave_up = λ n. (state_at past.jobs n).gave_up;
+  gave_up = gave_up;
   folders = past.folders;
   at_work = at_work;
   over = is_some past.end;
@@ -48,19 +48,21 @@ pub record KeepsFlight (es : List Event) (jobs : List Job) (flight : Flight) : T
   pub at : started_at es job.place ≡ Some started
   pub kept : IsKept flight.kept started
 
--- the jobs that are known are the first of those of the rules
+-- the jobs that are known are the first of those of the rules; how often each failed for now is counted until the end is settled
 pub record Keeps (s : Scene) (es : List Event) (jobs : List Job) (past : Past) (at_work : Option ℕ) : Type 0 where
-  pub books : AreKept jobs (readings es) (course_of past at_work)
+  pub gave_up : ℕ → ℕ
+  pub books : AreKept jobs (readings es) (course_of past at_work gave_up)
+  pub counts : past.end ≡ None → (number : ℕ) → gave_up number ≡ (state_at past.jobs number).gave_up
+  pub retries : (number : ℕ) → (state_at past.jobs number).gave_up ≤ s.options.retries
   pub flights : (flight : Flight) → Contains past.flights flight → KeepsFlight es jobs flight
-  pub retries : (number : ℕ) (state : JobState) → slice_get past.jobs number ≡ Some state → state.gave_up ≤ s.options.retries
   pub front : IsFront jobs (unfolding_at s es).jobs
   pub end : past.end ≡ option_map report_of (settled s es)
 
 -- a course is what has happened, with the number of the job that is worked on: no collect has failed, nothing was delivered, and unless
 -- the end is settled each input file is measured and all is known by the rules
-pub record Reflects (s : Scene) (f : Progress) (course : Course) (at_work : Option ℕ) : Type 0 where
-  pub keeps : Keeps s f.events (known_in course.known) (past_of course) at_work
-  pub measured : course.end ≡ None → are_measured s f.events ≡ true
-  pub knows : course.end ≡ None → IsKnown (s.walker (measures f.events)) (resolved f.events) course.known
-  pub collects : list_any is_lost_collect f.events ≡ false
-  pub undelivered : delivered_at f.events ≡ None
+pub record Reflects (s : Scene) (es : List Event) (course : Course) (at_work : Option ℕ) : Type 0 where
+  pub keeps : Keeps s es (known_in course.known) (past_of course) at_work
+  pub measured : course.end ≡ None → are_measured s es ≡ true
+  pub knows : course.end ≡ None → IsKnown (s.walker (measures es)) (resolved es) course.known
+  pub collects : list_any is_lost_collect es ≡ false
+  pub undelivered : delivered_at es ≡ None

@@ -67,14 +67,14 @@ pub data IsAt (s : Scene) (f : Progress) (marks : List Mark) (course : Course) :
   measuring : (found : List (Name × Measure)) (measuring : Measuring) (rest : List Name) (path : Name) → IsMeasuring s found measuring →
       measuring.left ≡ rest ++ path ∷ [] → f ≡ record { work = nothing_due; events = measured_by found } → course.known ≡ None →
       past_of course ≡ nothing_past → IsAt s f marks course (waits (HostRequest.Measure path) (Phase.Measuring measuring))
-  staging : (at_work : Option ℕ) (number : ℕ) (job : Job) (plan : StagePlan) → Reflects s f course at_work →
+  staging : (at_work : Option ℕ) (number : ℕ) (job : Job) (plan : StagePlan) → Reflects s f.events course at_work →
       IsStaging s f marks course at_work number job plan →
       IsAt s f marks course (record { asks = Request.Host job.place (HostRequest.Stage plan (course.folders + 1)); phase = Phase.Staging number })
-  working : (number : ℕ) (job : Job) (call : HostRequest) (phase : JobPhase) → Reflects s f course (Some number) →
+  working : (number : ℕ) (job : Job) (call : HostRequest) (phase : JobPhase) → Reflects s f.events course (Some number) →
       IsWorking s f course number job call phase → IsAt s f marks course (works job.place number call phase)
-  collecting : Reflects s f course None → MayCollect s f marks [] → IsAt s f marks course collects
+  collecting : Reflects s f.events course None → MayCollect s f marks [] → IsAt s f marks course collects
   -- each known job was staged
-  delivering : (plan : StagePlan) → Reflects s f course None → MayDeliver s f marks [] plan → course.end ≡ None →
+  delivering : (plan : StagePlan) → Reflects s f.events course None → MayDeliver s f marks [] plan → course.end ≡ None →
       length (known_in course.known) ≤ length course.jobs.items →
       IsAt s f marks course (waits (HostRequest.Deliver plan) (Phase.Delivering (located plan.value)))
   ended : (end : End) → EndsSo s f marks end → IsAt s f marks course (ends (report_of end))
