@@ -126,7 +126,7 @@ pub record Laws (s : Scene) : Type 0 where
 
 module _ (s : Scene) where
   -- the same course
-  moved : (es : List Event) (jobs : List Job) (past : Past) (at_work : Option ℕ) (new : Course) → known_in new.known ≡ jobs → past_of new ≡ past →
+  pub moved : (es : List Event) (jobs : List Job) (past : Past) (at_work : Option ℕ) (new : Course) → known_in new.known ≡ jobs → past_of new ≡ past →
       Keeps s es jobs past at_work → Keeps s es (known_in new.known) (past_of new) at_work
   moved es jobs past at_work new known same keeps =
       subst (λ (js : List Job). Keeps s es js (past_of new) at_work) (sym known) (subst (λ (p : Past). Keeps s es jobs p at_work) (sym same) keeps)
@@ -147,10 +147,10 @@ module _ (s : Scene) where
       subst (λ (m : Measures). IsKnown (s.walker m) (resolved (es ++ e ∷ [])) known) (sym (measures_stay es (e ∷ []) (one_test (is_measure e) no_measure)))
       (subst (λ (learned : List Resolved). IsKnown (s.walker (measures es)) learned known) (sym (resolved_stay es (e ∷ []) (one_test (teaches e) none))) is)
 
-  undelivered_after : (es : List Event) (e : Event) → delivered_at es ≡ None → delivered_if None e ≡ None → delivered_at (es ++ e ∷ []) ≡ None
+  pub undelivered_after : (es : List Event) (e : Event) → delivered_at es ≡ None → delivered_if None e ≡ None → delivered_at (es ++ e ∷ []) ≡ None
   undelivered_after es e none so = delivered_after es (e ∷ []) ∙ ap (λ (o : Option StagePlan). delivered_if o e) none ∙ so
 
-  collects_after : (es : List Event) (e : Event) → list_any is_lost_collect es ≡ false → is_lost_collect e ≡ false → list_any is_lost_collect (es ++ e ∷ []) ≡ false
+  pub collects_after : (es : List Event) (e : Event) → list_any is_lost_collect es ≡ false → is_lost_collect e ≡ false → list_any is_lost_collect (es ++ e ∷ []) ≡ false
   collects_after es e none so = lost_after es (e ∷ []) ∙ or_from (list_any is_lost_collect es) (is_lost_collect e || false) none (one_test (is_lost_collect e) so)
 
   -- a plain event leaves what is known
@@ -166,11 +166,11 @@ module _ (s : Scene) where
   }
 
   pub staged_reflects : (es : List Event) (old new : Course) (at_work : Option ℕ) (n : ℕ) (job : Job) → IsJob (known_in old.known) n job → n ≤ length old.jobs.items →
-      is_held es job.place ≡ false → ((m : ℕ) → at_work ≡ Some m → m ≡ n) → past_of new ≡ with_staging n (past_of old) → new.known ≡ old.known →
+      is_held es job.place ≡ false → length (in_flight es) < s.options.slots → ((m : ℕ) → at_work ≡ Some m → m ≡ n) → past_of new ≡ with_staging n (past_of old) → new.known ≡ old.known →
       Reflects s es old at_work → Reflects s (es ++ job_staged job.place (old.folders + 1) ∷ []) new (Some n)
-  staged_reflects es old new at_work n job it within free alone past known r =
+  staged_reflects es old new at_work n job it within free slot alone past known r =
       reflects_on es (job_staged job.place (old.folders + 1)) old new (with_staging n (past_of old)) at_work (Some n) refl past known (λ still. still) r
-      (staged_keeps s es (known_in old.known) (past_of old) at_work n job it within free alone r.keeps)
+      (staged_keeps s es (known_in old.known) (past_of old) at_work n job it within free slot alone r.keeps)
 
   pub started_reflects : (es : List Event) (old new : Course) (n : ℕ) (job : Job) (inputs : Fields) (launch : Launch) (kept : Kept) (ticket : ℕ) → IsJob (known_in old.known) n job →
       IsKept kept (record { inputs = inputs; launch = launch }) → IsFresh ticket old.tickets.items → past_of new ≡ with_start n kept ticket (past_of old) → new.known ≡ old.known →
