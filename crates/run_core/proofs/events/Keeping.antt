@@ -55,7 +55,7 @@ differs_by false flying at place is none flies = is
 
 -- an end that is there is one
 is_there : {T : Type 0} (o : Option T) → IsSome o → is_some o ≡ true
-is_there None some = absurd some
+is_there None some = absurd cc
 is_there (Some x) some = refl
 
 never_none : {T : Type 0} (o : Option T) (x : T) → or_else o (Some x) ≡ None → ⊥
