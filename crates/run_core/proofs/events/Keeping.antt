@@ -55,10 +55,10 @@ differs_by false flying at place is none flies = is
 
 -- an end that is there is one
 is_there : {T : Type 0} (o : Option T) → IsSome o → is_some o ≡ true
-is_there None some = absurd cc
+is_there None some = some
 is_there (Some x) some = refl
 
-never_none : {T : Type 0} (o : Option T) (x : T) → or_else o (Some x) ≡ None → ⊥
+pub never_none : {T : Type 0} (o : Option T) (x : T) → or_else o (Some x) ≡ None → ⊥
 never_none None x none = cc
 never_none (Some y) x none = cc
 
