@@ -7,3 +7,6 @@ pub mod Staged
 pub mod Filled
 pub mod Listed
 pub mod Read
+pub mod Started
+pub mod Failed
+pub mod GaveUp

@@ -2,6 +2,7 @@
 use Rattle.std.proofs.Common.{◌≡◌, ◌∙◌, ℕ, List, [], ◌∷◌, ◌++◌, Some, reverse, refl, sym, ap, subst}
 use Rattle.std.proofs.lemmas.List.{reverse-append, reverse-reverse}
 use Rattle.collected_outputs.specs.Contents.{Heads}
+use Rattle.command_line.specs.declared.launch.Launch.{Launch}
 use Rattle.proc_host.specs.declared.call.HostRequest.{HostRequest}
 use Rattle.staging.specs.declared.found.Found.{Found}
 use Rattle.job_graph.specs.Words.{Fields, Name}
@@ -58,3 +59,14 @@ pub never_output : (options : Options) (folder : ℕ) (found : List Found) (read
     call_for options folder (output_heads_due [] found todo read) ≡ Some (HostRequest.Scan its_folder) → ⊥
 never_output options folder found read [] its_folder due = cc
 never_output options folder found read (name ∷ todo) its_folder due = cc
+
+-- nor is a child started
+pub input_starts_none : (options : Options) (folder : ℕ) (staged : Fields) (read : Heads) (todo : List Name) (launch : Launch) →
+    call_for options folder (input_heads_due [] staged todo read) ≡ Some (HostRequest.Start launch) → ⊥
+input_starts_none options folder staged read [] launch due = cc
+input_starts_none options folder staged read (name ∷ todo) launch due = cc
+
+pub output_starts_none : (options : Options) (folder : ℕ) (found : List Found) (read : Heads) (todo : List Name) (launch : Launch) →
+    call_for options folder (output_heads_due [] found todo read) ≡ Some (HostRequest.Start launch) → ⊥
+output_starts_none options folder found read [] launch due = cc
+output_starts_none options folder found read (name ∷ todo) launch due = cc
