@@ -15,7 +15,7 @@ use Rattle.run_rules.specs.declared.request.Pair.{Pair}
 use Rattle.run_rules.specs.declared.request.Request.{Request}
 use Rattle.run_rules.specs.declared.setting.Options.{Options}
 use Rattle.run_rules.specs.Allowed.{Allowed, MayCollect, MayMeasure}
-use Rattle.run_rules.specs.Events.{Progress, in_flight, input_heads_due, output_heads_due}
+use Rattle.run_rules.specs.Events.{Event, Progress, in_flight, input_heads_due, output_heads_due}
 use Rattle.run_rules.specs.Folders.{out_folder}
 use Rattle.run_rules.specs.Scene.{Scene}
 use Rattle.run_rules.proofs.events.Course.{Course as Books, Keeps as AreKept}
@@ -156,19 +156,19 @@ module _ (s : Scene) (f : Progress) (marks : List Mark) (course : Course) where
   collects_at place (ended end so) asks = let never : Request.Finished ≡ Request.Host place HostRequest.Collect = asks in absurd cc
 
 module _ (s : Scene) (given : Given) (its : IsOf s given) (laws : Laws s) (picks : PicksAt s given) where
-  allows_at : {t : List Pair} (f : Progress) (marks : List Mark) (course : Course) {turn : Turn} → turn.asks ≢ Request.Finished → IsAt s f marks course turn → Allowed s f marks turn.asks
-  allows_at {t = t} f marks course asks (measuring found m rest path is left happened none nothing) =
+  allows_at : (t : List Pair) (f : Progress) (marks : List Mark) (course : Course) {turn : Turn} → turn.asks ≢ Request.Finished → IsAt s f marks course turn → Allowed s f marks turn.asks
+  allows_at t f marks course asks (measuring found m rest path is left happened none nothing) =
       subst (λ (g : Progress). MayMeasure s g [] path) (sym happened) (may_measure s given its laws picks t found marks m rest path is left)
-  allows_at f marks course asks (staging at_work n job plan r st) = st.may
-  allows_at f marks course asks (working n job call phase r w) =
+  allows_at t f marks course asks (staging at_work n job plan r st) = st.may
+  allows_at t f marks course asks (working n job call phase r w) =
       working_allowed s f marks course n job call phase (folder_there s f.events course (Some n) n job w.it r) w
-  allows_at f marks course asks (collecting r may) = may
-  allows_at f marks course asks (delivering plan r may going all) = may
-  allows_at f marks course asks (ended end so) = absurd (asks refl)
+  allows_at t f marks course asks (collecting r may) = may
+  allows_at t f marks course asks (delivering plan r may going all) = may
+  allows_at t f marks course asks (ended end so) = absurd (asks refl)
 
   -- what is asked may be asked
   pub allows : (t : List Pair) (course : Course) (turn : Turn) (runs : Runs s t course turn) → turn.asks ≢ Request.Finished → Allowed s runs.happened runs.marks turn.asks
-  allows t course turn runs asks = allows_at {t = t} runs.happened runs.marks course asks runs.at
+  allows t course turn runs asks = allows_at t runs.happened runs.marks course asks runs.at
 
 pub asks_in : (s : Scene) (t : List Pair) (course : Course) (turn : Turn) → Runs s t course turn → AsksIn course turn
 asks_in s t course turn runs = asks_at s runs.happened runs.marks course runs.at

@@ -60,7 +60,7 @@ module _ (s : Scene) (given : Given) (same : given.options ≡ s.options) (its :
   picks : PicksAt s given
   picks t f marks goes idle old turn new r p = picked s given same {t = t} f marks goes idle laws some old r p
 
-  module _ (t : List Pair) (f : Progress) (marks : List Mark) (goes : Goes s (LoadsHeld s) t f marks) (old : Course) {turn : Turn} {new : Course} where
+  module _ (t : List Pair) (f : Progress) (marks : List Mark) (goes : Goes s (LoadsHeld s) t f marks) (old : Course) (turn : Turn) (new : Course) where
     -- the run with the answer to this call
     abbrev GoesOnWith : JobPlace → HostRequest → HostAnswer → Type 0
     GoesOnWith place call answer = Runs s (t ++ record { request = Request.Host place call; answer = Answer.Host answer } ∷ []) new turn
@@ -130,7 +130,7 @@ module _ (s : Scene) (given : Given) (same : given.options ≡ s.options) (its :
 
   pub goes_on_with : (t : List Pair) (old : Course) (before : Turn) (answer : Answer) (turn : Turn) (new : Course) → Runs s t old before → MayAnswer old.tickets.items before.asks answer →
       FollowsFrom given old before answer turn new → Runs s (t ++ record { request = before.asks; answer = answer } ∷ []) new turn
-  goes_on_with t old before answer turn new runs may follows = answered t runs.happened runs.marks runs.goes old runs.at may follows
+  goes_on_with t old before answer turn new runs may follows = answered t runs.happened runs.marks runs.goes old turn new runs.at may follows
 
   pub begins_with : (old : Course) → past_of old ≡ nothing_past → old.known ≡ None → (turn : Turn) (new : Course) → Begins given old turn new → Runs s [] new turn
   begins_with = begins_so s given its laws picks
