@@ -61,7 +61,7 @@ scan_for_job : (options : Options) (folder : ℕ) (place : JobPlace) (millis : �
 scan_for_job options folder place millis (HostRequest.Scan one) is = tt
 scan_for_job options folder place millis call is = absurd cc
 
-for_job : (options : Options) (folder : ℕ) (place : JobPlace) (call : HostRequest) (phase : JobPhase) →
+pub for_job : (options : Options) (folder : ℕ) (place : JobPlace) (call : HostRequest) (phase : JobPhase) →
     call_for options folder (work_of place call phase) ≡ Some call → IsForJob call
 for_job options folder place call (JobPhase.Filling filling) is =
     input_for_job options folder place filling.staged (reverse filling.left) filling.heads call is
