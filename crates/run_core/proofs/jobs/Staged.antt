@@ -58,7 +58,7 @@ module _ (s : Scene) (given : Given) (same : given.options ≡ s.options) (laws 
         subst (λ (k : ℕ). Fits s.options k job after.site) folder_now (site_fits s.options given same after.staged n job after.site it_still after.is_site)
 
     staged_is : Reflects s (f.events ++ job_staged job.place folder ∷ []) after.staged (Some n)
-    staged_is = staged_reflects s f.events old after.staged at_work n job is.it is.next is.may.not_held is.alone after.past after.known r
+    staged_is = staged_reflects s f.events old after.staged at_work n job is.it is.next is.may.not_held is.may.slot is.alone after.past after.known r
 
     its_starts : Starts after.site plan.value [] (heads_wanted job.tool.inputs plan.value) after.next
     its_starts = subst (λ (tool : Tool). Starts after.site plan.value [] (heads_wanted tool.inputs plan.value) after.next) fits.tool after.starts
