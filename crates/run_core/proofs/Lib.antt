@@ -16,3 +16,4 @@ pub mod Turning
 pub mod Work
 pub mod Working
 pub mod events
+pub mod jobs

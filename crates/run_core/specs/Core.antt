@@ -10,7 +10,7 @@ use Rattle.run_rules.specs.declared.setting.Options.{Options}
 use Rattle.run_rules.specs.declared.setting.Setting.{Setting}
 use Rattle.run_rules.specs.Allowed.{Allowed}
 use Rattle.run_rules.specs.Answers.{flying_after}
-use Rattle.run_rules.specs.Events.{Progress, are_measured, measures, resolved}
+use Rattle.run_rules.specs.Events.{Progress}
 use Rattle.run_rules.specs.Reports.{entries_of}
 use Rattle.run_rules.specs.Run.{IsRunSoFar}
 use Rattle.run_rules.specs.Scene.{scene_of}
@@ -23,10 +23,8 @@ use Rattle.run_core.specs.declared.state.Given.{Given}
 use Rattle.run_core.specs.declared.state.Phase.{Phase}
 use Rattle.run_core.specs.Limits.{IsWithinLimits}
 use Rattle.run_core.specs.inner.Attempts.{weight_of, weight_of_past}
-use Rattle.run_core.specs.inner.Course.{known_in, past_of}
-use Rattle.run_core.specs.inner.Keeps.{AreApart, Keeps}
-use Rattle.run_core.specs.inner.Knows.{IsKnown}
-use Rattle.run_core.specs.inner.Standing.{AreCollects, Blames, HasRoom, IsAt, IsLostAt, StillCollects, pairs_ahead}
+use Rattle.run_core.specs.inner.Course.{past_of}
+use Rattle.run_core.specs.inner.Standing.{AreCollects, Blames, HasRoom, IsLostAt, Runs, pairs_ahead}
 
 abbrev pub setting_in : Given → Setting
 setting_in given = record { process = given.process.now; inputs = given.inputs.now; options = given.options }
@@ -61,15 +59,7 @@ IsLost core = core.turn.phase ≡ Phase.Ended (Err RunFault.OutOfMemory)
 -- it is on its run: its transcript is a run so far, it keeps what its events say, and it asks what that run may ask, or has ended as
 -- that run does
 pub record IsOnRun (core : RunCore) : Type 0 where
-  pub happened : Progress
-  pub marks : List Mark
-  pub goes : IsRunSoFar (setting_of core) core.pairs.items happened marks
-  pub apart : AreApart (known_in core.course.known)
-  pub keeps : core.turn.asks ≢ Request.Finished → Keeps (scene_of (setting_of core)) happened.events (known_in core.course.known) (past_of core.course)
-  pub knows : core.turn.asks ≢ Request.Finished → core.course.end ≡ None → are_measured (scene_of (setting_of core)) happened.events ≡ true →
-      IsKnown ((scene_of (setting_of core)).walker (measures happened.events)) (resolved happened.events) core.course.known
-  pub at : IsAt (scene_of (setting_of core)) happened marks (known_in core.course.known) (past_of core.course) core.turn
-  pub collects : StillCollects happened.events core.turn
+  pub runs : Runs (scene_of (setting_of core)) core.pairs.items core.course core.turn
   pub room : HasRoom core.course core.turn.phase
 
 -- memory ran out: its transcript is a run so far and collects after it
