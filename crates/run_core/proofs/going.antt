@@ -4,3 +4,4 @@ pub mod Picking
 pub mod Measured
 pub mod Delivered
 pub mod Asked
+pub mod Going

@@ -1,7 +1,6 @@
 -- What is asked for a job is due, and so it may be asked.
-use Rattle.std.proofs.Common.{◌≡◌, ◌∙◌, ℕ, List, [], ◌∷◌, Some, reverse, refl, sym, ap}
+use Rattle.std.proofs.Common.{◌≡◌, ◌∙◌, ℕ, List, [], ◌∷◌, Some, reverse, refl, ap}
 use Rattle.collected_outputs.specs.Contents.{Heads}
-use Rattle.command_line.specs.declared.launch.Launch.{Launch}
 use Rattle.plan_checker.specs.declared.plan.Mark.{Mark}
 use Rattle.proc_host.specs.declared.call.HostRequest.{HostRequest}
 use Rattle.staging.specs.declared.found.Found.{Found}
