@@ -1,5 +1,5 @@
 -- Where the machine is in its run.
-use Rattle.std.specs.Prelude.{◌≡◌, ◌≢◌, ◌≤◌, ◌<◌, ◌+◌, ℕ, false, List, [], ◌∷◌, ◌++◌, Some, None, Result, Err, IfErr, length, slice_get, vec_len, vec_capacity}
+use Rattle.std.specs.Prelude.{◌≡◌, ◌≢◌, ◌≤◌, ◌<◌, ◌+◌, ℕ, false, List, [], ◌∷◌, ◌++◌, Some, None, Result, Ok, Err, IfErr, length, slice_get, vec_len, vec_capacity}
 use Rattle.std.specs.List.{list_any}
 use Rattle.plan_checker.specs.declared.plan.Mark.{Mark}
 use Rattle.proc_host.specs.declared.call.Entry.{Entry}
@@ -11,7 +11,7 @@ use Rattle.run_rules.specs.declared.outcome.RunFault.{RunFault}
 use Rattle.run_rules.specs.declared.request.Pair.{Pair}
 use Rattle.run_rules.specs.declared.request.Request.{Request}
 use Rattle.run_rules.specs.Allowed.{MayStage, MayCollect, MayDeliver}
-use Rattle.run_rules.specs.Blame.{BlamesRightly, WereStarted}
+use Rattle.run_rules.specs.Blame.{BlamesRightly, IsToBlame, WereStarted}
 use Rattle.run_rules.specs.Delivered.{located}
 use Rattle.run_rules.specs.End.{End, is_lost_collect}
 use Rattle.run_rules.specs.EndsSo.{EndsSo}
@@ -92,16 +92,23 @@ pub data IsLostAt (past : Past) : Turn → Type 0 where
   draining : past.tickets ≢ [] → IsLostAt past (record { asks = Request.Host [] HostRequest.Collect; phase = Phase.Draining })
   lost : IsLostAt past (record { asks = Request.Finished; phase = Phase.Ended (Err RunFault.OutOfMemory) })
 
--- an end by the host's fault blames it rightly
-abbrev pub EndsRightly : List Entry → Phase → Type 0
-EndsRightly entries (Phase.Ended outcome) = IfErr outcome (BlamesRightly entries)
-EndsRightly entries phase = Unit {0}
+-- a failure that settled the end: one of the host's blames it rightly, and memory that ran out settles none
+abbrev pub SettlesRightly : List Entry → Result Report RunFault → Type 0
+SettlesRightly entries (Ok report) = Unit {0}
+SettlesRightly entries (Err (RunFault.Host fault running)) = IsToBlame entries fault running
+SettlesRightly entries (Err RunFault.TooManyJobs) = Unit {0}
+SettlesRightly entries (Err RunFault.OutOfMemory) = ⊥
 
--- what it knows of its host: the children in flight were started, and what it blames on the host is so
-pub record Blames (entries : List Entry) (past : Past) (phase : Phase) : Type 0 where
+-- what it knows of its host while it goes on: the children in flight were started, and what settled the end blames it rightly
+pub record BlamesSoFar (entries : List Entry) (past : Past) : Type 0 where
   pub flying : WereStarted entries past.tickets
-  pub settled : (end : Result Report RunFault) → past.end ≡ Some end → IfErr end (BlamesRightly entries)
-  pub rightly : EndsRightly entries phase
+  pub settled : (end : Result Report RunFault) → past.end ≡ Some end → SettlesRightly entries end
+
+-- and an end by the host's fault blames it rightly
+abbrev pub Blames : List Entry → Past → Phase → Type 0
+Blames entries past (Phase.Ended outcome) = IfErr outcome (BlamesRightly entries)
+Blames entries past Phase.Draining = Unit {0}
+Blames entries past phase = BlamesSoFar entries past
 
 -- for how many pairs there is room: the one that comes next, and the end of each child that is or will be in flight
 abbrev pub pairs_ahead : Past → Phase → ℕ
