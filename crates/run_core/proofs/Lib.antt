@@ -1,8 +1,14 @@
+pub mod Asked
 pub mod Holding
+pub mod Jobs
 pub mod Lists
 pub mod Loops
+pub mod Lost
+pub mod Numbers
 pub mod Once
+pub mod Seen
 pub mod Settled
+pub mod Stays
 pub mod Turning
 pub mod Work
 pub mod Working

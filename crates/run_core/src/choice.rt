@@ -1,15 +1,15 @@
 //! What comes next where nothing is due.
-ghost use Rattle.std.specs.Prelude.{◌≡◌, ◌<◌, ◌≤◌, ◌+◌, ◌^◌, None, Some, IsSome, IfOk, IsTrue, ◌↔◌, ◌×◌, OnErr, OnOk, length, slice_get, vec_len, vec_capacity};
+ghost use Rattle.std.specs.Prelude.{◌≡◌, ◌<◌, ◌≤◌, ◌+◌, ◌^◌, None, Some, IsSome, IfOk, IsTrue, ◌↔◌, OnErr, length, slice_get};
 ghost use Rattle.job_graph.specs.inner.Views.{job_of as job_seen};
 ghost use Rattle.job_graph.specs.Jobs.{Job};
 ghost use Rattle.run_core.specs.declared.state.Given.{Given as Run};
-ghost use Rattle.run_core.specs.inner.Course.{known_in as jobs_in, past_of};
+ghost use Rattle.run_core.specs.inner.Course.{known_in as jobs_in};
 ghost use Rattle.run_core.specs.inner.Picks.{Picks, Stages, sources_in};
 ghost use Rattle.run_core.specs.inner.Turn.{collects, ends};
 ghost use Rattle.run_rules.specs.Folders.{in_folder};
 ghost use Rattle.staging.specs.Plan.{IsPlan};
 
-use crate::course::{job_of, known_in, make_room};
+use crate::course::{job_of, known_in};
 use crate::delivery::delivery;
 use crate::folders::in_folder;
 use crate::places::{Sources, Way, moved_fields};
@@ -73,19 +73,14 @@ fn can_stage(given: &Given<'_>, course: &Course<'_>) -> bool
 pub(crate) fn staging(
     alloc: Global,
     given: &Given<'_>,
-    course: &mut Course<'_>,
+    course: &Course<'_>,
     number: usize,
 ) -> Result<Turn, AllocError>
-    requires folders { course.old.folders + 1 < 2 ^ 64 }
-    requires number { number < length (jobs_in course.old.known) }
-    ensures is { IfOk result (λ turn. Stages given.now course.old number turn) }
-    ensures same { past_of course.new ≡ past_of course.old }
-    ensures known { course.new.known ≡ course.old.known }
-    ensures tickets { OnOk result (vec_len course.new.tickets < vec_capacity course.new.tickets) }
-    ensures flights { OnOk result (vec_len course.new.flights < vec_capacity course.new.flights) }
-    ensures jobs { OnOk result (vec_len course.new.jobs < vec_capacity course.new.jobs) }
+    requires folders { course.now.folders + 1 < 2 ^ 64 }
+    requires staged { length course.now.jobs.items ≤ length (jobs_in course.now.known) }
+    requires number { number < length (jobs_in course.now.known) }
+    ensures { IfOk result (Stages given.now course.now number) }
 {
-    make_room(course)?;
     let folder = course.folders + 1;
     let plan = plan_for(alloc, given, course, number, folder)?;
     let place = copy_job(alloc, &job_of(course, number).place)?;
@@ -103,7 +98,8 @@ fn plan_for(
     number: usize,
     folder: u64,
 ) -> Result<StagePlan, AllocError>
-    requires { number < length (jobs_in course.now.known) }
+    requires staged { length course.now.jobs.items ≤ length (jobs_in course.now.known) }
+    requires number { number < length (jobs_in course.now.known) }
     ensures { IfOk result (λ plan. (job : Job) → slice_get (jobs_in course.now.known) number ≡ Some job → IsPlan false (in_folder given.now.options.work folder) (sources_in given.now.options course.now job.inputs) plan) }
 {
     let files = sources_of(

@@ -70,7 +70,7 @@ pub(crate) fn end_by(alloc: Global, fault: UnfoldFault) -> Result<Report, RunFau
 }
 
 /// Makes room for one more job and one more child.
-pub(crate) fn make_room(course: &mut Course<'_>) -> Result<(), AllocError>
+pub(crate) fn reserve_one(course: &mut Course<'_>) -> Result<(), AllocError>
     ensures past { past_of course.new ≡ past_of course.old }
     ensures known { course.new.known ≡ course.old.known }
     ensures tickets { OnOk result (vec_len course.new.tickets < vec_capacity course.new.tickets) }

@@ -1,5 +1,5 @@
 //! The input files are measured before anything else, and then the first jobs are known.
-ghost use Rattle.std.specs.Prelude.{◌≡◌, [], OnErr, OnOk, IfOk, None, length, reverse};
+ghost use Rattle.std.specs.Prelude.{◌≡◌, ◌<◌, ◌+◌, ◌^◌, [], OnErr, OnOk, IfOk, None, length, reverse};
 ghost use Rattle.job_graph.specs.Equations.{walker};
 ghost use Rattle.job_graph.specs.Paths.{input_paths};
 ghost use Rattle.run_core.specs.inner.Course.{nothing_past, past_of};
@@ -26,6 +26,8 @@ pub(crate) fn begun<'a>(
     given: &Given<'a>,
     course: &mut Course<'a>,
 ) -> Result<Turn, AllocError>
+    requires folders { course.old.folders + 1 < 2 ^ 64 }
+    requires unstaged { course.old.jobs.items ≡ [] }
     ensures { IfOk result (λ turn. Begins given.now course.old turn course.new) }
 {
     let paths = input_paths(alloc, given.process, given.inputs)?;
@@ -44,7 +46,10 @@ pub(crate) fn measured<'a>(
     phase: &mut Phase,
     measure: &Measure,
 ) -> Result<Turn, AllocError>
-    ensures { IfOk result (λ turn. TakesMeasure given.now course.old (measuring_in phase.old) measure.now turn course.new) }
+    requires folders { course.old.folders + 1 < 2 ^ 64 }
+    requires unstaged { course.old.jobs.items ≡ [] }
+    ensures is { IfOk result (λ turn. TakesMeasure given.now course.old (measuring_in phase.old) measure.now turn course.new) }
+    ensures flying { OnErr result (course.new.tickets.items ≡ course.old.tickets.items) }
 {
     let mut measuring = measuring_in(alloc, phase);
     put_measure(alloc, &mut measuring, measure)?;
@@ -69,7 +74,10 @@ fn measure_on<'a>(
     course: &mut Course<'a>,
     measuring: Measuring,
 ) -> Result<Turn, AllocError>
-    ensures { IfOk result (λ turn. MeasuresOn given.now course.old measuring turn course.new) }
+    requires folders { course.old.folders + 1 < 2 ^ 64 }
+    requires unstaged { course.old.jobs.items ≡ [] }
+    ensures is { IfOk result (λ turn. MeasuresOn given.now course.old measuring turn course.new) }
+    ensures flying { OnErr result (course.new.tickets.items ≡ course.old.tickets.items) }
 {
     match measuring.left.as_slice() {
         [] => {

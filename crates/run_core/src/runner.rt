@@ -1,4 +1,4 @@
-ghost use Rattle.std.specs.Prelude.{◌≡◌, ◌≢◌, ◌↔◌, ◌+◌, ◌<◌, ◌≤◌, ◌∷◌, ◌++◌, [], None, Err, IfOk, IfErr, OnOk, vec_len, vec_capacity};
+ghost use Rattle.std.specs.Prelude.{◌≡◌, ◌≢◌, ◌↔◌, ◌+◌, ◌<◌, ◌≤◌, ◌∷◌, ◌++◌, [], None, Err, IfOk, IfErr, OnOk, length, vec_len, vec_capacity};
 ghost use Rattle.proc_host.specs.declared.call.HostRequest.{HostRequest};
 ghost use Rattle.run_rules.specs.declared.outcome.RunFault.{RunFault};
 ghost use Rattle.run_rules.specs.declared.request.Request.{Request};
@@ -9,13 +9,13 @@ ghost use Rattle.job_graph.specs.Words.{JobPlace};
 ghost use Rattle.run_core.specs.declared.state.Phase.{Phase};
 ghost use Rattle.run_core.specs.Core.{setting_of, transcript, asked, flying, IsLost, IsEnded, Stands, MayAsk, Begins, Took};
 ghost use Rattle.run_core.specs.Limits.{IsWithinLimits};
-ghost use Rattle.run_core.specs.inner.Course.{past_of};
-ghost use Rattle.run_core.specs.inner.Follows.{AsksIn, HasPairs, IsReady, MakesRoom, Moves, told_of};
+ghost use Rattle.run_core.specs.inner.Course.{nothing_past, past_of};
+ghost use Rattle.run_core.specs.inner.Follows.{AsksIn, HasPairs, IsReadyFor, MakesRoom, Moves, told_of};
 ghost use Rattle.run_core.specs.inner.Measures.{Begins as BeginsAt};
 ghost use Rattle.run_core.specs.inner.Standing.{HasRoom};
 ghost use Rattle.workflow_check.specs.Checked.{fault_in};
 
-use crate::course::at_first;
+use crate::course::{at_first, reserve_one};
 use crate::measuring::begun;
 use crate::state::{Course, Given, Phase, Turn};
 use crate::steps::follows;
@@ -110,7 +110,12 @@ impl<'a> RunCore<'a> {
             &answer,
         );
         note(&mut self.pairs, request, answer);
-        make_room(self.alloc, &mut self.pairs, &self.course, &mut self.turn);
+        make_room(
+            self.alloc,
+            &mut self.pairs,
+            &mut self.course,
+            &mut self.turn,
+        );
         told_of(&self.turn.phase)
     }
 
@@ -147,13 +152,15 @@ fn start<'a>(
     course: &mut Course<'a>,
     turn: &mut Turn,
 ) -> Result<(), AllocError>
+    requires past { past_of course.old ≡ nothing_past }
     ensures items { pairs.new.items ≡ pairs.old.items }
     ensures room { OnOk result (vec_len pairs.new + 2 ≤ vec_capacity pairs.new) }
     ensures begins { OnOk result (BeginsAt given.now course.old turn.new course.new) }
+    ensures one_more { OnOk result (HasRoom course.new turn.new.phase) }
 {
-    pairs.reserve(2)?;
-    mem::drop(mem::replace(turn, begun(alloc, given, course)?));
-    Ok(())
+    let first = begun(alloc, given, course)?;
+    mem::drop(mem::replace(turn, first));
+    reserve(pairs, course)
 }
 
 /// Moves to the state that follows from the answer, and gives back what was asked.
@@ -167,7 +174,7 @@ fn step<'a>(
     requires answers { MayAnswer course.old.tickets.items turn.old.asks answer.now }
     requires asks { AsksIn course.old turn.old }
     requires room { HasRoom course.old turn.old.phase }
-    requires ready { IsReady course.old }
+    requires ready { IsReadyFor course.old turn.old.phase }
     ensures asked { result ≡ turn.old.asks }
     ensures moved { Moves given.now course.old turn.old answer.now turn.new course.new }
 {
@@ -188,7 +195,7 @@ fn next_turn<'a>(
     requires answers { MayAnswer course.old.tickets.items turn.old.asks answer.now }
     requires asks { AsksIn course.old turn.old }
     requires room { HasRoom course.old turn.old.phase }
-    requires ready { IsReady course.old }
+    requires ready { IsReadyFor course.old turn.old.phase }
     ensures asked { turn.new.asks ≡ turn.old.asks }
     ensures moved { Moves given.now course.old turn.old answer.now result course.new }
 {
@@ -208,22 +215,42 @@ fn note(pairs: &mut Vec<Pair>, request: Request, answer: Answer)
     pairs.push(Pair { request, answer }).unwrap();
 }
 
-/// Makes room for the pairs that come next: the answer to what is asked, and the end of each child in flight. Where
-/// there is none, nothing but those ends is asked for, and they have room.
-fn make_room(alloc: Global, pairs: &mut Vec<Pair>, course: &Course<'_>, turn: &mut Turn)
-    requires { HasPairs (vec_len pairs.old) (vec_capacity pairs.old) (past_of course.now) turn.old }
+/// Makes room for what comes next. Where there is none, nothing but the ends of the children in flight is asked for, and
+/// they have room.
+fn make_room(alloc: Global, pairs: &mut Vec<Pair>, course: &mut Course<'_>, turn: &mut Turn)
+    requires { HasPairs (vec_len pairs.old) (vec_capacity pairs.old) (past_of course.old) turn.old }
     ensures items { pairs.new.items ≡ pairs.old.items }
-    ensures room { MakesRoom (vec_len pairs.new) (vec_capacity pairs.new) (past_of course.now) turn.old turn.new }
+    ensures past { past_of course.new ≡ past_of course.old }
+    ensures known { course.new.known ≡ course.old.known }
+    ensures room { MakesRoom (vec_len pairs.new) (vec_capacity pairs.new) (past_of course.old) turn.old turn.new }
+    ensures one_more { HasRoom course.new turn.new.phase }
 {
     match turn.phase {
         Phase::Draining | Phase::Ended(_) => return,
         _ => {}
     }
-    // One more, since a start is answered by one more child in flight.
-    match pairs.reserve(course.tickets.len().saturating_add(2)) {
+    match reserve(pairs, course) {
         Ok(()) => {}
         Err(AllocError) => mem::drop(mem::replace(turn, lost(alloc, course))),
     }
+}
+
+/// Makes room for one more job and one more child, and for the pairs that come next: the answer to what is asked, and the
+/// end of each child in flight. Where it fails there is still the room that there was.
+fn reserve(pairs: &mut Vec<Pair>, course: &mut Course<'_>) -> Result<(), AllocError>
+    ensures items { pairs.new.items ≡ pairs.old.items }
+    ensures len { vec_len pairs.new ≡ vec_len pairs.old }
+    ensures past { past_of course.new ≡ past_of course.old }
+    ensures known { course.new.known ≡ course.old.known }
+    ensures kept { vec_capacity pairs.old ≤ vec_capacity pairs.new }
+    ensures pairs { OnOk result (vec_len pairs.new + (length course.old.tickets.items + 2) ≤ vec_capacity pairs.new) }
+    ensures tickets { OnOk result (vec_len course.new.tickets < vec_capacity course.new.tickets) }
+    ensures flights { OnOk result (vec_len course.new.flights < vec_capacity course.new.flights) }
+    ensures jobs { OnOk result (vec_len course.new.jobs < vec_capacity course.new.jobs) }
+{
+    // One more, since a start is answered by one more child in flight.
+    pairs.reserve(course.tickets.len().saturating_add(2))?;
+    reserve_one(course)
 }
 
 /// What `take` answers: whether memory ran out and no child is in flight.

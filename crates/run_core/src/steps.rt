@@ -1,15 +1,12 @@
 //! What the machine waits for after each answer.
-ghost use Rattle.std.specs.Prelude.{◌≡◌, ◌<◌, ◌∷◌, ◌++◌, [], Contains, IfOk, OnErr, length};
-ghost use Rattle.proc_host.specs.Tickets.{without};
-ghost use Rattle.proc_host.specs.declared.call.HostRequest.{HostRequest};
-ghost use Rattle.run_core.specs.declared.state.JobNext.{JobNext};
-ghost use Rattle.run_core.specs.declared.state.JobPhase.{JobPhase};
-ghost use Rattle.run_core.specs.inner.Course.{known_in, past_of};
-ghost use Rattle.run_core.specs.inner.Follows.{AfterBytes, AfterFailure, AsksIn, Drains, FollowsFrom, IsReady};
+ghost use Rattle.std.specs.Prelude.{◌≡◌, ◌<◌, ◌≤◌, ◌+◌, ◌^◌, ◌∷◌, ◌++◌, [], Contains, IfOk, OnErr, length, vec_len, vec_capacity};
+ghost use Rattle.run_core.specs.declared.state.Phase.{Phase as Waits};
+ghost use Rattle.run_core.specs.inner.Course.{known_in};
+ghost use Rattle.run_core.specs.inner.Follows.{AfterBytes, AfterFailure, AsksIn, CanStage, Drains, FollowsFrom, IsLeftAfter, IsOneLess, IsReady, IsReadyFor};
 ghost use Rattle.run_core.specs.inner.Parts.{job_in, kept_in};
 ghost use Rattle.run_core.specs.inner.Picks.{AfterChild, AfterListing, AfterStaging, AfterStart, AfterTemporary, IsSite, Turns};
 ghost use Rattle.run_core.specs.inner.Standing.{HasRoom};
-ghost use Rattle.run_rules.specs.Answers.{MayAnswer, flying_after};
+ghost use Rattle.run_rules.specs.Answers.{MayAnswer};
 
 use crate::choice::{pick, staging};
 use crate::collects::{listed, read, scanning};
@@ -42,10 +39,10 @@ pub(crate) fn follows<'a>(
     requires answers { MayAnswer course.old.tickets.items turn.old.asks answer.now }
     requires asks { AsksIn course.old turn.old }
     requires room { HasRoom course.old turn.old.phase }
-    requires ready { IsReady course.old }
+    requires ready { IsReadyFor course.old turn.old.phase }
     ensures next { IfOk result (λ next. FollowsFrom given.now course.old turn.old answer.now next course.new) }
-    ensures room { IfOk result (λ next. HasRoom course.new next.phase) }
-    ensures memory { OnErr result (course.new.tickets.items ≡ flying_after course.old.tickets.items answer.now) }
+    ensures memory { OnErr result (IsLeftAfter course.old.tickets.items answer.now course.new.tickets.items) }
+    ensures going { OnErr result (turn.old.phase ≡ Waits.Draining → ⊥) }
     ensures asked { turn.new.asks ≡ turn.old.asks }
 {
     let Answer::Host(answer) = answer;
@@ -89,10 +86,10 @@ fn turn_of(
     number: usize,
     next: JobNext,
 ) -> Result<Turn, AllocError>
-    requires ready { IsReady course.old }
+    requires folders { course.old.folders + 1 < 2 ^ 64 }
+    requires staged { length course.old.jobs.items ≤ length (known_in course.old.known) }
     requires number { number < length (known_in course.old.known) }
     ensures is { IfOk result (λ turn. Turns given.now course.old number next turn course.new) }
-    ensures asks { (call : HostRequest) → (phase : JobPhase) → next ≡ JobNext.Asks call phase → course.new ≡ course.old }
     ensures flying { OnErr result (course.new.tickets.items ≡ course.old.tickets.items) }
 {
     match next {
@@ -119,6 +116,8 @@ fn staged(
     inputs: &Keyed<Value>,
 ) -> Result<Turn, AllocError>
     requires ready { IsReady course.old }
+    requires stages { CanStage course.old number }
+    requires room { vec_len course.old.jobs < vec_capacity course.old.jobs }
     ensures is { IfOk result (λ turn. AfterStaging given.now course.old number inputs.now turn course.new) }
     ensures flying { OnErr result (course.new.tickets.items ≡ course.old.tickets.items) }
 {
@@ -136,6 +135,8 @@ fn started(
     ticket: u64,
 ) -> Result<Turn, AllocError>
     requires ready { IsReady course.old }
+    requires tickets { vec_len course.old.tickets < vec_capacity course.old.tickets }
+    requires flights { vec_len course.old.flights < vec_capacity course.old.flights }
     ensures is { IfOk result (λ turn. AfterStart given.now course.old (job_in phase.old) (kept_in phase.old) ticket turn course.new) }
     ensures flying { OnErr result (course.new.tickets.items ≡ course.old.tickets.items ++ ticket ∷ []) }
 {
@@ -154,7 +155,7 @@ fn landed(
     requires ready { IsReady course.old }
     requires flies { Contains course.old.tickets.items ending.now.ticket }
     ensures is { IfOk result (λ turn. AfterChild given.now course.old ending.now turn course.new) }
-    ensures flying { OnErr result (course.new.tickets.items ≡ without ending.now.ticket course.old.tickets.items) }
+    ensures flying { OnErr result (IsOneLess ending.now.ticket course.old.tickets.items course.new.tickets.items) }
 {
     let Flight { job, kept } = note_end(course, ending.ticket);
     let next = match classify(&job_of(course, job).tool.exit_codes, ending.code) {
@@ -179,7 +180,8 @@ fn gave_up(
     course: &mut Course<'_>,
     number: usize,
 ) -> Result<Turn, AllocError>
-    requires ready { IsReady course.old }
+    requires folders { course.old.folders + 1 < 2 ^ 64 }
+    requires staged { length course.old.jobs.items ≤ length (known_in course.old.known) }
     requires number { number < length course.old.jobs.items }
     ensures is { IfOk result (λ turn. AfterTemporary given.now course.old number turn course.new) }
     ensures flying { OnErr result (course.new.tickets.items ≡ course.old.tickets.items) }
@@ -199,6 +201,7 @@ fn on_listing(
     found: &Items<Found>,
 ) -> Result<Turn, AllocError>
     requires ready { IsReady course.old }
+    requires number { job_in phase.old < length course.old.jobs.items }
     ensures is { IfOk result (λ turn. AfterListing given.now course.old (job_in phase.old) (kept_in phase.old) found.now turn course.new) }
     ensures flying { OnErr result (course.new.tickets.items ≡ course.old.tickets.items) }
 {
@@ -217,6 +220,7 @@ fn on_bytes(
     bytes: &Items<u8>,
 ) -> Result<Turn, AllocError>
     requires ready { IsReady course.old }
+    requires number { job_in phase.old < length course.old.jobs.items }
     ensures is { IfOk result (λ turn. AfterBytes given.now course.old phase.old bytes.now turn course.new) }
     ensures flying { OnErr result (course.new.tickets.items ≡ course.old.tickets.items) }
 {
@@ -242,7 +246,7 @@ fn failed(
     turn: &Turn,
     fault: HostFault,
 ) -> Result<Turn, AllocError>
-    requires ready { IsReady course.old }
+    requires ready { IsReadyFor course.old turn.now.phase }
     ensures is { IfOk result (λ next. AfterFailure given.now course.old turn.now fault next course.new) }
     ensures flying { OnErr result (course.new.tickets.items ≡ course.old.tickets.items) }
 {
@@ -264,9 +268,9 @@ fn failed(
 
 /// A child has ended after memory ran out.
 fn drained(alloc: Global, course: &mut Course<'_>, ending: &ChildEnd) -> Turn
-    requires flies { Contains course.old.tickets.items ending.now.ticket }
     ensures { Drains course.old ending.now result course.new }
 {
-    mem::drop(note_end(course, ending.ticket));
+    let ticket = ending.ticket;
+    course.tickets.retain(|one| *one != ticket);
     lost(alloc, course)
 }

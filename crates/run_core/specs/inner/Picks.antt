@@ -76,7 +76,8 @@ pub data NoneToStage (given : Given) (course : Course) : Type 0 where
 -- where nothing is due
 pub data Picks (given : Given) (old : Course) : Turn → Course → Type 0 where
   drains : (new : Course) → IsSome old.end → old.tickets.items ≢ [] → past_of new ≡ past_of old → new.known ≡ old.known → Picks given old collects new
-  ends_so : (end : Result Report RunFault) (new : Course) → old.end ≡ Some end → old.tickets.items ≡ [] → new.tickets.items ≡ [] → Picks given old (ends end) new
+  ends_so : (end : Result Report RunFault) (new : Course) → old.end ≡ Some end → old.tickets.items ≡ [] → new.tickets.items ≡ [] → new.known ≡ old.known →
+      Picks given old (ends end) new
   stages : (turn : Turn) (new : Course) → old.end ≡ None → length old.tickets.items < given.options.slots → length old.jobs.items < length (known_in old.known) →
       Stages given old (length old.jobs.items) turn → past_of new ≡ past_of old → new.known ≡ old.known → Picks given old turn new
   waits_for_one : (new : Course) → old.end ≡ None → old.tickets.items ≢ [] → NoneToStage given old → past_of new ≡ past_of old → new.known ≡ old.known →
