@@ -1,2 +1,4 @@
 -- What the machine keeps, beside the events of its run.
 pub mod Kept
+pub mod Numbers
+pub mod Keeping

@@ -1,4 +1,3 @@
-pub mod RunsToday
 pub mod Key
 pub mod Folders
 pub mod Delivered

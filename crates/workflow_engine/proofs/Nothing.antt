@@ -27,7 +27,7 @@ nothing_asked process inputs options =
     record {
       transcript = [];
       entries = refl;
-      concluded = lost at_first first.0 (begins first.0 first.1);
+      concluded = lost [] [] at_first first.0 (begins first.0 first.1) tt refl;
     }
 
 pub err_is : (result : Result Report RunFault) (P : RunFault → Type 0) (fault : RunFault) → IsErrAnd result P →

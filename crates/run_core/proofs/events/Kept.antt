@@ -7,44 +7,22 @@ use Rattle.std.proofs.lemmas.Bool.{cases_order, eqb-true}
 use Rattle.std.proofs.lemmas.List.{map-append}
 use Rattle.std.proofs.lemmas.Option.{get_or_from_slice_get, slice_get-map, slice_get_within}
 use Rattle.command_line.specs.declared.launch.Launch.{Launch}
-use Rattle.proc_host.specs.Tickets.{IsFresh}
+use Rattle.proc_host.specs.Tickets.{IsFresh, without}
 use Rattle.run_rules.specs.declared.outcome.Report.{Report}
 use Rattle.run_rules.specs.declared.outcome.RunFault.{RunFault}
 use Rattle.job_graph.specs.Words.{Fields}
 use Rattle.job_graph.specs.Jobs.{Job}
 use Rattle.job_graph.specs.Unfold.{or_else}
 use Rattle.run_rules.specs.Events.{child_exited, job_failed_for_now, job_staged, job_started}
-use Rattle.run_rules.proofs.events.Course.{Course, Keeps, gives_over, holds, keeps_gave_up, keeps_landed, keeps_staged, keeps_started, when_landed}
+use Rattle.run_rules.proofs.events.Course.{Keeps as AreKept, gives_over, holds, keeps_gave_up, keeps_landed, keeps_staged, keeps_started, when_landed}
 use Rattle.run_rules.proofs.events.Places.{IsJob}
 use Rattle.run_rules.proofs.events.Tally.{Readings, reads_after}
-use Rattle.run_rules.proofs.events.Turns.{FliesAt, flies_staged, flight_of}
+use Rattle.run_rules.proofs.events.Turns.{FliesAt, flies_staged, flight_of, tickets_left}
 use Rattle.run_core.specs.declared.state.Flight.{Flight}
 use Rattle.run_core.specs.declared.state.JobState.{JobState}
 use Rattle.run_core.specs.declared.state.Kept.{Kept}
 use Rattle.run_core.specs.inner.Course.{Past, TakesOut, given_up_in, staged_in, with_end, with_giving_up, with_staging, with_start}
-
--- of a job that was never staged
-abbrev pub untouched : JobState
-untouched = record { folder = 0; gave_up = 0 }
-
-abbrev pub state_at : List JobState → ℕ → JobState
-state_at states n = slice_index_or states n untouched
-
-abbrev pub numbers_of : List Flight → List ℕ
-numbers_of flights = map (λ flight. flight.job) flights
-
--- with the number of the job that is worked on
-abbrev pub course_of : Past → Option ℕ → Course
-course_of past at_work = record {
-  tickets = past.tickets;
-  numbers = numbers_of past.flights;
-  staged = length past.jobs;
-  folder = λ n. (state_at past.jobs n).folder;
-  gave_up = λ n. (state_at past.jobs n).gave_up;
-  folders = past.folders;
-  at_work = at_work;
-  over = is_some past.end;
-}
+use Rattle.run_core.specs.inner.Keeps.{course_of, numbers_of, state_at, untouched}
 
 -- A job is staged
 
@@ -87,42 +65,43 @@ before_last m n size now so other last more = elim (cases_order m n) [
   ]
 ]
 
-module _ (jobs : List Job) (r : Readings) (past : Past) (at_work : Option ℕ) (n : ℕ) (job : Job) (it : IsJob jobs n job) (within : n ≤ length past.jobs) where
-  folder_staged : (m : ℕ) → (state_at (staged_in n (past.folders + 1) past.jobs) m).folder ≡ cond (n == m) (past.folders + 1) (state_at past.jobs m).folder
+module _ (past : Past) (n : ℕ) (within : n ≤ length past.jobs) where
+  pub folder_staged : (m : ℕ) → (state_at (with_staging n past).jobs m).folder ≡ cond (n == m) (past.folders + 1) (state_at past.jobs m).folder
   folder_staged m =
       ap (λ (state : JobState). state.folder) (state_staged past.jobs n (past.folders + 1) m within)
       ∙ folder_if (n == m) (past.folders + 1) (state_at past.jobs n) (state_at past.jobs m)
 
-  gave_up_staged : (m : ℕ) → (state_at (staged_in n (past.folders + 1) past.jobs) m).gave_up ≡ (state_at past.jobs m).gave_up
+  pub gave_up_staged : (m : ℕ) → (state_at (with_staging n past).jobs m).gave_up ≡ (state_at past.jobs m).gave_up
   gave_up_staged m =
       ap (λ (state : JobState). state.gave_up) (state_staged past.jobs n (past.folders + 1) m within)
       ∙ gave_up_if (n == m) (past.folders + 1) (state_at past.jobs n) (state_at past.jobs m) (λ same. ap (state_at past.jobs) (eqb-true n m same))
 
+module _ (jobs : List Job) (r : Readings) (past : Past) (g : ℕ → ℕ) (at_work : Option ℕ) (n : ℕ) (job : Job) (it : IsJob jobs n job) (within : n ≤ length past.jobs) where
   one_more : suc past.folders ≡ past.folders + 1
   one_more = omega arith
 
   abbrev staged_now : ℕ
-  staged_now = length (staged_in n (past.folders + 1) past.jobs)
+  staged_now = length (with_staging n past).jobs
 
-  with_sizes : Keeps jobs r (course_of past at_work) → holds r job.place ≡ false → ((m : ℕ) → at_work ≡ Some m → m ≡ n) →
+  with_sizes : AreKept jobs r (course_of past at_work g) → holds r job.place ≡ false → ((m : ℕ) → at_work ≡ Some m → m ≡ n) →
       length past.jobs ≤ staged_now → staged_now ≤ length jobs → n < staged_now → ((m : ℕ) → m < staged_now → (m ≡ n → ⊥) → m < length past.jobs) →
-      Keeps jobs (reads_after r (job_staged job.place (past.folders + 1))) (course_of (with_staging n past) (Some n))
+      AreKept jobs (reads_after r (job_staged job.place (past.folders + 1))) (course_of (with_staging n past) (Some n) g)
   with_sizes k free alone more few now others =
-      subst (Keeps jobs (reads_after r (job_staged job.place (past.folders + 1))))
+      subst (AreKept jobs (reads_after r (job_staged job.place (past.folders + 1))))
       (λ i. record {
         tickets = past.tickets;
         numbers = numbers_of past.flights;
         staged = staged_now;
-        folder = λ m. sym (folder_staged m) i;
-        gave_up = λ m. sym (gave_up_staged m) i;
+        folder = λ m. sym (folder_staged past n within m) i;
+        gave_up = g;
         folders = one_more i;
         at_work = Some n;
         over = is_some past.end;
       })
-      (keeps_staged jobs r (course_of past at_work) k n job (past.folders + 1) staged_now it free more few now others alone)
+      (keeps_staged jobs r (course_of past at_work g) k n job (past.folders + 1) staged_now it free more few now others alone)
 
-  pub keeps_staging : Keeps jobs r (course_of past at_work) → holds r job.place ≡ false → ((m : ℕ) → at_work ≡ Some m → m ≡ n) →
-      Keeps jobs (reads_after r (job_staged job.place (past.folders + 1))) (course_of (with_staging n past) (Some n))
+  pub keeps_staging : AreKept jobs r (course_of past at_work g) → holds r job.place ≡ false → ((m : ℕ) → at_work ≡ Some m → m ≡ n) →
+      AreKept jobs (reads_after r (job_staged job.place (past.folders + 1))) (course_of (with_staging n past) (Some n) g)
   keeps_staging k free alone = elim (staged_length past.jobs n (past.folders + 1) within) [
     | inl old ↦ with_sizes k free alone (omega (arith, old.1)) (omega (arith, old.1, k.few)) (omega (arith, old.0, old.1)) (λ m so other. omega (arith, so, old.1))
     | inr new ↦ with_sizes k free alone (omega (arith, new.1)) (omega (arith, new.0, new.1, it.within)) (omega (arith, new.0, new.1))
@@ -131,13 +110,13 @@ module _ (jobs : List Job) (r : Readings) (past : Past) (at_work : Option ℕ) (
 
 -- Its child is started
 
-module _ (jobs : List Job) (r : Readings) (past : Past) (n : ℕ) (job : Job) (it : IsJob jobs n job) (k : Keeps jobs r (course_of past (Some n))) where
+module _ (jobs : List Job) (r : Readings) (past : Past) (g : ℕ → ℕ) (n : ℕ) (job : Job) (it : IsJob jobs n job) (k : AreKept jobs r (course_of past (Some n) g)) where
   pub keeps_starting : (inputs : Fields) (launch : Launch) (kept : Kept) (ticket : ℕ) → IsFresh ticket past.tickets →
-      Keeps jobs (reads_after r (job_started job.place inputs launch ticket)) (course_of (with_start n kept ticket past) None)
+      AreKept jobs (reads_after r (job_started job.place inputs launch ticket)) (course_of (with_start n kept ticket past) None g)
   keeps_starting inputs launch kept ticket fresh =
-      subst (λ (numbers : List ℕ). Keeps jobs (reads_after r (job_started job.place inputs launch ticket)) (record (course_of (with_start n kept ticket past) None) { numbers = numbers }))
+      subst (λ (numbers : List ℕ). AreKept jobs (reads_after r (job_started job.place inputs launch ticket)) (record (course_of (with_start n kept ticket past) None g) { numbers = numbers }))
       (sym (map-append (λ (flight : Flight). flight.job) past.flights (record { job = n; kept = kept } ∷ [])))
-      (keeps_started jobs r (course_of past (Some n)) k n job inputs launch ticket it refl fresh)
+      (keeps_started jobs r (course_of past (Some n) g) k n job inputs launch ticket it refl fresh)
 
 -- Its child has ended
 
@@ -148,30 +127,32 @@ numbers_removed (x ∷ flights) zero = refl
 numbers_removed (x ∷ flights) (suc index) = ap (λ (ns : List ℕ). x.job ∷ ns) (numbers_removed flights index)
 
 -- the job of the flight that is taken out, and what is kept then
-pub record Lands (jobs : List Job) (r : Readings) (ticket : ℕ) (flight : Flight) (new : Past) : Type 0 where
+pub record Lands (jobs : List Job) (r : Readings) (g : ℕ → ℕ) (ticket : ℕ) (flight : Flight) (old new : Past) : Type 0 where
   pub job : Job
   pub it : IsJob jobs flight.job job
   pub there : Contains r.flying (ticket, job.place)
-  pub keeps : Keeps jobs (reads_after r (child_exited ticket)) (course_of new (Some flight.job))
+  pub left : new.tickets ≡ without ticket old.tickets
+  pub keeps : AreKept jobs (reads_after r (child_exited ticket)) (course_of new (Some flight.job) g)
 
-module _ (jobs : List Job) (r : Readings) (old new : Past) (ticket : ℕ) (flight : Flight) (taken : TakesOut ticket flight old new) (k : Keeps jobs r (course_of old None)) where
-  lands_at : (at : FliesAt jobs r.flying (numbers_of old.flights) taken.index ticket) → at.number ≡ flight.job → Lands jobs r ticket flight new
+module _ (jobs : List Job) (r : Readings) (g : ℕ → ℕ) (old new : Past) (ticket : ℕ) (flight : Flight) (taken : TakesOut ticket flight old new) (k : AreKept jobs r (course_of old None g)) where
+  lands_at : (at : FliesAt jobs r.flying (numbers_of old.flights) taken.index ticket) → at.number ≡ flight.job → Lands jobs r g ticket flight old new
   lands_at at same = record {
     job = at.job;
     it = subst (λ number. IsJob jobs number at.job) same at.it;
     there = (taken.index, at.within, at.flight);
-    keeps = subst (λ (past : Past). Keeps jobs (reads_after r (child_exited ticket)) (course_of past (Some flight.job))) (sym taken.is)
-        (subst (λ (numbers : List ℕ). Keeps jobs (reads_after r (child_exited ticket))
-        (record (course_of old (Some flight.job)) { tickets = remove old.tickets taken.index; numbers = numbers })) (numbers_removed old.flights taken.index)
-        (subst (λ number. Keeps jobs (reads_after r (child_exited ticket)) (when_landed jobs r (course_of old None) k taken.index number)) same
-        (keeps_landed jobs r (course_of old None) k taken.index at.number (ticket, at.job.place) at.job at.within at.flight at.it refl refl
-        (flies_staged jobs r (course_of old None) k taken.index ticket at))));
+    left = ap (λ (past : Past). past.tickets) taken.is ∙ tickets_left jobs r (course_of old None g) k taken.index ticket at;
+    keeps = subst (λ (past : Past). AreKept jobs (reads_after r (child_exited ticket)) (course_of past (Some flight.job) g)) (sym taken.is)
+        (subst (λ (numbers : List ℕ). AreKept jobs (reads_after r (child_exited ticket))
+        (record (course_of old (Some flight.job) g) { tickets = remove old.tickets taken.index; numbers = numbers })) (numbers_removed old.flights taken.index)
+        (subst (λ number. AreKept jobs (reads_after r (child_exited ticket)) (when_landed jobs r (course_of old None g) k taken.index number)) same
+        (keeps_landed jobs r (course_of old None g) k taken.index at.number (ticket, at.job.place) at.job at.within at.flight at.it refl refl
+        (flies_staged jobs r (course_of old None g) k taken.index ticket at))));
   }
 
-  pub keeps_landing : Lands jobs r ticket flight new
+  pub keeps_landing : Lands jobs r g ticket flight old new
   keeps_landing =
       let at : FliesAt jobs r.flying (numbers_of old.flights) taken.index ticket =
-      flight_of jobs r (course_of old None) k taken.index ticket (slice_get_within old.tickets taken.index ticket taken.ticket_there)
+      flight_of jobs r (course_of old None g) k taken.index ticket (slice_get_within old.tickets taken.index ticket taken.ticket_there)
       (get_or_from_slice_get old.tickets taken.index ticket ticket taken.ticket_there) in
       let number : slice_get (numbers_of old.flights) taken.index ≡ Some flight.job =
       slice_get-map (λ (f : Flight). f.job) old.flights taken.index ∙ ap (option_map (λ (f : Flight). f.job)) taken.flight_there in
@@ -204,22 +185,36 @@ as_many [] (suc n) = refl
 as_many (x ∷ states) zero = refl
 as_many (x ∷ states) (suc n) = ap suc (as_many states n)
 
-module _ (jobs : List Job) (r : Readings) (past : Past) (n : ℕ) (job : Job) (it : IsJob jobs n job) (k : Keeps jobs r (course_of past (Some n))) where
-  pub keeps_giving_up : Keeps jobs (reads_after r (job_failed_for_now job.place)) (course_of (with_giving_up n past) (Some n))
+module _ (past : Past) (n : ℕ) (within : n < length past.jobs) where
+  pub folder_kept : (m : ℕ) → (state_at past.jobs m).folder ≡ (state_at (with_giving_up n past).jobs m).folder
+  folder_kept m = folder_given_up (n == m) (state_at past.jobs m) ∙ ap (λ (s : JobState). s.folder) (sym (state_given_up past.jobs n m within))
+
+  pub counted_once_more : (m : ℕ) → cond (n == m) (suc (state_at past.jobs m).gave_up) (state_at past.jobs m).gave_up ≡ (state_at (with_giving_up n past).jobs m).gave_up
+  counted_once_more m = gave_up_given_up (n == m) (state_at past.jobs m) ∙ ap (λ (s : JobState). s.gave_up) (sym (state_given_up past.jobs n m within))
+
+-- how often each gave up then
+abbrev pub once_more : ℕ → (ℕ → ℕ) → ℕ → ℕ
+once_more n g m = cond (n == m) (suc (g m)) (g m)
+
+module _ (jobs : List Job) (r : Readings) (past : Past) (g : ℕ → ℕ) (n : ℕ) (job : Job) (it : IsJob jobs n job) (k : AreKept jobs r (course_of past (Some n) g)) where
+  -- whether or not the machine counts it
+  pub keeps_failing : AreKept jobs (reads_after r (job_failed_for_now job.place)) (course_of past (Some n) (once_more n g))
+  keeps_failing = keeps_gave_up jobs r (course_of past (Some n) g) k n job it refl
+
+  pub keeps_giving_up : AreKept jobs (reads_after r (job_failed_for_now job.place)) (course_of (with_giving_up n past) (Some n) (once_more n g))
   keeps_giving_up =
-      let within : n < length past.jobs = k.worked_staged n refl in
-      subst (Keeps jobs (reads_after r (job_failed_for_now job.place)))
+      subst (AreKept jobs (reads_after r (job_failed_for_now job.place)))
       (λ i. record {
         tickets = past.tickets;
         numbers = numbers_of past.flights;
         staged = as_many past.jobs n i;
-        folder = λ m. (folder_given_up (n == m) (state_at past.jobs m) ∙ ap (λ (s : JobState). s.folder) (sym (state_given_up past.jobs n m within))) i;
-        gave_up = λ m. (gave_up_given_up (n == m) (state_at past.jobs m) ∙ ap (λ (s : JobState). s.gave_up) (sym (state_given_up past.jobs n m within))) i;
+        folder = λ m. folder_kept past n (k.worked_staged n refl) m i;
+        gave_up = once_more n g;
         folders = past.folders;
         at_work = Some n;
         over = is_some past.end;
       })
-      (keeps_gave_up jobs r (course_of past (Some n)) k n job it refl)
+      keeps_failing
 
 -- The end is settled
 
@@ -227,7 +222,13 @@ some_end : (first : Option (Result Report RunFault)) (end : Result Report RunFau
 some_end None end = refl
 some_end (Some first) end = refl
 
-pub keeps_end : (jobs : List Job) (r : Readings) (past : Past) (at_work : Option ℕ) (end : Result Report RunFault) → Keeps jobs r (course_of past at_work) →
-    Keeps jobs r (course_of (with_end end past) None)
-keeps_end jobs r past at_work end k =
-    subst (λ over. Keeps jobs r (record (course_of past None) { over = over })) (some_end past.end end) (gives_over jobs r (course_of past at_work) k)
+pub keeps_end : (jobs : List Job) (r : Readings) (past : Past) (at_work : Option ℕ) (g : ℕ → ℕ) (end : Result Report RunFault) → AreKept jobs r (course_of past at_work g) →
+    AreKept jobs r (course_of (with_end end past) None g)
+keeps_end jobs r past at_work g end k =
+    subst (λ over. AreKept jobs r (record (course_of past None g) { over = over })) (some_end past.end end) (gives_over jobs r (course_of past at_work g) k)
+
+-- where it was settled before, nothing is worked on any more
+pub keeps_over : (jobs : List Job) (r : Readings) (past : Past) (at_work : Option ℕ) (g : ℕ → ℕ) → is_some past.end ≡ true → AreKept jobs r (course_of past at_work g) →
+    AreKept jobs r (course_of past None g)
+keeps_over jobs r past at_work g over k =
+    subst (λ over. AreKept jobs r (record (course_of past None g) { over = over })) (sym over) (gives_over jobs r (course_of past at_work g) k)

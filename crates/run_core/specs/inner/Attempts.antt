@@ -1,6 +1,6 @@
 -- How many answers a run takes at most: each staging is one of so many, and each phase and each child in flight takes so many at most.
-use Rattle.std.specs.Prelude.{ℕ, ◌+◌, ◌*◌, ◌-◌, ◌^◌, ◌≤◌, List, [], ◌∷◌, length, nat_eq}
-use Rattle.std.specs.List.{AllByRecursion, IsDistinct}
+use Rattle.std.specs.Prelude.{ℕ, ◌+◌, ◌*◌, ◌-◌, ◌^◌, ◌≤◌, List, [], ◌∷◌, length}
+use Rattle.std.specs.List.{AllByRecursion}
 use Rattle.plan_checker.specs.declared.graph.TheConstants.{MOST_VERTICES}
 use Rattle.run_rules.specs.declared.setting.Options.{Options}
 use Rattle.run_core.specs.declared.state.JobPhase.{JobPhase}
@@ -17,9 +17,8 @@ abbrev pub tries_of : List JobState → ℕ
 tries_of [] = 0
 tries_of (job ∷ jobs) = job.gave_up + 1 + tries_of jobs
 
--- the jobs that were staged are jobs of a graph, each was staged no oftener than it may be, and each child in flight has its own ticket
+-- the jobs that were staged are jobs of a graph, and each was staged no oftener than it may be
 pub record IsBounded (options : Options) (past : Past) : Type 0 where
-  pub apart : IsDistinct nat_eq past.tickets
   pub jobs : length past.jobs ≤ MOST_VERTICES
   pub retries : AllByRecursion (λ (job : JobState). job.gave_up ≤ options.retries) past.jobs
   pub folders : past.folders ≤ tries_of past.jobs

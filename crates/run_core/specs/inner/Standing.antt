@@ -1,11 +1,12 @@
 -- Where the machine is in its run.
-use Rattle.std.specs.Prelude.{◌≡◌, ◌≢◌, ◌≤◌, ◌<◌, ◌+◌, ℕ, false, List, [], ◌∷◌, ◌++◌, Some, None, Result, Ok, Err, IfErr, length, slice_get, vec_len, vec_capacity}
-use Rattle.std.specs.List.{list_any}
+use Rattle.std.specs.Prelude.{◌≡◌, ◌≢◌, ◌≤◌, ◌<◌, ◌+◌, ℕ, List, [], ◌∷◌, ◌++◌, Option, Some, None, Result, Ok, Err, IfErr, length, vec_len, vec_capacity}
 use Rattle.plan_checker.specs.declared.plan.Mark.{Mark}
 use Rattle.proc_host.specs.declared.call.Entry.{Entry}
 use Rattle.proc_host.specs.declared.call.HostRequest.{HostRequest}
 use Rattle.staging.specs.declared.measure.Measure.{Measure}
 use Rattle.staging.specs.declared.plan.StagePlan.{StagePlan}
+use Rattle.job_graph.specs.Jobs.{Job}
+use Rattle.job_graph.specs.Words.{JobPlace, Name}
 use Rattle.run_rules.specs.declared.outcome.Report.{Report}
 use Rattle.run_rules.specs.declared.outcome.RunFault.{RunFault}
 use Rattle.run_rules.specs.declared.request.Pair.{Pair}
@@ -13,24 +14,25 @@ use Rattle.run_rules.specs.declared.request.Request.{Request}
 use Rattle.run_rules.specs.Allowed.{MayStage, MayCollect, MayDeliver}
 use Rattle.run_rules.specs.Blame.{BlamesRightly, IsToBlame, WereStarted}
 use Rattle.run_rules.specs.Delivered.{located}
-use Rattle.run_rules.specs.End.{End, is_lost_collect}
+use Rattle.run_rules.specs.End.{End}
 use Rattle.run_rules.specs.EndsSo.{EndsSo}
 use Rattle.run_rules.specs.Events.{Event, Progress, Started, nothing_due, started_at}
-use Rattle.job_graph.specs.Jobs.{Job}
+use Rattle.run_rules.specs.Plans.{LoadsHeld}
 use Rattle.run_rules.specs.Reports.{report_of}
+use Rattle.run_rules.specs.Run.{Goes}
 use Rattle.run_rules.specs.Scene.{Scene}
-use Rattle.job_graph.specs.Words.{JobPlace, Name}
+use Rattle.run_rules.proofs.events.Places.{IsJob}
 use Rattle.run_core.specs.declared.state.Course.{Course}
 use Rattle.run_core.specs.declared.state.JobPhase.{JobPhase}
-use Rattle.run_core.specs.declared.state.JobState.{JobState}
 use Rattle.run_core.specs.declared.state.Kept.{Kept}
 use Rattle.run_core.specs.declared.state.Measuring.{Measuring}
 use Rattle.run_core.specs.declared.state.Phase.{Phase}
 use Rattle.run_core.specs.declared.state.Turn.{Turn}
-use Rattle.run_core.specs.inner.Course.{Past, place_at, nothing_past}
+use Rattle.run_core.specs.inner.Course.{Past, known_in, nothing_past, past_of}
 use Rattle.run_core.specs.inner.Due.{Calls, IsKept, work_of}
-use Rattle.run_core.specs.inner.Keeps.{AreHeldBut}
+use Rattle.run_core.specs.inner.Keeps.{Reflects, state_at}
 use Rattle.run_core.specs.inner.Measured.{IsMeasuring, measured_by}
+use Rattle.run_core.specs.inner.Turn.{collects, ends, waits, works}
 
 -- what is kept of the child of a job that has ended well
 pub record HasStarted (es : List Event) (place : JobPlace) (kept : Kept) : Type 0 where
@@ -38,59 +40,72 @@ pub record HasStarted (es : List Event) (place : JobPlace) (kept : Kept) : Type 
   pub at : started_at es place ≡ Some started
   pub kept_is : IsKept kept started
 
--- a job that is not started yet has a free slot and an open end; of one whose child has ended is kept what it was started by
-abbrev pub WorksOn : Scene → List Event → JobPlace → Past → JobPhase → Type 0
-WorksOn s es place past (JobPhase.Filling filling) = (past.end ≡ None) × length past.tickets < s.options.slots
-WorksOn s es place past (JobPhase.Starting kept) = (past.end ≡ None) × length past.tickets < s.options.slots
-WorksOn s es place past (JobPhase.Scanning kept millis) = HasStarted es place kept
-WorksOn s es place past (JobPhase.Reading kept reading) = HasStarted es place kept
+-- of a job whose child has ended is kept what it was started by
+abbrev pub WorksOn : List Event → JobPlace → JobPhase → Type 0
+WorksOn es place (JobPhase.Filling filling) = Unit {0}
+WorksOn es place (JobPhase.Starting kept) = Unit {0}
+WorksOn es place (JobPhase.Scanning kept millis) = HasStarted es place kept
+WorksOn es place (JobPhase.Reading kept reading) = HasStarted es place kept
 
 -- the job of a number whose open work this is
-pub record IsWorking (s : Scene) (f : Progress) (jobs : List Job) (past : Past) (number : ℕ) (call : HostRequest) (phase : JobPhase) : Type 0 where
-  pub state : JobState
-  pub staged : slice_get past.jobs number ≡ Some state
-  pub due : f.work ≡ work_of (place_at jobs number) call phase
-  pub calls : Calls s.options state.folder call phase
-  pub on : WorksOn s f.events (place_at jobs number) past phase
-  pub held : past.end ≡ None → AreHeldBut f.events jobs (length past.jobs) (Some number)
+pub record IsWorking (s : Scene) (f : Progress) (course : Course) (number : ℕ) (job : Job) (call : HostRequest) (phase : JobPhase) : Type 0 where
+  pub it : IsJob (known_in course.known) number job
+  pub due : f.work ≡ work_of job.place call phase
+  pub calls : Calls s.options (state_at course.jobs.items number).folder call phase
+  pub on : WorksOn f.events job.place phase
 
--- a job that is to be staged: the first that never was, or one that failed temporarily
-pub record IsStaging (s : Scene) (f : Progress) (marks : List Mark) (jobs : List Job) (past : Past) (number : ℕ) (plan : StagePlan) : Type 0 where
-  pub may : MayStage s f marks (place_at jobs number) plan (past.folders + 1)
-  pub next : number ≤ length past.jobs
-  pub known : number < length jobs
-  pub going : past.end ≡ None
-  pub held : AreHeldBut f.events jobs (length past.jobs) (Some number)
+-- a job that is to be staged: the first that never was, or the one that is worked on and failed temporarily
+pub record IsStaging (s : Scene) (f : Progress) (marks : List Mark) (course : Course) (at_work : Option ℕ) (number : ℕ) (job : Job) (plan : StagePlan) : Type 0 where
+  pub it : IsJob (known_in course.known) number job
+  pub may : MayStage s f marks job.place plan (course.folders + 1)
+  pub next : number ≤ length course.jobs.items
+  pub alone : (other : ℕ) → at_work ≡ Some other → other ≡ number
+  pub going : course.end ≡ None
 
 -- what it waits for is what its run has come to: a rule for each phase
-pub data IsAt (s : Scene) (f : Progress) (marks : List Mark) (jobs : List Job) (past : Past) : Turn → Type 0 where
+pub data IsAt (s : Scene) (f : Progress) (marks : List Mark) (course : Course) : Turn → Type 0 where
   measuring : (found : List (Name × Measure)) (measuring : Measuring) (rest : List Name) (path : Name) → IsMeasuring s found measuring →
-      measuring.left ≡ rest ++ path ∷ [] → f ≡ record { work = nothing_due; events = measured_by found } → jobs ≡ [] → past ≡ nothing_past →
-      IsAt s f marks jobs past (record { asks = Request.Host [] (HostRequest.Measure path); phase = Phase.Measuring measuring })
-  staging : (number : ℕ) (plan : StagePlan) → IsStaging s f marks jobs past number plan →
-      IsAt s f marks jobs past (record { asks = Request.Host (place_at jobs number) (HostRequest.Stage plan (past.folders + 1)); phase = Phase.Staging number })
-  working : (number : ℕ) (call : HostRequest) (phase : JobPhase) → IsWorking s f jobs past number call phase →
-      IsAt s f marks jobs past (record { asks = Request.Host (place_at jobs number) call; phase = Phase.Working number phase })
-  collecting : MayCollect s f marks [] → (past.end ≡ None → AreHeldBut f.events jobs (length past.jobs) None) →
-      IsAt s f marks jobs past (record { asks = Request.Host [] HostRequest.Collect; phase = Phase.Collecting })
-  delivering : (plan : StagePlan) → MayDeliver s f marks [] plan → past.end ≡ None →
-      IsAt s f marks jobs past (record { asks = Request.Host [] (HostRequest.Deliver plan); phase = Phase.Delivering (located plan.value) })
-  ended : (end : End) → EndsSo s f marks end →
-      IsAt s f marks jobs past (record { asks = Request.Finished; phase = Phase.Ended (report_of end) })
+      measuring.left ≡ rest ++ path ∷ [] → f ≡ record { work = nothing_due; events = measured_by found } → course.known ≡ None →
+      past_of course ≡ nothing_past → IsAt s f marks course (waits (HostRequest.Measure path) (Phase.Measuring measuring))
+  staging : (at_work : Option ℕ) (number : ℕ) (job : Job) (plan : StagePlan) → Reflects s f.events course at_work →
+      IsStaging s f marks course at_work number job plan →
+      IsAt s f marks course (record { asks = Request.Host job.place (HostRequest.Stage plan (course.folders + 1)); phase = Phase.Staging number })
+  working : (number : ℕ) (job : Job) (call : HostRequest) (phase : JobPhase) → Reflects s f.events course (Some number) →
+      IsWorking s f course number job call phase → IsAt s f marks course (works job.place number call phase)
+  collecting : Reflects s f.events course None → MayCollect s f marks [] → IsAt s f marks course collects
+  -- each known job was staged
+  delivering : (plan : StagePlan) → Reflects s f.events course None → MayDeliver s f marks [] plan → course.end ≡ None →
+      length (known_in course.known) ≤ length course.jobs.items →
+      IsAt s f marks course (waits (HostRequest.Deliver plan) (Phase.Delivering (located plan.value)))
+  ended : (end : End) → EndsSo s f marks end → IsAt s f marks course (ends (report_of end))
 
--- no collect has failed while it asks
-abbrev pub StillCollects : List Event → Turn → Type 0
-StillCollects es turn = turn.asks ≢ Request.Finished → list_any is_lost_collect es ≡ false
+-- a run so far, and where the machine is in it
+pub record Runs (s : Scene) (t : List Pair) (course : Course) (turn : Turn) : Type 0 where
+  pub happened : Progress
+  pub marks : List Mark
+  pub goes : Goes s (LoadsHeld s) t happened marks
+  pub at : IsAt s happened marks course turn
 
 -- collects alone, whatever they were answered
 abbrev pub AreCollects : List Pair → Type 0
 AreCollects [] = Unit {0}
 AreCollects (pair ∷ pairs) = (pair.request ≡ Request.Host [] HostRequest.Collect) × AreCollects pairs
 
--- memory ran out: the children in flight are waited for, and then it has ended
+-- the children in flight are waited for, and then it has ended
 pub data IsLostAt (past : Past) : Turn → Type 0 where
   draining : past.tickets ≢ [] → IsLostAt past (record { asks = Request.Host [] HostRequest.Collect; phase = Phase.Draining })
   lost : IsLostAt past (record { asks = Request.Finished; phase = Phase.Ended (Err RunFault.OutOfMemory) })
+
+-- memory ran out: what was asked and answered is a run so far, and collects after it
+pub record RanOut (s : Scene) (t : List Pair) (past : Past) (turn : Turn) : Type 0 where
+  pub front : List Pair
+  pub tail : List Pair
+  pub pairs : t ≡ front ++ tail
+  pub happened : Progress
+  pub marks : List Mark
+  pub goes : Goes s (LoadsHeld s) front happened marks
+  pub collects : AreCollects tail
+  pub at : IsLostAt past turn
 
 -- a failure that settled the end: one of the host's blames it rightly, and memory that ran out settles none
 abbrev pub SettlesRightly : List Entry → Result Report RunFault → Type 0
