@@ -13,3 +13,4 @@ pub mod Turning
 pub mod Work
 pub mod Working
 pub mod events
+pub mod standing
