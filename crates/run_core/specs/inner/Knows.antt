@@ -2,10 +2,9 @@
 use Rattle.std.specs.Prelude.{◌≡◌, ◌++◌, ◌∷◌, List, [], Option, Some, None, IsSome, Result, Err, option_map, unwrap_or}
 use Rattle.job_graph.specs.declared.unfolding.Unfolding.{Unfolding}
 use Rattle.job_graph.specs.declared.fault.UnfoldFault.{UnfoldFault}
-use Rattle.job_graph.specs.declared.made.Resolved.{Resolved}
 use Rattle.job_graph.specs.Jobs.{Walker}
 use Rattle.job_graph.specs.Words.{Fields}
-use Rattle.job_graph.specs.Unfold.{Fault, fault_at, too_many_jobs, unfolded}
+use Rattle.job_graph.specs.Unfold.{Fault, Resolved, fault_at, too_many_jobs, unfolded}
 use Rattle.run_rules.specs.declared.outcome.Cause.{Cause}
 use Rattle.run_rules.specs.declared.outcome.Report.{Report}
 use Rattle.run_rules.specs.declared.outcome.RunFault.{RunFault}
