@@ -51,10 +51,18 @@ none_started : (entries : List Entry) → WereStarted entries []
 none_started entries = record { each = λ ticket there. absurd (omega (arith, there.1)) }
 
 -- what was known is known still
-known_still : (old new : Course) → new.end ≡ old.end → new.known ≡ old.known → (old.end ≡ None → KnowsSome old) → new.end ≡ None → KnowsSome new
+pub known_still : (old new : Course) → new.end ≡ old.end → new.known ≡ old.known → (old.end ≡ None → KnowsSome old) → new.end ≡ None → KnowsSome new
 known_still old new same known knows going =
     let some : KnowsSome old = knows (sym same ∙ going) in
     record { walks = some.walks; learned = some.learned; is = subst (λ (k : Option Unfolding). IsKnown some.walks some.learned k) (sym known) some.is }
+
+after_measure : (given : Given) (old : Course) (entries : List Entry) (turn : Turn) (new : Course) → FewKnown turn new → (measuring : Measuring) →
+    Books given.options entries (past_of old) → MeasuresOn given old measuring turn new → Leaves given.options entries turn new
+after_measure given old entries turn new few measuring books (all_measured known its_turn its_new none unfolded picks) =
+    picks_leave given.options entries given refl known turn new few (books_unfolded given.options entries given refl _ [] old known unfolded books) picks
+after_measure given old entries turn new few measuring books (measures rest path its_new is same known) =
+    let now : Books given.options entries (past_of new) = books_course given.options entries new old same books in
+    record { bounded = now.bounded; blames = now.blames; not_lost = λ lost. cc; goes = λ drains. cc }
 
 module _ (given : Given) (old : Course) (entries : List Entry) (turn : Turn) (new : Course) (few : FewKnown turn new) where
   abbrev Left : Type 0
@@ -67,13 +75,6 @@ module _ (given : Given) (old : Course) (entries : List Entry) (turn : Turn) (ne
       picks_leave given.options entries given refl after.settled turn new few
       (subst (λ (p : Past). Books given.options entries p) (sym after.past) (books_end given.options entries (past_of old) (Err (RunFault.Host fault [])) blame books))
       after.picks
-
-  after_measure : (measuring : Measuring) → Books given.options entries (past_of old) → MeasuresOn given old measuring turn new → Left
-  after_measure measuring books (all_measured known its_turn its_new none unfolded picks) =
-      picks_leave given.options entries given refl known turn new few (books_unfolded given.options entries given refl _ [] old known unfolded books) picks
-  after_measure measuring books (measures rest path its_new is same known) =
-      let now : Books given.options entries (past_of new) = books_course given.options entries new old same books in
-      record { bounded = now.bounded; blames = now.blames; not_lost = λ lost. cc; goes = λ drains. cc }
 
   module _ (knows : old.end ≡ None → KnowsSome old) where
     after_end : (landed : Course) (flight : Flight) (tool : Tool) (ending : ChildEnd) → (landed.end ≡ None → KnowsSome landed) →
@@ -89,7 +90,7 @@ module _ (given : Given) (old : Course) (entries : List Entry) (turn : Turn) (ne
         Contains (logged_answers entries) (host_answer answer) → StaysBounded given.options (past_of old) phase → Blames entries (past_of old) phase →
         FollowsFrom given old (record { asks = asks; phase = phase }) answer turn new → Left
     step_leaves asks (Phase.Measuring measuring) answer (by_host place request its (is_measured path measure)) fits goes told bounded blames follows =
-        after_measure follows.next (record { bounded = bounded; blames = blames }) follows.on
+        after_measure given old entries turn new few follows.next (record { bounded = bounded; blames = blames }) follows.on
     step_leaves asks (Phase.Measuring measuring) answer (by_host place request its (has_failed call)) fits goes told bounded blames follows =
         after_fault (fault_of call) told (record { bounded = bounded; blames = blames }) follows
     step_leaves asks (Phase.Staging number) answer (by_host place request its (is_staged plan folder)) fits goes told bounded blames follows =

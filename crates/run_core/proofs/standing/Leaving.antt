@@ -50,6 +50,12 @@ settles_by : (entries : List Entry) (fault : UnfoldFault) → SettlesRightly ent
 settles_by entries UnfoldFault.TooManyJobs = tt
 settles_by entries (UnfoldFault.Fault place cause) = tt
 
+-- what is learned where something is known
+pub learns_by : (walks : Walker) (learned : List Resolved) (one : Resolved) (old new : Course) (known : Option Unfolding) → old.known ≡ known → IsKnown walks learned known →
+    Learns one old new → IsUnfolded walks (learned ++ one ∷ []) old new
+learns_by walks learned one old new None is knows learns = absurd knows
+learns_by walks learned one old new (Some kept) is knows learns = learns walks learned kept is knows
+
 module _ (options : Options) (entries : List Entry) where
   pub leaves_end : (end : Result Report RunFault) (turn : Turn) (new : Course) → turn.phase ≡ Phase.Ended end → SettlesRightly entries end → Leaves options entries turn new
   leaves_end end turn new is settles = record {
@@ -120,11 +126,11 @@ module _ (options : Options) (entries : List Entry) where
 
     pub leaves_temporary : (old : Course) (number : ℕ) (turn : Turn) (new : Course) → FewKnown turn new → Books options entries (past_of old) →
         AfterTemporary given old number turn new → Leaves options entries turn new
-    leaves_temporary old number turn new few books (stages_again gave_up gives known staging same still) =
+    leaves_temporary old number turn new few books (stages_again gave_up so known staging same still) =
         leaves_staging number gave_up new turn staging same
-        (books_again (past_of old) (known_in old.known) number given.options.retries limit_is gives refl books)
-    leaves_temporary old number turn new few books (tries_no_more gave_up gives known picks) =
-        picks_leave gave_up turn new few (books_gave_up (past_of old) (known_in old.known) number given.options.retries limit_is gives books) picks
+        (books_again (past_of old) (known_in old.known) number given.options.retries limit_is so refl books)
+    leaves_temporary old number turn new few books (tries_no_more gave_up so known picks) =
+        picks_leave gave_up turn new few (books_gave_up (past_of old) (known_in old.known) number given.options.retries limit_is so books) picks
 
     -- A job goes on
 
@@ -133,11 +139,6 @@ module _ (options : Options) (entries : List Entry) where
     books_unfolded walks learned old new (unfold_knows kept its_new knows known same) books = books_course new old same books
     books_unfolded walks learned old new (unfold_fails fault its_new is known same) books =
         books_at (past_of new) _ same (books_end options entries (past_of old) (end_by fault) (settles_by entries fault) books)
-
-    learns_by : (walks : Walker) (learned : List Resolved) (one : Resolved) (old new : Course) (known : Option Unfolding) → old.known ≡ known → IsKnown walks learned known →
-        Learns one old new → IsUnfolded walks (learned ++ one ∷ []) old new
-    learns_by walks learned one old new None is knows learns = absurd knows
-    learns_by walks learned one old new (Some kept) is knows learns = learns walks learned kept is knows
 
     pub turns_leave : (old : Course) (number : ℕ) (next : JobNext) (turn : Turn) (new : Course) → FewKnown turn new → (old.end ≡ None → KnowsSome old) →
         Books options entries (past_of old) → Turns given old number next turn new → Leaves options entries turn new
