@@ -1,4 +1,8 @@
+mod Grows
 mod Loops
+mod MetMore
 mod Outs
 mod Tuples
-mod laws_of_walks
+mod Unfolds
+mod Walks
+pub mod laws_of_walks

@@ -1,6 +1,11 @@
--- What loops have gathered, before what is left.
-use Rattle.std.proofs.Common.{◌≡◌, List, [], ◌∷◌, ◌++◌, Option, Some, None, refl, ap, sym, append_assoc}
+-- What loops have gathered, before what is left; and how many there are.
+use Rattle.std.proofs.Common.{◌≡◌, ◌≢◌, ◌∙◌, length, List, [], ◌∷◌, ◌++◌, Option, Some, None, refl, ap, sym, append_assoc}
+use Rattle.std.proofs.lemmas.List.{length-map}
+use Rattle.document_links.specs.declared.process.Step.{Step}
 use Rattle.job_graph.specs.Jobs.{with_first}
+use Rattle.job_graph.specs.Words.{Name}
+use Rattle.job_graph.specs.declared.made.Facts.{Facts}
+use Rattle.job_graph.specs.inner.Levels.{steps_of}
 
 abbrev pub put_before : {T : Type 0} → List T → Option (List T) → Option (List T)
 put_before vs None = None
@@ -13,3 +18,12 @@ before_none (Some ws) = refl
 pub before_one : {T : Type 0} (vs : List T) (v : T) (found : Option (List T)) → put_before vs (with_first (Some v) found) ≡ put_before (vs ++ v ∷ []) found
 before_one vs v None = refl
 before_one vs v (Some ws) = ap Some (sym (append_assoc vs (v ∷ []) ws))
+
+pub steps_length : (facts : Facts) (steps : List (Name × Step)) → length (steps_of facts steps) ≡ length steps
+steps_length facts steps = length-map steps _
+
+-- as many as some are some
+pub as_many_as_some : {X Y : Type 0} (xs : List X) (ys : List Y) → length xs ≡ length ys → ys ≢ [] → xs ≢ []
+as_many_as_some xs [] same some = absurd (some refl)
+as_many_as_some [] (y ∷ ys) same some = absurd cc
+as_many_as_some (x ∷ xs) (y ∷ ys) same some = λ is. absurd cc

@@ -1,3 +1,5 @@
+pub mod Ended
+pub mod Gives
 pub mod Grown
 pub mod Known
 pub mod Learned
@@ -7,3 +9,5 @@ pub mod Processes
 pub mod Rounds
 pub mod Same
 pub mod Steps
+pub mod Waits
+pub mod Whole

@@ -11,5 +11,6 @@ pub mod More
 pub mod Paths
 pub mod Scatter
 pub mod Unfold
+pub mod Unfolding
 pub mod Words
 pub mod inner

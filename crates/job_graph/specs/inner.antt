@@ -1,2 +1,5 @@
+pub mod Entered
+pub mod Growth
+pub mod Levels
 pub mod Told
 pub mod Views

@@ -11,11 +11,13 @@
 mod cause;
 mod fault;
 mod gather;
+mod growth;
 mod ids;
 mod inputs;
 mod laws;
 mod links;
 mod made;
+mod outcome;
 mod parents;
 mod partly;
 mod paths;
@@ -28,13 +30,15 @@ mod workflow;
 
 pub use cause::Cause;
 pub use fault::{UnfoldError, UnfoldFault};
+pub use growth::KnownJob;
 pub use ids::see_ids;
 pub use laws::{
-    failed_jobs_fail_eval, faults_fail_eval, faults_stay, known_jobs_agree, known_jobs_are_met,
-    known_jobs_stay, known_places_differ, learned_results_stay, met_jobs_are_known, more_is_met,
-    results_are_eval, results_learned_each_job, results_stay,
+    accepted_processes_give_results, failed_jobs_fail_eval, faults_fail_eval, faults_stay,
+    known_jobs_agree, known_jobs_are_met, known_jobs_stay, known_places_differ,
+    learned_results_stay, met_jobs_are_known, more_is_met, results_are_eval,
+    results_learned_each_job, results_stay,
 };
 pub use paths::input_paths;
 pub use place::is_same_place;
-pub use unfolding::{KnownJob, Unfolding};
+pub use unfolding::Unfolding;
 pub use walk::Job;

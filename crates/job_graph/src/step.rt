@@ -1,9 +1,13 @@
 //! Steps, and what all that recurs is: the walk through a process.
-ghost use Rattle.std.specs.Prelude.{◌≡◌, ◌≢◌, ◌++◌, [], length, map, IfOk, OnOk};
-ghost use Rattle.job_graph.specs.Equations.{fault_at, goes_on};
-ghost use Rattle.job_graph.specs.Links.{with_entry};
+ghost use Rattle.std.specs.Prelude.{◌≡◌, ◌≢◌, ◌++◌, [], Ok, length, map, IfOk, OnOk};
+ghost use Rattle.document_links.specs.declared.process.Step.{out-Step};
+ghost use Rattle.job_graph.specs.Equations.{fault_at, goes_on, instance, instance_from, meaning_of, over_lengths, scattered, step_meaning_of, step_place};
+ghost use Rattle.job_graph.specs.Links.{entry_value, with_entry};
+ghost use Rattle.job_graph.specs.Scatter.{at_tuple};
 ghost use Rattle.job_graph.specs.declared.partly.Partly.TheVariants.{Gives};
-ghost use Rattle.job_graph.specs.inner.Views.{met_of};
+ghost use Rattle.job_graph.specs.inner.Entered.{HasEntered};
+ghost use Rattle.job_graph.specs.inner.Levels.{step_of};
+ghost use Rattle.job_graph.specs.inner.Views.{made_from, met_of, walk_of};
 
 use crate::cause::{Cause, of_link};
 use crate::gather::all_instances;
@@ -32,7 +36,9 @@ pub(crate) fn walk_process<'a>(
     process: &'a Process,
     place: &JobPlace,
     given: &Keyed<Value>,
-) -> Result<Walk<'a>, AllocError> {
+) -> Result<Walk<'a>, AllocError>
+    ensures { IfOk result (λ walk. walk_of walk ≡ meaning_of facts.now.measures (made_from facts.now) process.now place.now given.now) }
+{
     match process {
         Process::Tool(tool) => walk_tool(alloc, facts, tool, place, given),
         Process::Workflow(workflow) => walk_workflow(alloc, facts, workflow, place, given),
@@ -56,7 +62,9 @@ pub(crate) fn walk_step<'a>(
     place: &JobPlace,
     inputs: &Keyed<Value>,
     env: &Env,
-) -> Result<Walk<'a>, AllocError> {
+) -> Result<Walk<'a>, AllocError>
+    ensures { IfOk result (λ walk. walk_of walk ≡ step_meaning_of facts.now.measures (made_from facts.now) step.now id.now place.now inputs.now env.now) }
+{
     let entered = enter(alloc, &facts.measures, id, step, place, inputs, env)?;
     let Entered { faults, values } = entered;
     match values {
@@ -81,7 +89,9 @@ fn enter<'a>(
     place: &JobPlace,
     inputs: &Keyed<Value>,
     env: &Env,
-) -> Result<Entered<'a>, AllocError> {
+) -> Result<Entered<'a>, AllocError>
+    ensures { IfOk result (HasEntered (step_place place.now id.now []) (map (λ i. (i.0, entry_value measures.now inputs.now env.now i.1)) (out-Step step.now).inputs)) }
+{
     let own = step_place(alloc, place, id, &Items::new(alloc))?;
     let mut entered = Entered {
         faults: Items::new(alloc),
@@ -136,6 +146,7 @@ fn put_value(
 
 /// A step whose inputs are all known.
 #[cycle(walk)]
+#[tactic(auto, using(crate::proofs::Loops::as_many_as_some))]
 fn scattered<'a>(
     alloc: Global,
     facts: &Facts,
@@ -143,15 +154,15 @@ fn scattered<'a>(
     step: &'a Step,
     place: &JobPlace,
     values: &Keyed<Value>,
-) -> Result<Walk<'a>, AllocError> {
+) -> Result<Walk<'a>, AllocError>
+    ensures { IfOk result (λ walk. walk_of walk ≡ scattered (step_of facts.now step.now) id.now place.now values.now (step_of facts.now step.now).scatter) }
+{
     let own = step_place(alloc, place, id, &Items::new(alloc))?;
+    if step.scatter.is_empty() {
+        return instance(alloc, facts, step, &own, values);
+    }
     match lengths_under(alloc, step.scatter.as_slice(), values)? {
-        Ok(lengths) => {
-            if lengths.is_empty() {
-                return instance(alloc, facts, step, &own, values);
-            }
-            over_lengths(alloc, facts, id, step, place, values, lengths)
-        }
+        Ok(lengths) => over_lengths(alloc, facts, id, step, place, values, lengths),
         Err(cause) => failed(alloc, &own, cause, step.outputs.as_slice()),
     }
 }
@@ -167,6 +178,7 @@ fn over_lengths<'a>(
     lengths: Items<usize>,
 ) -> Result<Walk<'a>, AllocError>
     requires { lengths ≢ [] }
+    ensures { IfOk result (λ walk. walk_of walk ≡ over_lengths (step_of facts.now step.now) id.now place.now values.now (Ok lengths)) }
 {
     let method = step.method.unwrap_or(Method::Dotproduct);
     match tuples_for(alloc, method, lengths.as_slice())? {
@@ -192,7 +204,9 @@ fn instances<'a>(
     values: &Keyed<Value>,
     tuples: &[Items<usize>],
 ) -> Result<Vec<Walk<'a>>, AllocError>
-    ensures { IfOk result (λ walks. length walks.items ≡ length tuples.now) }
+    ensures one_each { IfOk result (λ walks. length walks.items ≡ length tuples.now) }
+    ensures walks { IfOk result (λ walks. map walk_of walks.items ≡ map (λ tuple. instance (step_of facts.now step.now)
+        (step_place place.now id.now tuple) (at_tuple (step_of facts.now step.now).scatter tuple values.now)) tuples.now) }
 {
     let mut walks = Vec::new(alloc);
     for tuple in tuples {
@@ -210,7 +224,10 @@ fn instance_at<'a>(
     place: &JobPlace,
     values: &Keyed<Value>,
     tuple: &Items<usize>,
-) -> Result<Walk<'a>, AllocError> {
+) -> Result<Walk<'a>, AllocError>
+    ensures { IfOk result (λ walk. walk_of walk ≡ instance (step_of facts.now step.now) (step_place place.now id.now tuple.now)
+        (at_tuple (step_of facts.now step.now).scatter tuple.now values.now)) }
+{
     let own = step_place(alloc, place, id, tuple)?;
     let fields = at_tuple(alloc, step.scatter.as_slice(), tuple.as_slice(), values)?;
     instance(alloc, facts, step, &own, &fields)
@@ -224,7 +241,9 @@ fn instance<'a>(
     step: &'a Step,
     place: &JobPlace,
     values: &Keyed<Value>,
-) -> Result<Walk<'a>, AllocError> {
+) -> Result<Walk<'a>, AllocError>
+    ensures { IfOk result (λ walk. walk_of walk ≡ instance (step_of facts.now step.now) place.now values.now) }
+{
     match of_link(value_froms(alloc, step.inputs.as_slice(), values))? {
         Ok(fields) => {
             let walk = run_where(alloc, facts, step, place, &fields);
@@ -242,7 +261,9 @@ fn run_where<'a>(
     step: &'a Step,
     place: &JobPlace,
     fields: &Keyed<Value>,
-) -> Result<Walk<'a>, AllocError> {
+) -> Result<Walk<'a>, AllocError>
+    ensures { IfOk result (λ walk. walk_of walk ≡ instance_from (step_of facts.now step.now) place.now (Ok fields.now)) }
+{
     match goes_on(&step.when, fields)? {
         Ok(true) => walk_process(alloc, facts, &step.process, place, fields),
         Ok(false) => Ok(Walk {

@@ -1,26 +1,23 @@
 //! What is known of a process, once the outputs of some of its jobs are.
+ghost use Rattle.std.specs.Prelude.{◌≡◌, ◌++◌, ◌∷◌, [], List, IfErr, IfOk, OnErr, OnOk, Some, length, option_map, take};
+ghost use Rattle.job_graph.specs.Equations.{walker};
+ghost use Rattle.job_graph.specs.Jobs.{Walker};
+ghost use Rattle.job_graph.specs.Unfold.{Resolved as Learned, unfolded};
+ghost use Rattle.job_graph.specs.Unfolding.{AnswersAlike, Blames, IsAgain, Knows, Learns};
+ghost use Rattle.job_graph.specs.inner.Growth.{Keeps, Resolves, Unfolds};
+ghost use Rattle.job_graph.specs.inner.Views.{resolved_of};
+
 use crate::fault::{UnfoldError, UnfoldFault};
+use crate::growth::{KnownJob, grow};
 use crate::inputs::root_fields;
-use crate::made::{Facts, Resolved, outputs_at};
-use crate::parents::any_made;
-use crate::place::is_same_place;
-use crate::step::walk_process;
-use crate::walk::{Job, Met, Out, Walk};
+use crate::made::{Facts, Resolved};
+use crate::outcome::walk_from_root;
 use cwl_value::{JobPlace, Value};
 use document_links::Process;
 use plain_data::{Items, Keyed, Text};
-use plan_checker::{MOST_ENTRIES, MOST_VERTICES};
 use staging::Measure;
-use std::alloc::{AllocError, Global};
+use std::alloc::Global;
 use std::mem;
-
-/// A job that is known.
-#[derive(Drop)]
-pub struct KnownJob<'a> {
-    pub job: Job<'a>,
-    /// The numbers of the jobs that made Files or Directories in its inputs.
-    pub parents: Items<usize>,
-}
 
 /// What is known of a process on its inputs. It is made anew from all that was learned in each `learn`.
 #[derive(Drop)]
@@ -31,6 +28,7 @@ pub struct Unfolding<'a> {
     fields: Keyed<Value>,
     facts: Facts,
     known: Vec<KnownJob<'a>>,
+    /// How many parents the known jobs have in all.
     entries: usize,
     fault: Option<UnfoldFault>,
     result: Option<Vec<(Text, Value)>>,
@@ -43,7 +41,10 @@ impl<'a> Unfolding<'a> {
         process: &'a Process,
         inputs: &Keyed<Value>,
         measures: Keyed<Measure>,
-    ) -> Result<Unfolding<'a>, UnfoldError> {
+    ) -> Result<Unfolding<'a>, UnfoldError>
+        ensures ok { IfOk result (Knows (walker process.now inputs.now measures) []) }
+        ensures err { IfErr result (Blames (unfolded (walker process.now inputs.now measures) []).fault) }
+    {
         let fields = root_fields(alloc, process, inputs, &measures)?;
         let mut unfolding = Unfolding {
             alloc,
@@ -58,166 +59,96 @@ impl<'a> Unfolding<'a> {
             fault: None,
             result: None,
         };
-        unfolding.unfold()?;
-        match mem::replace(&mut unfolding.fault, None) {
-            None => Ok(unfolding),
-            Some(fault) => Err(UnfoldError::Refused(fault)),
+        match unfolding.unfold() {
+            Ok(()) => Ok(unfolding),
+            Err(error) => Err(error),
         }
     }
 
     /// Takes the outputs of the job at a place, whose files are named relative to its output folder. After a refusal it
-    /// answers the same from then on, and what is known stays as it was.
-    pub fn learn(&mut self, place: JobPlace, outputs: Keyed<Value>) -> Result<(), UnfoldError> {
-        if self.fault.is_none() {
-            self.resolve(Resolved { place, outputs })?;
+    /// answers the same from then on, and what is known stays as it was. Out of memory, it is as before the call.
+    pub fn learn(&mut self, place: JobPlace, outputs: Keyed<Value>) -> Result<(), UnfoldError>
+        ensures learns { (walks : Walker) (learned : List Learned) → Knows walks learned self.old →
+            Learns walks learned (record { place = place; outputs = outputs }) self.new result }
+        ensures ok { OnOk result (take (length self.old.known.items) self.new.known.items ≡ self.old.known.items) }
+        ensures err { OnErr result (AnswersAlike self.old self.new) }
+        ensures again { (fault : UnfoldFault) → self.old.fault ≡ Some fault → (self.new ≡ self.old) × IsAgain fault result }
+    {
+        if let Some(fault) = &self.fault {
+            return Err(UnfoldError::Refused(fault.clone_in(self.alloc)?));
         }
-        match &self.fault {
-            None => Ok(()),
-            Some(fault) => Err(UnfoldError::Refused(fault.clone_in(self.alloc)?)),
+        match self.resolve(Resolved { place, outputs }) {
+            Ok(()) => Ok(()),
+            Err(error) => Err(self.keep(error)),
         }
     }
 
     /// The jobs whose inputs are known, in the order in which they came to be known.
-    pub fn known(&self) -> &[KnownJob<'a>] {
+    pub fn known(&self) -> &[KnownJob<'a>]
+        ensures { result.now ≡ self.now.known.items }
+    {
         self.known.as_slice()
     }
 
     /// The outputs of the process, once those of all jobs are known.
-    pub fn result(&self) -> Option<&[(Text, Value)]> {
+    pub fn result(&self) -> Option<&[(Text, Value)]>
+        ensures { option_map (λ outputs. outputs.now) result ≡ option_map (λ outputs. outputs.items) self.now.result }
+    {
         match &self.result {
             None => None,
             Some(outputs) => Some(outputs.as_slice()),
         }
     }
 
-    /// Adds what was learned, and what is known then. Out of memory, nothing changes.
-    fn resolve(&mut self, resolved: Resolved) -> Result<(), AllocError> {
+    /// Adds what was learned, and what is known then. After an error nothing has changed.
+    fn resolve(&mut self, resolved: Resolved) -> Result<(), UnfoldError>
+        ensures resolves { (walks : Walker) (learned : List Learned) → Knows walks learned self.old →
+            Resolves walks learned (resolved_of resolved) self.new result }
+        ensures ok { OnOk result (take (length self.old.known.items) self.new.known.items ≡ self.old.known.items) }
+        ensures err { OnErr result (AnswersAlike self.old self.new) }
+    {
         self.facts.learned.push(resolved)?;
-        let unfolded = self.unfold();
-        if unfolded.is_err() {
-            mem::drop(self.facts.learned.pop());
+        match self.unfold() {
+            Ok(()) => Ok(()),
+            Err(error) => {
+                mem::drop(self.facts.learned.pop());
+                Err(error)
+            }
         }
-        unfolded
     }
 
-    /// Makes what is known anew. Out of memory, nothing changes.
-    fn unfold(&mut self) -> Result<(), AllocError> {
-        let root = Items::new(self.alloc);
-        let walk = walk_process(self.alloc, &self.facts, self.process, &root, &self.fields)?;
-        let Walk { met, outs } = walk;
-        let is_whole = are_well(self.facts.learned.as_slice(), met.as_slice());
+    /// Keeps a fault, which each later `learn` answers.
+    fn keep(&mut self, error: UnfoldError) -> UnfoldError
+        ensures { Keeps self.old error self.new result }
+    {
+        match error {
+            UnfoldError::OutOfMemory => UnfoldError::OutOfMemory,
+            UnfoldError::Refused(fault) => match fault.clone_in(self.alloc) {
+                Err(_refused) => UnfoldError::OutOfMemory,
+                Ok(copy) => {
+                    mem::drop(mem::replace(&mut self.fault, Some(copy)));
+                    UnfoldError::Refused(fault)
+                }
+            },
+        }
+    }
+
+    /// Makes what is known anew, from all that was learned. After an error it is as before.
+    fn unfold(&mut self) -> Result<(), UnfoldError>
+        ensures { Unfolds self.old self.new result }
+    {
+        let (met, result) = walk_from_root(self.alloc, &self.facts, self.process, &self.fields)?;
         let before = self.known.len();
-        let grown = grow(self.alloc, &mut self.known, self.entries, met);
-        match grown {
-            Ok(Grown::Within(entries)) => {
+        match grow(self.alloc, &mut self.known, self.entries, met) {
+            Ok(entries) => {
                 self.entries = entries;
-                let result = if is_whole {
-                    all_named(self.alloc, outs)?
-                } else {
-                    None
-                };
                 mem::drop(mem::replace(&mut self.result, result));
                 Ok(())
             }
-            Ok(Grown::Refused(fault)) => {
+            Err(error) => {
                 self.known.truncate(before);
-                self.fault = Some(fault);
-                Ok(())
-            }
-            Err(refused) => {
-                self.known.truncate(before);
-                Err(refused)
+                Err(error)
             }
         }
     }
-}
-
-/// What became of the jobs that are known.
-#[derive(Drop)]
-enum Grown {
-    /// So many parents they have in all.
-    Within(usize),
-    Refused(UnfoldFault),
-}
-
-/// Whether each that is met is a job whose outputs are known.
-fn are_well(learned: &[Resolved], met: &[Met<'_>]) -> bool {
-    met.iter().all(|one| is_well(learned, one))
-}
-
-fn is_well(learned: &[Resolved], met: &Met<'_>) -> bool {
-    match met {
-        Met::Job(job) => outputs_at(learned, &job.place).is_some(),
-        Met::Fault(_, _) => false,
-    }
-}
-
-/// The named values, where all are there.
-fn all_named(alloc: Global, outs: Items<Out>) -> Result<Option<Vec<(Text, Value)>>, AllocError> {
-    let mut named = Vec::new(alloc);
-    for (name, value) in outs.into_vec() {
-        match value {
-            None => return Ok(None),
-            Some(value) => named.push((name, value))?,
-        }
-    }
-    Ok(Some(named))
-}
-
-/// Adds the jobs that are met for the first time, up to the first fault.
-fn grow<'a>(
-    alloc: Global,
-    known: &mut Vec<KnownJob<'a>>,
-    entries: usize,
-    met: Items<Met<'a>>,
-) -> Result<Grown, AllocError> {
-    let mut entries = entries;
-    for one in met.into_vec() {
-        match one {
-            Met::Fault(place, cause) => {
-                return Ok(Grown::Refused(UnfoldFault::Fault(place, cause)));
-            }
-            Met::Job(job) => {
-                if !is_known(known.as_slice(), &job) {
-                    entries = add_job(alloc, known, entries, job)?;
-                    if entries > MOST_ENTRIES || known.len() > MOST_VERTICES {
-                        return Ok(Grown::Refused(UnfoldFault::TooManyJobs));
-                    }
-                }
-            }
-        }
-    }
-    Ok(Grown::Within(entries))
-}
-
-fn is_known(known: &[KnownJob<'_>], job: &Job<'_>) -> bool {
-    known.iter().any(|one| is_same_place(one.job.place.as_slice(), job.place.as_slice()))
-}
-
-/// Adds a job with its parents. Returns how many parents all have.
-fn add_job<'a>(
-    alloc: Global,
-    known: &mut Vec<KnownJob<'a>>,
-    entries: usize,
-    job: Job<'a>,
-) -> Result<usize, AllocError> {
-    let parents = parents_among(alloc, known.as_slice(), &job.inputs)?;
-    let entries = entries.saturating_add(parents.len());
-    known.push(KnownJob { job, parents })?;
-    Ok(entries)
-}
-
-/// The numbers of those jobs that made a File or Directory in the inputs.
-fn parents_among(
-    alloc: Global,
-    known: &[KnownJob<'_>],
-    inputs: &Keyed<Value>,
-) -> Result<Items<usize>, AllocError> {
-    let mut parents = Items::new(alloc);
-    for number in 0..known.len() {
-        if any_made(&known[number].job.place, inputs) {
-            parents.push(number)?;
-        }
-    }
-    Ok(parents)
 }

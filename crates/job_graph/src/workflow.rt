@@ -1,9 +1,10 @@
 //! Workflows: steps that read one another's outputs.
-ghost use Rattle.std.specs.Prelude.{◌≡◌, ◌++◌, ◌∷◌, [], map, IfOk, OnOk};
+ghost use Rattle.std.specs.Prelude.{◌≡◌, ◌++◌, ◌∷◌, [], length, map, IfOk, OnOk};
 ghost use Rattle.std.specs.List.{flat_map};
-ghost use Rattle.job_graph.specs.Equations.{fault_at};
+ghost use Rattle.job_graph.specs.Equations.{env_after, fault_at, next_env, step_meaning_of, step_walk, workflow_meaning_of};
 ghost use Rattle.job_graph.specs.Links.{given, output_value};
-ghost use Rattle.job_graph.specs.inner.Views.{met_of};
+ghost use Rattle.job_graph.specs.inner.Levels.{steps_of, steps_walk};
+ghost use Rattle.job_graph.specs.inner.Views.{made_from, met_of, walk_of};
 
 use crate::gather::push_met;
 use crate::inputs::workflow_inputs;
@@ -27,7 +28,9 @@ pub(crate) fn walk_workflow<'a>(
     workflow: &'a Workflow,
     place: &JobPlace,
     given: &Keyed<Value>,
-) -> Result<Walk<'a>, AllocError> {
+) -> Result<Walk<'a>, AllocError>
+    ensures { IfOk result (λ walk. walk_of walk ≡ workflow_meaning_of facts.now.measures (made_from facts.now) workflow.now place.now given.now) }
+{
     match workflow_inputs(alloc, &facts.measures, workflow.inputs.as_slice(), given)? {
         Ok(inputs) => {
             let outputs = workflow.outputs.as_slice();
@@ -47,7 +50,9 @@ fn walk_steps<'a>(
     outputs: &[(Text, WorkflowOutput)],
     place: &JobPlace,
     inputs: &Keyed<Value>,
-) -> Result<Walk<'a>, AllocError> {
+) -> Result<Walk<'a>, AllocError>
+    ensures { IfOk result (λ walk. walk_of walk ≡ steps_walk outputs.now (steps_of facts.now steps.now) place.now inputs.now) }
+{
     let env = env_after(alloc, facts, steps, place, inputs)?;
     let met = steps_met(alloc, facts, steps, place, inputs, &env);
     match met {
@@ -62,15 +67,18 @@ fn walk_steps<'a>(
 
 /// What the steps give, as many times one after another as there are steps: then all is known that can be.
 #[cycle(walk)]
+#[tactic(auto, using(crate::proofs::Loops::steps_length))]
 fn env_after(
     alloc: Global,
     facts: &Facts,
     steps: &Entries<Step>,
     place: &JobPlace,
     inputs: &Keyed<Value>,
-) -> Result<Env, AllocError> {
+) -> Result<Env, AllocError>
+    ensures { IfOk result (λ env. env ≡ env_after (length (steps_of facts.now steps.now)) (steps_of facts.now steps.now) place.now inputs.now) }
+{
     let mut env = Keyed::new(alloc);
-    for _ in 0..steps.len() {
+    for round in 0..steps.len() {
         let next = next_env(alloc, facts, steps, place, inputs, &env)?;
         drop(mem::replace(&mut env, next));
     }
@@ -86,7 +94,9 @@ fn next_env(
     place: &JobPlace,
     inputs: &Keyed<Value>,
     env: &Env,
-) -> Result<Env, AllocError> {
+) -> Result<Env, AllocError>
+    ensures { IfOk result (λ next. next ≡ next_env (steps_of facts.now steps.now) place.now inputs.now env.now) }
+{
     let mut next = Keyed::new(alloc);
     for step in steps.as_slice() {
         let name = step.0.copied(alloc)?;
@@ -105,7 +115,9 @@ fn step_outs(
     place: &JobPlace,
     inputs: &Keyed<Value>,
     env: &Env,
-) -> Result<Items<Out>, AllocError> {
+) -> Result<Items<Out>, AllocError>
+    ensures { IfOk result (λ outs. outs ≡ (step_meaning_of facts.now.measures (made_from facts.now) step.now id.now place.now inputs.now env.now).outs) }
+{
     let Walk { met, outs } = walk_step(alloc, facts, id, step, place, inputs, env)?;
     drop(met);
     Ok(outs)
@@ -120,7 +132,9 @@ fn steps_met<'a>(
     place: &JobPlace,
     inputs: &Keyed<Value>,
     env: &Env,
-) -> Result<Items<Met<'a>>, AllocError> {
+) -> Result<Items<Met<'a>>, AllocError>
+    ensures { IfOk result (λ met. map met_of met ≡ flat_map (λ s. (step_walk place.now inputs.now env.now s).met) (steps_of facts.now steps.now)) }
+{
     let mut met = Items::new(alloc);
     for step in steps.as_slice() {
         push_met(

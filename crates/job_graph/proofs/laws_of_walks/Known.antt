@@ -21,7 +21,7 @@ use Rattle.job_graph.specs.Equations.{walker}
 use Rattle.job_graph.specs.Eval.{Key, World, made_in, eval}
 use Rattle.job_graph.specs.More.{Stays}
 use Rattle.job_graph.specs.Unfold.{Resolved, is_at, outputs_at, job_met, is_known, with_job, with_met, met_after, jobs_after, made_by, unfolded}
-use Rattle.job_graph.proofs.laws_of_walks.Part.{AllIn, and_left, and_right}
+use Rattle.job_graph.proofs.laws_of_walks.Part.{AllIn, and_left, and_right, neither_one, neither_other}
 use Rattle.job_graph.proofs.laws_of_walks.Places.{Apart, walk_places}
 use Rattle.job_graph.proofs.laws_of_walks.Learned.{IsIn, in_part, earlier_met, well_of, walk_grows, agrees_on}
 
@@ -41,7 +41,7 @@ segment_same : (s t : Segment) → segment_eq s t ≡ true → s ≡ t
 segment_same s t is =
     ap₂ segment_with ((bytes_eq-Decides s.step t.step).0 (and_left (bytes_eq s.step t.step) (bytes_eq s.index t.index) is)) ((bytes_eq-Decides s.index t.index).0 (and_right (bytes_eq s.step t.step) (bytes_eq s.index t.index) is))
 
-same_place : (p q : JobPlace) → is_same_place p q ≡ true → p ≡ q
+pub same_place : (p q : JobPlace) → is_same_place p q ≡ true → p ≡ q
 same_place [] [] is = refl
 same_place [] (t ∷ q) is = absurd cc
 same_place (s ∷ p) [] is = absurd cc
@@ -51,14 +51,6 @@ same_place (s ∷ p) (t ∷ q) is = ap₂ (λ (x : Segment) (xs : JobPlace). x �
 
 abbrev places : List Job → List JobPlace
 places jobs = map (λ (job : Job). job.place) jobs
-
-neither_one : (a b : Bool) → (a || b) ≡ false → a ≡ false
-neither_one true b is = absurd cc
-neither_one false b is = refl
-
-neither_other : (a b : Bool) → (a || b) ≡ false → b ≡ false
-neither_other true b is = absurd cc
-neither_other false b is = is
 
 all_push : (P : JobPlace → Type 0) (jobs : List Job) (job : Job) → AllByRecursion P (places jobs) → P job.place → AllByRecursion P (places (jobs ++ job ∷ []))
 all_push P [] job all last = (last, tt)
@@ -136,7 +128,7 @@ met_known (met_fault place cause ∷ met) jobs job (inr later) = met_known met j
 
 -- ---- the job that is found at a place
 
-abbrev Found : (Job → Type 0) → JobPlace → Option Job → Type 0
+abbrev pub Found : (Job → Type 0) → JobPlace → Option Job → Type 0
 Found P place found = (job : Job) × (found ≡ Some job) × P job × (is_same_place job.place place ≡ true)
 
 first_found : (P : Job → Type 0) (place : JobPlace) (job : Job) (jobs : List Job) (here : Bool) → is_same_place job.place place ≡ here → P job → (list_any (is_at place) jobs ≡ true → Found P place (find (is_at place) jobs))
@@ -144,7 +136,7 @@ first_found : (P : Job → Type 0) (place : JobPlace) (job : Job) (jobs : List J
 first_found P place job jobs true is holds rest some = (job, refl, holds, is)
 first_found P place job jobs false is holds rest some = rest some
 
-found_in : (P : Job → Type 0) (place : JobPlace) (jobs : List Job) → AllByRecursion P jobs → list_any (is_at place) jobs ≡ true → Found P place (find (is_at place) jobs)
+pub found_in : (P : Job → Type 0) (place : JobPlace) (jobs : List Job) → AllByRecursion P jobs → list_any (is_at place) jobs ≡ true → Found P place (find (is_at place) jobs)
 found_in P place [] all some = absurd cc
 found_in P place (job ∷ jobs) all some = first_found P place job jobs (is_at place job) refl all.0 (λ rest. found_in P place jobs all.1 rest) some
 
@@ -186,7 +178,7 @@ listed whole [] means = tt
 listed whole (met_job job ∷ met) means = (means (met_job job) (inl refl), listed whole met (λ m at. means m (inr at)))
 listed whole (met_fault place cause ∷ met) means = listed whole met (λ m at. means m (inr at))
 
-all_means : (P Q : Job → Type 0) → ((job : Job) → P job → Q job) → (jobs : List Job) → AllByRecursion P jobs → AllByRecursion Q jobs
+pub all_means : (P Q : Job → Type 0) → ((job : Job) → P job → Q job) → (jobs : List Job) → AllByRecursion P jobs → AllByRecursion Q jobs
 all_means P Q means [] all = tt
 all_means P Q means (job ∷ jobs) all = (means job all.0, all_means P Q means jobs all.1)
 
@@ -228,11 +220,11 @@ module _ (process : Process) (given : Fields) (measures : Measures) where
       (listed (met_after walks (r ∷ earlier)) (met_after walks (r ∷ earlier)) (λ m at. at))
 
   -- each job that is met is known
-  after_known : (latest : List Resolved) (job : Job) → IsMetAfter latest job → is_known (jobs_after walks latest) job ≡ true
+  pub after_known : (latest : List Resolved) (job : Job) → IsMetAfter latest job → is_known (jobs_after walks latest) job ≡ true
   after_known [] job at = met_known (met_after walks []) [] job at
   after_known (r ∷ earlier) job at = met_known (met_after walks (r ∷ earlier)) (jobs_after walks earlier) job at
 
-  in_order : (learned : List Resolved) → met_after walks (reverse learned) ≡ (walks (made_by learned)).met
+  pub in_order : (learned : List Resolved) → met_after walks (reverse learned) ≡ (walks (made_by learned)).met
   in_order learned = ap (λ (known : List Resolved). (walks (made_by known)).met) (reverse-reverse learned)
 
   pub known_met : (learned : List Resolved) → AllByRecursion (λ (job : Job). IsIn (met_job job) (walks (made_by learned)).met) (unfolded walks learned).jobs

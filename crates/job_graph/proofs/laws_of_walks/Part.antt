@@ -1,6 +1,6 @@
 -- Lists with some elements left out, and optional values that stay.
 use Rattle.std.proofs.Common.{◌≡◌, List, [], ◌∷◌, ◌++◌, map, Bool, true, false, cond, Option, Some, None, option_map, unwrap_or, bytes_eq, refl, ap, ap₂}
-use Rattle.std.specs.Prelude.{◌&&◌}
+use Rattle.std.specs.Prelude.{◌&&◌, ◌||◌}
 use Rattle.std.specs.List.{AllByRecursion}
 use Rattle.cwl_value.specs.declared.value.Value.{Value}
 use Rattle.plain_data.specs.ByName.{value_at}
@@ -48,6 +48,14 @@ and_left false b both = absurd cc
 pub and_right : (a b : Bool) → (a && b) ≡ true → b ≡ true
 and_right true b both = both
 and_right false b both = absurd cc
+
+pub neither_one : (a b : Bool) → (a || b) ≡ false → a ≡ false
+neither_one true b is = absurd cc
+neither_one false b is = refl
+
+pub neither_other : (a b : Bool) → (a || b) ≡ false → b ≡ false
+neither_other true b is = absurd cc
+neither_other false b is = is
 
 -- ---- lists with some elements left out
 

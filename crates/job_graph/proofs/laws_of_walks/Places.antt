@@ -105,7 +105,7 @@ beyond : (place : JobPlace) (id : Name) (tuple : List ℕ) (met : List Met) → 
 beyond place id tuple met at =
     (weaker (IsUnder (step_place place id tuple)) (IsBeyond place (λ s. s ≡ segment id tuple)) (λ job under. (segment id tuple, under.0, refl, under.1 ∙ append_assoc place (segment id tuple ∷ []) under.0)) met at.0, at.1)
 
-abbrev IsAmong : List ℕ → List (List ℕ) → Type 0
+abbrev pub IsAmong : List ℕ → List (List ℕ) → Type 0
 IsAmong name [] = ⊥
 IsAmong name (other ∷ others) = (name ≡ other) ⊎ IsAmong name others
 
@@ -186,7 +186,7 @@ module _ (step : StepLevel) (meaning : Meaning) (places : (place : JobPlace) (fi
 abbrev StepFans : StepMeaning → Type 0
 StepFans one = (id : Name) (place : JobPlace) (inputs : Fields) (env : Env) → Fans place (OfStep id) (one id place inputs env).met
 
-abbrev ids_of : List (Name × Step) → List Name
+abbrev pub ids_of : List (Name × Step) → List Name
 ids_of steps = keys_of (map_values step_ids_differ steps)
 
 or_right : (a b : Bool) → b ≡ true → (a || b) ≡ true
@@ -233,13 +233,13 @@ workflow_places F workflow apart fans place (Ok inputs) =
 tool_differs : (tool : Tool) → ids_differ (process.Tool tool) ≡ true
 tool_differs tool = search (rules, the_lemmas)
 
-workflow_differs : (w : Workflow) → ids_differ (process.Workflow w) ≡ workflow_ids_differ w
+pub workflow_differs : (w : Workflow) → ids_differ (process.Workflow w) ≡ workflow_ids_differ w
 workflow_differs w = search (rules, the_lemmas)
 
-step_differs : (step : StepLevel) → step_ids_differ (roll-Step step) ≡ ids_differ step.process
+pub step_differs : (step : StepLevel) → step_ids_differ (roll-Step step) ≡ ids_differ step.process
 step_differs step = search (rules, the_lemmas)
 
-steps_differ : (w : WorkflowLevel) → workflow_ids_differ (roll-Workflow w) ≡ (differ (ids_of w.steps) && list_all (λ e. e.1) (map_values step_ids_differ w.steps))
+pub steps_differ : (w : WorkflowLevel) → workflow_ids_differ (roll-Workflow w) ≡ (differ (ids_of w.steps) && list_all (λ e. e.1) (map_values step_ids_differ w.steps))
 steps_differ w = search (rules, the_lemmas)
 
 module _ (measures : Measures) (made : Made) where
@@ -299,7 +299,7 @@ same_ids : (steps : List (Name × Step)) → keys_of steps ≡ ids_of steps
 same_ids [] = refl
 same_ids (e ∷ es) = ap (λ (ids : List Name). e.0 ∷ ids) (same_ids es)
 
-step_is : (s : Step) → step_ids_differ s ≡ ids_differ (out-Step s).process
+pub step_is : (s : Step) → step_ids_differ s ≡ ids_differ (out-Step s).process
 step_is s = ap step_ids_differ (sym (roll-out-Step s)) ∙ step_differs (out-Step s)
 
 all_inside : (steps : List (Name × Step)) → list_all inside_differs steps ≡ list_all (λ e. e.1) (map_values step_ids_differ steps)

@@ -1,0 +1,157 @@
+-- What is known once one more place is learned.
+use Rattle.std.proofs.Common.{◌≡◌, ◌∙◌, ℕ, List, [], ◌∷◌, ◌++◌, map, Option, Some, None, Ok, Err, refl, sym, ap, subst, reverse, option_map, length, take, arith}
+use Rattle.std.specs.Prelude.{MatchOption}
+use Rattle.std.proofs.Math.Seq.{take-append_seam}
+use Rattle.std.proofs.lemmas.List.{length_push, map-append, reverse-append, reverse-reverse}
+use Rattle.document_links.specs.declared.process.Process.{Process}
+use Rattle.input_files.specs.Measured.{Measures}
+use Rattle.job_graph.specs.declared.fault.UnfoldError.{UnfoldError}
+use Rattle.job_graph.specs.declared.growth.KnownJob.{KnownJob}
+use Rattle.job_graph.specs.declared.made.Resolved.{Resolved as KeptResolved}
+use Rattle.job_graph.specs.declared.unfolding.Unfolding.{Unfolding}
+use Rattle.job_graph.specs.Words.{Fields}
+use Rattle.job_graph.specs.Jobs.{Job, Walk, Walker, result_in}
+use Rattle.job_graph.specs.Equations.{meaning_of}
+use Rattle.job_graph.specs.Unfold.{Resolved, Fault, made_by, with_met, first_fault, jobs_after, fault_after, met_after, or_else, unfolded, known_from, entries_from}
+use Rattle.job_graph.specs.Unfolding.{AnswersAlike, Blames, Knows, jobs_in, known_of, walks_of}
+use Rattle.job_graph.specs.inner.Growth.{AreCounted, IsOfOneProcess, Unfolds, UnfoldsTo, walk_in}
+use Rattle.job_graph.specs.inner.Views.{resolved_of}
+
+-- the one learned last comes first
+last_first : (learned : List Resolved) (one : Resolved) → reverse (learned ++ one ∷ []) ≡ one ∷ reverse learned
+last_first learned one = reverse-append learned (one ∷ [])
+
+in_order : (learned : List Resolved) (one : Resolved) → reverse (one ∷ reverse learned) ≡ learned ++ one ∷ []
+in_order learned one = ap reverse (sym (last_first learned one)) ∙ reverse-reverse (learned ++ one ∷ [])
+
+met_last : (walks : Walker) (learned : List Resolved) (one : Resolved) → met_after walks (one ∷ reverse learned) ≡ (walks (made_by (learned ++ one ∷ []))).met
+met_last walks learned one = ap (λ (places : List Resolved). (walks (made_by places)).met) (in_order learned one)
+
+pub more_jobs : (walks : Walker) (learned : List Resolved) (one : Resolved) →
+    (unfolded walks (learned ++ one ∷ [])).jobs ≡ with_met (unfolded walks learned).jobs (walks (made_by (learned ++ one ∷ []))).met
+more_jobs walks learned one =
+    ap (jobs_after walks) (last_first learned one) ∙ ap (with_met (jobs_after walks (reverse learned))) (met_last walks learned one)
+
+pub more_fault : (walks : Walker) (learned : List Resolved) (one : Resolved) → (unfolded walks learned).fault ≡ None →
+    (unfolded walks (learned ++ one ∷ [])).fault ≡ first_fault (unfolded walks learned).jobs (walks (made_by (learned ++ one ∷ []))).met
+more_fault walks learned one none =
+    ap (fault_after walks) (last_first learned one)
+    ∙ ap (λ (found : Option Fault). or_else found (first_fault (jobs_after walks (reverse learned)) (met_after walks (one ∷ reverse learned)))) none
+    ∙ ap (first_fault (jobs_after walks (reverse learned))) (met_last walks learned one)
+
+-- the last one is taken off again
+pub popped : {X : Type 0} (before now after : List X) (x : X) (found : Option X) → now ≡ before ++ x ∷ [] →
+    MatchOption found ((now ≡ []) × (after ≡ [])) (λ last. now ≡ after ++ last ∷ []) → after ≡ before
+popped before now after x None is off =
+    let none : length (before ++ x ∷ []) ≡ 0 = ap length (sym is ∙ off.0) in absurd (omega (arith, length_push before x))
+popped before now after x (Some last) is off =
+    let same : before ++ x ∷ [] ≡ after ++ last ∷ [] = sym is ∙ off in
+    let as_many : length (before ++ x ∷ []) ≡ length (after ++ last ∷ []) = ap length same in
+    let as_long : length after ≡ length before = omega (arith, length_push before x, length_push after last) in
+    sym (take-append_seam after (last ∷ [])) ∙ ap (λ (n : ℕ). take n (after ++ last ∷ [])) as_long ∙ ap (take (length before)) (sym same) ∙ take-append_seam before (x ∷ [])
+
+-- ---- of an unfolding
+
+abbrev pub with_learned : Unfolding → List KeptResolved → Unfolding
+with_learned held learned = record held { facts = record held.facts { learned = learned } }
+
+abbrev task : Measures → Process → Fields → Walker
+task measures process fields made = meaning_of measures made process [] fields
+
+same_walks : (old new : Unfolding) → IsOfOneProcess old new → walks_of new ≡ walks_of old
+same_walks old new same =
+    ap (λ (measures : Measures). task measures new.process.now new.fields) same.measures
+    ∙ ap (λ (process : Process). task old.facts.measures process new.fields) same.process
+    ∙ ap (λ (fields : Fields). task old.facts.measures old.process.now fields) same.fields
+
+walk_is : (walks : Walker) (learned : List Resolved) (held : Unfolding) → walks_of held ≡ walks → map resolved_of held.facts.learned ≡ learned →
+    walk_in held ≡ walks (made_by learned)
+walk_is walks learned held walker places =
+    ap (λ (found : List Resolved). walks_of held (made_by found)) places ∙ ap (λ (w : Walker). w (made_by learned)) walker
+
+-- what is known after one walk, where these jobs were known
+pub knows_after : (walks : Walker) (past : List Job) (learned : List Resolved) (held new : Unfolding) →
+    walks_of held ≡ walks → map resolved_of held.facts.learned ≡ learned → jobs_in held.known.items ≡ past → AreCounted held.known.items held.entries → held.fault ≡ None →
+    (unfolded walks learned).jobs ≡ with_met past (walks (made_by learned)).met → (unfolded walks learned).fault ≡ first_fault past (walks (made_by learned)).met →
+    Unfolds held new (Ok tt) → Knows walks learned new
+knows_after walks past learned held new walker places known counted none all fault unfolds =
+    let found : UnfoldsTo held new (Ok tt) = unfolds.unfolds counted in
+    let walk : walk_in held ≡ walks (made_by learned) = walk_is walks learned held walker places in
+    let jobs : jobs_in new.known.items ≡ (unfolded walks learned).jobs =
+    found.0.0 ∙ ap (λ (jobs : List Job). with_met jobs (walk_in held).met) known ∙ ap (λ (w : Walk). with_met past w.met) walk ∙ sym all in
+    record {
+      walker = same_walks held new unfolds.same ∙ walker;
+      places = ap (map resolved_of) unfolds.learned ∙ places;
+      jobs = jobs;
+      parents = found.0.2.parents ∙ ap (known_from []) jobs;
+      entries = found.0.2.count ∙ ap (entries_from 0 []) jobs;
+      fault = fault ∙ sym (ap (λ (w : Walk). first_fault past w.met) walk) ∙ sym (ap (λ (jobs : List Job). first_fault jobs (walk_in held).met) known) ∙ found.0.1;
+      result = found.1 ∙ ap (λ (found : List Resolved). result_in (made_by found) (walk_in held)) places ∙ ap (result_in (made_by learned)) walk;
+      goes_on = unfolds.same.fault ∙ none;
+    }
+
+pub blames_after : (walks : Walker) (past : List Job) (learned : List Resolved) (held new : Unfolding) (error : UnfoldError) →
+    walks_of held ≡ walks → map resolved_of held.facts.learned ≡ learned → jobs_in held.known.items ≡ past → AreCounted held.known.items held.entries →
+    (unfolded walks learned).fault ≡ first_fault past (walks (made_by learned)).met →
+    Unfolds held new (Err error) → Blames (unfolded walks learned).fault error
+blames_after walks past learned held new error walker places known counted fault unfolds =
+    let walk : walk_in held ≡ walks (made_by learned) = walk_is walks learned held walker places in
+    let same : first_fault (jobs_in held.known.items) (walk_in held).met ≡ (unfolded walks learned).fault =
+    ap (λ (jobs : List Job). first_fault jobs (walk_in held).met) known ∙ ap (λ (w : Walk). first_fault past w.met) walk ∙ sym fault in
+    subst (λ (found : Option Fault). Blames found error) same (unfolds.unfolds counted)
+
+-- before any job has run
+
+none_counted : (known : List KnownJob) (entries : ℕ) → known ≡ [] → entries ≡ 0 → AreCounted known entries
+none_counted known entries none zero = record {
+  parents = ap (map known_of) none ∙ sym (ap (λ (before : List KnownJob). known_from [] (jobs_in before)) none);
+  count = zero ∙ sym (ap (λ (before : List KnownJob). entries_from 0 [] (jobs_in before)) none);
+}
+
+pub knows_first : (walks : Walker) (held new : Unfolding) → walks_of held ≡ walks → held.facts.learned ≡ [] → held.known.items ≡ [] → held.entries ≡ 0 → held.fault ≡ None →
+    Unfolds held new (Ok tt) → Knows walks [] new
+knows_first walks held new walker learned known entries none unfolds =
+    knows_after walks [] [] held new walker (ap (map resolved_of) learned) (ap jobs_in known) (none_counted held.known.items held.entries known entries) none refl refl unfolds
+
+pub blames_first : (walks : Walker) (held new : Unfolding) (error : UnfoldError) → walks_of held ≡ walks → held.facts.learned ≡ [] → held.known.items ≡ [] → held.entries ≡ 0 →
+    Unfolds held new (Err error) → Blames (unfolded walks []).fault error
+blames_first walks held new error walker learned known entries unfolds =
+    blames_after walks [] [] held new error walker (ap (map resolved_of) learned) (ap jobs_in known) (none_counted held.known.items held.entries known entries) refl unfolds
+
+-- once one more place is learned
+
+is_counted : (walks : Walker) (learned : List Resolved) (old : Unfolding) → Knows walks learned old → AreCounted old.known.items old.entries
+is_counted walks learned old knows =
+    record { parents = knows.parents ∙ ap (known_from []) (sym knows.jobs); count = knows.entries ∙ ap (entries_from 0 []) (sym knows.jobs) }
+
+more_places : (learned : List Resolved) (before more : List KeptResolved) (resolved : KeptResolved) → map resolved_of before ≡ learned → more ≡ before ++ resolved ∷ [] →
+    map resolved_of more ≡ learned ++ resolved_of resolved ∷ []
+more_places learned before more resolved places is =
+    ap (map resolved_of) is ∙ map-append resolved_of before (resolved ∷ []) ∙ ap (λ (front : List Resolved). front ++ resolved_of resolved ∷ []) places
+
+pub knows_more : (walks : Walker) (learned : List Resolved) (old new : Unfolding) (resolved : KeptResolved) (more : List KeptResolved) → Knows walks learned old →
+    more ≡ old.facts.learned ++ resolved ∷ [] → Unfolds (with_learned old more) new (Ok tt) → Knows walks (learned ++ resolved_of resolved ∷ []) new
+knows_more walks learned old new resolved more knows is unfolds =
+    knows_after walks (unfolded walks learned).jobs (learned ++ resolved_of resolved ∷ []) (with_learned old more) new
+    knows.walker (more_places learned old.facts.learned more resolved knows.places is) knows.jobs (is_counted walks learned old knows) knows.goes_on
+    (more_jobs walks learned (resolved_of resolved)) (more_fault walks learned (resolved_of resolved) knows.fault) unfolds
+
+pub blames_more : (walks : Walker) (learned : List Resolved) (old new : Unfolding) (resolved : KeptResolved) (more : List KeptResolved) (error : UnfoldError) → Knows walks learned old →
+    more ≡ old.facts.learned ++ resolved ∷ [] → Unfolds (with_learned old more) new (Err error) → Blames (unfolded walks (learned ++ resolved_of resolved ∷ [])).fault error
+blames_more walks learned old new resolved more error knows is unfolds =
+    blames_after walks (unfolded walks learned).jobs (learned ++ resolved_of resolved ∷ []) (with_learned old more) new error
+    knows.walker (more_places learned old.facts.learned more resolved knows.places is) knows.jobs (is_counted walks learned old knows)
+    (more_fault walks learned (resolved_of resolved) knows.fault) unfolds
+
+pub knows_still : (walks : Walker) (learned : List Resolved) (old new : Unfolding) (more less : List KeptResolved) (error : UnfoldError) → Knows walks learned old →
+    less ≡ old.facts.learned → Unfolds (with_learned old more) new (Err error) → Knows walks learned (with_learned new less)
+knows_still walks learned old new more less error knows is unfolds = record {
+  walker = same_walks (with_learned old more) new unfolds.same ∙ knows.walker;
+  places = ap (map resolved_of) is ∙ knows.places;
+  jobs = ap jobs_in unfolds.alike.0.jobs ∙ knows.jobs;
+  parents = ap (map known_of) unfolds.alike.0.jobs ∙ knows.parents;
+  entries = unfolds.alike.1 ∙ knows.entries;
+  fault = knows.fault;
+  result = ap (option_map (λ outputs. outputs.items)) unfolds.alike.0.result ∙ knows.result;
+  goes_on = unfolds.same.fault ∙ knows.goes_on;
+}

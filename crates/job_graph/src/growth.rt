@@ -1,0 +1,112 @@
+//! How the known jobs grow by what a walk meets.
+ghost use Rattle.std.specs.Prelude.{◌≡◌, ◌∷◌, [], IfOk, false, map};
+ghost use Rattle.job_graph.specs.Jobs.{met_job};
+ghost use Rattle.job_graph.specs.Unfold.{is_known, parents_from};
+ghost use Rattle.job_graph.specs.Unfolding.{jobs_in};
+ghost use Rattle.job_graph.specs.inner.Growth.{Grows};
+ghost use Rattle.job_graph.specs.inner.Views.{job_of, met_of};
+
+use crate::fault::{UnfoldError, UnfoldFault};
+use crate::parents::any_made;
+use crate::place::is_same_place;
+use crate::walk::{Job, Met};
+use cwl_value::Value;
+use plain_data::{Items, Keyed};
+use plan_checker::{MOST_ENTRIES, MOST_VERTICES};
+use std::alloc::{AllocError, Global};
+
+/// A job that is known.
+#[derive(Drop)]
+pub struct KnownJob<'a> {
+    pub job: Job<'a>,
+    /// The numbers of the jobs that made Files or Directories in its inputs.
+    pub parents: Items<usize>,
+}
+
+/// Adds the jobs that are met for the first time, up to the first fault. Returns how many parents all have.
+pub(crate) fn grow<'a>(
+    alloc: Global,
+    known: &mut Vec<KnownJob<'a>>,
+    entries: usize,
+    met: Items<Met<'a>>,
+) -> Result<usize, UnfoldError>
+    ensures { Grows known.old.items entries (map met_of met.entry) known.new.items result }
+{
+    let mut entries = entries;
+    for one in met.into_vec() {
+        match add(alloc, known, entries, one) {
+            Ok(more) => entries = more,
+            Err(error) => return Err(error),
+        }
+    }
+    Ok(entries)
+}
+
+/// Adds one that is met: a job is added where none is known at its place.
+fn add<'a>(
+    alloc: Global,
+    known: &mut Vec<KnownJob<'a>>,
+    entries: usize,
+    met: Met<'a>,
+) -> Result<usize, UnfoldError>
+    ensures { Grows known.old.items entries (met_of met.entry ∷ []) known.new.items result }
+{
+    match met {
+        Met::Fault(place, cause) => Err(UnfoldError::Refused(UnfoldFault::Fault(place, cause))),
+        Met::Job(job) => {
+            if is_known(known.as_slice(), &job) {
+                return Ok(entries);
+            }
+            add_job(alloc, known, entries, job)
+        }
+    }
+}
+
+fn is_known(known: &[KnownJob<'_>], job: &Job<'_>) -> bool
+    ensures { result ≡ is_known (jobs_in known.now) (job_of job.now) }
+{
+    for one in known {
+        if is_same_place(one.job.place.as_slice(), job.place.as_slice()) {
+            return true;
+        }
+    }
+    false
+}
+
+/// Adds a job with its parents, within the limits. Returns how many parents all have.
+fn add_job<'a>(
+    alloc: Global,
+    known: &mut Vec<KnownJob<'a>>,
+    entries: usize,
+    job: Job<'a>,
+) -> Result<usize, UnfoldError>
+    requires { is_known (jobs_in known.old.items) (job_of job) ≡ false }
+    ensures { Grows known.old.items entries (met_job (job_of job.entry) ∷ []) known.new.items result }
+{
+    let parents = parents_among(alloc, known.as_slice(), &job.inputs)?;
+    let entries = entries.saturating_add(parents.len());
+    if entries > MOST_ENTRIES || known.len() >= MOST_VERTICES {
+        return Err(UnfoldError::Refused(UnfoldFault::TooManyJobs));
+    }
+    match known.push(KnownJob { job, parents }) {
+        Ok(()) => Ok(entries),
+        Err(_refused) => Err(UnfoldError::OutOfMemory),
+    }
+}
+
+/// The numbers of those jobs that made a File or Directory in the inputs.
+fn parents_among(
+    alloc: Global,
+    known: &[KnownJob<'_>],
+    inputs: &Keyed<Value>,
+) -> Result<Items<usize>, AllocError>
+    ensures { IfOk result (λ parents. parents ≡ parents_from 0 (jobs_in known.now) inputs.now) }
+{
+    let mut parents = Items::new(alloc);
+    for number in 0..known.len() {
+        if any_made(&known[number].job.place, inputs) {
+            parents.push(number)?;
+        }
+    }
+    Ok(parents)
+}
