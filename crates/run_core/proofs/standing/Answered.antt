@@ -32,7 +32,7 @@ use Rattle.run_core.specs.inner.Measures.{MeasuresOn, all_measured, measures}
 use Rattle.run_core.specs.inner.Picks.{AfterEnd, AfterFault, badly, for_now, well}
 use Rattle.run_core.specs.inner.Standing.{Blames}
 use Rattle.run_core.proofs.standing.Books.{Books, BooksAt, books_end, books_landed, books_staged, books_start, books_unstaged}
-use Rattle.run_core.proofs.standing.Leaving.{FewKnown, KnowsSome, Leaves, books_course, books_unfolded, leaves_end, leaves_temporary, picks_leave, turns_leave}
+use Rattle.run_core.proofs.standing.Leaving.{FewKnown, KnowsSome, Leaves, MayKnow, books_course, books_unfolded, leaves_end, leaves_temporary, picks_leave, turns_leave}
 
 abbrev pub host_answer : Answer → HostAnswer
 host_answer (Answer.Host answer) = answer
@@ -76,60 +76,59 @@ module _ (given : Given) (old : Course) (entries : List Entry) (turn : Turn) (ne
       (subst (λ (p : Past). Books given.options entries p) (sym after.past) (books_end given.options entries (past_of old) (Err (RunFault.Host fault [])) blame books))
       after.picks
 
-  module _ (knows : old.end ≡ None → KnowsSome old) where
-    after_end : (landed : Course) (flight : Flight) (tool : Tool) (ending : ChildEnd) → (landed.end ≡ None → KnowsSome landed) →
-        Books given.options entries (past_of landed) → AfterEnd given landed flight tool ending turn new → Left
-    after_end landed flight tool ending still books (well site next class site_is scans turns) =
-        turns_leave given.options entries given refl landed flight.job next turn new few still books turns
-    after_end landed flight tool ending still books (badly class turns) =
-        turns_leave given.options entries given refl landed flight.job _ turn new few still books turns
-    after_end landed flight tool ending still books (for_now class temporary) =
-        leaves_temporary given.options entries given refl landed flight.job turn new few books temporary
+  after_end : (landed : Course) (flight : Flight) (tool : Tool) (ending : ChildEnd) → (landed.end ≡ None → KnowsSome landed) →
+      Books given.options entries (past_of landed) → AfterEnd given landed flight tool ending turn new → Left
+  after_end landed flight tool ending still books (well site next class site_is scans turns) =
+      turns_leave given.options entries given refl landed flight.job next turn new few still books turns
+  after_end landed flight tool ending still books (badly class turns) =
+      turns_leave given.options entries given refl landed flight.job _ turn new few still books turns
+  after_end landed flight tool ending still books (for_now class temporary) =
+      leaves_temporary given.options entries given refl landed flight.job turn new few books temporary
 
-    pub step_leaves : (asks : Request) (phase : Phase) (answer : Answer) → MayAnswer old.tickets.items asks answer → AsksOf old asks phase → (phase ≡ Phase.Draining → ⊥) →
-        Contains (logged_answers entries) (host_answer answer) → StaysBounded given.options (past_of old) phase → Blames entries (past_of old) phase →
-        FollowsFrom given old (record { asks = asks; phase = phase }) answer turn new → Left
-    step_leaves asks (Phase.Measuring measuring) answer (by_host place request its (is_measured path measure)) fits goes told bounded blames follows =
-        after_measure given old entries turn new few follows.next (record { bounded = bounded; blames = blames }) follows.on
-    step_leaves asks (Phase.Measuring measuring) answer (by_host place request its (has_failed call)) fits goes told bounded blames follows =
-        after_fault (fault_of call) told (record { bounded = bounded; blames = blames }) follows
-    step_leaves asks (Phase.Staging number) answer (by_host place request its (is_staged plan folder)) fits goes told bounded blames follows =
-        turns_leave given.options entries given refl follows.staged number follows.next turn new few
-        (known_still old follows.staged (ap (λ (p : Past). p.end) follows.past) follows.known knows)
-        (subst (λ (p : Past). Books given.options entries p) (sym follows.past)
-        (books_staged given.options entries (past_of old) number (record { bounded = bounded; blames = blames }))) follows.turns
-    step_leaves asks (Phase.Staging number) answer (by_host place request its (has_failed call)) fits goes told bounded blames follows =
-        after_fault (fault_of call) told (books_unstaged given.options entries (past_of old) number (record { bounded = bounded; blames = blames })) follows
-    step_leaves asks (Phase.Working number (JobPhase.Filling filling)) answer (by_host place request its (is_read path limit bytes short)) fits goes told bounded blames follows =
-        turns_leave given.options entries given refl old number follows.next turn new few knows (record { bounded = bounded; blames = blames }) follows.turns
-    step_leaves asks (Phase.Working number (JobPhase.Filling filling)) answer (by_host place request its (has_failed call)) fits goes told bounded blames follows =
-        after_fault (fault_of call) told (record { bounded = bounded; blames = blames }) follows
-    step_leaves asks (Phase.Working number (JobPhase.Starting kept)) answer (by_host place request its (is_started launch ticket fresh)) fits goes told bounded blames follows =
-        picks_leave given.options entries given refl follows.started turn new few
-        (subst (λ (p : Past). Books given.options entries p) (sym follows.past)
-        (books_start given.options entries (past_of old) number kept ticket told (record { bounded = bounded; blames = blames }))) follows.picks
-    step_leaves asks (Phase.Working number (JobPhase.Starting kept)) answer (by_host place request its (has_failed call)) fits goes told bounded blames follows =
-        after_fault (fault_of call) told (record { bounded = bounded; blames = blames }) follows
-    step_leaves asks (Phase.Working number (JobPhase.Scanning kept millis)) answer (by_host place request its (is_listed folder found)) fits goes told bounded blames follows =
-        turns_leave given.options entries given refl old number follows.next turn new few knows (record { bounded = bounded; blames = blames }) follows.turns
-    step_leaves asks (Phase.Working number (JobPhase.Scanning kept millis)) answer (by_host place request its (has_failed call)) fits goes told bounded blames follows =
-        after_fault (fault_of call) told (record { bounded = bounded; blames = blames }) follows
-    step_leaves asks (Phase.Working number (JobPhase.Reading kept reading)) answer (by_host place request its (is_read path limit bytes short)) fits goes told bounded blames follows =
-        turns_leave given.options entries given refl old number follows.next turn new few knows (record { bounded = bounded; blames = blames }) follows.turns
-    step_leaves asks (Phase.Working number (JobPhase.Reading kept reading)) answer (by_host place request its (has_failed call)) fits goes told bounded blames follows =
-        after_fault (fault_of call) told (record { bounded = bounded; blames = blames }) follows
-    step_leaves asks Phase.Collecting answer (by_host place request its (has_ended ending flies)) fits goes told bounded blames follows =
-        let books : Books given.options entries (past_of follows.landed) =
-        books_landed given.options entries (past_of old) ending.ticket follows.flight (past_of follows.landed) follows.taken (record { bounded = bounded; blames = blames }) in
-        after_end follows.landed follows.flight follows.job.tool ending
-        (known_still old follows.landed (ap (λ (p : Past). p.end) follows.taken.is) follows.known knows) books follows.ends
-    step_leaves asks Phase.Collecting answer (by_host place request its (has_failed call)) fits goes told bounded blames follows =
-        let blame : IsToBlame entries (fault_of call) old.tickets.items = record { failed = told; started = blames.flying } in
-        leaves_end given.options entries (Err (RunFault.Host (fault_of call) old.tickets.items)) turn new (ap (λ (t : Turn). t.phase) follows.0) blame
-    step_leaves asks (Phase.Delivering outputs) answer (by_host place request its (is_delivered plan)) fits goes told bounded blames follows =
-        leaves_end given.options entries _ turn new (ap (λ (t : Turn). t.phase) follows.0) tt
-    step_leaves asks (Phase.Delivering outputs) answer (by_host place request its (has_failed call)) fits goes told bounded blames follows =
-        after_fault (fault_of call) told (record { bounded = bounded; blames = blames }) follows
-    step_leaves asks Phase.Draining answer may fits goes told bounded blames follows = absurd (goes refl)
-    step_leaves asks (Phase.Ended outcome) answer (by_host place request its can) fits goes told bounded blames follows = absurd (asks_none old place request outcome fits)
-    step_leaves asks phase answer (by_host place request its can) fits goes told bounded blames follows = absurd fits
+  pub step_leaves : (asks : Request) (phase : Phase) (answer : Answer) → MayAnswer old.tickets.items asks answer → AsksOf old asks phase → (phase ≡ Phase.Draining → ⊥) → MayKnow old phase →
+      Contains (logged_answers entries) (host_answer answer) → StaysBounded given.options (past_of old) phase → Blames entries (past_of old) phase →
+      FollowsFrom given old (record { asks = asks; phase = phase }) answer turn new → Left
+  step_leaves asks (Phase.Measuring measuring) answer (by_host place request its (is_measured path measure)) fits goes knows told bounded blames follows =
+      after_measure given old entries turn new few follows.next (record { bounded = bounded; blames = blames }) follows.on
+  step_leaves asks (Phase.Measuring measuring) answer (by_host place request its (has_failed call)) fits goes knows told bounded blames follows =
+      after_fault (fault_of call) told (record { bounded = bounded; blames = blames }) follows
+  step_leaves asks (Phase.Staging number) answer (by_host place request its (is_staged plan folder)) fits goes knows told bounded blames follows =
+      turns_leave given.options entries given refl follows.staged number follows.next turn new few
+      (known_still old follows.staged (ap (λ (p : Past). p.end) follows.past) follows.known knows)
+      (subst (λ (p : Past). Books given.options entries p) (sym follows.past)
+      (books_staged given.options entries (past_of old) number (record { bounded = bounded; blames = blames }))) follows.turns
+  step_leaves asks (Phase.Staging number) answer (by_host place request its (has_failed call)) fits goes knows told bounded blames follows =
+      after_fault (fault_of call) told (books_unstaged given.options entries (past_of old) number (record { bounded = bounded; blames = blames })) follows
+  step_leaves asks (Phase.Working number (JobPhase.Filling filling)) answer (by_host place request its (is_read path limit bytes short)) fits goes knows told bounded blames follows =
+      turns_leave given.options entries given refl old number follows.next turn new few knows (record { bounded = bounded; blames = blames }) follows.turns
+  step_leaves asks (Phase.Working number (JobPhase.Filling filling)) answer (by_host place request its (has_failed call)) fits goes knows told bounded blames follows =
+      after_fault (fault_of call) told (record { bounded = bounded; blames = blames }) follows
+  step_leaves asks (Phase.Working number (JobPhase.Starting kept)) answer (by_host place request its (is_started launch ticket fresh)) fits goes knows told bounded blames follows =
+      picks_leave given.options entries given refl follows.started turn new few
+      (subst (λ (p : Past). Books given.options entries p) (sym follows.past)
+      (books_start given.options entries (past_of old) number kept ticket told (record { bounded = bounded; blames = blames }))) follows.picks
+  step_leaves asks (Phase.Working number (JobPhase.Starting kept)) answer (by_host place request its (has_failed call)) fits goes knows told bounded blames follows =
+      after_fault (fault_of call) told (record { bounded = bounded; blames = blames }) follows
+  step_leaves asks (Phase.Working number (JobPhase.Scanning kept millis)) answer (by_host place request its (is_listed folder found)) fits goes knows told bounded blames follows =
+      turns_leave given.options entries given refl old number follows.next turn new few knows (record { bounded = bounded; blames = blames }) follows.turns
+  step_leaves asks (Phase.Working number (JobPhase.Scanning kept millis)) answer (by_host place request its (has_failed call)) fits goes knows told bounded blames follows =
+      after_fault (fault_of call) told (record { bounded = bounded; blames = blames }) follows
+  step_leaves asks (Phase.Working number (JobPhase.Reading kept reading)) answer (by_host place request its (is_read path limit bytes short)) fits goes knows told bounded blames follows =
+      turns_leave given.options entries given refl old number follows.next turn new few knows (record { bounded = bounded; blames = blames }) follows.turns
+  step_leaves asks (Phase.Working number (JobPhase.Reading kept reading)) answer (by_host place request its (has_failed call)) fits goes knows told bounded blames follows =
+      after_fault (fault_of call) told (record { bounded = bounded; blames = blames }) follows
+  step_leaves asks Phase.Collecting answer (by_host place request its (has_ended ending flies)) fits goes knows told bounded blames follows =
+      let books : Books given.options entries (past_of follows.landed) =
+      books_landed given.options entries (past_of old) ending.ticket follows.flight (past_of follows.landed) follows.taken (record { bounded = bounded; blames = blames }) in
+      after_end follows.landed follows.flight follows.job.tool ending
+      (known_still old follows.landed (ap (λ (p : Past). p.end) follows.taken.is) follows.known knows) books follows.ends
+  step_leaves asks Phase.Collecting answer (by_host place request its (has_failed call)) fits goes knows told bounded blames follows =
+      let blame : IsToBlame entries (fault_of call) old.tickets.items = record { failed = told; started = blames.flying } in
+      leaves_end given.options entries (Err (RunFault.Host (fault_of call) old.tickets.items)) turn new (ap (λ (t : Turn). t.phase) follows.0) blame
+  step_leaves asks (Phase.Delivering outputs) answer (by_host place request its (is_delivered plan)) fits goes knows told bounded blames follows =
+      leaves_end given.options entries _ turn new (ap (λ (t : Turn). t.phase) follows.0) tt
+  step_leaves asks (Phase.Delivering outputs) answer (by_host place request its (has_failed call)) fits goes knows told bounded blames follows =
+      after_fault (fault_of call) told (record { bounded = bounded; blames = blames }) follows
+  step_leaves asks Phase.Draining answer may fits goes knows told bounded blames follows = absurd (goes refl)
+  step_leaves asks (Phase.Ended outcome) answer (by_host place request its can) fits goes knows told bounded blames follows = absurd (asks_none old place request outcome fits)
+  step_leaves asks phase answer (by_host place request its can) fits goes knows told bounded blames follows = absurd fits

@@ -35,7 +35,7 @@ use Rattle.run_core.specs.inner.Measures.{MeasuresOn, all_measured, measures}
 use Rattle.run_core.specs.inner.Picks.{AfterEnd, AfterFault, AfterInputHead, AfterOutputHead, Turns, badly, for_now, well}
 use Rattle.run_core.specs.inner.Turns.{PutsNext, its_turn, no_turn}
 use Rattle.run_core.proofs.standing.Answered.{asks_none, known_still}
-use Rattle.run_core.proofs.standing.Leaving.{KnowsSome}
+use Rattle.run_core.proofs.standing.Leaving.{KnowsSome, MayKnow}
 use Rattle.run_core.proofs.standing.Looked.{calls_at_most, collects_by_lists, collects_by_names, starts_at_most, weight_next}
 use Rattle.run_core.proofs.standing.Weights.{landing_falls, picks_few, picks_last, picks_settled, staging_falls, start_rises, temporary_few, turns_few, unfolded_same}
 
@@ -183,53 +183,54 @@ module _ (given : Given) (old : Course) where
         below_soon (answers_left given.options (past_of new) turn.phase) (weight_of_past given.options (past_of landed)) Before
         (temporary_few given.options given landed flight.job turn new temporary) falls
 
-    -- Each answer
+  -- Each answer
 
-    pub step_fewer : (asks : Request) (phase : Phase) (answer : Answer) → MayAnswer old.tickets.items asks answer → AsksOf old asks phase → (phase ≡ Phase.Draining → ⊥) →
+  module _ (turn : Turn) (new : Course) where
+    pub step_fewer : (asks : Request) (phase : Phase) (answer : Answer) → MayAnswer old.tickets.items asks answer → AsksOf old asks phase → (phase ≡ Phase.Draining → ⊥) → MayKnow old phase →
         StaysBounded given.options (past_of old) phase → LooksAtSome (past_of old) phase →
         FollowsFrom given old (record { asks = asks; phase = phase }) answer turn new → Fewer turn new (weight_of phase)
-    step_fewer asks (Phase.Measuring measuring) answer (by_host place request its (is_measured path measure)) fits goes bounded some follows =
+    step_fewer asks (Phase.Measuring measuring) answer (by_host place request its (is_measured path measure)) fits goes knows bounded some follows =
         measuring_fewer (length measuring.left) follows.next turn new (rest_shorter measuring.left measuring.measures measure some follows.puts) follows.on
-    step_fewer asks (Phase.Measuring measuring) answer (by_host place request its (has_failed call)) fits goes bounded some follows =
+    step_fewer asks (Phase.Measuring measuring) answer (by_host place request its (has_failed call)) fits goes knows bounded some follows =
         fault_fewer (fault_of call) turn new (2 + length measuring.left) (omega arith) follows
-    step_fewer asks (Phase.Staging number) answer (by_host place request its (is_staged plan folder)) fits goes bounded some follows =
+    step_fewer asks (Phase.Staging number) answer (by_host place request its (is_staged plan folder)) fits goes knows bounded some follows =
         below_staging (answers_left given.options (past_of new) turn.phase) (weight_of_past given.options (past_of follows.staged)) Before
         (turns_few given.options given follows.staged number follows.next turn new (2 * many_files + 6) (omega arith)
         (calls_at_most follows.site.options.now follows.site.folder follows.next follows.starts.calls)
         (known_still old follows.staged (ap (λ (p : Past). p.end) follows.past) follows.known knows) follows.turns)
         (subst (λ (p : Past). weight_of_past given.options p + (2 * many_files + 8) ≤ weight_of_past given.options (past_of old)) (sym follows.past)
         (staging_falls given.options (past_of old) number bounded))
-    step_fewer asks (Phase.Staging number) answer (by_host place request its (has_failed call)) fits goes bounded some follows =
+    step_fewer asks (Phase.Staging number) answer (by_host place request its (has_failed call)) fits goes knows bounded some follows =
         fault_fewer (fault_of call) turn new 2 (omega arith) follows
-    step_fewer asks (Phase.Working number (JobPhase.Filling filling)) answer (by_host place request its (is_read path limit bytes short)) fits goes bounded some follows =
-        input_fewer number filling bytes some follows
-    step_fewer asks (Phase.Working number (JobPhase.Filling filling)) answer (by_host place request its (has_failed call)) fits goes bounded some follows =
+    step_fewer asks (Phase.Working number (JobPhase.Filling filling)) answer (by_host place request its (is_read path limit bytes short)) fits goes knows bounded some follows =
+        input_fewer knows turn new number filling bytes some follows
+    step_fewer asks (Phase.Working number (JobPhase.Filling filling)) answer (by_host place request its (has_failed call)) fits goes knows bounded some follows =
         fault_fewer (fault_of call) turn new (many_files + 6 + length filling.left) (omega arith) follows
-    step_fewer asks (Phase.Working number (JobPhase.Starting kept)) answer (by_host place request its (is_started launch ticket fresh)) fits goes bounded some follows =
+    step_fewer asks (Phase.Working number (JobPhase.Starting kept)) answer (by_host place request its (is_started launch ticket fresh)) fits goes knows bounded some follows =
         below_start (answers_left given.options (past_of new) turn.phase) (weight_of_past given.options (past_of follows.started)) Before
         (picks_few given.options given follows.started turn new follows.picks)
         (ap (weight_of_past given.options) follows.past ∙ start_rises given.options (past_of old) number kept ticket)
-    step_fewer asks (Phase.Working number (JobPhase.Starting kept)) answer (by_host place request its (has_failed call)) fits goes bounded some follows =
+    step_fewer asks (Phase.Working number (JobPhase.Starting kept)) answer (by_host place request its (has_failed call)) fits goes knows bounded some follows =
         fault_fewer (fault_of call) turn new (many_files + 6) (omega arith) follows
-    step_fewer asks (Phase.Working number (JobPhase.Scanning kept millis)) answer (by_host place request its (is_listed folder found)) fits goes bounded some follows =
-        turns_fewer number follows.next (many_files + 2) (many_files + 3) (omega arith)
+    step_fewer asks (Phase.Working number (JobPhase.Scanning kept millis)) answer (by_host place request its (is_listed folder found)) fits goes knows bounded some follows =
+        turns_fewer knows turn new number follows.next (many_files + 2) (many_files + 3) (omega arith)
         (collects_by_lists follows.site kept found [] follows.collects.wanted follows.next follows.collects.on) (omega arith) follows.turns
-    step_fewer asks (Phase.Working number (JobPhase.Scanning kept millis)) answer (by_host place request its (has_failed call)) fits goes bounded some follows =
+    step_fewer asks (Phase.Working number (JobPhase.Scanning kept millis)) answer (by_host place request its (has_failed call)) fits goes knows bounded some follows =
         fault_fewer (fault_of call) turn new (many_files + 3) (omega arith) follows
-    step_fewer asks (Phase.Working number (JobPhase.Reading kept reading)) answer (by_host place request its (is_read path limit bytes short)) fits goes bounded some follows =
-        output_fewer number kept reading bytes some follows
-    step_fewer asks (Phase.Working number (JobPhase.Reading kept reading)) answer (by_host place request its (has_failed call)) fits goes bounded some follows =
+    step_fewer asks (Phase.Working number (JobPhase.Reading kept reading)) answer (by_host place request its (is_read path limit bytes short)) fits goes knows bounded some follows =
+        output_fewer knows turn new number kept reading bytes some follows
+    step_fewer asks (Phase.Working number (JobPhase.Reading kept reading)) answer (by_host place request its (has_failed call)) fits goes knows bounded some follows =
         fault_fewer (fault_of call) turn new (2 + length reading.left) (omega arith) follows
-    step_fewer asks Phase.Collecting answer (by_host place request its (has_ended ending flies)) fits goes bounded some follows =
-        end_fewer follows.landed follows.flight follows.job.tool ending
+    step_fewer asks Phase.Collecting answer (by_host place request its (has_ended ending flies)) fits goes knows bounded some follows =
+        end_fewer knows turn new follows.landed follows.flight follows.job.tool ending
         (known_still old follows.landed (ap (λ (p : Past). p.end) follows.taken.is) follows.known knows)
         (landing_falls given.options ending.ticket follows.flight (past_of old) (past_of follows.landed) follows.taken) follows.ends
-    step_fewer asks Phase.Collecting answer (by_host place request its (has_failed call)) fits goes bounded some follows =
+    step_fewer asks Phase.Collecting answer (by_host place request its (has_failed call)) fits goes knows bounded some follows =
         none_left _ turn new 1 (ap (λ (t : Turn). t.phase) follows.0) (omega arith)
-    step_fewer asks (Phase.Delivering outputs) answer (by_host place request its (is_delivered plan)) fits goes bounded some follows =
+    step_fewer asks (Phase.Delivering outputs) answer (by_host place request its (is_delivered plan)) fits goes knows bounded some follows =
         none_left _ turn new 1 (ap (λ (t : Turn). t.phase) follows.0) (omega arith)
-    step_fewer asks (Phase.Delivering outputs) answer (by_host place request its (has_failed call)) fits goes bounded some follows =
+    step_fewer asks (Phase.Delivering outputs) answer (by_host place request its (has_failed call)) fits goes knows bounded some follows =
         last_fewer (fault_of call) turn new some follows
-    step_fewer asks Phase.Draining answer may fits goes bounded some follows = absurd (goes refl)
-    step_fewer asks (Phase.Ended outcome) answer (by_host place request its can) fits goes bounded some follows = absurd (asks_none old place request outcome fits)
-    step_fewer asks phase answer (by_host place request its can) fits goes bounded some follows = absurd fits
+    step_fewer asks Phase.Draining answer may fits goes knows bounded some follows = absurd (goes refl)
+    step_fewer asks (Phase.Ended outcome) answer (by_host place request its can) fits goes knows bounded some follows = absurd (asks_none old place request outcome fits)
+    step_fewer asks phase answer (by_host place request its can) fits goes knows bounded some follows = absurd fits

@@ -29,7 +29,7 @@ use Rattle.run_core.specs.inner.Knows.{IsUnfolded, fails as unfold_fails, knows 
 use Rattle.run_core.specs.inner.Measures.{MeasuresOn, all_measured, measures}
 use Rattle.run_core.specs.inner.Picks.{AfterEnd, AfterFault, AfterTemporary, Picks, Turns, again as stages_again, asks, badly, drains, ends_so, fails, for_now, gives, gives_late, has_result, no_more as tries_no_more, stages, waits_for_one, well}
 use Rattle.run_core.proofs.standing.Answered.{asks_none, known_still}
-use Rattle.run_core.proofs.standing.Leaving.{KnowsSome, learns_by}
+use Rattle.run_core.proofs.standing.Leaving.{KnowsSome, MayKnow, learns_by}
 use Rattle.run_core.proofs.standing.Tickets.{one_less}
 
 -- those that fly now, and none after a failed collect
@@ -95,50 +95,47 @@ module _ (given : Given) where
   pub taken_out : (ticket : ℕ) (flight : Flight) (old new : Past) → IsDistinct nat_eq old.tickets → TakesOut ticket flight old new → new.tickets ≡ without ticket old.tickets
   taken_out ticket flight old new apart taken = same_tickets new _ taken.is ∙ one_less old.tickets taken.index ticket apart taken.ticket_there
 
-  module _ (old : Course) (turn : Turn) (new : Course) (apart : IsDistinct nat_eq old.tickets.items) (knows : old.end ≡ None → KnowsSome old) where
+  module _ (old : Course) (turn : Turn) (new : Course) (apart : IsDistinct nat_eq old.tickets.items) where
     -- an answer of a call that starts no child and waits for none leaves those that fly
     abbrev After : Answer → Type 0
     After answer = FliesAfter old.tickets.items answer new.tickets.items
 
-    still : (course : Course) → course.end ≡ old.end → course.known ≡ old.known → course.end ≡ None → KnowsSome course
-    still course same known going = known_still old course same known knows going
-
     pub step_flies : (request_asks : Request) (phase : Phase) (answer : Answer) → MayAnswer old.tickets.items request_asks answer → AsksOf old request_asks phase →
-        (phase ≡ Phase.Draining → ⊥) → FollowsFrom given old (record { asks = request_asks; phase = phase }) answer turn new → After answer
-    step_flies it (Phase.Measuring measuring) answer (by_host place request its (is_measured path measure)) fits goes follows =
+        (phase ≡ Phase.Draining → ⊥) → MayKnow old phase → FollowsFrom given old (record { asks = request_asks; phase = phase }) answer turn new → After answer
+    step_flies it (Phase.Measuring measuring) answer (by_host place request its (is_measured path measure)) fits goes knows follows =
         flies_on _ _ (measures_fly old follows.next turn new follows.on)
-    step_flies it (Phase.Measuring measuring) answer (by_host place request its (has_failed call)) fits goes follows = flies_on _ _ (fault_fly old _ turn new follows)
-    step_flies it (Phase.Staging number) answer (by_host place request its (is_staged plan folder)) fits goes follows =
-        flies_on _ _ (turns_fly follows.staged number follows.next turn new (still follows.staged (ap (λ (p : Past). p.end) follows.past) follows.known) follows.turns
+    step_flies it (Phase.Measuring measuring) answer (by_host place request its (has_failed call)) fits goes knows follows = flies_on _ _ (fault_fly old _ turn new follows)
+    step_flies it (Phase.Staging number) answer (by_host place request its (is_staged plan folder)) fits goes knows follows =
+        flies_on _ _ (turns_fly follows.staged number follows.next turn new (known_still old follows.staged (ap (λ (p : Past). p.end) follows.past) follows.known knows) follows.turns
         ∙ ap (λ (p : Past). p.tickets) follows.past)
-    step_flies it (Phase.Staging number) answer (by_host place request its (has_failed call)) fits goes follows = flies_on _ _ (fault_fly old _ turn new follows)
-    step_flies it (Phase.Working number (JobPhase.Filling filling)) answer (by_host place request its (is_read path limit bytes short)) fits goes follows =
+    step_flies it (Phase.Staging number) answer (by_host place request its (has_failed call)) fits goes knows follows = flies_on _ _ (fault_fly old _ turn new follows)
+    step_flies it (Phase.Working number (JobPhase.Filling filling)) answer (by_host place request its (is_read path limit bytes short)) fits goes knows follows =
         flies_on _ _ (turns_fly old number follows.next turn new knows follows.turns)
-    step_flies it (Phase.Working number (JobPhase.Filling filling)) answer (by_host place request its (has_failed call)) fits goes follows =
+    step_flies it (Phase.Working number (JobPhase.Filling filling)) answer (by_host place request its (has_failed call)) fits goes knows follows =
         flies_on _ _ (fault_fly old _ turn new follows)
-    step_flies it (Phase.Working number (JobPhase.Starting kept)) answer (by_host place request its (is_started launch ticket fresh)) fits goes follows =
+    step_flies it (Phase.Working number (JobPhase.Starting kept)) answer (by_host place request its (is_started launch ticket fresh)) fits goes knows follows =
         flies_on _ _ (picks_fly follows.started turn new follows.picks ∙ ap (λ (p : Past). p.tickets) follows.past)
-    step_flies it (Phase.Working number (JobPhase.Starting kept)) answer (by_host place request its (has_failed call)) fits goes follows =
+    step_flies it (Phase.Working number (JobPhase.Starting kept)) answer (by_host place request its (has_failed call)) fits goes knows follows =
         flies_on _ _ (fault_fly old _ turn new follows)
-    step_flies it (Phase.Working number (JobPhase.Scanning kept millis)) answer (by_host place request its (is_listed folder found)) fits goes follows =
+    step_flies it (Phase.Working number (JobPhase.Scanning kept millis)) answer (by_host place request its (is_listed folder found)) fits goes knows follows =
         flies_on _ _ (turns_fly old number follows.next turn new knows follows.turns)
-    step_flies it (Phase.Working number (JobPhase.Scanning kept millis)) answer (by_host place request its (has_failed call)) fits goes follows =
+    step_flies it (Phase.Working number (JobPhase.Scanning kept millis)) answer (by_host place request its (has_failed call)) fits goes knows follows =
         flies_on _ _ (fault_fly old _ turn new follows)
-    step_flies it (Phase.Working number (JobPhase.Reading kept reading)) answer (by_host place request its (is_read path limit bytes short)) fits goes follows =
+    step_flies it (Phase.Working number (JobPhase.Reading kept reading)) answer (by_host place request its (is_read path limit bytes short)) fits goes knows follows =
         flies_on _ _ (turns_fly old number follows.next turn new knows follows.turns)
-    step_flies it (Phase.Working number (JobPhase.Reading kept reading)) answer (by_host place request its (has_failed call)) fits goes follows =
+    step_flies it (Phase.Working number (JobPhase.Reading kept reading)) answer (by_host place request its (has_failed call)) fits goes knows follows =
         flies_on _ _ (fault_fly old _ turn new follows)
-    step_flies it Phase.Collecting answer (by_host place request its (has_ended ending flies)) fits goes follows =
+    step_flies it Phase.Collecting answer (by_host place request its (has_ended ending flies)) fits goes knows follows =
         flies_on _ _ (end_fly follows.landed follows.flight follows.job.tool ending turn new
-        (still follows.landed (ap (λ (p : Past). p.end) follows.taken.is) follows.known) follows.ends
+        (known_still old follows.landed (ap (λ (p : Past). p.end) follows.taken.is) follows.known knows) follows.ends
         ∙ taken_out ending.ticket follows.flight (past_of old) (past_of follows.landed) apart follows.taken)
-    step_flies it Phase.Collecting answer (by_host place request its (has_failed call)) fits goes follows = lost_collect old new place call fits follows.2
-    step_flies it (Phase.Delivering outputs) answer (by_host place request its (is_delivered plan)) fits goes follows =
+    step_flies it Phase.Collecting answer (by_host place request its (has_failed call)) fits goes knows follows = lost_collect old new place call fits follows.2
+    step_flies it (Phase.Delivering outputs) answer (by_host place request its (is_delivered plan)) fits goes knows follows =
         flies_on _ _ (ap (λ (c : Course). c.tickets.items) follows.1)
-    step_flies it (Phase.Delivering outputs) answer (by_host place request its (has_failed call)) fits goes follows = flies_on _ _ (fault_fly old _ turn new follows)
-    step_flies it Phase.Draining answer may fits goes follows = absurd (goes refl)
-    step_flies it (Phase.Ended outcome) answer (by_host place request its can) fits goes follows = absurd (asks_none old place request outcome fits)
-    step_flies it phase answer (by_host place request its can) fits goes follows = absurd fits
+    step_flies it (Phase.Delivering outputs) answer (by_host place request its (has_failed call)) fits goes knows follows = flies_on _ _ (fault_fly old _ turn new follows)
+    step_flies it Phase.Draining answer may fits goes knows follows = absurd (goes refl)
+    step_flies it (Phase.Ended outcome) answer (by_host place request its can) fits goes knows follows = absurd (asks_none old place request outcome fits)
+    step_flies it phase answer (by_host place request its can) fits goes knows follows = absurd fits
 
   -- where memory ran out
   pub left_flies : (old new : List ℕ) (answer : Answer) → IsDistinct nat_eq old → IsLeftAfter old answer new → new ≡ flying_after old answer

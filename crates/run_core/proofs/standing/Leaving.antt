@@ -40,6 +40,11 @@ pub record KnowsSome (course : Course) : Type 0 where
   pub learned : List Resolved
   pub is : IsKnown walks learned course.known
 
+-- once each input file is measured, and while the end is open
+abbrev pub MayKnow : Course → Phase → Type 0
+MayKnow course (Phase.Measuring measuring) = Unit {0}
+MayKnow course phase = course.end ≡ None → KnowsSome course
+
 rightly : (entries : List Entry) (end : Result Report RunFault) → SettlesRightly entries end → IfErr end (BlamesRightly entries)
 rightly entries (Ok report) settles = tt
 rightly entries (Err (RunFault.Host fault running)) settles = settles
