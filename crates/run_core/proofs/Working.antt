@@ -72,6 +72,7 @@ reads_name site kept reading rest name is few =
         due = ap (λ (todo : List Name). call_for site.options.now site.folder (output_heads_due [] reading.found todo reading.heads)) first;
         fits = few;
       };
+      keeps = refl;
     }
 
 -- what a child left behind is told by what is kept of it
@@ -84,10 +85,12 @@ collects_by site kept found read next (gives outputs is) =
       on = λ place inputs begun same.
           collected.collects outputs (subst (λ (left : Left). IsCollected left site.tool.now.outputs (Ok outputs)) (left_same kept begun found read same) is);
       calls = tt;
+      keeps = tt;
     }
 collects_by site kept found read next (gives_none fault is) =
     record {
       on = λ place inputs begun same.
           collected.collects_none fault (subst (λ (left : Left). IsCollected left site.tool.now.outputs (Err fault)) (left_same kept begun found read same) is);
       calls = tt;
+      keeps = tt;
     }

@@ -2,3 +2,4 @@
 pub mod Kept
 pub mod Numbers
 pub mod Keeping
+pub mod Reflecting

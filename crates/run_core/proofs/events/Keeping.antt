@@ -1,8 +1,9 @@
 -- What the machine keeps goes on with each event: a lemma for each.
 use Rattle.std.specs.Prelude.{◌<◌, ◌≤◌, ◌||◌, Contains, IsSome, is_some, nat_lt, option_map, slice_get, slice_index_or}
 use Rattle.std.specs.List.{list_any, remove}
-use Rattle.std.proofs.Common.{◌≡◌, ◌∙◌, ◌⊎◌, inl, inr, ◌==◌, ◌+◌, ℕ, zero, suc, Bool, true, false, cond, List, [], ◌∷◌, ◌++◌, length, filter, Option, Some, None, refl, sym, ap, subst, arith}
+use Rattle.std.proofs.Common.{◌≡◌, ◌∙◌, ◌⊎◌, inl, inr, ◌==◌, ◌+◌, ℕ, zero, suc, Bool, true, false, cond, List, [], ◌∷◌, ◌++◌, length, filter, Option, Some, None, refl, sym, ap, subst, arith, length-append}
 use Rattle.std.proofs.lemmas.Bool.{eqb-true, lt-ltb, le-ltb, or_left, or_parts}
+use Rattle.std.proofs.lemmas.List.Edits.{length-remove}
 use Rattle.std.proofs.lemmas.List.Elements.{Contains-append_cases}
 use Rattle.std.proofs.lemmas.Option.{get_or_from_slice_get, slice_get_within}
 use Rattle.command_line.specs.declared.launch.Launch.{Launch}
@@ -26,12 +27,13 @@ use Rattle.run_rules.proofs.events.Places.{AreApart, IsJob, one_job, same_itself
 use Rattle.run_rules.proofs.events.Readings.{started_after}
 use Rattle.run_rules.proofs.events.Settled.{is_quiet, or_none, settled_for_now, settled_more, settled_quietly, settled_stays}
 use Rattle.run_rules.proofs.events.Tally.{Readings, is_aside, nothing_read, readings, readings_after, reads_after}
+use Rattle.run_rules.proofs.events.Turns.{so_many}
 use Rattle.run_core.specs.declared.state.Flight.{Flight}
 use Rattle.run_core.specs.declared.state.JobState.{JobState}
 use Rattle.run_core.specs.declared.state.Kept.{Kept}
 use Rattle.run_core.specs.inner.Course.{Past, TakesOut, nothing_past, with_end, with_giving_up, with_staging, with_start}
 use Rattle.run_core.specs.inner.Due.{IsKept}
-use Rattle.run_core.specs.inner.Keeps.{Keeps, KeepsFlight, course_of, state_at}
+use Rattle.run_core.specs.inner.Keeps.{Keeps, KeepsFlight, course_of, state_at, worked}
 use Rattle.run_core.specs.inner.Standing.{HasStarted}
 use Rattle.run_core.proofs.events.Kept.{Lands, counted_once_more, gave_up_staged, keeps_end, keeps_failing, keeps_giving_up, keeps_landing, keeps_over, keeps_staging, keeps_starting, once_more}
 use Rattle.run_core.proofs.events.Numbers.{Flies, contains_before, flight_flies, state_there}
@@ -55,10 +57,10 @@ differs_by false flying at place is none flies = is
 
 -- an end that is there is one
 is_there : {T : Type 0} (o : Option T) → IsSome o → is_some o ≡ true
-is_there None some = absurd some
+is_there None some = some
 is_there (Some x) some = refl
 
-never_none : {T : Type 0} (o : Option T) (x : T) → or_else o (Some x) ≡ None → ⊥
+pub never_none : {T : Type 0} (o : Option T) (x : T) → or_else o (Some x) ≡ None → ⊥
 never_none None x none = cc
 never_none (Some y) x none = cc
 
@@ -79,6 +81,11 @@ pub none_settled : (before : Option End) (kept : Option Outcomes) → kept ≡ o
 none_settled None kept is none = refl
 none_settled (Some end) kept is none = let never : None ≡ Some (report_of end) = sym none ∙ is in absurd cc
 
+-- with nothing to work on no slot more is taken
+idle_slots : (at_work : Option ℕ) (tickets most : ℕ) → tickets + worked at_work ≤ most → tickets + 0 ≤ most
+idle_slots None tickets most within = within
+idle_slots (Some n) tickets most within = let here : tickets + 1 ≤ most = within in omega (arith, here)
+
 fewer_times : (test : Bool) (n m times most : ℕ) (of : ℕ → ℕ) → (n == m) ≡ test → of n ≡ times → times < most → of m ≤ most → cond (n == m) (suc (of m)) (of m) ≤ most
 fewer_times true n m times most of same is below within =
     subst (λ b. cond b (suc (of m)) (of m) ≤ most) (sym same)
@@ -94,14 +101,15 @@ module _ (s : Scene) (es : List Event) (jobs : List Job) where
 
   -- a job is staged
   pub staged_keeps : (past : Past) (at_work : Option ℕ) (n : ℕ) (job : Job) → IsJob jobs n job → n ≤ length past.jobs → is_held es job.place ≡ false →
-      ((m : ℕ) → at_work ≡ Some m → m ≡ n) → Keeps s es jobs past at_work →
+      length (in_flight es) < s.options.slots → ((m : ℕ) → at_work ≡ Some m → m ≡ n) → Keeps s es jobs past at_work →
       Keeps s (es ++ job_staged job.place (past.folders + 1) ∷ []) jobs (with_staging n past) (Some n)
-  staged_keeps past at_work n job it within free alone k = record {
+  staged_keeps past at_work n job it within free slot alone k = record {
     gave_up = k.gave_up;
     books = books_after (job_staged job.place (past.folders + 1)) jobs (course_of (with_staging n past) (Some n) k.gave_up)
         (keeps_staging jobs (readings es) past k.gave_up at_work n job it within k.books free alone);
     counts = λ still m. k.counts still m ∙ sym (gave_up_staged past n within m);
     retries = λ m. subst (λ times. times ≤ s.options.retries) (sym (gave_up_staged past n within m)) (k.retries m);
+    slots = let many : length (in_flight es) ≡ length past.tickets = so_many jobs (readings es) (course_of past at_work k.gave_up) k.books in omega (arith, slot, many);
     flights = flights_still es (es ++ job_staged job.place (past.folders + 1) ∷ []) jobs jobs past.flights
         (λ place. started_after es (job_staged job.place (past.folders + 1) ∷ []) place) (front_itself jobs) k.flights;
     front = front_still (job_staged job.place (past.folders + 1)) refl k.front;
@@ -150,6 +158,8 @@ module _ (s : Scene) (es : List Event) (jobs : List Job) where
         (keeps_starting jobs (readings es) past k.gave_up n job it k.books inputs launch kept ticket fresh);
     counts = k.counts;
     retries = k.retries;
+    slots = let more : length (past.tickets ++ ticket ∷ []) ≡ length past.tickets + 1 = length-append past.tickets (ticket ∷ []) in
+        let before : length past.tickets + 1 ≤ s.options.slots = k.slots in omega (arith, more, before);
     flights = λ flight there. started_flights past n job inputs launch kept ticket it same k flight
         (Contains-append_cases past.flights (record { job = n; kept = kept } ∷ []) flight there);
     front = front_still (job_started job.place inputs launch ticket) refl k.front;
@@ -190,6 +200,8 @@ module _ (s : Scene) (es : List Event) (jobs : List Job) where
           books = books_after (child_exited ticket) jobs (course_of new (Some flight.job) k.gave_up) lands.keeps;
           counts = k.counts;
           retries = k.retries;
+          slots = let fewer : length (remove past.tickets index) + 1 ≡ length past.tickets = length-remove past.tickets index (slice_get_within past.tickets index ticket is_ticket) in
+              let before : length past.tickets + 0 ≤ s.options.slots = k.slots in omega (arith, fewer, before);
           flights = λ other there.
               flights_still es (es ++ child_exited ticket ∷ []) jobs jobs past.flights (λ place. started_after es (child_exited ticket ∷ []) place) (front_itself jobs) k.flights
               other (contains_before past.flights index other there);
@@ -230,6 +242,7 @@ module _ (s : Scene) (es : List Event) (jobs : List Job) where
         retries = λ m. subst (λ times. times ≤ s.options.retries) (counted_once_more past n within m)
             (fewer_times (n == m) n m state.gave_up s.options.retries (λ j. (state_at past.jobs j).gave_up) refl
             (ap (λ (j : JobState). j.gave_up) (state_there past.jobs n state is)) below (k.retries m));
+        slots = k.slots;
         flights = flights_still es (es ++ job_failed_for_now job.place ∷ []) jobs jobs past.flights
             (λ place. started_after es (job_failed_for_now job.place ∷ []) place) (front_itself jobs) k.flights;
         front = front_still (job_failed_for_now job.place) refl k.front;
@@ -243,6 +256,7 @@ module _ (s : Scene) (es : List Event) (jobs : List Job) where
     books = keeps_over jobs (readings es) past at_work k.gave_up (is_there past.end over) k.books;
     counts = k.counts;
     retries = k.retries;
+    slots = idle_slots at_work (length past.tickets) s.options.slots k.slots;
     flights = k.flights;
     front = k.front;
     end = k.end;
@@ -266,6 +280,7 @@ module _ (s : Scene) (es : List Event) (jobs : List Job) where
         (keeps_failing jobs (readings es) past k.gave_up n job it k.books));
     counts = λ still m. absurd (never_none past.end (reported (Outcome.TemporaryFail job.place)) still);
     retries = k.retries;
+    slots = idle_slots (Some n) (length past.tickets) s.options.slots k.slots;
     flights = flights_still es (es ++ job_failed_for_now job.place ∷ []) jobs jobs past.flights
         (λ place. started_after es (job_failed_for_now job.place ∷ []) place) (front_itself jobs) k.flights;
     front = front_still (job_failed_for_now job.place) refl k.front;
@@ -284,6 +299,7 @@ module _ (s : Scene) (es : List Event) (jobs : List Job) where
         (keeps_end jobs (readings es) past at_work k.gave_up (report_of end) k.books));
     counts = λ still m. absurd (never_none past.end (report_of end) still);
     retries = k.retries;
+    slots = idle_slots at_work (length past.tickets) s.options.slots k.slots;
     flights = flights_still es (es ++ e ∷ []) jobs jobs past.flights same (front_itself jobs) k.flights;
     front = front_still e none k.front;
     end = settles_by (settled s es) (settled s (es ++ e ∷ [])) end past.end k.end
@@ -301,6 +317,7 @@ module _ (s : Scene) (es : List Event) (jobs : List Job) where
         (subst (λ (r : Readings). AreKept jobs r (course_of past at_work k.gave_up)) (sym (nothing_read (readings es) e aside)) k.books);
     counts = k.counts;
     retries = k.retries;
+    slots = k.slots;
     flights = flights_still es (es ++ e ∷ []) jobs jobs past.flights same (front_itself jobs) k.flights;
     front = front_still e none k.front;
     end = k.end ∙ ap (option_map report_of) (sym still);
@@ -322,6 +339,7 @@ module _ (s : Scene) (es : List Event) (jobs : List Job) where
       books = books_after (job_succeeded job.place outputs) more (course_of past None k.gave_up) success_kept;
       counts = k.counts;
       retries = k.retries;
+      slots = idle_slots (Some n) (length past.tickets) s.options.slots k.slots;
       flights = success_flights;
       front = front;
       end = k.end ∙ ap (option_map report_of) (sym still);
@@ -336,6 +354,7 @@ module _ (s : Scene) (es : List Event) (jobs : List Job) where
           (keeps_end more (reads_after (readings es) (job_succeeded job.place outputs)) past None k.gave_up (report_of end) success_kept);
       counts = λ still m. absurd (never_none past.end (report_of end) still);
       retries = k.retries;
+      slots = idle_slots (Some n) (length past.tickets) s.options.slots k.slots;
       flights = success_flights;
       front = front;
       end = settles_by (settled s es) (settled s (es ++ job_succeeded job.place outputs ∷ [])) end past.end k.end (λ still. is)
@@ -349,6 +368,7 @@ module _ (s : Scene) (es : List Event) (jobs : List Job) where
     books = subst (λ (r : Readings). AreKept jobs r (course_of nothing_past None (λ m. 0))) (sym nothing) (keeps_at_first jobs apart);
     counts = λ still m. refl;
     retries = λ m. omega arith;
+    slots = omega arith;
     flights = λ flight there. absurd (omega (arith, there.1));
     front = leads;
     end = sym (ap (option_map report_of) none);
@@ -362,6 +382,7 @@ module _ (s : Scene) (es : List Event) (jobs : List Job) where
         (subst (λ (r : Readings). AreKept jobs r (course_of nothing_past None (λ m. 0))) (sym nothing) (keeps_at_first jobs apart));
     counts = λ still m. absurd (never_none None (report_of end) still);
     retries = λ m. omega arith;
+    slots = omega arith;
     flights = λ flight there. absurd (omega (arith, there.1));
     front = leads;
     end = sym (ap (option_map report_of) is);

@@ -1,5 +1,5 @@
 -- What the machine keeps of the events of its run.
-use Rattle.std.specs.Prelude.{◌≡◌, ◌≤◌, ℕ, true, false, List, Option, Some, None, Contains, is_some, length, map, option_map, slice_index_or}
+use Rattle.std.specs.Prelude.{◌≡◌, ◌≤◌, ◌+◌, ℕ, true, false, List, Option, Some, None, Contains, is_some, length, map, option_map, slice_index_or}
 use Rattle.std.specs.List.{list_any}
 use Rattle.job_graph.specs.Jobs.{Job}
 use Rattle.run_rules.specs.End.{is_lost_collect, settled}
@@ -40,6 +40,11 @@ course_of past at_work gave_up = record {
   over = is_some past.end;
 }
 
+-- how many slots the job that is worked on takes
+abbrev pub worked : Option ℕ → ℕ
+worked None = 0
+worked (Some number) = 1
+
 -- a child in flight was started by what is kept of it
 pub record KeepsFlight (es : List Event) (jobs : List Job) (flight : Flight) : Type 0 where
   pub job : Job
@@ -54,6 +59,7 @@ pub record Keeps (s : Scene) (es : List Event) (jobs : List Job) (past : Past) (
   pub books : AreKept jobs (readings es) (course_of past at_work gave_up)
   pub counts : past.end ≡ None → (number : ℕ) → gave_up number ≡ (state_at past.jobs number).gave_up
   pub retries : (number : ℕ) → (state_at past.jobs number).gave_up ≤ s.options.retries
+  pub slots : length past.tickets + worked at_work ≤ s.options.slots
   pub flights : (flight : Flight) → Contains past.flights flight → KeepsFlight es jobs flight
   pub front : IsFront jobs (unfolding_at s es).jobs
   pub end : past.end ≡ option_map report_of (settled s es)

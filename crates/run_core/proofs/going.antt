@@ -1,0 +1,3 @@
+-- That a run goes on: a lemma for each rule of what the machine turns to.
+pub mod Same
+pub mod Picking
