@@ -55,7 +55,7 @@ use Rattle.run_core.specs.inner.Anyway.{CanGoOn}
 use Rattle.run_core.specs.inner.Course.{known_in}
 use Rattle.run_core.specs.inner.Due.{call_for, work_of}
 use Rattle.run_core.specs.inner.Follows.{AsksOf}
-use Rattle.run_core.specs.inner.Keeps.{Reflects}
+use Rattle.run_core.specs.inner.Keeps.{Reflects, state_at}
 use Rattle.run_core.specs.inner.Parts.{job_in}
 use Rattle.run_core.specs.inner.Standing.{HasStarted, IsAt, IsWorking, Runs, collecting, delivering, ended, measuring, staging, working}
 use Rattle.run_core.proofs.events.Reflecting.{FliesThere, flies_there, known_there}
@@ -194,16 +194,16 @@ module _ (s : Scene) (t : List Pair) (f : Progress) (marks : List Mark) (course 
         AsksOf course (Request.Host job.place call) (Phase.Working number phase) → Allowed s f marks (Request.Host job.place call) →
         GoesOn s (t ++ noted (Request.Host job.place call) (Answer.Host answer) ∷ [])
     work_anyway call (JobPhase.Filling filling) answer (is_read path limit bytes short) w fits allowed =
-        let next = input_next s.options _ (HostRequest.Head path limit) filling.staged filling.heads (reverse filling.left) w.calls.due in
+        let next = input_next s.options (state_at course.jobs.items number).folder (HostRequest.Head path limit) filling.staged filling.heads (reverse filling.left) w.calls.due in
         fill_anyway path limit bytes filling next.0 next.1 w.due allowed
     work_anyway call (JobPhase.Starting kept) answer (is_started launch ticket fresh) w fits allowed =
         goes_with _ nothing_due (job_started job.place kept.inputs launch ticket ∷ []) allowed (starts job.place kept.inputs launch ticket w.due)
     work_anyway call (JobPhase.Scanning kept millis) answer (is_listed folder found) w fits allowed = scan_anyway folder found kept w.on allowed
     work_anyway call (JobPhase.Reading kept reading) answer (is_read path limit bytes short) w fits allowed =
-        read_anyway path limit bytes kept reading (output_next s.options _ (HostRequest.Head path limit) reading.found reading.heads (reverse reading.left) w.calls.due)
+        read_anyway path limit bytes kept reading (output_next s.options (state_at course.jobs.items number).folder (HostRequest.Head path limit) reading.found reading.heads (reverse reading.left) w.calls.due)
         w.on w.due allowed
     work_anyway call phase answer (has_failed its) w fits allowed =
-        fails_anyway job.place call (λ collects. no_collect s.options _ (work_of [] call phase) (w.calls.due ∙ ap Some collects)) allowed
+        fails_anyway job.place call (λ collects. no_collect s.options (state_at course.jobs.items number).folder (work_of [] call phase) (w.calls.due ∙ ap Some collects)) allowed
     work_anyway call phase answer can_answer w fits allowed = absurd fits
 
   -- A child has ended

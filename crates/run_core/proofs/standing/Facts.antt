@@ -90,6 +90,14 @@ module _ (s : Scene) where
     apart_at (delivering plan reflects may going all) asks = apart_by f.events course None reflects
     apart_at (ended end so) asks = absurd (asks refl)
 
+    going_at : {marks : List Mark} {turn : Turn} → IsAt s f marks course turn → turn.phase ≡ Phase.Draining → ⊥
+    going_at (measuring found which rest path m is f_is none past) drains = cc
+    going_at (staging at_work number job plan reflects is_staging) drains = cc
+    going_at (working number job call phase reflects w) drains = cc
+    going_at (collecting reflects may) drains = cc
+    going_at (delivering plan reflects may going all) drains = cc
+    going_at (ended end so) drains = cc
+
     few_at : {marks : List Mark} {turn : Turn} → IsAt s f marks course turn → FewKnown turn course
     few_at (measuring found which rest path m is f_is none past) number at = absurd cc
     few_at (staging at_work its_number job plan reflects is_staging) number at =
@@ -111,3 +119,6 @@ module _ (s : Scene) (t : List Pair) (course : Course) (turn : Turn) (r : Runs s
 
   pub tickets_apart : turn.asks ≢ Request.Finished → IsDistinct nat_eq course.tickets.items
   tickets_apart asks = apart_at s r.happened course r.at asks
+
+  pub never_drains : turn.phase ≡ Phase.Draining → ⊥
+  never_drains drains = going_at s r.happened course r.at drains

@@ -132,7 +132,7 @@ module _ (given : Given) (old : Course) where
   rest_shorter left found value last (its_turn rest name is) = sym (one_longer left rest name is)
 
   measuring_fewer : (left : ℕ) (next : Measuring) (turn : Turn) (new : Course) → length next.left + 1 ≡ left → MeasuresOn given old next turn new → Fewer turn new (2 + left)
-  measuring_fewer left next turn new shorter (all_measured known its_turn its_new none unfolded picks) =
+  measuring_fewer left next turn new shorter (all_measured known its_next its_new none unfolded picks) =
       below (answers_left given.options (past_of new) turn.phase) Before 2 (2 + left)
       (subst (λ w. answers_left given.options (past_of new) turn.phase ≤ w + 2) (unfolded_same given.options given _ [] old known unfolded)
       (picks_few given.options given known turn new picks)) (omega (arith, shorter))

@@ -32,18 +32,18 @@ use Rattle.run_core.proofs.standing.Answered.{asks_none, known_still}
 use Rattle.run_core.proofs.standing.Leaving.{KnowsSome, MayKnow, learns_by}
 use Rattle.run_core.proofs.standing.Tickets.{one_less}
 
--- those that fly now, and none after a failed collect
-pub data FliesAfter (old : List ℕ) : Answer → List ℕ → Type 0 where
-  flies_on : (answer : Answer) (new : List ℕ) → new ≡ flying_after old answer → FliesAfter old answer new
-  none_waited_for : (new : List ℕ) → new ≡ [] → FliesAfter old (Answer.Host (HostAnswer.Failed HostFault.Collect)) new
+-- those that fly once this is asked next: after a failed collect none, and nothing is asked
+pub data FliesAfter (old : List ℕ) (next : Request) : Answer → List ℕ → Type 0 where
+  flies_on : (answer : Answer) (new : List ℕ) → new ≡ flying_after old answer → FliesAfter old next answer new
+  none_waited_for : (new : List ℕ) → new ≡ [] → next ≡ Request.Finished → FliesAfter old next (Answer.Host (HostAnswer.Failed HostFault.Collect)) new
 
 same_tickets : (one other : Past) → one ≡ other → one.tickets ≡ other.tickets
 same_tickets one other same = ap (λ (p : Past). p.tickets) same
 
-lost_collect : (old new : Course) (place : JobPlace) (call : HostRequest) → AsksOf old (Request.Host place call) Phase.Collecting → new.tickets.items ≡ [] →
-    FliesAfter old.tickets.items (Answer.Host (HostAnswer.Failed (fault_of call))) new.tickets.items
-lost_collect old new place HostRequest.Collect fits none = none_waited_for _ none
-lost_collect old new place call fits none = absurd fits
+lost_collect : (old new : Course) (next : Request) (place : JobPlace) (call : HostRequest) → AsksOf old (Request.Host place call) Phase.Collecting → new.tickets.items ≡ [] →
+    next ≡ Request.Finished → FliesAfter old.tickets.items next (Answer.Host (HostAnswer.Failed (fault_of call))) new.tickets.items
+lost_collect old new next place HostRequest.Collect fits none ends = none_waited_for _ none ends
+lost_collect old new next place call fits none ends = absurd fits
 
 module _ (given : Given) where
   picks_fly : (old : Course) (turn : Turn) (new : Course) → Picks given old turn new → new.tickets.items ≡ old.tickets.items
@@ -98,7 +98,7 @@ module _ (given : Given) where
   module _ (old : Course) (turn : Turn) (new : Course) (apart : IsDistinct nat_eq old.tickets.items) where
     -- an answer of a call that starts no child and waits for none leaves those that fly
     abbrev After : Answer → Type 0
-    After answer = FliesAfter old.tickets.items answer new.tickets.items
+    After answer = FliesAfter old.tickets.items turn.asks answer new.tickets.items
 
     pub step_flies : (request_asks : Request) (phase : Phase) (answer : Answer) → MayAnswer old.tickets.items request_asks answer → AsksOf old request_asks phase →
         (phase ≡ Phase.Draining → ⊥) → MayKnow old phase → FollowsFrom given old (record { asks = request_asks; phase = phase }) answer turn new → After answer
@@ -129,7 +129,7 @@ module _ (given : Given) where
         flies_on _ _ (end_fly follows.landed follows.flight follows.job.tool ending turn new
         (known_still old follows.landed (ap (λ (p : Past). p.end) follows.taken.is) follows.known knows) follows.ends
         ∙ taken_out ending.ticket follows.flight (past_of old) (past_of follows.landed) apart follows.taken)
-    step_flies it Phase.Collecting answer (by_host place request its (has_failed call)) fits goes knows follows = lost_collect old new place call fits follows.2
+    step_flies it Phase.Collecting answer (by_host place request its (has_failed call)) fits goes knows follows = lost_collect old new turn.asks place call fits follows.2 (ap (λ (t : Turn). t.asks) follows.0)
     step_flies it (Phase.Delivering outputs) answer (by_host place request its (is_delivered plan)) fits goes knows follows =
         flies_on _ _ (ap (λ (c : Course). c.tickets.items) follows.1)
     step_flies it (Phase.Delivering outputs) answer (by_host place request its (has_failed call)) fits goes knows follows = flies_on _ _ (fault_fly old _ turn new follows)

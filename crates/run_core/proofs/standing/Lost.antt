@@ -104,58 +104,60 @@ lost_more s t pair old new before turn out is at = record {
 
 -- Who flies
 
-pub landed_when_none : (old : List ℕ) (answer : Answer) (new : List ℕ) → new ≡ [] → FliesAfter old answer new → IsLanded old answer
-landed_when_none old answer new none (flies_on its_answer its_new is) = none_flies answer (sym is ∙ none)
-landed_when_none old answer new none (none_waited_for its_new is) = collect_lost
+pub landed_when_none : (old : List ℕ) (next : Request) (answer : Answer) (new : List ℕ) → new ≡ [] → FliesAfter old next answer new → IsLanded old answer
+landed_when_none old next answer new none (flies_on its_answer its_new is) = none_flies answer (sym is ∙ none)
+landed_when_none old next answer new none (none_waited_for its_new is ends) = collect_lost
+
+asks_by : (past : Past) (tickets : List ℕ) → past.tickets ≡ tickets → past.tickets ≡ [] → (lost_with tickets).asks ≡ Request.Finished
+asks_by past [] is none = refl
+asks_by past (ticket ∷ tickets) is none = let never : ticket ∷ tickets ≡ [] = sym is ∙ none in cc
+
+flies_lost_by : (old : List ℕ) (next : Request) (answer : Answer) (past : Past) (new : List ℕ) → past.tickets ≡ new → FliesAfter old next answer new →
+    FliesAfter old (lost_after past).asks answer new
+flies_lost_by old next answer past new same (flies_on its_answer its_new is) = flies_on its_answer its_new is
+flies_lost_by old next answer past new same (none_waited_for its_new is ends) = none_waited_for its_new is (asks_by past past.tickets refl (same ∙ is))
+
+-- where memory ran out then
+pub flies_lost : (old : List ℕ) (next : Request) (answer : Answer) (past : Past) → FliesAfter old next answer past.tickets →
+    FliesAfter old (lost_after past).asks answer past.tickets
+flies_lost old next answer past flies = flies_lost_by old next answer past past.tickets refl flies
+
+none_by : (past : Past) (tickets : List ℕ) → past.tickets ≡ tickets → (lost_with tickets).phase ≡ Phase.Ended (Err RunFault.OutOfMemory) → past.tickets ≡ []
+none_by past [] is ended = is
+none_by past (ticket ∷ tickets) is ended = absurd cc
+
+-- it has ended once none flies
+pub none_when_lost : (past : Past) → (lost_after past).phase ≡ Phase.Ended (Err RunFault.OutOfMemory) → past.tickets ≡ []
+none_when_lost past ended = none_by past past.tickets refl ended
 
 -- What drains
 
 -- where children were waited for after memory ran out
-pub record Drained (given : Given) (old : Course) (answer : Answer) (turn : Turn) (new : Course) : Type 0 where
-  pub flies : FliesAfter old.tickets.items answer new.tickets.items
-  pub at : IsLostAt (past_of new) turn
-  pub fewer : answers_left given.options (past_of new) turn.phase < length old.tickets.items
-  pub bounded : StaysBounded given.options (past_of new) turn.phase
-  pub blames : (entries : List Entry) → Blames entries (past_of new) turn.phase
-  pub room : length new.tickets.items + 1 ≤ length old.tickets.items
+pub record Drained (old : Course) (answer : Answer) (turn : Turn) (new : Course) : Type 0 where
+  pub is : turn ≡ lost_after (past_of new)
+  pub flies : FliesAfter old.tickets.items turn.asks answer new.tickets.items
+  pub fewer : length new.tickets.items < length old.tickets.items
 
 some_there : (tickets : List ℕ) → tickets ≢ [] → 0 < length tickets
 some_there [] some = absurd (some refl)
 some_there (ticket ∷ tickets) some = omega arith
 
 module _ (given : Given) (old : Course) (turn : Turn) (new : Course) where
-  drained_by : (answer : Answer) → turn ≡ lost_after (past_of new) → length new.tickets.items < length old.tickets.items →
-      FliesAfter old.tickets.items answer new.tickets.items → Drained given old answer turn new
-  drained_by answer is less flies =
-      subst (λ (t : Turn). Drained given old answer t new) (sym is) (record {
-        flies = flies;
-        at = lost_at (past_of new);
-        fewer = lower (answers_left given.options (past_of new) (lost_after (past_of new)).phase) (length new.tickets.items) (length old.tickets.items)
-            (lost_few given.options (past_of new)) less;
-        bounded = lost_bounded given.options (past_of new);
-        blames = λ entries. lost_blames entries (past_of new);
-        room = omega (arith, less);
-      })
-      where
-        lower : (a b c : ℕ) → a ≤ b → b < c → a < c
-        lower a b c one two = omega (arith, one, two)
-
-  ended_lost : (place : JobPlace) (call : HostRequest) → AsksOf old (Request.Host place call) Phase.Draining → old.tickets.items ≢ [] → turn ≡ lost_after (past_of new) →
-      new.tickets.items ≡ [] → Drained given old (Answer.Host (HostAnswer.Failed (fault_of call))) turn new
-  ended_lost place HostRequest.Collect fits some is none =
-      drained_by (Answer.Host (HostAnswer.Failed HostFault.Collect)) is
-      (subst (λ (ns : List ℕ). length ns < length old.tickets.items) (sym none) (some_there old.tickets.items some)) (none_waited_for _ none)
-  ended_lost place call fits some is none = absurd fits
-
-  lost_turn : new.tickets.items ≡ [] → lost_with [] ≡ lost_after (past_of new)
-  lost_turn none = ap lost_with (sym none)
+  failed_collect : (place : JobPlace) (call : HostRequest) → AsksOf old (Request.Host place call) Phase.Draining → old.tickets.items ≢ [] → turn ≡ lost_with [] →
+      new.tickets.items ≡ [] → Drained old (Answer.Host (HostAnswer.Failed (fault_of call))) turn new
+  failed_collect place HostRequest.Collect fits some is none = record {
+    is = is ∙ ap lost_with (sym none);
+    flies = none_waited_for _ none (ap (λ (t : Turn). t.asks) is);
+    fewer = subst (λ (ns : List ℕ). length ns < length old.tickets.items) (sym none) (some_there old.tickets.items some);
+  }
+  failed_collect place call fits some is none = absurd fits
 
   pub step_drains : (asks : Request) (answer : Answer) → MayAnswer old.tickets.items asks answer → AsksOf old asks Phase.Draining → old.tickets.items ≢ [] →
-      FollowsFrom given old (record { asks = asks; phase = Phase.Draining }) answer turn new → Drained given old answer turn new
-  step_drains asks answer (by_host place request its (has_ended ending flies)) fits some follows =
-      drained_by (Answer.Host (HostAnswer.Ended ending)) follows.is
-      (subst (λ (ns : List ℕ). length ns < length old.tickets.items) (sym follows.tickets) (fewer_without old.tickets.items ending.ticket flies))
-      (flies_on _ _ follows.tickets)
-  step_drains asks answer (by_host place request its (has_failed call)) fits some follows =
-      ended_lost place call fits some (follows.0 ∙ lost_turn follows.1) follows.1
+      FollowsFrom given old (record { asks = asks; phase = Phase.Draining }) answer turn new → Drained old answer turn new
+  step_drains asks answer (by_host place request its (has_ended ending flies)) fits some follows = record {
+    is = follows.is;
+    flies = flies_on _ _ follows.tickets;
+    fewer = subst (λ (ns : List ℕ). length ns < length old.tickets.items) (sym follows.tickets) (fewer_without old.tickets.items ending.ticket flies);
+  }
+  step_drains asks answer (by_host place request its (has_failed call)) fits some follows = failed_collect place call fits some follows.0 follows.1
   step_drains asks answer (by_host place request its can) fits some follows = absurd fits

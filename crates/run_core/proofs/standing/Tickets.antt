@@ -43,7 +43,7 @@ no_more : (b : Bool) (x : ℕ) (left : List ℕ) → length (cond b (x ∷ left)
 no_more true x left = omega arith
 no_more false x left = omega arith
 
-at_most : (ticket : ℕ) (tickets : List ℕ) → length (without ticket tickets) ≤ length tickets
+pub at_most : (ticket : ℕ) (tickets : List ℕ) → length (without ticket tickets) ≤ length tickets
 at_most ticket [] = omega arith
 at_most ticket (x ∷ tickets) = omega (arith, no_more (not (x == ticket)) x (without ticket tickets), at_most ticket tickets)
 
