@@ -1,3 +1,6 @@
 -- That a run goes on: a lemma for each rule of what the machine turns to.
 pub mod Same
 pub mod Picking
+pub mod Measured
+pub mod Delivered
+pub mod Asked

@@ -10,3 +10,4 @@ pub mod Read
 pub mod Started
 pub mod Failed
 pub mod GaveUp
+pub mod Ended

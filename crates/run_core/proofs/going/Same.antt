@@ -8,6 +8,7 @@ use Rattle.job_graph.specs.declared.unfolding.Unfolding.{Unfolding}
 use Rattle.job_graph.specs.Jobs.{Job}
 use Rattle.run_rules.specs.declared.outcome.Report.{Report}
 use Rattle.run_rules.specs.declared.outcome.RunFault.{RunFault}
+use Rattle.run_rules.specs.declared.request.Pair.{Pair}
 use Rattle.run_rules.specs.declared.request.Request.{Request}
 use Rattle.run_rules.specs.Allowed.{MayStage}
 use Rattle.run_rules.specs.Events.{Progress}
@@ -21,7 +22,7 @@ use Rattle.run_core.specs.declared.state.Turn.{Turn}
 use Rattle.run_core.specs.inner.Course.{Past, known_in, past_of}
 use Rattle.run_core.specs.inner.Due.{Calls}
 use Rattle.run_core.specs.inner.Keeps.{state_at}
-use Rattle.run_core.specs.inner.Standing.{IsAt, IsStaging, IsWorking, collecting, delivering, ended, measuring, staging, working}
+use Rattle.run_core.specs.inner.Standing.{IsAt, IsStaging, IsWorking, Runs, collecting, delivering, ended, measuring, staging, working}
 use Rattle.run_core.proofs.events.Reflecting.{reflects_same}
 
 module _ (s : Scene) (f : Progress) (marks : List Mark) (old new : Course) (past : past_of new ≡ past_of old) (known : new.known ≡ old.known) where
@@ -65,3 +66,12 @@ module _ (s : Scene) (f : Progress) (marks : List Mark) (old new : Course) (past
       delivering plan (reflects_same s f.events old new None past known r) may (same_end ∙ going)
       (subst (λ (states : List JobState). length (known_in new.known) ≤ length states) same_states (subst (λ (jobs : List Job). length jobs ≤ length old.jobs.items) same_jobs all))
   at_same (ended end so) = ended end so
+
+-- so with its run
+pub runs_same : (s : Scene) (t : List Pair) (old new : Course) (turn : Turn) → past_of new ≡ past_of old → new.known ≡ old.known → Runs s t old turn → Runs s t new turn
+runs_same s t old new turn past known runs = record {
+  happened = runs.happened;
+  marks = runs.marks;
+  goes = runs.goes;
+  at = at_same s runs.happened runs.marks old new past known runs.at;
+}

@@ -1,7 +1,6 @@
 -- What is asked for a job is due, and so it may be asked.
-use Rattle.std.proofs.Common.{◌≡◌, ◌∙◌, ℕ, List, [], ◌∷◌, Some, reverse, refl, sym, ap}
+use Rattle.std.proofs.Common.{◌≡◌, ◌∙◌, ℕ, List, [], ◌∷◌, Some, reverse, refl, ap}
 use Rattle.collected_outputs.specs.Contents.{Heads}
-use Rattle.command_line.specs.declared.launch.Launch.{Launch}
 use Rattle.plan_checker.specs.declared.plan.Mark.{Mark}
 use Rattle.proc_host.specs.declared.call.HostRequest.{HostRequest}
 use Rattle.staging.specs.declared.found.Found.{Found}
@@ -61,7 +60,7 @@ scan_for_job : (options : Options) (folder : ℕ) (place : JobPlace) (millis : �
 scan_for_job options folder place millis (HostRequest.Scan one) is = tt
 scan_for_job options folder place millis call is = absurd cc
 
-for_job : (options : Options) (folder : ℕ) (place : JobPlace) (call : HostRequest) (phase : JobPhase) →
+pub for_job : (options : Options) (folder : ℕ) (place : JobPlace) (call : HostRequest) (phase : JobPhase) →
     call_for options folder (work_of place call phase) ≡ Some call → IsForJob call
 for_job options folder place call (JobPhase.Filling filling) is =
     input_for_job options folder place filling.staged (reverse filling.left) filling.heads call is

@@ -13,12 +13,12 @@ use Rattle.run_rules.specs.declared.request.Pair.{Pair}
 use Rattle.run_rules.specs.declared.request.Request.{Request}
 use Rattle.run_rules.specs.Allowed.{Allowed, MayCollect}
 use Rattle.run_rules.specs.End.{ended_by_host, is_lost_collect}
-use Rattle.run_rules.specs.EndsSo.{EndsSo, lost}
-use Rattle.run_rules.specs.Events.{Event, Progress, collect_failed, host_failed, in_flight, nothing_due, tickets}
+use Rattle.run_rules.specs.EndsSo.{lost}
+use Rattle.run_rules.specs.Events.{Progress, collect_failed, host_failed, nothing_due, tickets}
 use Rattle.run_rules.specs.Plans.{LoadsHeld}
 use Rattle.run_rules.specs.Run.{Goes}
 use Rattle.run_rules.specs.Scene.{Scene}
-use Rattle.run_rules.specs.Steps.{Steps, call, call_fails, loses_collect, progress_with}
+use Rattle.run_rules.specs.Steps.{call, call_fails, loses_collect, progress_with}
 use Rattle.run_rules.proofs.events.Flights.{Flight}
 use Rattle.run_rules.proofs.events.Grows.{goes_on}
 use Rattle.run_rules.proofs.events.Planned.{marks_after}

@@ -1,5 +1,5 @@
 -- A job's output folder is listed: first bytes of what was found are read, or its outputs are collected, or there are none.
-use Rattle.std.proofs.Common.{◌≡◌, ◌∙◌, ℕ, List, [], ◌∷◌, ◌++◌, Some, reverse, refl, sym, ap, subst}
+use Rattle.std.proofs.Common.{◌≡◌, ℕ, List, [], ◌∷◌, ◌++◌, Some, reverse, refl, subst}
 use Rattle.collected_outputs.specs.HeadsWanted.{AreHeadsWanted}
 use Rattle.collected_outputs.specs.Listing.{listing_of}
 use Rattle.cwl_process.specs.declared.tool.Tool.{Tool}

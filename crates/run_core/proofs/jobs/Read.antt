@@ -1,5 +1,5 @@
 -- First bytes of a file of a job's output folder are read: the next file's are, or its outputs are collected, or there are none.
-use Rattle.std.proofs.Common.{◌≡◌, ◌∙◌, ℕ, List, [], ◌∷◌, ◌++◌, Some, reverse, refl, sym, ap, subst}
+use Rattle.std.proofs.Common.{◌≡◌, ◌∙◌, ℕ, List, [], ◌∷◌, ◌++◌, Some, reverse, refl, ap}
 use Rattle.collected_outputs.specs.Contents.{Heads}
 use Rattle.plain_data.specs.ByName.{with_value}
 use Rattle.plan_checker.specs.declared.plan.Mark.{Mark}

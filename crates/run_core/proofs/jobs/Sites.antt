@@ -1,15 +1,13 @@
 -- A job in its folders: what comes next for its site is what comes next for it.
 use Rattle.std.proofs.Common.{◌≡◌, ◌∙◌, ℕ, List, refl, sym, ap, subst}
 use Rattle.collected_outputs.specs.Contents.{Heads}
-use Rattle.collected_outputs.specs.Listing.{listing_of}
 use Rattle.cwl_process.specs.declared.tool.Tool.{Tool}
 use Rattle.staging.specs.declared.found.Found.{Found}
 use Rattle.job_graph.specs.Jobs.{Job}
-use Rattle.job_graph.specs.Words.{Fields, JobPlace, Name}
+use Rattle.job_graph.specs.Words.{Fields, Name}
 use Rattle.run_rules.specs.declared.setting.Options.{Options}
 use Rattle.run_rules.specs.CollectsOn.{CollectsOn}
-use Rattle.run_rules.specs.Events.{Event, Started, Work}
-use Rattle.run_rules.specs.Scene.{Scene}
+use Rattle.run_rules.specs.Events.{Event, Started}
 use Rattle.run_rules.specs.StartsOn.{StartsOn}
 use Rattle.run_rules.proofs.events.Places.{IsJob, one_job}
 use Rattle.run_core.specs.declared.site.Site.{Site}

@@ -1,5 +1,5 @@
 -- A job is staged: its input files are read, or it is started, or it fails.
-use Rattle.std.proofs.Common.{◌≡◌, ◌∙◌, ◌+◌, ◌==◌, ℕ, Bool, true, cond, List, [], ◌∷◌, ◌++◌, Option, Some, None, refl, sym, ap, subst, append_assoc, eq-eqb}
+use Rattle.std.proofs.Common.{◌≡◌, ◌∙◌, ◌+◌, ◌==◌, ℕ, cond, List, [], ◌∷◌, ◌++◌, Option, Some, refl, sym, ap, subst, append_assoc, eq-eqb}
 use Rattle.input_files.specs.Contents.{heads_wanted}
 use Rattle.plan_checker.specs.declared.plan.Mark.{Mark}
 use Rattle.proc_host.specs.declared.call.HostAnswer.{HostAnswer}
@@ -8,9 +8,8 @@ use Rattle.staging.specs.declared.plan.StagePlan.{StagePlan}
 use Rattle.cwl_process.specs.declared.tool.Tool.{Tool}
 use Rattle.job_graph.specs.declared.unfolding.Unfolding.{Unfolding}
 use Rattle.job_graph.specs.Jobs.{Job}
-use Rattle.job_graph.specs.Words.{Name}
 use Rattle.run_rules.specs.declared.request.Pair.{Pair}
-use Rattle.run_rules.specs.Events.{Event, Progress, Work, job_staged}
+use Rattle.run_rules.specs.Events.{Event, Progress, job_staged}
 use Rattle.run_rules.specs.Plans.{LoadsHeld}
 use Rattle.run_rules.specs.Run.{Goes}
 use Rattle.run_rules.specs.Scene.{Scene}
@@ -21,7 +20,6 @@ use Rattle.run_rules.proofs.events.Places.{IsJob}
 use Rattle.run_rules.proofs.events.Planned.{marks_after}
 use Rattle.run_core.specs.declared.state.Course.{Course}
 use Rattle.run_core.specs.declared.state.Given.{Given}
-use Rattle.run_core.specs.declared.state.JobState.{JobState}
 use Rattle.run_core.specs.declared.state.Turn.{Turn}
 use Rattle.run_core.specs.inner.Course.{Past, known_in, past_of}
 use Rattle.run_core.specs.inner.Due.{CallsNext, Starts, events_next, work_next}
@@ -58,7 +56,7 @@ module _ (s : Scene) (given : Given) (same : given.options ≡ s.options) (laws 
         subst (λ (k : ℕ). Fits s.options k job after.site) folder_now (site_fits s.options given same after.staged n job after.site it_still after.is_site)
 
     staged_is : Reflects s (f.events ++ job_staged job.place folder ∷ []) after.staged (Some n)
-    staged_is = staged_reflects s f.events old after.staged at_work n job is.it is.next is.may.not_held is.alone after.past after.known r
+    staged_is = staged_reflects s f.events old after.staged at_work n job is.it is.next is.may.not_held is.may.slot is.alone after.past after.known r
 
     its_starts : Starts after.site plan.value [] (heads_wanted job.tool.inputs plan.value) after.next
     its_starts = subst (λ (tool : Tool). Starts after.site plan.value [] (heads_wanted tool.inputs plan.value) after.next) fits.tool after.starts

@@ -1,5 +1,5 @@
 -- A job's child is started.
-use Rattle.std.proofs.Common.{◌≡◌, ◌∙◌, ℕ, List, [], ◌∷◌, ◌++◌, Some, None, reverse, refl, sym, ap, subst}
+use Rattle.std.proofs.Common.{◌≡◌, ℕ, List, [], ◌∷◌, ◌++◌, Some, None, reverse, refl, ap}
 use Rattle.command_line.specs.declared.launch.Launch.{Launch}
 use Rattle.plan_checker.specs.declared.plan.Mark.{Mark}
 use Rattle.proc_host.specs.Tickets.{IsFresh}
@@ -11,7 +11,7 @@ use Rattle.run_rules.specs.Events.{Event, Progress, job_started, nothing_due, sc
 use Rattle.run_rules.specs.Plans.{LoadsHeld}
 use Rattle.run_rules.specs.Run.{Goes}
 use Rattle.run_rules.specs.Scene.{Scene}
-use Rattle.run_rules.specs.Steps.{Steps, call, progress_with, starts}
+use Rattle.run_rules.specs.Steps.{call, progress_with, starts}
 use Rattle.run_rules.proofs.events.Grows.{goes_on}
 use Rattle.run_rules.proofs.events.Planned.{marks_after}
 use Rattle.run_core.specs.declared.state.Course.{Course}

@@ -1,12 +1,10 @@
 -- A job that goes on, has failed or gave its outputs: the machine is at its next turn.
-use Rattle.std.specs.Prelude.{IsSome}
 use Rattle.std.proofs.Common.{◌≡◌, ◌∙◌, ℕ, List, [], ◌∷◌, ◌++◌, Option, Some, None, sym, ap, subst, append-nil}
 use Rattle.plan_checker.specs.declared.plan.Mark.{Mark}
 use Rattle.proc_host.specs.declared.call.HostRequest.{HostRequest}
 use Rattle.job_graph.specs.declared.unfolding.Unfolding.{Unfolding}
 use Rattle.job_graph.specs.Jobs.{Job}
-use Rattle.job_graph.specs.Words.{Fields, JobPlace}
-use Rattle.run_rules.specs.declared.outcome.Cause.{Cause}
+use Rattle.job_graph.specs.Words.{JobPlace}
 use Rattle.run_rules.specs.declared.request.Pair.{Pair}
 use Rattle.run_rules.specs.Events.{Event, Progress, job_failed, job_succeeded, nothing_due}
 use Rattle.run_rules.specs.Plans.{LoadsHeld}
@@ -24,7 +22,7 @@ use Rattle.run_core.specs.inner.Due.{Calls, CallsNext, events_next, work_next, w
 use Rattle.run_core.specs.inner.Keeps.{Reflects, state_at}
 use Rattle.run_core.specs.inner.Knows.{Learns}
 use Rattle.run_core.specs.inner.Picks.{Picks, Turns, asks, fails, gives, gives_late}
-use Rattle.run_core.specs.inner.Standing.{IsAt, IsWorking, WorksOn, working}
+use Rattle.run_core.specs.inner.Standing.{IsAt, WorksOn, working}
 use Rattle.run_core.specs.inner.Turn.{permanent, works}
 use Rattle.run_core.proofs.events.Numbers.{place_there}
 use Rattle.run_core.proofs.events.Reflecting.{Laws, job_failed_reflects, late_reflects, reflects_same, success_reflects}
