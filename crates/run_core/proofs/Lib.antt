@@ -17,3 +17,4 @@ pub mod Work
 pub mod Working
 pub mod events
 pub mod jobs
+pub mod standing
