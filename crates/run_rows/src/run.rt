@@ -1,22 +1,22 @@
-ghost use Rattle.std.specs.Prelude.{◌≡◌, [], IfOk};
+ghost use Rattle.std.specs.Prelude.{◌≡◌, [], IfOk, None};
 ghost use Rattle.run_core.specs.Limits.{IsWithinLimits};
-ghost use Rattle.run_rules.specs.RunsToday.{RunsToday};
+ghost use Rattle.workflow_check.specs.Checked.{fault_in};
 
 use crate::end::end_json;
 use crate::list::numbers;
 use crate::requests::requests;
 use crate::script::script_of;
-use cwl_process::{Process as NamedProcess, read_unlinked};
 use cwl_value::{Value, from_json};
-use document_links::Process;
+use document_links::{Docs, Process, read_process};
 use file_values::resolve;
 use plain_data::{Keyed, Text};
 use proc_host::Scripted;
 use row_io::{Row, RowFault, json_text};
-use run_core::{Options, runs_today};
+use run_core::Options;
 use std::alloc::{AllocError, Global};
 use std::mem;
 use url::Url;
+use workflow_check::accept;
 use workflow_engine::run;
 
 /// How a run of the row's document on its inputs ends over its script, what was asked, and the tickets left.
@@ -42,27 +42,7 @@ fn end_on(alloc: Global, row: &Row, host: &mut Scripted) -> Result<String, RowFa
     let options = options(alloc)?;
     let inputs = inputs_of(alloc, row)?;
     let process = process_of(alloc, row)?;
-    if runs_today(&process, &inputs) {
-        return end_of(alloc, host, process, inputs, options);
-    }
-    mem::drop(process);
-    mem::drop(inputs);
-    mem::drop(options);
-    Err(RowFault::BadArgument)
-}
-
-fn end_of(
-    alloc: Global,
-    host: &mut Scripted,
-    process: Process,
-    inputs: Keyed<Value>,
-    options: Options,
-) -> Result<String, RowFault>
-    requires idle { host.old.running ≡ [] }
-    requires runs { RunsToday process inputs }
-    requires limits { IsWithinLimits options }
-{
-    let end = run(alloc, host, process, inputs, options);
+    let end = run(alloc, host, &process, &inputs, options);
     let text = end_json(alloc, &end);
     mem::drop(end);
     text
@@ -74,12 +54,16 @@ fn host_of(alloc: Global, row: &Row) -> Result<Scripted, RowFault>
     Ok(Scripted::new(alloc, script_of(alloc, row)?, 0))
 }
 
-fn process_of(alloc: Global, row: &Row) -> Result<Process, RowFault> {
+/// The process of a row's document, in a file of the folder `/d`.
+fn process_of(alloc: Global, row: &Row) -> Result<Process, RowFault>
+    ensures { IfOk result (λ process. fault_in process ≡ None) }
+{
     let document = json_text(alloc, row.json("document")?)?;
-    match read_unlinked(alloc, document.as_bytes()) {
-        Ok(NamedProcess::Tool(tool)) => Ok(Process::Tool(tool)),
-        _ => Err(RowFault::BadArgument),
-    }
+    let base = done(Url::parse(alloc, "file:///d/document.json"))?;
+    let docs = Docs::new(alloc);
+    let process = done(read_process(alloc, document.as_bytes(), &base, &docs))?;
+    let accepted = done(accept(alloc, process))?;
+    Ok(accepted.into_process())
 }
 
 /// The inputs of a row, in a file of the folder `/d`.
