@@ -66,7 +66,7 @@ pub(crate) fn follows<'a>(
 }
 
 /// A job in the folders that it was staged in last.
-fn site_of<'s>(given: &'s Given<'_>, course: &'s Course<'_>, number: usize) -> Site<'s>
+fn site_of<'a, 's>(given: &'s Given<'_>, course: &Course<'a>, number: usize) -> Site<'a, 's>
     requires number { number < length course.now.jobs.items }
     requires known { number < length (known_in course.now.known) }
     ensures { IsSite given.now course.now number result }
