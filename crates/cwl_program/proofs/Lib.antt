@@ -1,3 +1,4 @@
 pub mod CommandLines
 pub mod Verdicts
 pub mod Ends
+pub mod Stops

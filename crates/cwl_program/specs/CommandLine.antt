@@ -4,7 +4,8 @@ use Rattle.std.specs.Str.{bytes_eq}
 use Rattle.clap.specs.Words.{App, Row, Rule, Text, fault_of, first_of, new_app, new_rule, subcommand_of, with_rule, with_subcommand}
 use Rattle.clap.specs.declared.builder.ArgAction.TheVariants.{Set}
 use Rattle.cwl_program.specs.declared.command.Choice.{Choice}
-use Rattle.cwl_program.specs.declared.command.Choice.TheVariants.{Demo, Check, Run}
+use Rattle.cwl_program.specs.declared.command.Choice.TheVariants.{Demo, Check, Run, Record}
+use Rattle.cwl_program.specs.RecordWords.{RecordWish, record_command, record_wish, wish_of_record}
 use Rattle.cwl_program.specs.RunWords.{RunWish, run_command, run_wish, wish_of_run}
 
 abbrev pub file_rule : Rule
@@ -21,20 +22,28 @@ abbrev pub with_demo : App
 with_demo = with_subcommand (needing_subcommand (new_app (codes "deparohi"))) (new_app (codes "demo")).top
 
 -- and with its other subcommands
-abbrev pub command_line : App
-command_line = with_subcommand (with_subcommand with_demo check_command.top) run_command.top
+abbrev pub with_check : App
+with_check = with_subcommand with_demo check_command.top
 
--- what words can ask for: the demo, a certificate's file to be checked, or a run
+abbrev pub with_run : App
+with_run = with_subcommand with_check run_command.top
+
+abbrev pub command_line : App
+command_line = with_subcommand with_run record_command.top
+
+-- what words can ask for: the demo, a certificate's file to be checked, a run, or a record to be shown
 pub data Wish : Type 0 where
   demo : Wish
   check : Text → Wish
   run : RunWish → Wish
+  shown : RecordWish → Wish
 
 -- what a subcommand with these rows asks for
 abbrev pub wish_in : Text × List Row → Wish
 wish_in command =
     if bytes_eq command.0 (codes "check") then check (unwrap_or (first_of (codes "CERTIFICATE") command.1) [])
     else if bytes_eq command.0 (codes "run") then run (run_wish command.1)
+    else if bytes_eq command.0 (codes "record") then shown (record_wish command.1)
     else demo
 
 abbrev pub wished : Option (Text × List Row) → Wish
@@ -49,3 +58,4 @@ abbrev pub wish_of : Choice → Wish
 wish_of Demo = demo
 wish_of (Check file) = check file.now
 wish_of (Run words) = run (wish_of_run words)
+wish_of (Record words) = shown (wish_of_record words)

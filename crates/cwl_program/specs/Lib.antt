@@ -1,5 +1,6 @@
 pub mod Certificates
 pub mod CommandLine
+pub mod RecordWords
 pub mod RunWords
 pub mod Runs
 pub mod Status

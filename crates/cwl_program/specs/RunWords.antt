@@ -13,12 +13,15 @@ placed_rule id is_required = record (new_rule id) { required = is_required; acti
 abbrev pub named_rule : Text → Rule
 named_rule id = record (new_rule id) { long = Some id; action = Some Set; value_names = 1 }
 
--- `run` with its two folders alone, and with its files
+-- `run` with its two folders alone, with its document, and with the input object too
 abbrev pub with_folders : App
 with_folders = with_rule (with_rule (new_app (codes "run")) (named_rule (codes "work"))) (named_rule (codes "outdir"))
 
+abbrev pub with_document : App
+with_document = with_rule with_folders (placed_rule (codes "DOCUMENT") true)
+
 abbrev pub run_command : App
-run_command = with_rule (with_rule with_folders (placed_rule (codes "DOCUMENT") true)) (placed_rule (codes "INPUTS") false)
+run_command = with_rule with_document (placed_rule (codes "INPUTS") false)
 
 -- none of its arguments is one of its subcommands' too
 abbrev pub IsLocal : Command → Type 0

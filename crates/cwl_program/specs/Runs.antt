@@ -1,7 +1,24 @@
--- How the answer of a run ends the program.
-use Rattle.std.specs.Prelude.{ℕ, List, Result, Ok, Err}
+-- How a run of a document on inputs ends the program.
+use Rattle.std.specs.Prelude.{◌≡◌, ◌≤◌, ⊤, ℕ, List, length, Option, Some, None, Result, Ok, Err}
 use Rattle.serde_json.specs.Written.{compact_text}
+use Rattle.url.specs.Parts.{Parts}
+use Rattle.document_links.specs.Documents.{IsLinked, IsRefused}
+use Rattle.document_links.specs.Library.{Documents}
+use Rattle.document_links.specs.declared.bounds.TheConstants.{MOST_PROCESSES}
+use Rattle.document_links.specs.declared.fault.LinkError.TheVariants as link_errors
+use Rattle.document_links.specs.declared.fault.LinkFault.{LinkFault}
+use Rattle.document_links.specs.declared.fault.LinkFault.TheVariants as link_faults
 use Rattle.document_links.specs.declared.process.Process.{Process}
+use Rattle.workflow_check.specs.Checked.{fault_in}
+use Rattle.workflow_check.specs.declared.fault.LinkCheckFault.{LinkCheckFault}
+use Rattle.file_values.specs.Location as location
+use Rattle.file_values.specs.Resolved as files
+use Rattle.file_values.specs.declared.refusal.FileError.TheVariants as file_errors
+use Rattle.file_values.specs.declared.refusal.FileFault.{FileFault}
+use Rattle.file_values.specs.declared.refusal.FileFault.TheVariants.{NotAFileUrl}
+use Rattle.cwl_value.specs.Texts.{ReadsAs}
+use Rattle.cwl_value.specs.declared.refusal.ValueRefusal.{ValueRefusal}
+use Rattle.cwl_value.specs.declared.value.Value.{Value}
 use Rattle.cwl_value.specs.Json.{json_of}
 use Rattle.cwl_value.specs.Places.{job_text}
 use Rattle.cwl_value.specs.declared.value.Value.TheVariants as values
@@ -19,7 +36,11 @@ use Rattle.cwl_program.specs.declared.exit.Exit.{Exit}
 use Rattle.cwl_program.specs.declared.exit.Exit.TheVariants as exits
 use Rattle.cwl_program.specs.declared.exit.Fault.{Fault}
 use Rattle.cwl_program.specs.declared.exit.Fault.TheVariants as faults
-use Rattle.cwl_program.specs.declared.exit.Refusal.{Refusal}
+use Rattle.run_rules.specs.RunsToday.{RunsToday}
+use Rattle.cwl_program.specs.declared.exit.Refusal.TheVariants as refusals
+use Rattle.cwl_program.specs.declared.run.Given.{Given}
+use Rattle.cwl_program.specs.declared.stop.Stop.{Stop}
+use Rattle.cwl_program.specs.declared.stop.Stop.TheVariants.{Early, OutOfMemory}
 
 -- the place of a job as JSON text, as `"main/step[0]"`
 abbrev pub place_json : List Segment → List ℕ
@@ -41,14 +62,75 @@ abbrev pub run_exit : Result Report RunFault → Exit
 run_exit (Ok report) = outcome_exit report.outcome
 run_exit (Err fault) = exits.Fault (fault_of fault)
 
+-- ---- what is run
+
+-- the process of some document, with the documents that it leads to
+abbrev pub IsDocument : Process → Type 0
+IsDocument process = (bytes : List ℕ) × (base : Parts) × (docs : Documents) × IsLinked bytes base docs process
+
+-- and its links are right
+abbrev pub IsAccepted : Process → Type 0
+IsAccepted process = IsDocument process × (fault_in process ≡ None)
+
+-- the value of some text, each of its files at the path that its location has on the text's URL
+abbrev pub IsLocated : Value → Type 0
+IsLocated value = (bytes : List ℕ) × (base : Parts) × (read : Value) × ReadsAs bytes (Ok read) × (files.resolved base read ≡ Ok value)
+
+abbrev pub IsInputs : Fields → Type 0
+IsInputs inputs = IsLocated (values.Fields inputs)
+
+-- a process and inputs that are run so far
+pub record IsReady (given : Given) : Type 0 where
+  pub process : IsAccepted given.process
+  pub inputs : IsInputs given.inputs
+  pub runs : RunsToday given.process given.inputs
+
+-- ---- what is not run
+
+-- this is wrong first with some document that is at `base`, among these documents
+abbrev pub IsWrong : Parts → Documents → LinkFault → Type 0
+IsWrong base docs fault = (bytes : List ℕ) × IsRefused (link_errors.Refused fault) bytes base docs
+
+-- the fault is another one than that a document is not there
+abbrev pub IsOfDocuments : LinkFault → Type 0
+IsOfDocuments (link_faults.NotLoaded url) = ⊥
+IsOfDocuments fault = ⊤
+
 -- how a run of a document on inputs ends the program
 pub data IsRunExit : Exit → Type 0 where
-  -- a host's log gained a run, and the program ends as that run
+  -- a host's log gained a run of an accepted process, and the program ends as that run
   ran : (before after : List Entry) (process : Process) (inputs : Fields) (options : Options) (result : Result Report RunFault) →
-      RunsOn before after process inputs options result → IsRunExit (run_exit result)
-  -- the document or the inputs are refused
-  refused : (refusal : Refusal) → IsRunExit (exits.Refused refusal)
+      IsAccepted process → IsInputs inputs → RunsOn before after process inputs options result → IsRunExit (run_exit result)
+  -- a document has a fault
+  bad_document : (base : Parts) (docs : Documents) (fault : LinkFault) → IsWrong base docs fault → IsOfDocuments fault →
+      IsRunExit (exits.Refused (refusals.Document fault))
+  -- a document is not there, since as many were read as may be
+  too_many : (base : Parts) (docs : Documents) (url : List ℕ) → IsWrong base docs (link_faults.NotLoaded url) →
+      MOST_PROCESSES ≤ length docs → IsRunExit (exits.Refused (refusals.Document link_faults.TooMany))
+  -- a document is not there, since its URL is no file's
+  no_file : (base : Parts) (docs : Documents) (url : List ℕ) (fault : FileFault) → IsWrong base docs (link_faults.NotLoaded url) →
+      location.Refuses (location.located base url) (location.is_long base url) (file_errors.Refused fault) →
+      IsRunExit (exits.Refused (refusals.Location fault))
+  -- a link of the process is wrong, and this one first
+  bad_links : (process : Process) (fault : LinkCheckFault) → IsDocument process → fault_in process ≡ Some fault →
+      IsRunExit (exits.Refused (refusals.Links fault))
+  -- the text of the inputs has no value
+  bad_inputs : (bytes : List ℕ) (refusal : ValueRefusal) → ReadsAs bytes (Err refusal) → IsRunExit (exits.Refused (refusals.Inputs refusal))
+  -- a file of the inputs has no path
+  no_path : (bytes : List ℕ) (base : Parts) (value : Value) (fault : FileFault) → ReadsAs bytes (Ok value) →
+      location.Refuses (files.resolved base value) (files.has_long base value) (file_errors.Refused fault) →
+      IsRunExit (exits.Refused (refusals.Location fault))
+  -- the name of a file has no URL
+  no_url : IsRunExit (exits.Refused (refusals.Location NotAFileUrl))
+  -- a file can't be read, or the inputs are no object
+  no_input : IsRunExit (exits.Fault faults.Input)
+  -- the process is not run so far
+  not_yet : (process : Process) (inputs : Fields) → IsAccepted process → IsInputs inputs → ¬ RunsToday process inputs →
+      IsRunExit (exits.Refused refusals.Workflow)
   -- the work folder can't be made
   no_work : IsRunExit (exits.Fault faults.Work)
-  -- the document or the inputs can't be read, or the inputs are no object
-  no_object : IsRunExit (exits.Fault faults.Input)
+
+-- there is nothing to run; of out of memory nothing is said
+abbrev pub IsStop : Stop → Type 0
+IsStop (Early exit) = IsRunExit exit
+IsStop OutOfMemory = ⊤

@@ -4,15 +4,17 @@ use Rattle.std.specs.Io.KnownBytes.{Appends}
 use Rattle.clap.specs.Words.{IsAmong, Text, fault_of}
 use Rattle.clap.specs.declared.error.ErrorKind.{ErrorKind}
 use Rattle.clap.specs.declared.error.ErrorKind.TheVariants.{DisplayHelp, DisplayVersion}
+use Rattle.record_program.specs.Endings as record_program
+use Rattle.record_program.specs.declared.ending.Ending.{Ending}
 use Rattle.cwl_program.specs.Certificates.{IsCheck}
 use Rattle.cwl_program.specs.CommandLine.{Asks, command_line, wish_of}
 use Rattle.cwl_program.specs.Runs.{IsRunExit}
 use Rattle.cwl_program.specs.Status.{status_of}
 use Rattle.cwl_program.specs.Words.{name_of, word_of, refusal_code}
 use Rattle.cwl_program.specs.declared.command.Choice.{Choice}
-use Rattle.cwl_program.specs.declared.command.Choice.TheVariants.{Demo, Check, Run}
+use Rattle.cwl_program.specs.declared.command.Choice.TheVariants.{Demo, Check, Run, Record}
 use Rattle.cwl_program.specs.declared.exit.Exit.{Exit}
-use Rattle.cwl_program.specs.declared.exit.Exit.TheVariants.{Output, Broken, Permanent, Temporary, Refused, Fault}
+use Rattle.cwl_program.specs.declared.exit.Exit.TheVariants.{Output, Broken, Record as Shows, Permanent, Temporary, Refused, Fault}
 use Rattle.cwl_program.specs.declared.exit.Fault.TheVariants as faults
 
 -- the bytes that a writer holds, where they are known
@@ -27,16 +29,22 @@ IsGiven line old new other other_new = Appends old new (line ++ codes "\n") × (
 abbrev pub Prints : Exit → (out out_new err err_new : Held) → Type 0
 Prints (Output line) out out_new err err_new = IsGiven line out out_new err err_new
 Prints (Broken rule) out out_new err err_new = IsGiven (codes "broken " ++ name_of rule) out out_new err err_new
+Prints (Shows ending) out out_new err err_new = record_program.Prints ending out out_new err err_new
 Prints (Permanent place) out out_new err err_new = IsGiven (codes "permanentFail " ++ place) err err_new out out_new
 Prints (Temporary place) out out_new err err_new = IsGiven (codes "temporaryFail " ++ place) err err_new out out_new
 Prints (Refused refusal) out out_new err err_new = IsGiven (codes "refused: " ++ refusal_code refusal) err err_new out out_new
 Prints (Fault fault) out out_new err err_new = IsGiven (codes "fault: " ++ word_of fault) err err_new out out_new
 
+-- a record's command ends the program in its own way
+pub data IsRecordExit : Exit → Type 0 where
+  shows : (ending : Ending) → record_program.IsEnding ending → IsRecordExit (Shows ending)
+
 -- what the choice comes to
 abbrev pub IsEndOf : Choice → Exit → Type 0
 IsEndOf Demo exit = IsRunExit exit
 IsEndOf (Check file) exit = IsCheck exit
-IsEndOf (Run run) exit = IsRunExit exit
+IsEndOf (Run words) exit = IsRunExit exit
+IsEndOf (Record words) exit = IsRecordExit exit
 
 -- the end that these words lead to
 pub data LeadsTo (words : List Text) : Exit → Type 0 where

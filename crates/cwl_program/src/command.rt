@@ -1,9 +1,10 @@
 ghost use Rattle.std.specs.Prelude.{◌≡◌, IfOk, IfErr, map};
 ghost use Rattle.clap.specs.Words.{HasKind, app_of, fault_of, kind_of, subcommand_rows_of};
-ghost use Rattle.cwl_program.specs.CommandLine.{Asks, check_command as checking, command_line, with_demo, wish_of, wished};
+ghost use Rattle.cwl_program.specs.CommandLine.{Asks, check_command as checking, command_line, with_check, with_demo, with_run, wish_of, wished};
 ghost use Rattle.cwl_program.specs.RunWords.{IsLocal};
 ghost use Rattle.std.specs.Prelude.{string_bytes};
 
+use crate::record_words::{RecordWords, record_command, record_words};
 use crate::run_words::{RunWords, run_command, run_words};
 use clap::error::ErrorKind;
 use clap::{Arg, ArgAction, ArgMatches, Command, Error};
@@ -18,6 +19,8 @@ pub enum Choice<'a> {
     Check(&'a str),
     /// Run a tool.
     Run(RunWords<'a>),
+    /// Show a record.
+    Record(RecordWords<'a>),
 }
 
 // The subcommand `check`.
@@ -49,14 +52,33 @@ fn demo_command<'a>(alloc: Global) -> Result<Command<'a>, Error>
     Ok(whole)
 }
 
-fn command<'a>(alloc: Global) -> Result<Command<'a>, Error>
-    ensures ok { IfOk result (λ command. app_of command ≡ command_line) }
+// And with `check`.
+fn with_check<'a>(alloc: Global) -> Result<Command<'a>, Error>
+    ensures ok { IfOk result (λ command. app_of command ≡ with_check) }
     ensures err { IfErr result (λ e. kind_of e ≡ ErrorKind.OutOfMemory) }
 {
     let check = check_command(alloc)?;
     let whole = demo_command(alloc)?.subcommand(check)?;
+    Ok(whole)
+}
+
+// And with `run`.
+fn with_run<'a>(alloc: Global) -> Result<Command<'a>, Error>
+    ensures ok { IfOk result (λ command. app_of command ≡ with_run) }
+    ensures err { IfErr result (λ e. kind_of e ≡ ErrorKind.OutOfMemory) }
+{
     let run = run_command(alloc)?;
-    let whole = whole.subcommand(run)?;
+    let whole = with_check(alloc)?.subcommand(run)?;
+    Ok(whole)
+}
+
+// The program's command.
+fn command<'a>(alloc: Global) -> Result<Command<'a>, Error>
+    ensures ok { IfOk result (λ command. app_of command ≡ command_line) }
+    ensures err { IfErr result (λ e. kind_of e ≡ ErrorKind.OutOfMemory) }
+{
+    let record = record_command(alloc)?;
+    let whole = with_run(alloc)?.subcommand(record)?;
     Ok(whole)
 }
 
@@ -75,6 +97,7 @@ fn chosen<'a>(matches: &ArgMatches<'a>) -> Choice<'a>
     match matches.subcommand() {
         Some(("check", words)) => Choice::Check(words.get_str("CERTIFICATE").unwrap_or("")),
         Some(("run", words)) => Choice::Run(run_words(words)),
+        Some(("record", words)) => Choice::Record(record_words(words)),
         _ => Choice::Demo,
     }
 }

@@ -1,14 +1,17 @@
-ghost use Rattle.std.specs.Prelude.{IfOk};
+//! The worked example.
+ghost use Rattle.std.specs.Prelude.{IfOk, IfErr};
 ghost use Rattle.run_core.specs.Limits.{IsWithinLimits};
-ghost use Rattle.run_rules.specs.RunsToday.{RunsToday};
-ghost use Rattle.cwl_program.specs.Runs.{IsRunExit};
+ghost use Rattle.cwl_program.specs.Runs.{IsAccepted, IsInputs, IsReady, IsRunExit, IsStop};
 
-use crate::exit::{Exit, Fault, Refusal};
-use crate::refused::{refused_document, refused_inputs};
+use crate::documents::accepted_of;
+use crate::exit::{Exit, Refusal};
+use crate::inputs::inputs_at;
+use crate::paths::base_of;
 use crate::report::exit_of_run;
-use cwl_process::{Process as NamedProcess, read_unlinked};
-use cwl_value::{Value, read_value};
-use document_links::Process;
+use crate::run::Given;
+use crate::stop::{Stop, stopped};
+use cwl_value::Value;
+use document_links::{Docs, Process};
 use plain_data::{Items, Keyed, Text};
 use proc_host::{Reply, Scripted};
 use run_core::{Options, runs_today};
@@ -16,6 +19,9 @@ use staging::Found;
 use std::alloc::{AllocError, Global};
 use std::mem;
 use workflow_engine::run;
+
+/// The folder that the example's files would be in.
+const ROOT: &str = "/";
 
 /// A tool that prints its text into a file, which is its output.
 const DOCUMENT: &str =
@@ -27,86 +33,76 @@ const INPUTS: &str = "{\"t\":\"abc\"}";
 const SUM: &str = "a9993e364706816aba3e25717850c26c9cd0d89d";
 
 /// Runs the worked example over a host that answers from a script.
-#[tactic(auto, using(crate::specs::Runs::refused))]
 pub fn exit_of_demo(alloc: Global, path: &str) -> Result<Exit, AllocError>
     ensures { IfOk result IsRunExit }
 {
-    match read_unlinked(alloc, DOCUMENT.as_bytes()) {
-        Ok(NamedProcess::Tool(tool)) => on_inputs(alloc, Process::Tool(tool), path),
-        Ok(workflow) => {
-            mem::drop(workflow);
-            Ok(Exit::Refused(Refusal::Workflow))
-        }
-        Err(error) => refused_document(error),
+    match process_of(alloc) {
+        Ok(process) => on_process(alloc, process, path),
+        Err(stop) => stopped(stop),
     }
 }
 
-fn on_inputs(alloc: Global, process: Process, path: &str) -> Result<Exit, AllocError>
+fn process_of(alloc: Global) -> Result<Process, Stop>
+    ensures ok { IfOk result IsAccepted }
+    ensures err { IfErr result IsStop }
+{
+    let base = base_of(alloc, ROOT, "hello.json")?;
+    accepted_of(alloc, DOCUMENT.as_bytes(), &base, &Docs::new(alloc))
+}
+
+fn on_process(alloc: Global, process: Process, path: &str) -> Result<Exit, AllocError>
+    requires { IsAccepted process }
     ensures { IfOk result IsRunExit }
 {
-    match read_value(alloc, INPUTS.as_bytes()) {
-        Ok(value) => on_value(alloc, process, value, path),
-        Err(refusal) => {
+    match inputs_of(alloc) {
+        Ok(inputs) => on_given(alloc, Given { process, inputs }, path),
+        Err(stop) => {
             mem::drop(process);
-            refused_inputs(refusal)
+            stopped(stop)
         }
     }
 }
 
-#[tactic(auto, using(crate::specs::Runs::no_object))]
-fn on_value(alloc: Global, process: Process, value: Value, path: &str) -> Result<Exit, AllocError>
+fn inputs_of(alloc: Global) -> Result<Keyed<Value>, Stop>
+    ensures ok { IfOk result IsInputs }
+    ensures err { IfErr result IsStop }
+{
+    let base = base_of(alloc, ROOT, "inputs.json")?;
+    inputs_at(alloc, INPUTS.as_bytes(), &base)
+}
+
+#[tactic(auto, using(crate::specs::Runs::not_yet))]
+fn on_given(alloc: Global, given: Given, path: &str) -> Result<Exit, AllocError>
+    requires process { IsAccepted given.process }
+    requires inputs { IsInputs given.inputs }
     ensures { IfOk result IsRunExit }
 {
-    match value {
-        Value::Fields(inputs) => on_object(alloc, process, inputs, path),
-        other => {
-            mem::drop(other);
-            mem::drop(process);
-            Ok(Exit::Fault(Fault::Input))
+    if runs_today(&given.process, &given.inputs) {
+        return in_world(alloc, given, path);
+    }
+    mem::drop(given);
+    Ok(Exit::Refused(Refusal::Workflow))
+}
+
+fn in_world(alloc: Global, given: Given, path: &str) -> Result<Exit, AllocError>
+    requires { IsReady given }
+    ensures { IfOk result IsRunExit }
+{
+    match world_of(alloc, path) {
+        Ok(world) => ended(alloc, given, world),
+        Err(error) => {
+            mem::drop(given);
+            Err(error)
         }
     }
 }
 
-#[tactic(auto, using(crate::specs::Runs::refused))]
-fn on_object(
-    alloc: Global,
-    process: Process,
-    inputs: Keyed<Value>,
-    path: &str,
-) -> Result<Exit, AllocError>
-    ensures { IfOk result IsRunExit }
-{
-    if runs_today(&process, &inputs) {
-        return in_world(alloc, process, inputs, path);
-    }
-    mem::drop(process);
-    mem::drop(inputs);
-    Ok(Exit::Refused(Refusal::Tool))
-}
-
-fn in_world(
-    alloc: Global,
-    process: Process,
-    inputs: Keyed<Value>,
-    path: &str,
-) -> Result<Exit, AllocError>
-    requires { RunsToday process inputs }
-    ensures { IfOk result IsRunExit }
-{
-    let world = world_of(alloc, path)?;
-    ended(alloc, process, inputs, world)
-}
-
-fn ended(
-    alloc: Global,
-    process: Process,
-    inputs: Keyed<Value>,
-    world: World,
-) -> Result<Exit, AllocError>
-    requires runs { RunsToday process inputs }
+fn ended(alloc: Global, given: Given, world: World) -> Result<Exit, AllocError>
+    requires ready { IsReady given }
     requires limits { IsWithinLimits world.options }
     ensures { IfOk result IsRunExit }
 {
+    let Given { process, inputs } = given;
     let World { options, script } = world;
     let mut host = Scripted::new(alloc, script, 0);
     let report = run(alloc, &mut host, process, inputs, options);

@@ -1,17 +1,19 @@
 ghost use Rattle.std.specs.Prelude.{◌≡◌, ◌≢◌, IfOk, IfErr, map, string_bytes};
 ghost use Rattle.clap.specs.Words.{HasKind, fault_of, kind_of};
 ghost use Rattle.cwl_program.specs.CommandLine.{Asks, command_line};
-ghost use Rattle.cwl_program.specs.Tells.{Explains, IsEndOf, LeadsTo, Says, Tells};
+ghost use Rattle.cwl_program.specs.Tells.{Explains, IsEndOf, IsRecordExit, LeadsTo, Says, Tells};
 ghost use Rattle.std.specs.Result.{result_unwrap_or};
 
 use crate::certificate::exit_of_check;
 use crate::command::{Choice, choice_of};
 use crate::demo::exit_of_demo;
 use crate::exit::{Exit, Fault};
-use crate::run::exit_of_tool;
+use crate::record_words::RecordWords;
+use crate::run::exit_of_process;
 use clap::Error;
 use clap::error::ErrorKind;
 use process_machine::World;
+use record_program::Records;
 use std::alloc::AllocError;
 use std::io::Write;
 use std::process::{ExitCode, Stdio};
@@ -54,7 +56,7 @@ fn words(rt: &HostRuntime) -> io::Result<Vec<String>> {
 ///
 /// Returns the exit status: 0 success, 1 a permanent failure or a broken certificate, 2 a temporary failure, 33 a refused
 /// document, input or certificate, 3 any other fault. A write that fails ends with 3.
-pub fn main_run<R: World + Env, O: Write, E: Write>(
+pub fn main_run<R: World + Env + Records, O: Write, E: Write>(
     rt: &R,
     words: &[String],
     path: &str,
@@ -87,7 +89,7 @@ fn say<O: Write, E: Write>(exit: &Exit, out: &mut O, err: &mut E) -> u8
 
 /// Returns the end that the words lead to, or `clap`'s error.
 #[tactic(auto, using(crate::specs::Tells::out_of_memory))]
-fn exit_of<R: World + Env>(rt: &R, words: &[String], path: &str) -> Result<Exit, Error>
+fn exit_of<R: World + Env + Records>(rt: &R, words: &[String], path: &str) -> Result<Exit, Error>
 where
     R::File: Into<Stdio>,
     ensures ok { IfOk result (LeadsTo (map (λ word. string_bytes word) words.now)) }
@@ -103,7 +105,11 @@ where
     }
 }
 
-fn end_of_choice<R: World + Env>(rt: &R, choice: &Choice, path: &str) -> Result<Exit, AllocError>
+fn end_of_choice<R: World + Env + Records>(
+    rt: &R,
+    choice: &Choice,
+    path: &str,
+) -> Result<Exit, AllocError>
 where
     R::File: Into<Stdio>,
     ensures { IfOk result (IsEndOf choice.now) }
@@ -111,8 +117,16 @@ where
     match choice {
         Choice::Demo => exit_of_demo(rt.alloc(), path),
         Choice::Check(file) => exit_of_check(rt, file),
-        Choice::Run(words) => exit_of_tool(rt, words, path),
+        Choice::Run(words) => exit_of_process(rt, words, path),
+        Choice::Record(words) => Ok(exit_of_record(rt, words)),
     }
+}
+
+#[tactic(auto, using(crate::specs::Tells::shows))]
+fn exit_of_record<R: Records>(rt: &R, words: &RecordWords) -> Exit
+    ensures { IsRecordExit result }
+{
+    Exit::Record(rt.record_ending(words.file, words.forget))
 }
 
 /// Out of memory ends the program as a fault.

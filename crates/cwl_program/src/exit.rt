@@ -10,8 +10,10 @@ use file_values::FileFault;
 use plain_data::Text;
 use plan_checker::Broken;
 use proc_host::HostFault;
+use record_program::Ending;
 use std::io;
 use std::io::Write;
+use workflow_check::LinkCheckFault;
 
 /// How the program ends, and what it says.
 #[derive(Drop)]
@@ -20,6 +22,8 @@ pub enum Exit {
     Output(Text),
     /// A certificate breaks this rule.
     Broken(Broken),
+    /// The rows of a record, or why they can't be shown.
+    Record(Ending),
     /// A job failed permanently; its place as JSON text.
     Permanent(Text),
     /// A job failed temporarily; its place as JSON text.
@@ -33,15 +37,14 @@ pub enum Exit {
 /// Why what the program was given is no document, input object or certificate, or none that is run so far.
 #[derive(Drop)]
 pub enum Refusal {
-    Document(Cause),
-    /// The document can't be put together, or its defaults have no path.
-    Links(LinkFault),
-    /// The document is a workflow.
+    /// The document, or one that it leads to, represents no process.
+    Document(LinkFault),
+    /// A link of the process is wrong.
+    Links(LinkCheckFault),
+    /// The process is a workflow, which is not run so far.
     Workflow,
-    /// The document is a tool that is not run so far, or not on such inputs.
-    Tool,
     Inputs(ValueRefusal),
-    /// A file of the inputs has no path.
+    /// A document or a file of the inputs has no path.
     Location(FileFault),
     Certificate,
 }
@@ -65,10 +68,9 @@ impl Refusal {
         ensures { result.now ≡ refusal_code self.now }
     {
         match self {
-            Refusal::Document(cause) => cause.code(),
+            Refusal::Document(fault) => fault.code(),
             Refusal::Links(fault) => fault.code(),
             Refusal::Workflow => Cause::WrongClass.code(),
-            Refusal::Tool => Cause::UnknownField.code(),
             Refusal::Inputs(refusal) => refusal.code(),
             Refusal::Location(fault) => fault.code(),
             Refusal::Certificate => "X1",
@@ -119,6 +121,7 @@ impl Exit {
             Exit::Output(_) => 0,
             Exit::Broken(_) | Exit::Permanent(_) => 1,
             Exit::Temporary(_) => 2,
+            Exit::Record(ending) => ending.status(),
             Exit::Fault(_) => 3,
             Exit::Refused(_) => 33,
         }
@@ -131,6 +134,7 @@ impl Exit {
         match self {
             Exit::Output(line) => writeln!(out, "{line}"),
             Exit::Broken(broken) => writeln!(out, "broken {}", rule_name(*broken)),
+            Exit::Record(ending) => ending.print(out, err),
             Exit::Permanent(place) => writeln!(err, "permanentFail {place}"),
             Exit::Temporary(place) => writeln!(err, "temporaryFail {place}"),
             Exit::Refused(refusal) => writeln!(err, "refused: {}", refusal.code()),

@@ -1,4 +1,5 @@
-//! The program behind a command line: `deparohi run DOCUMENT [INPUTS]`, `deparohi demo` and `deparohi check CERTIFICATE`.
+//! The program behind a command line: `deparohi run DOCUMENT [INPUTS]`, `deparohi check CERTIFICATE`, `deparohi record FILE` and
+//! `deparohi demo`.
 //!
 //! `main_run` is the whole program over two writers, and `program` hands it the words, `PATH`, the standard output and
 //! the standard error. Its contract, `Tells`, says which words lead to which end, and which line and status say it:
@@ -9,12 +10,16 @@
 mod certificate;
 mod command;
 mod demo;
+mod documents;
 mod entry;
 mod exit;
+mod inputs;
 mod paths;
-mod refused;
+mod record_words;
 mod report;
 mod run;
 mod run_words;
+mod search;
+mod stop;
 
 pub use entry::{main_run, program};

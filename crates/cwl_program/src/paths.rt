@@ -1,6 +1,10 @@
 //! Names of files and folders, as paths and URLs.
+ghost use Rattle.std.specs.Prelude.{IfErr};
+ghost use Rattle.cwl_program.specs.Runs.{IsStop};
 
-use file_values::{FileError, FileFault, path_to_location};
+use crate::exit::{Exit, Refusal};
+use crate::stop::Stop;
+use file_values::{FileFault, path_to_location};
 use plain_data::Text;
 use std::alloc::{AllocError, Global};
 use url::{ParseError, Url};
@@ -27,12 +31,15 @@ fn add_components(path: &mut String, name: &str) -> Result<(), AllocError> {
 }
 
 /// The URL of a file of this name, on which the locations in it are.
-pub fn base_of(alloc: Global, here: &str, name: &str) -> Result<Url, FileError> {
+#[tactic(auto, using(crate::specs::Runs::no_url))]
+pub fn base_of(alloc: Global, here: &str, name: &str) -> Result<Url, Stop>
+    ensures { IfErr result IsStop }
+{
     let path = from_root(alloc, here, name)?;
     let location = path_to_location(alloc, path.as_str())?;
     match Url::parse(alloc, location.as_str()) {
         Ok(url) => Ok(url),
-        Err(ParseError::OutOfMemory) => Err(FileError::OutOfMemory),
-        Err(_) => Err(FileError::Refused(FileFault::NotAFileUrl)),
+        Err(ParseError::OutOfMemory) => Err(Stop::OutOfMemory),
+        Err(_) => Err(Stop::Early(Exit::Refused(Refusal::Location(FileFault::NotAFileUrl)))),
     }
 }

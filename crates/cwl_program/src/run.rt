@@ -1,18 +1,18 @@
-//! A run of the user's own tool, over real processes and files.
-ghost use Rattle.std.specs.Prelude.{◌≡◌, [], IfOk};
+//! A run of the user's own process, over real processes and files.
+ghost use Rattle.std.specs.Prelude.{◌≡◌, [], IfOk, IfErr};
 ghost use Rattle.run_core.specs.Limits.{IsWithinLimits};
-ghost use Rattle.run_rules.specs.RunsToday.{RunsToday};
-ghost use Rattle.cwl_program.specs.Runs.{IsRunExit};
+ghost use Rattle.cwl_program.specs.Runs.{IsAccepted, IsInputs, IsReady, IsRunExit, IsStop};
 
+use crate::documents::accepted_of;
 use crate::exit::{Exit, Fault, Refusal};
+use crate::inputs::inputs_at;
 use crate::paths::{base_of, from_root};
-use crate::refused::{refused_document, refused_inputs, refused_links, refused_location};
 use crate::report::exit_of_run;
 use crate::run_words::RunWords;
-use cwl_process::{Process as NamedProcess, read_unlinked};
-use cwl_value::{Value, read_value};
-use document_links::{Docs, Process, read_process};
-use file_values::{FileError, resolve};
+use crate::search::docs_of;
+use crate::stop::{Stop, stopped, unread};
+use cwl_value::Value;
+use document_links::Process;
 use plain_data::{Keyed, Text};
 use process_machine::{Machine, World};
 use run_core::{Options, runs_today};
@@ -34,6 +34,13 @@ struct Call<'a> {
     path: &'a str,
 }
 
+/// What is run.
+#[derive(Drop)]
+pub struct Given {
+    pub process: Process,
+    pub inputs: Keyed<Value>,
+}
+
 /// Where a run has its folders.
 #[derive(Drop)]
 struct Places {
@@ -49,8 +56,8 @@ impl Places {
     }
 }
 
-/// Runs the tool of a document on an input object, in a work folder that is made for it and removed again.
-pub fn exit_of_tool<R: World + Env>(
+/// Runs the process of a document on an input object, in a work folder that is made for it and removed again.
+pub fn exit_of_process<R: World + Env>(
     rt: &R,
     words: &RunWords,
     path: &str,
@@ -70,7 +77,7 @@ where
             mem::drop(here);
             exit
         }
-        Err(error) => unread(&error),
+        Err(error) => stopped(unread(&error)),
     }
 }
 
@@ -84,205 +91,109 @@ where
     R::File: Into<Stdio>,
     ensures { IfOk result IsRunExit }
 {
-    match fs::read(rt, call.words.document) {
-        Ok(bytes) => on_document(rt, bytes.as_slice(), call),
-        Err(error) => unread(&error),
+    match process_of(rt, call) {
+        Ok(process) => on_process(rt, process, call),
+        Err(stop) => stopped(stop),
     }
 }
 
-/// A file that can't be read is a fault of the input, except for a read that was out of memory.
-#[tactic(auto, using(crate::specs::Runs::no_object))]
-fn unread(error: &io::Error) -> Result<Exit, AllocError>
-    ensures { IfOk result IsRunExit }
+/// Reads the document with all that it leads to.
+fn process_of<R: World>(rt: &R, call: &Call<'_>) -> Result<Process, Stop>
+    ensures ok { IfOk result IsAccepted }
+    ensures err { IfErr result IsStop }
 {
-    match error.kind() {
-        io::ErrorKind::OutOfMemory => Err(AllocError),
-        _ => Ok(Exit::Fault(Fault::Input)),
-    }
+    let document = file_bytes(rt, call.words.document)?;
+    let base = base_of(rt.alloc(), call.here, call.words.document)?;
+    process_at(rt, document.as_slice(), &base)
 }
 
-#[tactic(auto, using(crate::specs::Runs::refused))]
-fn on_document<R: World>(rt: &R, document: &[u8], call: &Call<'_>) -> Result<Exit, AllocError>
-where
-    R::File: Into<Stdio>,
-    ensures { IfOk result IsRunExit }
+fn process_at<R: World>(rt: &R, document: &[u8], base: &Url) -> Result<Process, Stop>
+    ensures ok { IfOk result IsAccepted }
+    ensures err { IfErr result IsStop }
 {
-    match read_unlinked(rt.alloc(), document) {
-        Ok(NamedProcess::Workflow(workflow)) => {
-            mem::drop(workflow);
-            Ok(Exit::Refused(Refusal::Workflow))
-        }
-        Ok(tool) => {
-            mem::drop(tool);
-            on_tool(rt, document, call)
-        }
-        Err(error) => refused_document(error),
-    }
-}
-
-fn on_tool<R: World>(rt: &R, document: &[u8], call: &Call<'_>) -> Result<Exit, AllocError>
-where
-    R::File: Into<Stdio>,
-    ensures { IfOk result IsRunExit }
-{
-    match base_of(rt.alloc(), call.here, call.words.document) {
-        Ok(base) => {
-            let exit = on_base(rt, document, &base, call);
-            mem::drop(base);
-            exit
-        }
-        Err(error) => refused_location(error),
-    }
-}
-
-/// Reads a tool's document again, with its defaults on the document's own URL.
-#[tactic(auto, using(crate::specs::Runs::refused))]
-fn on_base<R: World>(
-    rt: &R,
-    document: &[u8],
-    base: &Url,
-    call: &Call<'_>,
-) -> Result<Exit, AllocError>
-where
-    R::File: Into<Stdio>,
-    ensures { IfOk result IsRunExit }
-{
-    let docs = Docs::new(rt.alloc());
-    let linked = read_process(rt.alloc(), document, base, &docs);
+    let docs = docs_of(rt, document, base)?;
+    let process = accepted_of(rt.alloc(), document, base, &docs);
     mem::drop(docs);
-    match linked {
-        Ok(Process::Tool(tool)) => on_process(rt, Process::Tool(tool), call),
-        Ok(workflow) => {
-            mem::drop(workflow);
-            Ok(Exit::Refused(Refusal::Workflow))
-        }
-        Err(error) => refused_links(error),
+    process
+}
+
+fn file_bytes<R: World>(rt: &R, file: &str) -> Result<Vec<u8>, Stop>
+    ensures { IfErr result IsStop }
+{
+    match fs::read(rt, file) {
+        Ok(bytes) => Ok(bytes),
+        Err(error) => Err(unread(&error)),
     }
 }
 
 fn on_process<R: World>(rt: &R, process: Process, call: &Call<'_>) -> Result<Exit, AllocError>
 where
     R::File: Into<Stdio>,
+    requires { IsAccepted process }
     ensures { IfOk result IsRunExit }
 {
-    match inputs_of(rt, call.words) {
-        Ok(bytes) => on_inputs(rt, process, bytes.as_slice(), call),
-        Err(error) => {
+    match inputs_of(rt, call) {
+        Ok(inputs) => on_given(rt, Given { process, inputs }, call),
+        Err(stop) => {
             mem::drop(process);
-            unread(&error)
+            stopped(stop)
         }
     }
 }
 
-fn inputs_of<R: World>(rt: &R, words: &RunWords) -> io::Result<Vec<u8>> {
+/// Reads the input object. Its locations are on the URL of its own file.
+fn inputs_of<R: World>(rt: &R, call: &Call<'_>) -> Result<Keyed<Value>, Stop>
+    ensures ok { IfOk result IsInputs }
+    ensures err { IfErr result IsStop }
+{
+    let name = call.words.inputs.unwrap_or(call.words.document);
+    let base = base_of(rt.alloc(), call.here, name)?;
+    let bytes = inputs_bytes(rt, call.words)?;
+    inputs_at(rt.alloc(), bytes.as_slice(), &base)
+}
+
+fn inputs_bytes<R: World>(rt: &R, words: &RunWords) -> Result<Vec<u8>, Stop>
+    ensures { IfErr result IsStop }
+{
     match words.inputs {
-        Some(file) => fs::read(rt, file),
+        Some(file) => file_bytes(rt, file),
         None => Ok(NO_INPUTS.to_vec(rt.alloc())?),
     }
 }
 
-fn on_inputs<R: World>(
-    rt: &R,
-    process: Process,
-    inputs: &[u8],
-    call: &Call<'_>,
-) -> Result<Exit, AllocError>
+// The one place that says which processes are run so far.
+#[tactic(auto, using(crate::specs::Runs::not_yet))]
+fn on_given<R: World>(rt: &R, given: Given, call: &Call<'_>) -> Result<Exit, AllocError>
 where
     R::File: Into<Stdio>,
+    requires process { IsAccepted given.process }
+    requires inputs { IsInputs given.inputs }
     ensures { IfOk result IsRunExit }
 {
-    match read_value(rt.alloc(), inputs) {
-        Ok(value) => on_value(rt, process, value, call),
-        Err(refusal) => {
-            mem::drop(process);
-            refused_inputs(refusal)
-        }
+    if runs_today(&given.process, &given.inputs) {
+        return in_places(rt, given, call);
     }
-}
-
-#[tactic(auto, using(crate::specs::Runs::no_object))]
-fn on_value<R: World>(
-    rt: &R,
-    process: Process,
-    value: Value,
-    call: &Call<'_>,
-) -> Result<Exit, AllocError>
-where
-    R::File: Into<Stdio>,
-    ensures { IfOk result IsRunExit }
-{
-    match located(rt.alloc(), value, call) {
-        Ok(Value::Fields(inputs)) => on_object(rt, process, inputs, call),
-        Ok(other) => {
-            mem::drop(other);
-            mem::drop(process);
-            Ok(Exit::Fault(Fault::Input))
-        }
-        Err(error) => {
-            mem::drop(process);
-            refused_location(error)
-        }
-    }
-}
-
-/// The input object with its files at paths, on the URL of its own file.
-fn located(alloc: Global, value: Value, call: &Call<'_>) -> Result<Value, FileError> {
-    let name = call.words.inputs.unwrap_or(call.words.document);
-    match base_of(alloc, call.here, name) {
-        Ok(base) => {
-            let located = resolve(alloc, value, &base);
-            mem::drop(base);
-            located
-        }
-        Err(error) => {
-            mem::drop(value);
-            Err(error)
-        }
-    }
-}
-
-#[tactic(auto, using(crate::specs::Runs::refused))]
-fn on_object<R: World>(
-    rt: &R,
-    process: Process,
-    inputs: Keyed<Value>,
-    call: &Call<'_>,
-) -> Result<Exit, AllocError>
-where
-    R::File: Into<Stdio>,
-    ensures { IfOk result IsRunExit }
-{
-    if runs_today(&process, &inputs) {
-        return in_places(rt, process, inputs, call);
-    }
-    mem::drop(process);
-    mem::drop(inputs);
-    Ok(Exit::Refused(Refusal::Tool))
+    mem::drop(given);
+    Ok(Exit::Refused(Refusal::Workflow))
 }
 
 /// Makes the work folder, runs, and removes the folder where that is possible.
 #[tactic(auto, using(crate::specs::Runs::no_work))]
-fn in_places<R: World>(
-    rt: &R,
-    process: Process,
-    inputs: Keyed<Value>,
-    call: &Call<'_>,
-) -> Result<Exit, AllocError>
+fn in_places<R: World>(rt: &R, given: Given, call: &Call<'_>) -> Result<Exit, AllocError>
 where
     R::File: Into<Stdio>,
-    requires { RunsToday process inputs }
+    requires { IsReady given }
     ensures { IfOk result IsRunExit }
 {
     match places_of(rt, call) {
         Ok(places) => {
-            let exit = in_work(rt, process, inputs, &places, call.path);
+            let exit = in_work(rt, given, &places, call.path);
             let _removed = fs::remove_dir_all(rt, places.work.as_str());
             mem::drop(places);
             exit
         }
         Err(_) => {
-            mem::drop(process);
-            mem::drop(inputs);
+            mem::drop(given);
             Ok(Exit::Fault(Fault::Work))
         }
     }
@@ -301,23 +212,16 @@ fn places_from(alloc: Global, call: &Call<'_>) -> Result<Places, AllocError> {
     Ok(Places { work, outdir })
 }
 
-fn in_work<R: World>(
-    rt: &R,
-    process: Process,
-    inputs: Keyed<Value>,
-    places: &Places,
-    path: &str,
-) -> Result<Exit, AllocError>
+fn in_work<R: World>(rt: &R, given: Given, places: &Places, path: &str) -> Result<Exit, AllocError>
 where
     R::File: Into<Stdio>,
-    requires { RunsToday process inputs }
+    requires { IsReady given }
     ensures { IfOk result IsRunExit }
 {
     match options_of(rt.alloc(), places, path) {
-        Ok(options) => with_options(rt, process, inputs, options, places),
+        Ok(options) => with_options(rt, given, options, places),
         Err(error) => {
-            mem::drop(process);
-            mem::drop(inputs);
+            mem::drop(given);
             Err(error)
         }
     }
@@ -340,22 +244,20 @@ fn options_of(alloc: Global, places: &Places, path: &str) -> Result<Options, All
 
 fn with_options<R: World>(
     rt: &R,
-    process: Process,
-    inputs: Keyed<Value>,
+    given: Given,
     options: Options,
     places: &Places,
 ) -> Result<Exit, AllocError>
 where
     R::File: Into<Stdio>,
-    requires runs { RunsToday process inputs }
+    requires ready { IsReady given }
     requires limits { IsWithinLimits options }
     ensures { IfOk result IsRunExit }
 {
     match machine_of(rt, places) {
-        Ok(host) => ended(rt.alloc(), host, process, inputs, options),
+        Ok(host) => ended(rt.alloc(), host, given, options),
         Err(error) => {
-            mem::drop(process);
-            mem::drop(inputs);
+            mem::drop(given);
             mem::drop(options);
             Err(error)
         }
@@ -379,17 +281,17 @@ fn machine_at<R: World>(rt: R, places: Places) -> Machine<R>
 fn ended<R: World>(
     alloc: Global,
     mut host: Machine<R>,
-    process: Process,
-    inputs: Keyed<Value>,
+    given: Given,
     options: Options,
 ) -> Result<Exit, AllocError>
 where
     R::File: Into<Stdio>,
     requires idle { host.running ≡ [] }
-    requires runs { RunsToday process inputs }
+    requires ready { IsReady given }
     requires limits { IsWithinLimits options }
     ensures { IfOk result IsRunExit }
 {
+    let Given { process, inputs } = given;
     let report = run(alloc, &mut host, process, inputs, options);
     let exit = exit_of_run(alloc, &report);
     mem::drop(report);

@@ -1,6 +1,6 @@
 ghost use Rattle.std.specs.Prelude.{◌≡◌, IfOk, IfErr, false};
 ghost use Rattle.clap.specs.Words.{app_of, found_of, kind_of, rows_of, rule_of};
-ghost use Rattle.cwl_program.specs.RunWords.{IsLocal, named_rule, placed_rule, run_command, run_wish, wish_of_run, with_folders};
+ghost use Rattle.cwl_program.specs.RunWords.{IsLocal, named_rule, placed_rule, run_command, run_wish, wish_of_run, with_document, with_folders};
 
 use clap::error::ErrorKind;
 use clap::{Arg, ArgAction, ArgMatches, Command, Error};
@@ -21,8 +21,8 @@ pub struct RunWords<'a> {
     pub outdir: &'a str,
 }
 
-// An argument by its place.
-fn placed<'a>(alloc: Global, id: &'a str, is_required: bool, help: &'a str) -> Arg<'a>
+/// An argument by its place.
+pub fn placed<'a>(alloc: Global, id: &'a str, is_required: bool, help: &'a str) -> Arg<'a>
     ensures rule { rule_of result ≡ placed_rule id.now is_required }
     ensures local { result.global ≡ false }
 {
@@ -32,14 +32,14 @@ fn placed<'a>(alloc: Global, id: &'a str, is_required: bool, help: &'a str) -> A
         .help(help)
 }
 
-// An argument by its name, as `--work DIR`.
-fn named<'a>(alloc: Global, id: &'a str, help: &'a str) -> Arg<'a>
+/// An argument by its name, as `--work DIR`.
+pub fn named<'a>(alloc: Global, id: &'a str, value: &'a str, help: &'a str) -> Arg<'a>
     ensures rule { rule_of result ≡ named_rule id.now }
     ensures local { result.global ≡ false }
 {
     Arg::new(alloc, id)
         .long(id)
-        .value_name("DIR")
+        .value_name(value)
         .action(ArgAction::Set)
         .help(help)
 }
@@ -50,12 +50,23 @@ fn folders_command<'a>(alloc: Global) -> Result<Command<'a>, Error>
     ensures local { IfOk result IsLocal }
     ensures err { IfErr result (λ e. kind_of e ≡ ErrorKind.OutOfMemory) }
 {
-    let work = named(alloc, "work", WORK_HELP);
+    let work = named(alloc, "work", "DIR", WORK_HELP);
     let command = Command::new(alloc, "run")
         .about("Runs a tool and prints its output object")
         .arg(work)?;
-    let outdir = named(alloc, "outdir", OUTDIR_HELP);
+    let outdir = named(alloc, "outdir", "DIR", OUTDIR_HELP);
     let command = command.arg(outdir)?;
+    Ok(command)
+}
+
+// And with its document.
+fn document_command<'a>(alloc: Global) -> Result<Command<'a>, Error>
+    ensures ok { IfOk result (λ command. app_of command ≡ with_document) }
+    ensures local { IfOk result IsLocal }
+    ensures err { IfErr result (λ e. kind_of e ≡ ErrorKind.OutOfMemory) }
+{
+    let document = placed(alloc, "DOCUMENT", true, "The tool's document, in JSON");
+    let command = folders_command(alloc)?.arg(document)?;
     Ok(command)
 }
 
@@ -65,10 +76,8 @@ pub fn run_command<'a>(alloc: Global) -> Result<Command<'a>, Error>
     ensures local { IfOk result IsLocal }
     ensures err { IfErr result (λ e. kind_of e ≡ ErrorKind.OutOfMemory) }
 {
-    let document = placed(alloc, "DOCUMENT", true, "The tool's document, in JSON");
-    let command = folders_command(alloc)?.arg(document)?;
     let inputs = placed(alloc, "INPUTS", false, INPUTS_HELP);
-    let command = command.arg(inputs)?;
+    let command = document_command(alloc)?.arg(inputs)?;
     Ok(command)
 }
 

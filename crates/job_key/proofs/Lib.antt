@@ -1,2 +1,5 @@
+mod Distinct
 mod Exact
+mod ReadNumbers
+mod ReadTools
 mod Told

@@ -1,9 +1,10 @@
-ghost use Rattle.std.specs.Prelude.{◌≡◌, IfOk, codes};
+ghost use Rattle.std.specs.Prelude.{◌≡◌, ◌++◌, IfOk, codes};
 ghost use Rattle.serde_json.specs.View.{view};
 ghost use Rattle.serde_json.specs.Written.{compact_text};
 ghost use Rattle.job_key.specs.Key.{key, inputs_json, input_json};
 
-use cwl_document::{Tool, ToolInput};
+use crate::env::env_text;
+use cwl_process::{Tool, ToolInput};
 use cwl_value::{Value, erased, to_json};
 use plain_data::{Keyed, Text};
 use serde_json::Value as Json;
@@ -15,11 +16,22 @@ use std::alloc::{AllocError, Global};
 pub fn key_text(alloc: Global, tool: &Tool, given: &Keyed<Value>) -> Result<Text, AllocError>
     ensures { IfOk result (λ text. text ≡ key tool.now given.now) }
 {
+    let env = env_text(alloc, tool)?;
     let inputs = inputs_text(alloc, tool.inputs.as_slice(), given)?;
-    let mut text = String::from_str(alloc, "{\"env\":[],\"inputs\":")?;
-    text.push_str(inputs.as_str())?;
+    joined(alloc, env.as_str(), inputs.as_str(), tool.written.as_str())
+}
+
+// The three parts as the members of one object.
+fn joined(alloc: Global, env: &str, inputs: &str, tool: &str) -> Result<Text, AllocError>
+    ensures { IfOk result (λ text. text ≡ codes "{\"env\":" ++ env.now ++ codes ",\"inputs\":"
+        ++ inputs.now ++ codes ",\"tool\":" ++ tool.now ++ codes "}") }
+{
+    let mut text = String::from_str(alloc, "{\"env\":")?;
+    text.push_str(env)?;
+    text.push_str(",\"inputs\":")?;
+    text.push_str(inputs)?;
     text.push_str(",\"tool\":")?;
-    text.push_str(tool.written.as_str())?;
+    text.push_str(tool)?;
     text.push_str("}")?;
     Ok(Text::from_string(text))
 }
@@ -27,7 +39,7 @@ pub fn key_text(alloc: Global, tool: &Tool, given: &Keyed<Value>) -> Result<Text
 #[tactic(auto, using(crate::proofs::Exact::exact))]
 fn inputs_text(
     alloc: Global,
-    inputs: &[ToolInput],
+    inputs: &[(Text, ToolInput)],
     given: &Keyed<Value>,
 ) -> Result<Text, AllocError>
     ensures { IfOk result (λ text. text ≡ compact_text (inputs_json inputs.now given.now)) }
@@ -38,15 +50,15 @@ fn inputs_text(
 // Each input under its name.
 fn json_of_inputs(
     alloc: Global,
-    inputs: &[ToolInput],
+    inputs: &[(Text, ToolInput)],
     given: &Keyed<Value>,
 ) -> Result<Json, AllocError>
     ensures { IfOk result (λ json. view json ≡ inputs_json inputs.now given.now) }
 {
     let mut members = Map::new(alloc);
     for input in inputs {
-        let json = input_json(alloc, input.id.as_str(), given)?;
-        serde_json::put(&mut members, alloc, input.id.as_str(), json)?;
+        let json = input_json(alloc, input.0.as_str(), given)?;
+        serde_json::put(&mut members, alloc, input.0.as_str(), json)?;
     }
     Ok(Json::Object(members))
 }

@@ -14,6 +14,12 @@ abbrev pub Ends : Result (List Row) RecordFault → Ending → Type 0
 Ends (Ok rows) ending = (ending ≡ Rows (flat_map line_of rows)) ⊎ (ending ≡ Record OutOfMemory)
 Ends (Err fault) ending = ending ≡ Record fault
 
+-- an ending shows the lines of some rows, and no other text
+pub data IsEnding : Ending → Type 0 where
+  shows : (rows : List Row) → IsEnding (Rows (flat_map line_of rows))
+  no_file : IsEnding Input
+  faulty : (fault : RecordFault) → IsEnding (Record fault)
+
 abbrev pub status_of : Ending → ℕ
 status_of (Rows lines) = 0
 status_of Input = 3
@@ -31,5 +37,5 @@ Prints (Record fault) out out_new err err_new = Appends err err_new (codes "faul
 
 -- what is written and answered: an ending is said with its status, or a write failed
 pub data Says (out out_new err err_new : Held) : ℕ → Type 0 where
-  says : (ending : Ending) → Prints ending out out_new err err_new → Says out out_new err err_new (status_of ending)
+  says : (ending : Ending) → IsEnding ending → Prints ending out out_new err err_new → Says out out_new err err_new (status_of ending)
   fails : Says out out_new err err_new 3

@@ -1,6 +1,6 @@
 //! The record of a file.
 ghost use Rattle.std.specs.Prelude.{◌≡◌, false};
-ghost use Rattle.record_program.specs.Endings.{Says};
+ghost use Rattle.record_program.specs.Endings.{IsEnding, Says};
 
 use crate::ending::Ending;
 use crate::store::shown;
@@ -17,6 +17,20 @@ const FAULT: u8 = 3;
 
 const META: &str = "SELECT value FROM meta WHERE name = 'version'";
 
+/// A runtime whose files may hold records.
+pub trait Records {
+    /// Forgets the rows of a file's record whose key has the SHA-1 `forget`, where one is given, and returns how that and the
+    /// rows that are left end the command.
+    fn record_ending(&self, file: &str, forget: Option<&str>) -> Ending
+        ensures { IsEnding result };
+}
+
+impl Records for HostRuntime {
+    fn record_ending(&self, file: &str, forget: Option<&str>) -> Ending {
+        ending_of(self, file, forget)
+    }
+}
+
 /// Runs `record` on a file: forgets the rows whose key has the SHA-1 `forget`, where one is given, and writes a line
 /// for each row to `out`, or what went wrong to `err`.
 ///
@@ -30,7 +44,7 @@ pub fn main_run<O: Write, E: Write>(
 ) -> u8
     ensures { Says (O.contents out.old) (O.contents out.new) (E.contents err.old) (E.contents err.new) result }
 {
-    let ending = ending_of(rt, file, forget);
+    let ending = rt.record_ending(file, forget);
     match ending.print(out, err) {
         Ok(()) => ending.status(),
         Err(_) => FAULT,
@@ -38,7 +52,10 @@ pub fn main_run<O: Write, E: Write>(
 }
 
 // A file that holds nothing is no record, and is not opened, since the store would begin one in it.
-fn ending_of(rt: &HostRuntime, file: &str, forget: Option<&str>) -> Ending {
+#[tactic(auto, using(crate::specs::Endings::no_file, crate::specs::Endings::faulty))]
+fn ending_of(rt: &HostRuntime, file: &str, forget: Option<&str>) -> Ending
+    ensures { IsEnding result }
+{
     match fs::metadata(rt, file) {
         Ok(found) if found.is_dir() => Ending::Input,
         Ok(found) if found.len() == 0 => Ending::Record(RecordFault::NotARecord),
@@ -47,14 +64,20 @@ fn ending_of(rt: &HostRuntime, file: &str, forget: Option<&str>) -> Ending {
     }
 }
 
-fn unseen(error: &io::Error) -> Ending {
+#[tactic(auto, using(crate::specs::Endings::no_file, crate::specs::Endings::faulty))]
+fn unseen(error: &io::Error) -> Ending
+    ensures { IsEnding result }
+{
     match error.kind() {
         io::ErrorKind::OutOfMemory => Ending::Record(RecordFault::OutOfMemory),
         _ => Ending::Input,
     }
 }
 
-fn in_file(rt: &HostRuntime, file: &str, forget: Option<&str>) -> Ending {
+#[tactic(auto, using(crate::specs::Endings::no_file, crate::specs::Endings::faulty))]
+fn in_file(rt: &HostRuntime, file: &str, forget: Option<&str>) -> Ending
+    ensures { IsEnding result }
+{
     match Connection::open(rt, file) {
         Ok(conn) => in_database(rt.alloc(), conn, forget),
         Err(error) => Ending::Record(RecordFault::Store(error)),
@@ -63,6 +86,7 @@ fn in_file(rt: &HostRuntime, file: &str, forget: Option<&str>) -> Ending {
 
 fn in_database(alloc: Global, conn: Connection<FileStore<File>>, forget: Option<&str>) -> Ending
     requires { conn.in_transaction ≡ false }
+    ensures { IsEnding result }
 {
     let (ending, conn) = in_store(alloc, conn, forget);
     match conn.close() {
@@ -72,19 +96,25 @@ fn in_database(alloc: Global, conn: Connection<FileStore<File>>, forget: Option<
 }
 
 // What went wrong first is told.
-fn ended_with(ending: Ending, error: Error) -> Ending {
+#[tactic(auto, using(crate::specs::Endings::no_file, crate::specs::Endings::faulty))]
+fn ended_with(ending: Ending, error: Error) -> Ending
+    requires { IsEnding ending }
+    ensures { IsEnding result }
+{
     match ending {
         Ending::Rows(_) => Ending::Record(RecordFault::Store(error)),
         other => other,
     }
 }
 
+#[tactic(auto, using(crate::specs::Endings::no_file, crate::specs::Endings::faulty))]
 fn in_store<S: Alter + Drop>(
     alloc: Global,
     mut conn: Connection<S>,
     forget: Option<&str>,
 ) -> (Ending, Connection<S>)
     requires { conn.in_transaction ≡ false }
+    ensures { IsEnding result.0 }
 {
     if lacks_version(&mut conn) {
         return (Ending::Record(RecordFault::NotARecord), conn);

@@ -1,6 +1,7 @@
 //! Shows the record of jobs that a file holds, and forgets rows of it: all of `deparohi record` but its words.
 //!
-//! `main_run` opens the file, forgets the rows whose key has a given SHA-1, and prints a line for each row that is left.
+//! `Records` is what the program asks: how the command ends on a file. `main_run` is the command over two writers. It opens the
+//! file, forgets the rows whose key has a given SHA-1, and prints a line for each row that is left.
 //! `ended` says from the rows alone what is printed (`specs/Lines.antt`), and `keys_with` which keys have the sum. A file
 //! that holds no record is refused and left as it is: nothing is made of it.
 #![tactic(auto)]
@@ -12,7 +13,7 @@ mod lines;
 mod store;
 
 pub use ending::Ending;
-pub use file::main_run;
+pub use file::{Records, main_run};
 pub use keys::keys_with;
 pub use lines::rows_text;
 pub use store::{ended, shown};

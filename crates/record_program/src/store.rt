@@ -1,7 +1,7 @@
 //! What is shown of a record, over any store.
 ghost use Rattle.std.specs.Prelude.{◌≡◌, IfOk, IfErr, flat_map};
 ghost use Rattle.job_record.specs.declared.fault.RecordFault.TheVariants.{OutOfMemory};
-ghost use Rattle.record_program.specs.Endings.{Ends};
+ghost use Rattle.record_program.specs.Endings.{Ends, IsEnding};
 ghost use Rattle.record_program.specs.Lines.{line_of};
 
 use crate::ending::Ending;
@@ -14,7 +14,10 @@ use std::alloc::Global;
 
 /// Forgets the rows whose key has this SHA-1, and shows those that are left. Where no row has it, that is R3, and the
 /// record is as it was.
-pub fn shown<S: Alter>(alloc: Global, record: &mut JobRecord<S>, forget: Option<&str>) -> Ending {
+#[tactic(auto, using(crate::specs::Endings::faulty, crate::proofs::EndsOfRows::ends_end))]
+pub fn shown<S: Alter>(alloc: Global, record: &mut JobRecord<S>, forget: Option<&str>) -> Ending
+    ensures { IsEnding result }
+{
     match forgotten(alloc, record, forget) {
         Ok(()) => ended(alloc, record.list()),
         Err(fault) => Ending::Record(fault),

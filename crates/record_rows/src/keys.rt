@@ -1,19 +1,26 @@
 //! The key of a tool and its inputs.
 
-use cwl_document::{Process, Tool, read_process};
+use cwl_process::{Process, Tool, read_unlinked};
 use cwl_value::{Value, read_value};
+use document_table::DocumentError;
 use job_key::key_text;
 use plain_data::Keyed;
 use row_io::{Row, RowFault, json_text};
 use std::alloc::Global;
+use std::mem;
 
 /// The key of the row's document and inputs.
 pub(crate) fn key(alloc: Global, row: &Row) -> Result<String, RowFault> {
     let document = json_text(alloc, row.json("document")?)?;
-    match read_process(alloc, document.as_bytes()) {
-        Ok(Process::Tool(tool)) => key_of(alloc, &tool, row),
-        Err(_) => Err(RowFault::BadArgument),
-    }
+    let process = read_unlinked(alloc, document.as_bytes());
+    let answer = match &process {
+        Ok(Process::Tool(tool)) => key_of(alloc, tool, row),
+        Ok(Process::Workflow(_)) => Err(RowFault::BadArgument),
+        Err(DocumentError::Refused(_)) => Err(RowFault::BadArgument),
+        Err(DocumentError::OutOfMemory) => Err(RowFault::OutOfMemory),
+    };
+    mem::drop(process);
+    answer
 }
 
 fn key_of(alloc: Global, tool: &Tool, row: &Row) -> Result<String, RowFault> {

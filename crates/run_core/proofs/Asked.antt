@@ -37,15 +37,10 @@ pub record AtStaging (course : Course) (phase : Phase) : Type 0 where
   pub stages : CanStage course (job_in phase)
   pub jobs : vec_len course.jobs < vec_capacity course.jobs
 
--- nothing is staged yet
-pub record AtFirst (course : Course) : Type 0 where
-  pub ready : IsReady course
-  pub unstaged : course.jobs.items ≡ []
-
 module _ (flying : List ℕ) (course : Course) where
   pub at_measure : (asks : Request) (phase : Phase) (measure : Measure) → MayAnswer flying asks (Answer.Host (HostAnswer.Measured measure)) → AsksOf course asks phase →
-      IsReadyFor course phase → AtFirst course
-  at_measure asks (Phase.Measuring measuring) measure (by_host place request answer (is_measured path measured)) fits ready = record { ready = ready; unstaged = fits }
+      IsReadyFor course phase → IsReady course
+  at_measure asks (Phase.Measuring measuring) measure (by_host place request answer (is_measured path measured)) fits ready = ready
   at_measure asks phase measure (by_host place request answer (is_measured path measured)) fits ready = absurd fits
 
   pub at_staging : (place : JobPlace) (plan : StagePlan) (folder : ℕ) (phase : Phase) → AsksOf course (Request.Host place (HostRequest.Stage plan folder)) phase →

@@ -1,10 +1,10 @@
 -- The known jobs by number.
 use Rattle.std.specs.Prelude.{◌<◌, option_map, slice_get}
-use Rattle.std.proofs.Common.{◌≡◌, ◌∙◌, ℕ, List, length, map, Some, sym, ap, arith, get_or}
+use Rattle.std.proofs.Common.{◌≡◌, ◌∙◌, ℕ, List, length, map, Some, refl, sym, ap, get_or}
 use Rattle.std.proofs.lemmas.Option.{slice_get-map, slice_get_read}
 use Rattle.std.proofs.lemmas.List.{length-map}
 use Rattle.job_graph.specs.Jobs.{Job}
-use Rattle.job_graph.specs.declared.unfolding.KnownJob.{KnownJob}
+use Rattle.job_graph.specs.declared.growth.KnownJob.{KnownJob}
 use Rattle.job_graph.specs.inner.Views.{job_of}
 
 pub seen_length : (kept : List KnownJob) (jobs : List Job) → map (λ (one : KnownJob). job_of one.job) kept ≡ jobs → length kept ≡ length jobs

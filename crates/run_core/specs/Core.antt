@@ -14,17 +14,19 @@ use Rattle.run_rules.specs.Events.{Progress}
 use Rattle.run_rules.specs.Reports.{entries_of}
 use Rattle.run_rules.specs.Run.{IsRunSoFar}
 use Rattle.run_rules.specs.Scene.{scene_of}
+use Rattle.job_graph.specs.Apart.{ids_differ}
 use Rattle.job_graph.specs.Words.{Fields}
 use Rattle.proc_host.specs.declared.call.HostAnswer.{HostAnswer}
 use Rattle.proc_host.specs.declared.call.HostFault.{HostFault}
 use Rattle.proc_host.specs.declared.call.HostRequest.{HostRequest}
+use Rattle.workflow_check.specs.Checked.{fault_in}
 use Rattle.run_core.specs.declared.runner.RunCore.{RunCore}
 use Rattle.run_core.specs.declared.state.Given.{Given}
 use Rattle.run_core.specs.declared.state.Phase.{Phase}
 use Rattle.run_core.specs.Limits.{IsWithinLimits}
-use Rattle.run_core.specs.inner.Attempts.{weight_of, weight_of_past}
+use Rattle.run_core.specs.inner.Attempts.{StaysBounded, answers_left}
 use Rattle.run_core.specs.inner.Course.{past_of}
-use Rattle.run_core.specs.inner.Standing.{AreCollects, Blames, HasRoom, IsLostAt, Runs, pairs_ahead}
+use Rattle.run_core.specs.inner.Standing.{Blames, HasRoom, RanOut, Runs, pairs_ahead}
 
 abbrev pub setting_in : Given → Setting
 setting_in given = record { process = given.process.now; inputs = given.inputs.now; options = given.options }
@@ -46,7 +48,7 @@ flying core = core.course.tickets.items
 
 -- how many answers it takes at most
 abbrev pub steps_left : RunCore → ℕ
-steps_left core = weight_of_past core.given.options (past_of core.course) + weight_of core.turn.phase
+steps_left core = answers_left core.given.options (past_of core.course) core.turn.phase
 
 abbrev pub IsEnded : Phase → Type 0
 IsEnded (Phase.Ended outcome) = Unit {0}
@@ -56,33 +58,28 @@ IsEnded phase = ⊥
 abbrev pub IsLost : RunCore → Type 0
 IsLost core = core.turn.phase ≡ Phase.Ended (Err RunFault.OutOfMemory)
 
--- it is on its run: its transcript is a run so far, it keeps what its events say, and it asks what that run may ask, or has ended as
--- that run does
-pub record IsOnRun (core : RunCore) : Type 0 where
-  pub runs : Runs (scene_of (setting_of core)) core.pairs.items core.course core.turn
-  pub room : HasRoom core.course core.turn.phase
+-- it is on its run: its transcript is a run so far, and it asks what that run may ask, or has ended as that run does
+abbrev pub IsOnRun : RunCore → Type 0
+IsOnRun core = Runs (scene_of (setting_of core)) core.pairs.items core.course core.turn
 
 -- memory ran out: its transcript is a run so far and collects after it
-pub record IsOffRun (core : RunCore) : Type 0 where
-  pub front : List Pair
-  pub tail : List Pair
-  pub pairs : core.pairs.items ≡ front ++ tail
-  pub happened : Progress
-  pub marks : List Mark
-  pub goes : IsRunSoFar (setting_of core) front happened marks
-  pub collects : AreCollects tail
-  pub at : IsLostAt (past_of core.course) core.turn
+abbrev pub IsOffRun : RunCore → Type 0
+IsOffRun core = RanOut (scene_of (setting_of core)) core.pairs.items (past_of core.course) core.turn
 
 pub data Goes (core : RunCore) : Type 0 where
   on_run : IsOnRun core → Goes core
   off_run : IsOffRun core → Goes core
 
--- what it blames on the host is so, and while it asks there is room for the answer
+-- its process is an accepted one, what it blames on the host is so, and while it asks there is room for the answer
 pub record Stands (core : RunCore) : Type 0 where
   pub limits : IsWithinLimits core.given.options
+  pub accepted : fault_in core.given.process.now ≡ None
+  pub ids : ids_differ core.given.process.now ≡ true
   pub going : Goes core
+  pub bounded : StaysBounded core.given.options (past_of core.course) core.turn.phase
   pub blames : Blames (entries_of core.pairs.items) (past_of core.course) core.turn.phase
-  pub room : vec_len core.pairs + pairs_ahead (past_of core.course) core.turn.phase ≤ vec_capacity core.pairs
+  pub room : HasRoom core.course core.turn.phase
+  pub pairs_room : vec_len core.pairs + pairs_ahead (past_of core.course) core.turn.phase ≤ vec_capacity core.pairs
 
 -- what it asked and was answered is a run so far, after which it may ask what it asks; or memory ran out, and after a run so far it only
 -- waits for the children in flight

@@ -1,3 +1,4 @@
+pub mod Anyway
 pub mod Attempts
 pub mod Course
 pub mod Due

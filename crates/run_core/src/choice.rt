@@ -1,5 +1,5 @@
 //! What comes next where nothing is due.
-ghost use Rattle.std.specs.Prelude.{◌≡◌, ◌<◌, ◌≤◌, ◌+◌, ◌^◌, None, Some, IsSome, IfOk, IsTrue, ◌↔◌, OnErr, length, slice_get};
+ghost use Rattle.std.specs.Prelude.{◌≡◌, ◌<◌, ◌+◌, ◌^◌, false, None, Some, IsSome, IfOk, IsTrue, ◌↔◌, OnErr, length, slice_get};
 ghost use Rattle.job_graph.specs.inner.Views.{job_of as job_seen};
 ghost use Rattle.job_graph.specs.Jobs.{Job};
 ghost use Rattle.run_core.specs.declared.state.Given.{Given as Run};
@@ -30,8 +30,7 @@ pub(crate) fn pick(
     given: &Given<'_>,
     course: &mut Course<'_>,
 ) -> Result<Turn, AllocError>
-    requires folders { course.old.folders + 1 < 2 ^ 64 }
-    requires staged { length course.old.jobs.items ≤ length (jobs_in course.old.known) }
+    requires { course.old.folders + 1 < 2 ^ 64 }
     ensures is { IfOk result (λ turn. Picks given.now course.old turn course.new) }
     ensures flying { OnErr result (course.new.tickets.items ≡ course.old.tickets.items) }
 {
@@ -77,7 +76,6 @@ pub(crate) fn staging(
     number: usize,
 ) -> Result<Turn, AllocError>
     requires folders { course.now.folders + 1 < 2 ^ 64 }
-    requires staged { length course.now.jobs.items ≤ length (jobs_in course.now.known) }
     requires number { number < length (jobs_in course.now.known) }
     ensures { IfOk result (Stages given.now course.now number) }
 {
@@ -98,8 +96,7 @@ fn plan_for(
     number: usize,
     folder: u64,
 ) -> Result<StagePlan, AllocError>
-    requires staged { length course.now.jobs.items ≤ length (jobs_in course.now.known) }
-    requires number { number < length (jobs_in course.now.known) }
+    requires { number < length (jobs_in course.now.known) }
     ensures { IfOk result (λ plan. (job : Job) → slice_get (jobs_in course.now.known) number ≡ Some job → IsPlan false (in_folder given.now.options.work folder) (sources_in given.now.options course.now job.inputs) plan) }
 {
     let files = sources_of(
@@ -119,7 +116,6 @@ pub(crate) fn sources_of(
     course: &Course<'_>,
     values: &Keyed<Value>,
 ) -> Result<Keyed<Value>, AllocError>
-    requires { length course.now.jobs.items ≤ length (jobs_in course.now.known) }
     ensures { IfOk result (λ files. files ≡ sources_in options.now course.now values.now) }
 {
     let sources = Sources {

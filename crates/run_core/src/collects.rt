@@ -12,6 +12,7 @@ use crate::Cause;
 use crate::folders::{out_folder, path_in};
 use crate::site::Site;
 use crate::state::{JobNext, JobPhase, Kept, Reading};
+use crate::turn::failing;
 use crate::turns::{last_first, put_next};
 use collected_outputs::{CollectError, StreamNames, collect_outputs, head_limit, heads_wanted};
 use plain_data::{Items, Keyed, Text};
@@ -23,7 +24,7 @@ use std::mem;
 /// The output folder is listed next.
 pub(crate) fn scanning(
     alloc: Global,
-    site: Site<'_>,
+    site: Site<'_, '_>,
     kept: Kept,
     millis: u64,
 ) -> Result<JobNext, AllocError>
@@ -43,7 +44,7 @@ pub(crate) fn scanning(
 /// The output folder is listed: the first bytes of the files that need it are read, and then the outputs are collected.
 pub(crate) fn listed(
     alloc: Global,
-    site: Site<'_>,
+    site: Site<'_, '_>,
     kept: Kept,
     found: &Items<Found>,
 ) -> Result<JobNext, AllocError>
@@ -61,7 +62,7 @@ pub(crate) fn listed(
 /// What is read before any first bytes are.
 fn first_reading(
     alloc: Global,
-    site: Site<'_>,
+    site: Site<'_, '_>,
     kept: &Kept,
     found: &Items<Found>,
 ) -> Result<Reading, AllocError>
@@ -79,7 +80,7 @@ fn first_reading(
 /// The names of the files whose first bytes are read, the first of them last.
 fn names_left(
     alloc: Global,
-    site: Site<'_>,
+    site: Site<'_, '_>,
     kept: &Kept,
     found: &[Found],
 ) -> Result<Items<Text>, AllocError>
@@ -94,7 +95,7 @@ fn names_left(
 /// The first bytes of a file are read.
 pub(crate) fn read(
     alloc: Global,
-    site: Site<'_>,
+    site: Site<'_, '_>,
     kept: Kept,
     mut reading: Reading,
     bytes: &Items<u8>,
@@ -117,7 +118,7 @@ fn put_head(alloc: Global, reading: &mut Reading, bytes: &Items<u8>) -> Result<(
 /// The next file's first bytes are read; where all are, the outputs are collected.
 fn read_on(
     alloc: Global,
-    site: Site<'_>,
+    site: Site<'_, '_>,
     kept: Kept,
     reading: Reading,
 ) -> Result<JobNext, AllocError>
@@ -135,7 +136,7 @@ fn read_on(
 }
 
 /// Asks for the first bytes of a file of the output folder.
-fn head_of(alloc: Global, site: Site<'_>, name: &Text) -> Result<HostRequest, AllocError>
+fn head_of(alloc: Global, site: Site<'_, '_>, name: &Text) -> Result<HostRequest, AllocError>
     ensures { IfOk result (λ asks. asks ≡ Call.Head (path_under (out_folder site.entry.options.now.work site.entry.folder) name.now) (limit_of name.now)) }
 {
     let folder = out_folder(alloc, &site.options.work, site.folder)?;
@@ -154,7 +155,7 @@ fn name_or_empty(name: &Option<Text>) -> &str
 
 fn gathered_from(
     alloc: Global,
-    site: Site<'_>,
+    site: Site<'_, '_>,
     kept: Kept,
     reading: Reading,
 ) -> Result<JobNext, AllocError>
@@ -166,7 +167,7 @@ fn gathered_from(
 /// The outputs are collected, or there is a cause why there are none.
 fn gathered(
     alloc: Global,
-    site: Site<'_>,
+    site: Site<'_, '_>,
     kept: &Kept,
     reading: &Reading,
 ) -> Result<JobNext, AllocError>
@@ -186,7 +187,7 @@ fn gathered(
         &reading.heads,
     ) {
         Ok(outputs) => Ok(JobNext::Gives(outputs)),
-        Err(CollectError::Refused(fault)) => Ok(JobNext::Fails(Cause::Collect(fault))),
+        Err(CollectError::Refused(fault)) => Ok(failing(Cause::Collect(fault))),
         Err(CollectError::OutOfMemory) => Err(AllocError),
     }
 }

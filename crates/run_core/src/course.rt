@@ -159,7 +159,8 @@ pub(crate) fn note_giving_up(
     requires number { number < length course.old.jobs.items }
     requires known { number < length (known_in course.old.known) }
     ensures ok { IfOk result (λ again. GivesUp (known_in course.old.known) number retries (past_of course.old) again (past_of course.new)) }
-    ensures tickets { course.new.tickets ≡ course.old.tickets }
+    ensures tickets { course.new.tickets.items ≡ course.old.tickets.items }
+    ensures folders { course.new.folders ≡ course.old.folders }
     ensures known { course.new.known ≡ course.old.known }
 {
     let gave_up = course.jobs[number].gave_up;
@@ -183,7 +184,8 @@ pub(crate) fn note_success(
     ensures settled { OnOk result (IsSome course.old.end → past_of course.new ≡ past_of course.old) }
     ensures learned { OnOk result (course.old.end ≡ None → Learns (record { place = place_at (known_in course.old.known) number; outputs = outputs }) course.old course.new) }
     ensures err { OnErr result (past_of course.new ≡ past_of course.old) }
-    ensures tickets { course.new.tickets ≡ course.old.tickets }
+    ensures tickets { course.new.tickets.items ≡ course.old.tickets.items }
+    ensures folders { course.new.folders ≡ course.old.folders }
 {
     if course.end.is_some() {
         mem::drop(outputs);

@@ -1,6 +1,5 @@
 //! The result, once no job is left.
-ghost use Rattle.std.specs.Prelude.{◌≡◌, ◌≤◌, false, true, IfOk, length};
-ghost use Rattle.run_core.specs.inner.Course.{known_in};
+ghost use Rattle.std.specs.Prelude.{◌≡◌, false, true, IfOk};
 ghost use Rattle.run_core.specs.inner.Knows.{outputs_in};
 ghost use Rattle.run_core.specs.inner.Picks.{Delivers, DeliversFiles, delivered_in, sources_in};
 ghost use Rattle.run_core.specs.inner.Turn.{succeeds};
@@ -34,7 +33,6 @@ pub(crate) fn delivery(
     given: &Given<'_>,
     course: &Course<'_>,
 ) -> Result<Turn, AllocError>
-    requires { length course.now.jobs.items ≤ length (known_in course.now.known) }
     ensures { IfOk result (Delivers given.now course.now) }
 {
     let outputs = outputs_of(alloc, result_in(course))?;
@@ -92,7 +90,6 @@ fn delivering(
     course: &Course<'_>,
     outputs: Keyed<Value>,
 ) -> Result<Turn, AllocError>
-    requires { length course.now.jobs.items ≤ length (known_in course.now.known) }
     ensures { IfOk result (DeliversFiles given.now course.now outputs) }
 {
     let plan = plan_of(alloc, given, course, outputs)?;
@@ -111,7 +108,6 @@ fn plan_of(
     course: &Course<'_>,
     outputs: Keyed<Value>,
 ) -> Result<StagePlan, AllocError>
-    requires { length course.now.jobs.items ≤ length (known_in course.now.known) }
     ensures { IfOk result (IsPlan true given.now.options.outdir (sources_in given.now.options course.now outputs)) }
 {
     let files = sources_of(alloc, &given.options, course, &outputs);

@@ -26,8 +26,7 @@ pub(crate) fn begun<'a>(
     given: &Given<'a>,
     course: &mut Course<'a>,
 ) -> Result<Turn, AllocError>
-    requires folders { course.old.folders + 1 < 2 ^ 64 }
-    requires unstaged { course.old.jobs.items ≡ [] }
+    requires { course.old.folders + 1 < 2 ^ 64 }
     ensures { IfOk result (λ turn. Begins given.now course.old turn course.new) }
 {
     let paths = input_paths(alloc, given.process, given.inputs)?;
@@ -46,8 +45,7 @@ pub(crate) fn measured<'a>(
     phase: &mut Phase,
     measure: &Measure,
 ) -> Result<Turn, AllocError>
-    requires folders { course.old.folders + 1 < 2 ^ 64 }
-    requires unstaged { course.old.jobs.items ≡ [] }
+    requires { course.old.folders + 1 < 2 ^ 64 }
     ensures is { IfOk result (λ turn. TakesMeasure given.now course.old (measuring_in phase.old) measure.now turn course.new) }
     ensures flying { OnErr result (course.new.tickets.items ≡ course.old.tickets.items) }
 {
@@ -74,8 +72,7 @@ fn measure_on<'a>(
     course: &mut Course<'a>,
     measuring: Measuring,
 ) -> Result<Turn, AllocError>
-    requires folders { course.old.folders + 1 < 2 ^ 64 }
-    requires unstaged { course.old.jobs.items ≡ [] }
+    requires { course.old.folders + 1 < 2 ^ 64 }
     ensures is { IfOk result (λ turn. MeasuresOn given.now course.old measuring turn course.new) }
     ensures flying { OnErr result (course.new.tickets.items ≡ course.old.tickets.items) }
 {

@@ -1,5 +1,5 @@
 //! Values whose files stand elsewhere.
-ghost use Rattle.std.specs.Prelude.{◌≡◌, ◌≤◌, IfOk, length, map};
+ghost use Rattle.std.specs.Prelude.{◌≡◌, IfOk, map};
 ghost use Rattle.run_rules.specs.Delivered.{location_place, made_path};
 ghost use Rattle.job_graph.specs.Made.{value_moved, fields_moved};
 ghost use Rattle.run_core.specs.inner.Places.{file_elsewhere, dir_elsewhere, file_with, left_place, number_at_source, place_by};
@@ -156,12 +156,11 @@ fn left_place(alloc: Global, sources: Sources<'_, '_>, place: &Place) -> Result<
 
 /// The number of the folders of the job at a place; 0 where it was never staged.
 fn number_in(sources: Sources<'_, '_>, place: &JobPlace) -> u64
-    requires { length sources.entry.jobs.now ≤ length sources.entry.known.now }
     ensures { result ≡ number_at_source sources.entry place.now }
 {
-    for number in 0..sources.jobs.len() {
-        if is_same_place(sources.known[number].job.place.as_slice(), place.as_slice()) {
-            return sources.jobs[number].folder;
+    for (known, job) in sources.known.iter().zip(sources.jobs) {
+        if is_same_place(known.job.place.as_slice(), place.as_slice()) {
+            return job.folder;
         }
     }
     0

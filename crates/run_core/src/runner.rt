@@ -9,7 +9,7 @@ ghost use Rattle.job_graph.specs.Words.{JobPlace};
 ghost use Rattle.run_core.specs.declared.state.Phase.{Phase};
 ghost use Rattle.run_core.specs.Core.{setting_of, transcript, asked, flying, IsLost, IsEnded, Stands, MayAsk, Begins, Took};
 ghost use Rattle.run_core.specs.Limits.{IsWithinLimits};
-ghost use Rattle.run_core.specs.inner.Course.{nothing_past, past_of};
+ghost use Rattle.run_core.specs.inner.Course.{past_of};
 ghost use Rattle.run_core.specs.inner.Follows.{AsksIn, HasPairs, IsReadyFor, MakesRoom, Moves, told_of};
 ghost use Rattle.run_core.specs.inner.Measures.{Begins as BeginsAt};
 ghost use Rattle.run_core.specs.inner.Standing.{HasRoom};
@@ -123,9 +123,9 @@ impl<'a> RunCore<'a> {
     pub fn finish(self) -> Result<Report, RunFault>
         requires stands { Stands self }
         requires finished { asked self ≡ Request.Finished }
-        ensures concluded { Concludes (setting_of self) (transcript self) result }
-        ensures faults { IfErr result (BlamesRightly (entries_of (transcript self))) }
-        ensures lost { (result ≡ Err RunFault.OutOfMemory) ↔ IsLost self }
+        ensures concluded { Concludes (setting_of self.entry) (transcript self.entry) result }
+        ensures faults { IfErr result (BlamesRightly (entries_of (transcript self.entry))) }
+        ensures lost { (result ≡ Err RunFault.OutOfMemory) ↔ IsLost self.entry }
     {
         let mut core = self;
         let phase = mem::replace(&mut core.turn.phase, Phase::Collecting);
@@ -136,7 +136,7 @@ impl<'a> RunCore<'a> {
     /// Leaves the run as it is, since memory ran out somewhere else.
     pub fn abandon(self) -> Result<Report, RunFault>
         requires { Stands self }
-        ensures concluded { Concludes (setting_of self) (transcript self) result }
+        ensures concluded { Concludes (setting_of self.entry) (transcript self.entry) result }
         ensures memory { result ≡ Err RunFault.OutOfMemory }
     {
         mem::drop(self);
@@ -152,7 +152,7 @@ fn start<'a>(
     course: &mut Course<'a>,
     turn: &mut Turn,
 ) -> Result<(), AllocError>
-    requires past { past_of course.old ≡ nothing_past }
+    requires { course.old.folders ≡ 0 }
     ensures items { pairs.new.items ≡ pairs.old.items }
     ensures room { OnOk result (vec_len pairs.new + 2 ≤ vec_capacity pairs.new) }
     ensures begins { OnOk result (BeginsAt given.now course.old turn.new course.new) }

@@ -13,6 +13,7 @@ use crate::Cause;
 use crate::folders::runtime_of;
 use crate::site::Site;
 use crate::state::{Filling, JobNext, JobPhase, Kept};
+use crate::turn::failing;
 use crate::turns::{last_first, put_next};
 use command_line::{BuildError, Launch, build};
 use cwl_value::{Value, copy_fields};
@@ -25,7 +26,7 @@ use std::mem;
 /// The job's folders are made: the contents of its inputs are read, and then it is started.
 pub(crate) fn filled_first(
     alloc: Global,
-    site: Site<'_>,
+    site: Site<'_, '_>,
     staged: &Keyed<Value>,
 ) -> Result<JobNext, AllocError>
     ensures { IfOk result (λ next. Starts site.entry staged.now [] (wanted_heads site.entry.tool.now.inputs staged.now) next) }
@@ -36,7 +37,7 @@ pub(crate) fn filled_first(
 
 fn first_filling(
     alloc: Global,
-    site: Site<'_>,
+    site: Site<'_, '_>,
     staged: &Keyed<Value>,
 ) -> Result<Filling, AllocError>
     ensures staged { IfOk result (λ filling. filling.staged ≡ staged.now) }
@@ -54,7 +55,7 @@ fn first_filling(
 /// The first bytes of an input file are read.
 pub(crate) fn filled(
     alloc: Global,
-    site: Site<'_>,
+    site: Site<'_, '_>,
     mut filling: Filling,
     bytes: &Items<u8>,
 ) -> Result<JobNext, AllocError>
@@ -73,7 +74,7 @@ fn put_contents(alloc: Global, filling: &mut Filling, bytes: &Items<u8>) -> Resu
 }
 
 /// The next input file's contents are read; where all are, the job is started.
-fn fill_on(alloc: Global, site: Site<'_>, filling: Filling) -> Result<JobNext, AllocError>
+fn fill_on(alloc: Global, site: Site<'_, '_>, filling: Filling) -> Result<JobNext, AllocError>
     ensures { IfOk result (λ next. Starts site.entry filling.staged filling.heads (reverse filling.left) next) }
 {
     // That a list has fewer items than 2^64 is a fact of its type.
@@ -88,7 +89,7 @@ fn fill_on(alloc: Global, site: Site<'_>, filling: Filling) -> Result<JobNext, A
 }
 
 /// The job is started on these inputs, or there is a fault of their contents.
-fn inputs_filled(alloc: Global, site: Site<'_>, filling: Filling) -> Result<JobNext, AllocError>
+fn inputs_filled(alloc: Global, site: Site<'_, '_>, filling: Filling) -> Result<JobNext, AllocError>
     requires { filling.left ≡ [] }
     ensures { IfOk result (λ next. Starts site.entry filling.staged filling.heads [] next) }
 {
@@ -101,20 +102,20 @@ fn inputs_filled(alloc: Global, site: Site<'_>, filling: Filling) -> Result<JobN
     mem::drop(heads);
     match found {
         Ok(inputs) => launched(alloc, site, inputs),
-        Err(ContentsError::Refused(fault)) => Ok(JobNext::Fails(Cause::Contents(fault))),
+        Err(ContentsError::Refused(fault)) => Ok(failing(Cause::Contents(fault))),
         Err(ContentsError::OutOfMemory) => Err(AllocError),
     }
 }
 
 /// The job is started by its launch, or has none.
-fn launched(alloc: Global, site: Site<'_>, inputs: Keyed<Value>) -> Result<JobNext, AllocError>
+fn launched(alloc: Global, site: Site<'_, '_>, inputs: Keyed<Value>) -> Result<JobNext, AllocError>
     ensures { IfOk result (Launches site.entry inputs) }
 {
     match launch_of(alloc, site, &inputs) {
         Ok(launch) => starting(alloc, launch, inputs),
         Err(BuildError::Refused(fault)) => {
             mem::drop(inputs);
-            Ok(JobNext::Fails(Cause::Build(fault)))
+            Ok(failing(Cause::Build(fault)))
         }
         Err(BuildError::OutOfMemory) => {
             mem::drop(inputs);
@@ -123,7 +124,7 @@ fn launched(alloc: Global, site: Site<'_>, inputs: Keyed<Value>) -> Result<JobNe
     }
 }
 
-fn launch_of(alloc: Global, site: Site<'_>, inputs: &Keyed<Value>) -> Result<Launch, BuildError>
+fn launch_of(alloc: Global, site: Site<'_, '_>, inputs: &Keyed<Value>) -> Result<Launch, BuildError>
     ensures ok { IfOk result (IsLaunch site.entry.tool.now inputs.now (runtime_of site.entry.options.now site.entry.folder)) }
     ensures err { IfErr result (IsError site.entry.tool.now inputs.now (runtime_of site.entry.options.now site.entry.folder)) }
 {

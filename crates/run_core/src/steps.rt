@@ -1,5 +1,5 @@
 //! What the machine waits for after each answer.
-ghost use Rattle.std.specs.Prelude.{◌≡◌, ◌<◌, ◌≤◌, ◌+◌, ◌^◌, ◌∷◌, ◌++◌, [], Contains, IfOk, OnErr, length, vec_len, vec_capacity};
+ghost use Rattle.std.specs.Prelude.{◌≡◌, ◌<◌, ◌+◌, ◌^◌, ◌∷◌, ◌++◌, [], Contains, IfOk, OnErr, length, vec_len, vec_capacity};
 ghost use Rattle.run_core.specs.declared.state.Phase.{Phase as Waits};
 ghost use Rattle.run_core.specs.inner.Course.{known_in};
 ghost use Rattle.run_core.specs.inner.Follows.{AfterBytes, AfterFailure, AsksIn, CanStage, Drains, FollowsFrom, IsLeftAfter, IsOneLess, IsReady, IsReadyFor};
@@ -66,10 +66,10 @@ pub(crate) fn follows<'a>(
 }
 
 /// A job in the folders that it was staged in last.
-fn site_of<'s>(given: &'s Given<'_>, course: &'s Course<'_>, number: usize) -> Site<'s>
+fn site_of<'a, 's>(given: &'s Given<'_>, course: &Course<'a>, number: usize) -> Site<'a, 's>
     requires number { number < length course.now.jobs.items }
     requires known { number < length (known_in course.now.known) }
-    ensures { IsSite given.now course.now number result.entry }
+    ensures { IsSite given.now course.now number result }
 {
     Site {
         tool: job_of(course, number).tool,
@@ -87,7 +87,6 @@ fn turn_of(
     next: JobNext,
 ) -> Result<Turn, AllocError>
     requires folders { course.old.folders + 1 < 2 ^ 64 }
-    requires staged { length course.old.jobs.items ≤ length (known_in course.old.known) }
     requires number { number < length (known_in course.old.known) }
     ensures is { IfOk result (λ turn. Turns given.now course.old number next turn course.new) }
     ensures flying { OnErr result (course.new.tickets.items ≡ course.old.tickets.items) }
@@ -181,8 +180,8 @@ fn gave_up(
     number: usize,
 ) -> Result<Turn, AllocError>
     requires folders { course.old.folders + 1 < 2 ^ 64 }
-    requires staged { length course.old.jobs.items ≤ length (known_in course.old.known) }
     requires number { number < length course.old.jobs.items }
+    requires known { number < length (known_in course.old.known) }
     ensures is { IfOk result (λ turn. AfterTemporary given.now course.old number turn course.new) }
     ensures flying { OnErr result (course.new.tickets.items ≡ course.old.tickets.items) }
 {

@@ -1,10 +1,11 @@
 //! What the machine may wait for.
 ghost use Rattle.std.specs.Prelude.{◌≡◌, IfOk};
+ghost use Rattle.run_core.specs.declared.state.JobNext.{JobNext as Next};
 ghost use Rattle.run_core.specs.inner.Course.{past_of};
 ghost use Rattle.run_core.specs.inner.Turn.{collects, ends, lost_after, permanent, root_asks, succeeds, waits, works};
 ghost use Rattle.run_rules.specs.Reports.{reported};
 
-use crate::state::{Course, JobPhase, Phase, Turn};
+use crate::state::{Course, JobNext, JobPhase, Phase, Turn};
 use crate::{Cause, Outcome, Report, Request, RunFault};
 use cwl_value::{JobPlace, Value, copy_job};
 use plain_data::Items;
@@ -85,6 +86,13 @@ pub(crate) fn working(
         asks: Request::Host(place, request),
         phase: Phase::Working(number, phase),
     })
+}
+
+/// The job gives no outputs.
+pub(crate) fn failing(cause: Cause) -> JobNext
+    ensures { result ≡ Next.Fails cause }
+{
+    JobNext::Fails(cause)
 }
 
 /// The job at a place gives no outputs, and would give none if it were started again.

@@ -42,7 +42,7 @@ pub record CanStage (course : Course) (job : ℕ) : Type 0 where
 
 -- the phase fits what is asked
 abbrev pub AsksOf : Course → Request → Phase → Type 0
-AsksOf course (Request.Host place (HostRequest.Measure path)) (Phase.Measuring measuring) = course.jobs.items ≡ []
+AsksOf course (Request.Host place (HostRequest.Measure path)) (Phase.Measuring measuring) = Unit {0}
 AsksOf course (Request.Host place (HostRequest.Stage plan folder)) (Phase.Staging job) = CanStage course job
 AsksOf course (Request.Host place (HostRequest.Head path limit)) (Phase.Working job (JobPhase.Filling filling)) = job < length course.jobs.items
 AsksOf course (Request.Host place (HostRequest.Start launch)) (Phase.Working job (JobPhase.Starting kept)) = job < length course.jobs.items

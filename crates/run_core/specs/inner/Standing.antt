@@ -1,5 +1,5 @@
 -- Where the machine is in its run.
-use Rattle.std.specs.Prelude.{◌≡◌, ◌≢◌, ◌≤◌, ◌<◌, ◌+◌, ℕ, List, [], ◌∷◌, ◌++◌, Option, Some, None, Result, Err, IfErr, length, vec_len, vec_capacity}
+use Rattle.std.specs.Prelude.{◌≡◌, ◌≢◌, ◌≤◌, ◌<◌, ◌+◌, ℕ, List, [], ◌∷◌, ◌++◌, Option, Some, None, Result, Ok, Err, IfErr, length, vec_len, vec_capacity}
 use Rattle.plan_checker.specs.declared.plan.Mark.{Mark}
 use Rattle.proc_host.specs.declared.call.Entry.{Entry}
 use Rattle.proc_host.specs.declared.call.HostRequest.{HostRequest}
@@ -12,7 +12,7 @@ use Rattle.run_rules.specs.declared.outcome.RunFault.{RunFault}
 use Rattle.run_rules.specs.declared.request.Pair.{Pair}
 use Rattle.run_rules.specs.declared.request.Request.{Request}
 use Rattle.run_rules.specs.Allowed.{MayStage, MayCollect, MayDeliver}
-use Rattle.run_rules.specs.Blame.{BlamesRightly, WereStarted}
+use Rattle.run_rules.specs.Blame.{BlamesRightly, IsToBlame, WereStarted}
 use Rattle.run_rules.specs.Delivered.{located}
 use Rattle.run_rules.specs.End.{End}
 use Rattle.run_rules.specs.EndsSo.{EndsSo}
@@ -91,21 +91,39 @@ abbrev pub AreCollects : List Pair → Type 0
 AreCollects [] = Unit {0}
 AreCollects (pair ∷ pairs) = (pair.request ≡ Request.Host [] HostRequest.Collect) × AreCollects pairs
 
--- memory ran out: the children in flight are waited for, and then it has ended
+-- the children in flight are waited for, and then it has ended
 pub data IsLostAt (past : Past) : Turn → Type 0 where
   draining : past.tickets ≢ [] → IsLostAt past (record { asks = Request.Host [] HostRequest.Collect; phase = Phase.Draining })
   lost : IsLostAt past (record { asks = Request.Finished; phase = Phase.Ended (Err RunFault.OutOfMemory) })
 
--- an end by the host's fault blames it rightly
-abbrev pub EndsRightly : List Entry → Phase → Type 0
-EndsRightly entries (Phase.Ended outcome) = IfErr outcome (BlamesRightly entries)
-EndsRightly entries phase = Unit {0}
+-- memory ran out: what was asked and answered is a run so far, and collects after it
+pub record RanOut (s : Scene) (t : List Pair) (past : Past) (turn : Turn) : Type 0 where
+  pub front : List Pair
+  pub tail : List Pair
+  pub pairs : t ≡ front ++ tail
+  pub happened : Progress
+  pub marks : List Mark
+  pub goes : Goes s (LoadsHeld s) front happened marks
+  pub collects : AreCollects tail
+  pub at : IsLostAt past turn
 
--- what it knows of its host: the children in flight were started, and what it blames on the host is so
-pub record Blames (entries : List Entry) (past : Past) (phase : Phase) : Type 0 where
+-- a failure that settled the end: one of the host's blames it rightly, and memory that ran out settles none
+abbrev pub SettlesRightly : List Entry → Result Report RunFault → Type 0
+SettlesRightly entries (Ok report) = Unit {0}
+SettlesRightly entries (Err (RunFault.Host fault running)) = IsToBlame entries fault running
+SettlesRightly entries (Err RunFault.TooManyJobs) = Unit {0}
+SettlesRightly entries (Err RunFault.OutOfMemory) = ⊥
+
+-- what it knows of its host while it goes on: the children in flight were started, and what settled the end blames it rightly
+pub record BlamesSoFar (entries : List Entry) (past : Past) : Type 0 where
   pub flying : WereStarted entries past.tickets
-  pub settled : (end : Result Report RunFault) → past.end ≡ Some end → IfErr end (BlamesRightly entries)
-  pub rightly : EndsRightly entries phase
+  pub settled : (end : Result Report RunFault) → past.end ≡ Some end → SettlesRightly entries end
+
+-- and an end by the host's fault blames it rightly
+abbrev pub Blames : List Entry → Past → Phase → Type 0
+Blames entries past (Phase.Ended outcome) = IfErr outcome (BlamesRightly entries)
+Blames entries past Phase.Draining = Unit {0}
+Blames entries past phase = BlamesSoFar entries past
 
 -- for how many pairs there is room: the one that comes next, and the end of each child that is or will be in flight
 abbrev pub pairs_ahead : Past → Phase → ℕ

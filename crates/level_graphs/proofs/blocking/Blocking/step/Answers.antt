@@ -1,10 +1,20 @@
-use Rattle.std.proofs.Common.{Vec, Global, ◌≡◌, ℕ, length, get_or, sym, ap, ◌∙◌, subst, arith}
+use Rattle.std.proofs.Common.{Vec, Global, ◌≡◌, ℕ, List, length, get_or, sym, ap, ◌∙◌, subst, arith}
 use Rattle.level_graphs.specs.Arcs.{tail_of}
-use Rattle.level_graphs.specs.inner.Search.{IsDead, IsWay, AreSentAlong, left_of}
+use Rattle.level_graphs.specs.Blocked.{AreSentDown}
+use Rattle.level_graphs.specs.inner.Search.{IsDead, IsSearch, IsWay, AreSentAlong, left_of}
+use Rattle.level_graphs.specs.declared.blocking.Blocking.{Blocking}
+use Rattle.level_graphs.specs.declared.network.Network.{Network}
 use Rattle.level_graphs.proofs.Searched.{search_back, search_ends, less_left, left_lower, left_below, less_then, at_source, some_way}
 use Rattle.level_graphs.proofs.Sent.{goes_down, search_stays}
 use Rattle.level_graphs.proofs.Flows.{is_way}
 use Rattle.level_graphs.proofs.blocking.Blocking.step.Goals as goal
+
+-- what was sent along the path of a search that has come to the source goes down the levels
+sent_down : (network after : Network) (levels : List ℕ) (self : Blocking) (node top : ℕ) → IsSearch network levels self node → node ≡ network.source → top ≡ get_or levels network.sink 0
+    → AreSentAlong network.arcs.items after.arcs.items self.path.items top → AreSentDown network.arcs.items after.arcs.items levels
+sent_down network after levels self node top s at is sent =
+    let along : AreSentAlong network.arcs.items after.arcs.items self.path.items (get_or levels network.sink 0) = subst (λ t. AreSentAlong network.arcs.items after.arcs.items self.path.items t) is sent in
+    goes_down network.arcs.items after.arcs.items levels self.current.items self.path.items network.sink network.source (get_or levels network.sink 0) (at_source network levels self node s at) along
 
 pub send-full-requires-clause-some : goal.send-full-requires-clause-some
 send-full-requires-clause-some c =
@@ -44,9 +54,7 @@ returns-then-node-network-clause-sent c =
     let after = c.send-full.new.network in
     let levels = c.args.levels.now.of.items in
     let self = c.args.self.now in
-    let way = at_source network levels self c.args.node c.requires.search c.if-node-network.true in
-    let along : AreSentAlong network.arcs.items after.arcs.items self.path.items (get_or levels network.sink 0) = subst (λ t. AreSentAlong network.arcs.items after.arcs.items self.path.items t) c.at.ensures c.send-full.ensures.sent in
-    goes_down network.arcs.items after.arcs.items levels self.current.items self.path.items network.sink network.source (get_or levels network.sink 0) way along
+    sent_down network after levels self c.args.node c.at.result c.requires.search c.if-node-network.true c.at.ensures c.send-full.ensures.sent
 
 pub returns-then-node-network-clause-search : goal.returns-then-node-network-clause-search
 returns-then-node-network-clause-search c =
@@ -56,9 +64,7 @@ returns-then-node-network-clause-search c =
     let self = c.args.self.now in
     let node = c.args.node in
     let told = c.send-full.ensures in
-    let way = at_source network levels self node c.requires.search c.if-node-network.true in
-    let along : AreSentAlong network.arcs.items after.arcs.items self.path.items (get_or levels network.sink 0) = subst (λ t. AreSentAlong network.arcs.items after.arcs.items self.path.items t) c.at.ensures told.sent in
-    let down = goes_down network.arcs.items after.arcs.items levels self.current.items self.path.items network.sink network.source (get_or levels network.sink 0) way along in
+    let down = sent_down network after levels self node c.at.result c.requires.search c.if-node-network.true c.at.ensures told.sent in
     let nodes = told.nodes in
     let s = search_stays network after levels self node c.requires.search down (ap (λ (v : Vec ℕ Global). length v.items) nodes) told.source told.sink in
     let first = c.requires.search.useful.first in
@@ -78,9 +84,7 @@ returns-then-node-network-clause-fewer c =
     let self = c.args.self.now in
     let node = c.args.node in
     let told = c.send-full.ensures in
-    let way = at_source network levels self node c.requires.search c.if-node-network.true in
-    let along : AreSentAlong network.arcs.items after.arcs.items self.path.items (get_or levels network.sink 0) = subst (λ t. AreSentAlong network.arcs.items after.arcs.items self.path.items t) c.at.ensures told.sent in
-    let down = goes_down network.arcs.items after.arcs.items levels self.current.items self.path.items network.sink network.source (get_or levels network.sink 0) way along in
+    let down = sent_down network after levels self node c.at.result c.requires.search c.if-node-network.true c.at.ensures told.sent in
     let nodes = told.nodes in
     let s = search_stays network after levels self node c.requires.search down (ap (λ (v : Vec ℕ Global). length v.items) nodes) told.source told.sink in
     let first = c.requires.search.useful.first in

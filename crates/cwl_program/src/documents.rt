@@ -1,0 +1,90 @@
+//! The process of a document, with all that it leads to, whose links are right.
+ghost use Rattle.std.specs.Prelude.{◌≡◌, IfOk, IfErr};
+ghost use Rattle.document_links.specs.Documents.{IsRefused};
+ghost use Rattle.cwl_program.specs.Runs.{IsAccepted, IsDocument, IsStop};
+
+use crate::exit::{Exit, Fault, Refusal};
+use crate::stop::Stop;
+use document_links::{Docs, LinkError, LinkFault, MOST_PROCESSES, Process, read_process};
+use file_values::{FileError, location_to_path};
+use plain_data::Text;
+use std::alloc::Global;
+use std::mem;
+use url::Url;
+use workflow_check::{AcceptError, accept};
+
+/// The process of a document at a URL, with those that its steps name, where its links are right.
+pub fn accepted_of(alloc: Global, document: &[u8], base: &Url, docs: &Docs) -> Result<Process, Stop>
+    ensures ok { IfOk result IsAccepted }
+    ensures err { IfErr result IsStop }
+{
+    let process = linked(alloc, document, base, docs)?;
+    accepted(alloc, process)
+}
+
+/// Puts a document and those that it leads to together.
+fn linked(alloc: Global, document: &[u8], base: &Url, docs: &Docs) -> Result<Process, Stop>
+    ensures ok { IfOk result IsDocument }
+    ensures err { IfErr result IsStop }
+{
+    match read_process(alloc, document, base, docs) {
+        Ok(process) => Ok(process),
+        Err(LinkError::OutOfMemory) => Err(Stop::OutOfMemory),
+        Err(LinkError::Refused(fault)) => Err(faulty(alloc, document, base, docs, fault)),
+    }
+}
+
+/// Says what is wrong with a document, or with those that it leads to.
+fn faulty(alloc: Global, _document: &[u8], base: &Url, docs: &Docs, fault: LinkFault) -> Stop
+    requires { IsRefused (LinkError.Refused fault) _document.now base.now docs.now }
+    ensures { IsStop result }
+{
+    match fault {
+        LinkFault::NotLoaded(url) => {
+            let stop = not_loaded(alloc, _document, base, docs, &url);
+            mem::drop(url);
+            stop
+        }
+        LinkFault::Document(url, fault) => wrong(LinkFault::Document(url, fault)),
+        LinkFault::TooDeep => wrong(LinkFault::TooDeep),
+        LinkFault::TooMany => wrong(LinkFault::TooMany),
+    }
+}
+
+fn wrong(fault: LinkFault) -> Stop
+    ensures { result ≡ Stop.Early (Exit.Refused (Refusal.Document fault)) }
+{
+    Stop::Early(Exit::Refused(Refusal::Document(fault)))
+}
+
+/// Says why a document is not there: there are too many of them, its URL is no file's, or its file can't be read.
+#[tactic(auto, using(crate::specs::Runs::no_input))]
+fn not_loaded(alloc: Global, _document: &[u8], base: &Url, docs: &Docs, url: &Text) -> Stop
+    requires { IsRefused (LinkError.Refused (LinkFault.NotLoaded url.now)) _document.now base.now docs.now }
+    ensures { IsStop result }
+{
+    if docs.len() >= MOST_PROCESSES {
+        return wrong(LinkFault::TooMany);
+    }
+    match location_to_path(alloc, url.as_str(), base) {
+        Ok(path) => {
+            mem::drop(path);
+            Stop::Early(Exit::Fault(Fault::Input))
+        }
+        Err(FileError::Refused(fault)) => Stop::Early(Exit::Refused(Refusal::Location(fault))),
+        Err(FileError::OutOfMemory) => Stop::OutOfMemory,
+    }
+}
+
+/// Looks at the links of a process.
+fn accepted(alloc: Global, process: Process) -> Result<Process, Stop>
+    requires { IsDocument process }
+    ensures ok { IfOk result IsAccepted }
+    ensures err { IfErr result IsStop }
+{
+    match accept(alloc, process) {
+        Ok(accepted) => Ok(accepted.into_process()),
+        Err(AcceptError::Refused(fault)) => Err(Stop::Early(Exit::Refused(Refusal::Links(fault)))),
+        Err(AcceptError::OutOfMemory) => Err(Stop::OutOfMemory),
+    }
+}

@@ -1,0 +1,43 @@
+ghost use Rattle.std.specs.Prelude.{◌≡◌, IfOk, IfErr, false};
+ghost use Rattle.clap.specs.Words.{app_of, found_of, kind_of, rows_of};
+ghost use Rattle.cwl_program.specs.RecordWords.{record_command, record_wish, wish_of_record};
+ghost use Rattle.cwl_program.specs.RunWords.{IsLocal};
+
+use crate::run_words::{named, placed};
+use clap::error::ErrorKind;
+use clap::{ArgMatches, Command, Error};
+use std::alloc::Global;
+
+const FORGET_HELP: &str = "Forget the rows whose key has this SHA-1 first";
+
+/// The record's file, and the sum of the keys whose rows are to be forgotten.
+#[derive(Drop)]
+pub struct RecordWords<'a> {
+    pub file: &'a str,
+    pub forget: Option<&'a str>,
+}
+
+/// The subcommand `record`.
+pub fn record_command<'a>(alloc: Global) -> Result<Command<'a>, Error>
+    ensures ok { IfOk result (λ command. app_of command ≡ record_command) }
+    ensures local { IfOk result IsLocal }
+    ensures err { IfErr result (λ e. kind_of e ≡ ErrorKind.OutOfMemory) }
+{
+    let forget = named(alloc, "forget", "HEX", FORGET_HELP);
+    let command = Command::new(alloc, "record")
+        .about("Shows the rows of a record of jobs")
+        .arg(forget)?;
+    let file = placed(alloc, "FILE", true, "The record's file");
+    let command = command.arg(file)?;
+    Ok(command)
+}
+
+/// What the words of `record` name.
+pub fn record_words<'a>(words: &ArgMatches<'a>) -> RecordWords<'a>
+    ensures { wish_of_record result ≡ record_wish (rows_of (found_of words.now)) }
+{
+    RecordWords {
+        file: words.get_str("FILE").unwrap_or(""),
+        forget: words.get_str("forget"),
+    }
+}
