@@ -13,4 +13,5 @@ pub mod Turning
 pub mod Work
 pub mod Working
 pub mod events
-pub mod jobs
+pub mod going
+pub mod job_steps
