@@ -4,3 +4,5 @@ pub mod Picking
 pub mod Measured
 pub mod Delivered
 pub mod Asked
+pub mod Going
+pub mod Given
