@@ -16,5 +16,6 @@ pub mod Turning
 pub mod Work
 pub mod Working
 pub mod events
-pub mod jobs
+pub mod going
+pub mod job_steps
 pub mod standing

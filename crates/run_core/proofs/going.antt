@@ -5,3 +5,4 @@ pub mod Measured
 pub mod Delivered
 pub mod Asked
 pub mod Going
+pub mod Given

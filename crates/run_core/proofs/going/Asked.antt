@@ -37,8 +37,8 @@ use Rattle.run_core.specs.inner.Standing.{IsAt, IsWorking, Runs, collecting, del
 use Rattle.run_core.proofs.events.Numbers.{Flies, flight_flies, flights_as_many}
 use Rattle.run_core.proofs.events.Reflecting.{Laws, folder_there}
 use Rattle.run_core.proofs.going.Measured.{IsOf, may_measure}
-use Rattle.run_core.proofs.jobs.Calls.{IsForJob, for_job, working_allowed}
-use Rattle.run_core.proofs.jobs.Turns.{PicksAt}
+use Rattle.run_core.proofs.job_steps.Calls.{IsForJob, for_job, working_allowed}
+use Rattle.run_core.proofs.job_steps.Turns.{PicksAt}
 
 -- the phase fits the call that is due
 

@@ -43,21 +43,21 @@ use Rattle.run_core.proofs.events.Reflecting.{Laws, folder_there}
 use Rattle.run_core.proofs.going.Delivered.{delivery_goes_on}
 use Rattle.run_core.proofs.going.Measured.{IsOf, begins_so, may_measure, measure_fault_reflects, measure_goes_on, when_measured}
 use Rattle.run_core.proofs.going.Picking.{picked}
-use Rattle.run_core.proofs.jobs.Calls.{IsForJob, for_job, working_allowed}
-use Rattle.run_core.proofs.jobs.Ended.{child_goes_on}
-use Rattle.run_core.proofs.jobs.Failed.{collect_fails, fault_goes_by, fault_goes_on}
-use Rattle.run_core.proofs.jobs.Listed.{listing_goes_on}
-use Rattle.run_core.proofs.jobs.Read.{bytes_go_on}
-use Rattle.run_core.proofs.jobs.Staged.{staging_goes_on}
-use Rattle.run_core.proofs.jobs.Started.{start_goes_on}
-use Rattle.run_core.proofs.jobs.Turns.{PicksAt}
+use Rattle.run_core.proofs.job_steps.Calls.{IsForJob, for_job, working_allowed}
+use Rattle.run_core.proofs.job_steps.Ended.{child_goes_on}
+use Rattle.run_core.proofs.job_steps.Failed.{collect_fails, fault_goes_by, fault_goes_on}
+use Rattle.run_core.proofs.job_steps.Listed.{listing_goes_on}
+use Rattle.run_core.proofs.job_steps.Read.{bytes_go_on}
+use Rattle.run_core.proofs.job_steps.Staged.{staging_goes_on}
+use Rattle.run_core.proofs.job_steps.Started.{start_goes_on}
+use Rattle.run_core.proofs.job_steps.Turns.{PicksAt}
 
 -- a collect is for no job
 not_collect : (call : HostRequest) → IsForJob call → call ≡ HostRequest.Collect → ⊥
 not_collect call its is = subst IsForJob is its
 
 module _ (s : Scene) (given : Given) (same : given.options ≡ s.options) (its : IsOf s given) (laws : Laws s) (some : 1 ≤ s.options.slots) where
-  picks : PicksAt s given
+  pub picks : PicksAt s given
   picks t f marks goes idle old turn new r p = picked s given same {t = t} f marks goes idle laws some old r p
 
   module _ (t : List Pair) (f : Progress) (marks : List Mark) (goes : Goes s (LoadsHeld s) t f marks) (old : Course) (turn : Turn) (new : Course) where

@@ -57,7 +57,7 @@ use Rattle.run_core.proofs.Turning.{IsTurn, fewer, turn_of}
 use Rattle.run_core.proofs.Working.{turned}
 use Rattle.run_core.proofs.events.Keeping.{failed_keeps, first_fails_keeps, first_keeps, never_none}
 use Rattle.run_core.proofs.events.Reflecting.{Laws, collects_after, end_of, end_reported, fault_ends, moved, undelivered_after}
-use Rattle.run_core.proofs.jobs.Turns.{PicksAt}
+use Rattle.run_core.proofs.job_steps.Turns.{PicksAt}
 
 -- while input files are measured
 abbrev pub when_measured : List (Name × Measure) → Progress

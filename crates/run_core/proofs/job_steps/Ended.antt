@@ -37,9 +37,9 @@ use Rattle.run_core.proofs.events.Numbers.{job_there}
 use Rattle.run_core.proofs.events.Reflecting.{Landed, Laws, gave_up_reflects, known_there, landed_reflects}
 use Rattle.run_core.proofs.going.Picking.{staged_again}
 use Rattle.run_core.proofs.going.Same.{at_same}
-use Rattle.run_core.proofs.jobs.GaveUp.{still_open}
-use Rattle.run_core.proofs.jobs.Sites.{Fits, site_fits}
-use Rattle.run_core.proofs.jobs.Turns.{PicksAt, turns_at}
+use Rattle.run_core.proofs.job_steps.GaveUp.{still_open}
+use Rattle.run_core.proofs.job_steps.Sites.{Fits, site_fits}
+use Rattle.run_core.proofs.job_steps.Turns.{PicksAt, turns_at}
 
 -- the call that lists the output folder is the one for the job's folders
 scan_calls : (options : Options) (folder : ℕ) (job : Job) (site : Site) (kept : Kept) (millis : ℕ) → Fits options folder job site →

@@ -26,9 +26,9 @@ use Rattle.run_core.specs.inner.Parts.{kept_in}
 use Rattle.run_core.specs.inner.Picks.{AfterStart}
 use Rattle.run_core.specs.inner.Standing.{IsWorking, Runs}
 use Rattle.run_core.proofs.events.Reflecting.{folder_there, started_reflects}
-use Rattle.run_core.proofs.jobs.Calls.{working_allowed}
-use Rattle.run_core.proofs.jobs.Firsts.{input_starts_none, output_starts_none}
-use Rattle.run_core.proofs.jobs.Turns.{PicksAt}
+use Rattle.run_core.proofs.job_steps.Calls.{working_allowed}
+use Rattle.run_core.proofs.job_steps.Firsts.{input_starts_none, output_starts_none}
+use Rattle.run_core.proofs.job_steps.Turns.{PicksAt}
 
 -- what is kept is of the launch
 kept_so : (kept : Kept) (launch : Launch) → kept ≡ kept_of kept.inputs launch → IsKept kept (record { inputs = kept.inputs; launch = launch })

@@ -24,7 +24,7 @@ use Rattle.run_core.specs.inner.Keeps.{state_at}
 use Rattle.run_core.specs.inner.Picks.{IsSite}
 use Rattle.run_core.specs.inner.Standing.{HasStarted}
 use Rattle.run_core.proofs.events.Numbers.{job_there, state_there}
-use Rattle.run_core.proofs.jobs.Turns.{WorksNext}
+use Rattle.run_core.proofs.job_steps.Turns.{WorksNext}
 
 -- a site of the job's tool, in the folders that the job of the number has
 pub record Fits (options : Options) (folder : ℕ) (job : Job) (site : Site) : Type 0 where

@@ -28,8 +28,8 @@ use Rattle.run_core.specs.inner.Picks.{AfterStaging}
 use Rattle.run_core.specs.inner.Standing.{IsStaging, Runs}
 use Rattle.run_core.proofs.events.Kept.{folder_staged}
 use Rattle.run_core.proofs.events.Reflecting.{Laws, known_there, staged_reflects}
-use Rattle.run_core.proofs.jobs.Sites.{Fits, site_fits, starts_at, starts_call, works_unstarted}
-use Rattle.run_core.proofs.jobs.Turns.{PicksAt, turns_at}
+use Rattle.run_core.proofs.job_steps.Sites.{Fits, site_fits, starts_at, starts_call, works_unstarted}
+use Rattle.run_core.proofs.job_steps.Turns.{PicksAt, turns_at}
 
 -- a number is the same as itself
 its_own : (n one other : ℕ) → cond (n == n) one other ≡ one

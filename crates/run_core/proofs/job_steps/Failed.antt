@@ -31,7 +31,7 @@ use Rattle.run_core.specs.inner.Picks.{AfterFault}
 use Rattle.run_core.specs.inner.Standing.{IsAt, Runs, ended}
 use Rattle.run_core.specs.inner.Turn.{ends}
 use Rattle.run_core.proofs.events.Reflecting.{host_failed_reflects}
-use Rattle.run_core.proofs.jobs.Turns.{PicksAt}
+use Rattle.run_core.proofs.job_steps.Turns.{PicksAt}
 
 module _ (s : Scene) (given : Given) (picks : PicksAt s given) (t : List Pair) (f : Progress) (marks : List Mark) (goes : Goes s (LoadsHeld s) t f marks) where
   module _ (old : Course) (place : JobPlace) (request : HostRequest) (may : Allowed s f marks (Request.Host place request)) (other : request ≡ HostRequest.Collect → ⊥)

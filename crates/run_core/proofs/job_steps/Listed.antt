@@ -30,10 +30,10 @@ use Rattle.run_core.specs.inner.Parts.{kept_in}
 use Rattle.run_core.specs.inner.Picks.{AfterListing}
 use Rattle.run_core.specs.inner.Standing.{IsWorking, Runs}
 use Rattle.run_core.proofs.events.Reflecting.{Laws, folder_there, known_there}
-use Rattle.run_core.proofs.jobs.Calls.{working_allowed}
-use Rattle.run_core.proofs.jobs.Firsts.{never_input, never_output}
-use Rattle.run_core.proofs.jobs.Sites.{Fits, site_fits, collects_at, collects_call, works_started}
-use Rattle.run_core.proofs.jobs.Turns.{PicksAt, turns_at}
+use Rattle.run_core.proofs.job_steps.Calls.{working_allowed}
+use Rattle.run_core.proofs.job_steps.Firsts.{never_input, never_output}
+use Rattle.run_core.proofs.job_steps.Sites.{Fits, site_fits, collects_at, collects_call, works_started}
+use Rattle.run_core.proofs.job_steps.Turns.{PicksAt, turns_at}
 
 module _ (s : Scene) (given : Given) (same : given.options ≡ s.options) (laws : Laws s) (picks : PicksAt s given) (t : List Pair) (f : Progress) (marks : List Mark)
     (goes : Goes s (LoadsHeld s) t f marks) where
