@@ -10,6 +10,7 @@ pub mod Once
 pub mod Seen
 pub mod Settled
 pub mod Stays
+pub mod Telling
 pub mod Turning
 pub mod Work
 pub mod Working
