@@ -16,6 +16,7 @@ pub mod Telling
 pub mod Turning
 pub mod Work
 pub mod Working
+pub mod ending
 pub mod events
 pub mod going
 pub mod job_steps

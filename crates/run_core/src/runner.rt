@@ -24,6 +24,7 @@ use crate::{Answer, Options, Pair, Report, Request, RunFault};
 use cwl_value::Value;
 use document_links::Process;
 use plain_data::Keyed;
+use run_rules::an_honest_run_is_reported_rightly;
 use std::alloc::{AllocError, Global};
 use std::mem;
 
@@ -127,6 +128,7 @@ impl<'a> RunCore<'a> {
         ensures faults { IfErr result (BlamesRightly (entries_of (transcript self.entry))) }
         ensures lost { (result ≡ Err RunFault.OutOfMemory) ↔ IsLost self.entry }
     {
+        an_honest_run_is_reported_rightly();
         let mut core = self;
         let phase = mem::replace(&mut core.turn.phase, Phase::Collecting);
         mem::drop(core);
