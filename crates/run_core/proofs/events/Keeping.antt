@@ -1,8 +1,8 @@
 -- What the machine keeps goes on with each event: a lemma for each.
 use Rattle.std.specs.Prelude.{◌<◌, ◌≤◌, ◌||◌, Contains, IsSome, is_some, nat_lt, option_map, slice_get, slice_index_or}
-use Rattle.std.specs.List.{list_any, remove}
+use Rattle.std.specs.List.{remove}
 use Rattle.std.proofs.Common.{◌≡◌, ◌∙◌, ◌⊎◌, inl, inr, ◌==◌, ◌+◌, ℕ, zero, suc, Bool, true, false, cond, List, [], ◌∷◌, ◌++◌, length, filter, Option, Some, None, refl, sym, ap, subst, arith, length-append}
-use Rattle.std.proofs.lemmas.Bool.{eqb-true, lt-ltb, le-ltb, or_left, or_parts}
+use Rattle.std.proofs.lemmas.Bool.{eqb-true, lt-ltb, le-ltb, or_parts}
 use Rattle.std.proofs.lemmas.List.Edits.{length-remove}
 use Rattle.std.proofs.lemmas.List.Elements.{Contains-append_cases}
 use Rattle.std.proofs.lemmas.Option.{get_or_from_slice_get, slice_get_within}
@@ -16,7 +16,7 @@ use Rattle.run_rules.specs.declared.outcome.Report.{Report}
 use Rattle.run_rules.specs.declared.outcome.RunFault.{RunFault}
 use Rattle.std.specs.Prelude.{Result}
 use Rattle.run_rules.specs.End.{End, fails_temporarily, gives_up, settled, settled_by, unfold_end}
-use Rattle.run_rules.specs.Events.{Event, Started, child_exited, in_flight, is_held, job_failed_for_now, job_staged, job_started, job_succeeded, started_at, unfolding_at}
+use Rattle.run_rules.specs.Events.{Event, child_exited, in_flight, is_held, job_failed_for_now, job_staged, job_started, job_succeeded, started_at, unfolding_at}
 use Rattle.run_rules.specs.Reports.{report_of, reported}
 use Rattle.run_rules.specs.Scene.{Scene}
 use Rattle.run_rules.proofs.Places.{same_place}
@@ -25,7 +25,7 @@ use Rattle.run_rules.proofs.events.Flights.{Flight as Flying, is_flying}
 use Rattle.run_rules.proofs.events.Known.{IsFront, front_itself, front_of_front, known_jobs_stay, numbered_still, teaches, unfolding_stays}
 use Rattle.run_rules.proofs.events.Places.{AreApart, IsJob, one_job, same_itself}
 use Rattle.run_rules.proofs.events.Readings.{started_after}
-use Rattle.run_rules.proofs.events.Settled.{is_quiet, or_none, settled_for_now, settled_more, settled_quietly, settled_stays}
+use Rattle.run_rules.proofs.events.Settled.{is_quiet, settled_for_now, settled_more, settled_quietly, settled_stays}
 use Rattle.run_rules.proofs.events.Tally.{Readings, is_aside, nothing_read, readings, readings_after, reads_after}
 use Rattle.run_rules.proofs.events.Turns.{so_many}
 use Rattle.run_core.specs.declared.state.Flight.{Flight}

@@ -1,6 +1,6 @@
 -- What the machine asks, where it is in its run: it may be asked, its phase fits it, and the course's lists fit one another.
 use Rattle.std.specs.Prelude.{◌<◌, ◌≤◌, ◌≢◌, Contains}
-use Rattle.std.proofs.Common.{◌≡◌, ◌∙◌, ◌⊎◌, inl, inr, ◌+◌, ℕ, true, false, List, [], ◌∷◌, length, reverse, Option, Some, None, refl, sym, ap, subst, arith}
+use Rattle.std.proofs.Common.{◌≡◌, ◌∙◌, inl, inr, ◌+◌, ℕ, true, false, List, [], ◌∷◌, length, reverse, Option, Some, None, refl, sym, ap, subst, arith}
 use Rattle.std.proofs.lemmas.Bool.{cases_lt, or_parts}
 use Rattle.plan_checker.specs.declared.plan.Mark.{Mark}
 use Rattle.proc_host.specs.declared.call.HostRequest.{HostRequest}
@@ -31,9 +31,9 @@ use Rattle.run_core.specs.declared.state.Phase.{Phase}
 use Rattle.run_core.specs.declared.state.Turn.{Turn}
 use Rattle.run_core.specs.inner.Course.{Past, known_in, nothing_past, past_of}
 use Rattle.run_core.specs.inner.Due.{FitsCall, call_for, work_of}
-use Rattle.run_core.specs.inner.Follows.{AsksIn, AsksOf, CanStage}
+use Rattle.run_core.specs.inner.Follows.{AsksIn, AsksOf}
 use Rattle.run_core.specs.inner.Keeps.{Reflects, course_of, state_at}
-use Rattle.run_core.specs.inner.Standing.{IsAt, IsWorking, Runs, collecting, delivering, ended, measuring, staging, working}
+use Rattle.run_core.specs.inner.Standing.{IsAt, Runs, collecting, delivering, ended, measuring, staging, working}
 use Rattle.run_core.proofs.events.Numbers.{Flies, flight_flies, flights_as_many}
 use Rattle.run_core.proofs.events.Reflecting.{Laws, folder_there}
 use Rattle.run_core.proofs.going.Measured.{IsOf, may_measure}

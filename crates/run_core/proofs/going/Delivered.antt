@@ -1,7 +1,6 @@
 -- The result's files are copied to their targets: the run has ended.
 use Rattle.std.specs.Prelude.{◌≤◌, is_some}
-use Rattle.std.specs.List.{list_any}
-use Rattle.std.proofs.Common.{◌≡◌, ◌∙◌, ℕ, true, false, List, [], ◌∷◌, ◌++◌, length, Option, Some, None, refl, sym, ap, subst}
+use Rattle.std.proofs.Common.{◌≡◌, ◌∙◌, ℕ, true, List, [], ◌∷◌, ◌++◌, length, None, refl, sym, ap, subst}
 use Rattle.plan_checker.specs.declared.plan.Mark.{Mark}
 use Rattle.proc_host.specs.declared.call.HostAnswer.{HostAnswer}
 use Rattle.proc_host.specs.declared.call.HostRequest.{HostRequest}
@@ -13,9 +12,9 @@ use Rattle.job_graph.specs.Words.{JobPlace}
 use Rattle.run_rules.specs.declared.request.Pair.{Pair}
 use Rattle.run_rules.specs.Allowed.{IsBusy, IsFree, MayDeliver}
 use Rattle.run_rules.specs.Delivered.{located, sources}
-use Rattle.run_rules.specs.End.{IsDelivery, settled, succeeds_with}
+use Rattle.run_rules.specs.End.{succeeds_with}
 use Rattle.run_rules.specs.EndsSo.{copied, succeeds}
-use Rattle.run_rules.specs.Events.{Event, Progress, in_flight, delivered_at, nothing_due, number_at, result_delivered, unfolding_at}
+use Rattle.run_rules.specs.Events.{Event, Progress, nothing_due, number_at, result_delivered}
 use Rattle.run_rules.specs.Plans.{LoadsHeld}
 use Rattle.run_rules.specs.Run.{Goes}
 use Rattle.run_rules.specs.Scene.{Scene}

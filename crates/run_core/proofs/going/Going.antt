@@ -1,9 +1,6 @@
 -- A run goes on with each answer to what is asked.
-use Rattle.std.specs.Prelude.{◌≤◌, Contains}
-use Rattle.std.proofs.Common.{◌≡◌, ◌∙◌, ◌+◌, ℕ, List, [], ◌∷◌, ◌++◌, Option, Some, None, length, refl, sym, ap, subst}
-use Rattle.document_links.specs.declared.process.Process.{out-Process}
-use Rattle.input_files.specs.Measured.{Measures}
-use Rattle.input_files.specs.Paths.{paths_of_fields}
+use Rattle.std.specs.Prelude.{◌≤◌}
+use Rattle.std.proofs.Common.{◌≡◌, ◌+◌, ℕ, List, [], ◌∷◌, ◌++◌, Option, Some, None, length, subst}
 use Rattle.plan_checker.specs.declared.plan.Mark.{Mark}
 use Rattle.proc_host.specs.Answers.{CanAnswer, is_measured, is_staged, is_started, has_ended, is_listed, is_read, is_delivered, has_failed}
 use Rattle.proc_host.specs.declared.call.HostAnswer.{HostAnswer}
@@ -11,19 +8,17 @@ use Rattle.proc_host.specs.declared.call.HostRequest.{HostRequest}
 use Rattle.staging.specs.declared.measure.Measure.{Measure}
 use Rattle.staging.specs.declared.plan.StagePlan.{StagePlan}
 use Rattle.job_graph.specs.Jobs.{Job}
-use Rattle.job_graph.specs.Paths.{root_adds}
 use Rattle.job_graph.specs.Words.{JobPlace, Name}
 use Rattle.run_rules.specs.declared.request.Answer.{Answer}
 use Rattle.run_rules.specs.declared.request.Pair.{Pair}
 use Rattle.run_rules.specs.declared.request.Request.{Request}
-use Rattle.run_rules.specs.declared.setting.Options.{Options}
 use Rattle.run_rules.specs.Allowed.{MayCollect, MayDeliver}
 use Rattle.run_rules.specs.Answers.{MayAnswer, by_host}
 use Rattle.run_rules.specs.Delivered.{located}
 use Rattle.run_rules.specs.Events.{Progress}
 use Rattle.run_rules.specs.Plans.{LoadsHeld}
 use Rattle.run_rules.specs.Run.{Goes}
-use Rattle.run_rules.specs.Scene.{Scene, scene_of}
+use Rattle.run_rules.specs.Scene.{Scene}
 use Rattle.run_core.specs.declared.state.Course.{Course}
 use Rattle.run_core.specs.declared.state.Given.{Given}
 use Rattle.run_core.specs.declared.state.JobPhase.{JobPhase}
@@ -35,10 +30,8 @@ use Rattle.run_core.specs.inner.Follows.{FollowsFrom}
 use Rattle.run_core.specs.inner.Keeps.{Reflects, state_at}
 use Rattle.run_core.specs.inner.Measured.{IsMeasuring}
 use Rattle.run_core.specs.inner.Measures.{Begins}
-use Rattle.run_core.specs.inner.Picks.{Picks}
 use Rattle.run_core.specs.inner.Standing.{IsAt, IsStaging, IsWorking, Runs, collecting, delivering, ended, measuring, staging, working}
 use Rattle.run_core.specs.inner.Turn.{collects, waits, works}
-use Rattle.run_core.proofs.Once.{once_each}
 use Rattle.run_core.proofs.events.Reflecting.{Laws, folder_there}
 use Rattle.run_core.proofs.going.Delivered.{delivery_goes_on}
 use Rattle.run_core.proofs.going.Measured.{IsOf, begins_so, may_measure, measure_fault_reflects, measure_goes_on, when_measured}

@@ -1,14 +1,8 @@
 -- Where nothing is due, what the machine turns to is what its run may ask then, or how it ends.
-use Rattle.std.specs.Prelude.{◌<◌, ◌≤◌, ◌≢◌, ◌||◌, Contains, IsSome, is_some, Result, option_map, slice_index_or, unwrap_or}
-use Rattle.std.specs.List.{list_any}
-use Rattle.std.proofs.Common.{◌≡◌, ◌∙◌, ◌+◌, ℕ, zero, suc, Bool, true, false, cond, List, [], ◌∷◌, ◌++◌, length, find, Option, Some, None, refl, sym, ap, subst, arith}
-use Rattle.input_files.specs.Measured.{Measures}
-use Rattle.plain_data.specs.ByName.{map_values}
+use Rattle.std.specs.Prelude.{◌<◌, ◌≤◌, ◌≢◌, ◌||◌, Contains, IsSome, is_some, Result, option_map, unwrap_or}
+use Rattle.std.proofs.Common.{◌≡◌, ◌∙◌, ◌+◌, ℕ, Bool, true, false, cond, List, [], ◌∷◌, length, find, Option, Some, None, refl, sym, ap, subst, arith}
 use Rattle.plan_checker.specs.declared.plan.Mark.{Mark}
-use Rattle.proc_host.specs.declared.call.HostRequest.{HostRequest}
 use Rattle.staging.specs.Plan.{IsPlan}
-use Rattle.staging.specs.declared.plan.StagePlan.{StagePlan}
-use Rattle.cwl_value.specs.declared.place.Place.{Place}
 use Rattle.job_graph.specs.declared.unfolding.Unfolding.{Unfolding}
 use Rattle.job_graph.specs.Jobs.{Job, Walker}
 use Rattle.job_graph.specs.Made.{fields_moved, value_moved}
@@ -18,13 +12,12 @@ use Rattle.run_rules.specs.declared.outcome.Outcome.{Outcome}
 use Rattle.run_rules.specs.declared.outcome.Report.{Report}
 use Rattle.run_rules.specs.declared.outcome.RunFault.{RunFault}
 use Rattle.run_rules.specs.declared.request.Pair.{Pair}
-use Rattle.run_rules.specs.declared.request.Request.{Request}
 use Rattle.run_rules.specs.declared.setting.Options.{Options}
 use Rattle.run_rules.specs.Allowed.{IsBusy, IsFree}
 use Rattle.run_rules.specs.Delivered.{any_file, located, source_place, sources}
 use Rattle.run_rules.specs.End.{End, settled, succeeds_with}
-use Rattle.run_rules.specs.EndsSo.{EndsSo, fails, no_file, succeeds}
-use Rattle.run_rules.specs.Events.{Event, Progress, brings, in_flight, is_at_hand, job_succeeded, measures, nothing_due, number_at, resolved, unfolding_at}
+use Rattle.run_rules.specs.EndsSo.{fails, no_file, succeeds}
+use Rattle.run_rules.specs.Events.{Event, Progress, in_flight, is_at_hand, job_succeeded, measures, nothing_due, number_at, resolved, unfolding_at}
 use Rattle.run_rules.specs.Folders.{in_folder}
 use Rattle.run_rules.specs.Plans.{LoadsHeld}
 use Rattle.run_rules.specs.Reports.{report_of, reported}
@@ -41,14 +34,13 @@ use Rattle.run_rules.proofs.events.Tally.{readings}
 use Rattle.run_rules.proofs.events.Turns.{again_may_stage, busy_when_staged, busy_when_taken, next_may_stage, none_flies}
 use Rattle.run_core.specs.declared.state.Course.{Course}
 use Rattle.run_core.specs.declared.state.Given.{Given}
-use Rattle.run_core.specs.declared.state.Phase.{Phase}
 use Rattle.run_core.specs.declared.state.Turn.{Turn}
-use Rattle.run_core.specs.inner.Course.{Past, known_in, number_in, past_of}
+use Rattle.run_core.specs.inner.Course.{known_in, number_in, past_of}
 use Rattle.run_core.specs.inner.Keeps.{Reflects, course_of}
 use Rattle.run_core.specs.inner.Knows.{IsKnown, outputs_in}
 use Rattle.run_core.specs.inner.Picks.{Delivers, DeliversFiles, NoneToStage, Picks, Stages, all_staged, delivers, drains, ends_so, has_result, slots_full, sources_in, stages, succeeds_at_once, waits_for_one}
 use Rattle.run_core.specs.inner.Standing.{IsAt, collecting, delivering, ended, staging}
-use Rattle.run_core.specs.inner.Turn.{collects, ends, waits}
+use Rattle.run_core.specs.inner.Turn.{collects, ends}
 use Rattle.run_core.proofs.events.Keeping.{none_settled}
 use Rattle.run_core.proofs.events.Numbers.{job_there, number_is_kept}
 use Rattle.run_core.proofs.events.Reflecting.{FliesThere, Laws, flies_there}

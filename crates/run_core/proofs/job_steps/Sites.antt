@@ -12,7 +12,6 @@ use Rattle.run_rules.specs.StartsOn.{StartsOn}
 use Rattle.run_rules.proofs.events.Places.{IsJob, one_job}
 use Rattle.run_core.specs.declared.site.Site.{Site}
 use Rattle.run_core.specs.declared.state.Course.{Course}
-use Rattle.run_core.specs.declared.state.Filling.{Filling}
 use Rattle.run_core.specs.declared.state.Given.{Given}
 use Rattle.run_core.specs.declared.state.JobNext.{JobNext}
 use Rattle.run_core.specs.declared.state.JobPhase.{JobPhase}
