@@ -126,7 +126,7 @@ module _ (s : Scene) (f : Progress) (marks : List Mark) (course : Course) where
   fits_at asks (ended end so) = absurd (asks refl)
 
   asks_at : {turn : Turn} → IsAt s f marks course turn → AsksIn course turn
-  asks_at (measuring found m rest path is left happened none nothing) = ap (λ (p : Past). p.jobs) nothing
+  asks_at (measuring found m rest path is left happened none nothing) = tt
   asks_at (staging at_work n job plan r st) = record { next = st.next; known = st.it.within }
   asks_at (working n job call phase r w) =
       work_asks s.options course job.place n (state_at course.jobs.items n).folder call phase w.calls.due w.calls.fits (r.keeps.books.worked_staged n refl)
