@@ -15,6 +15,7 @@ pub mod Taking
 pub mod Turning
 pub mod Work
 pub mod Working
+pub mod ending
 pub mod events
 pub mod going
 pub mod job_steps

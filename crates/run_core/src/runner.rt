@@ -27,6 +27,7 @@ use cwl_value::Value;
 use document_links::Process;
 use job_graph::see_ids;
 use plain_data::Keyed;
+use run_rules::an_honest_run_is_reported_rightly;
 use std::alloc::{AllocError, Global};
 use std::mem;
 
@@ -133,6 +134,7 @@ impl<'a> RunCore<'a> {
         ensures faults { IfErr result (BlamesRightly (entries_of (transcript self.entry))) }
         ensures lost { (result ≡ Err RunFault.OutOfMemory) ↔ IsLost self.entry }
     {
+        an_honest_run_is_reported_rightly();
         let mut core = self;
         let phase = mem::replace(&mut core.turn.phase, Phase::Collecting);
         mem::drop(core);

@@ -86,7 +86,7 @@ known_fault (Some kept) walks learned known = known.fault
 known_outputs : (o : Option Unfolding) (walks : Walker) (learned : List Resolved) (outputs : Fields) → IsKnown walks learned o → (unfolded walks learned).result ≡ Some outputs →
     outputs_in o ≡ outputs
 known_outputs None walks learned outputs known is = absurd known
-known_outputs (Some kept) walks learned outputs known is = ap (λ (o : Option Fields). unwrap_or o []) (known.outputs ∙ is)
+known_outputs (Some kept) walks learned outputs known is = ap (λ (o : Option Fields). unwrap_or o []) (known.result ∙ is)
 
 -- Ends
 
