@@ -1,6 +1,7 @@
 -- What the machine keeps beside its run: bounds, blame and room; and what it comes to where memory runs out.
 pub mod Answered
 pub mod Anyway
+pub mod Beginning
 pub mod Books
 pub mod Facts
 pub mod Few
@@ -9,6 +10,7 @@ pub mod Flown
 pub mod Leaving
 pub mod Looked
 pub mod Lost
+pub mod Ready
 pub mod Stepped
 pub mod Taken
 pub mod Tickets

@@ -8,6 +8,7 @@
 //! other clauses say, so a reader may skip both.
 #![tactic(auto)]
 
+mod anyway;
 mod choice;
 mod collects;
 mod course;

@@ -15,14 +15,17 @@ ghost use Rattle.run_core.specs.inner.Measures.{Begins as BeginsAt};
 ghost use Rattle.run_core.specs.inner.Standing.{HasRoom};
 ghost use Rattle.workflow_check.specs.Checked.{fault_in};
 
+use crate::anyway::can_go_on;
 use crate::course::{at_first, reserve_one};
 use crate::measuring::begun;
+use crate::parts::job_in;
 use crate::state::{Course, Given, Phase, Turn};
 use crate::steps::follows;
 use crate::turn::{ended, lost};
 use crate::{Answer, Options, Pair, Report, Request, RunFault};
 use cwl_value::Value;
 use document_links::Process;
+use job_graph::see_ids;
 use plain_data::Keyed;
 use run_rules::an_honest_run_is_reported_rightly;
 use std::alloc::{AllocError, Global};
@@ -53,6 +56,7 @@ impl<'a> RunCore<'a> {
         ensures ok { IfOk result (λ core. Begins process.now inputs.now options core) }
         ensures err { IfErr result (λ fault. fault ≡ RunFault.OutOfMemory) }
     {
+        see_ids(process);
         let mut core = RunCore {
             alloc,
             given: Given {
@@ -64,12 +68,13 @@ impl<'a> RunCore<'a> {
             course: at_first(alloc),
             turn: ended(Err(RunFault::OutOfMemory)),
         };
+        let machine = &mut core;
         match start(
             alloc,
-            &core.given,
-            &mut core.pairs,
-            &mut core.course,
-            &mut core.turn,
+            &machine.given,
+            &mut machine.pairs,
+            &mut machine.course,
+            &mut machine.turn,
         ) {
             Ok(()) => Ok(core),
             Err(AllocError) => {
@@ -103,6 +108,7 @@ impl<'a> RunCore<'a> {
         requires answers { MayAnswer (flying self.old) (asked self.old) answer }
         ensures { Took self.old answer result self.new }
     {
+        can_go_on(&self.course, job_in(&self.turn.phase));
         let request = step(
             self.alloc,
             &self.given,

@@ -1,11 +1,10 @@
 -- What the machine asks may be asked, and it waits for a child only where one is in flight.
 use Rattle.std.specs.Prelude.{◌≢◌}
-use Rattle.std.proofs.Common.{◌≡◌, List, [], refl, sym}
+use Rattle.std.proofs.Common.{◌≡◌, [], refl}
 use Rattle.proc_host.specs.declared.call.HostRequest.{HostRequest}
 use Rattle.job_graph.specs.Words.{JobPlace}
-use Rattle.run_rules.specs.declared.request.Pair.{Pair}
 use Rattle.run_rules.specs.declared.request.Request.{Request}
-use Rattle.run_rules.specs.Scene.{Scene, scene_of}
+use Rattle.run_rules.specs.Scene.{scene_of}
 use Rattle.run_core.specs.declared.runner.RunCore.{RunCore}
 use Rattle.run_core.specs.declared.state.Turn.{Turn}
 use Rattle.run_core.specs.Core.{Goes, MayAsk, Stands, allowed, drains, off_run, on_run, setting_of}

@@ -1,5 +1,5 @@
 -- What is reported of the machine's run: where it has ended, and where it is left as it is.
-use Rattle.std.proofs.Common.{◌≡◌, true, List, [], ◌∷◌, ◌++◌, Result, Err, refl, sym, subst, append-nil}
+use Rattle.std.proofs.Common.{◌≡◌, true, List, [], ◌∷◌, Result, Err, sym, subst, append-nil}
 use Rattle.plan_checker.specs.declared.plan.Mark.{Mark}
 use Rattle.job_graph.specs.Apart.{ids_differ}
 use Rattle.job_graph.specs.Eval.{World}
@@ -22,7 +22,7 @@ use Rattle.run_core.specs.declared.state.Phase.{Phase}
 use Rattle.run_core.specs.declared.state.Turn.{Turn}
 use Rattle.run_core.specs.Core.{Goes, IsEnded, Stands, off_run, on_run, setting_of}
 use Rattle.run_core.specs.inner.Course.{Past, past_of}
-use Rattle.run_core.specs.inner.Standing.{AreCollects, IsAt, IsLostAt, RanOut, Runs, collecting, delivering, draining, ended, lost, measuring, staging, working}
+use Rattle.run_core.specs.inner.Standing.{AreCollects, IsAt, IsLostAt, Runs, collecting, delivering, draining, ended, lost, measuring, staging, working}
 
 -- the law that what is reported of a run is right in each world where it is honest
 abbrev pub ReportsRightly : Type 0

@@ -47,7 +47,7 @@ asks_none course place (HostRequest.Scan folder) outcome fits = fits
 asks_none course place (HostRequest.Head path limit) outcome fits = fits
 asks_none course place (HostRequest.Deliver plan) outcome fits = fits
 
-none_started : (entries : List Entry) → WereStarted entries []
+pub none_started : (entries : List Entry) → WereStarted entries []
 none_started entries = record { each = λ ticket there. absurd (omega (arith, there.1)) }
 
 -- what was known is known still
@@ -56,7 +56,7 @@ known_still old new same known knows going =
     let some : KnowsSome old = knows (sym same ∙ going) in
     record { walks = some.walks; learned = some.learned; is = subst (λ (k : Option Unfolding). IsKnown some.walks some.learned k) (sym known) some.is }
 
-after_measure : (given : Given) (old : Course) (entries : List Entry) (turn : Turn) (new : Course) → FewKnown turn new → (measuring : Measuring) →
+pub after_measure : (given : Given) (old : Course) (entries : List Entry) (turn : Turn) (new : Course) → FewKnown turn new → (measuring : Measuring) →
     Books given.options entries (past_of old) → MeasuresOn given old measuring turn new → Leaves given.options entries turn new
 after_measure given old entries turn new few measuring books (all_measured known its_turn its_new none unfolded picks) =
     picks_leave given.options entries given refl known turn new few (books_unfolded given.options entries given refl _ [] old known unfolded books) picks

@@ -82,7 +82,7 @@ module _ (given : Given) where
   fault_fly : (old : Course) (fault : HostFault) (turn : Turn) (new : Course) → AfterFault given old fault turn new → new.tickets.items ≡ old.tickets.items
   fault_fly old fault turn new after = picks_fly after.settled turn new after.picks ∙ ap (λ (p : Past). p.tickets) after.past
 
-  measures_fly : (old : Course) (measuring : Measuring) (turn : Turn) (new : Course) → MeasuresOn given old measuring turn new → new.tickets.items ≡ old.tickets.items
+  pub measures_fly : (old : Course) (measuring : Measuring) (turn : Turn) (new : Course) → MeasuresOn given old measuring turn new → new.tickets.items ≡ old.tickets.items
   measures_fly old measuring turn new (all_measured known its_turn its_new none unfolded picks) = picks_fly known turn new picks ∙ unfolded_fly _ [] old known unfolded
   measures_fly old measuring turn new (measures rest path its_new is same known) = same_tickets (past_of new) (past_of old) same
 

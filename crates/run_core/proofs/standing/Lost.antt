@@ -138,7 +138,7 @@ pub record Drained (old : Course) (answer : Answer) (turn : Turn) (new : Course)
   pub flies : FliesAfter old.tickets.items turn.asks answer new.tickets.items
   pub fewer : length new.tickets.items < length old.tickets.items
 
-some_there : (tickets : List ℕ) → tickets ≢ [] → 0 < length tickets
+pub some_there : (tickets : List ℕ) → tickets ≢ [] → 0 < length tickets
 some_there [] some = absurd (some refl)
 some_there (ticket ∷ tickets) some = omega arith
 

@@ -141,3 +141,6 @@ module _ (core : RunCore) (answer : Answer) (runs_on : RunsOn core.given) (stand
       where
         still_fit : (pairs room n m a b : ℕ) → a + 1 ≤ b → pairs ≡ n + 1 → m ≤ room → n + b ≤ m → pairs + a ≤ room
         still_fit pairs room n m a b left one wider fits = omega (arith, left, one, wider, fits)
+
+pub one_fits : (pairs room ahead : ℕ) → 0 < ahead → pairs + ahead ≤ room → pairs < room
+one_fits pairs room ahead some fits = omega (arith, some, fits)
