@@ -25,7 +25,7 @@ module _ (given : Given) (old learned : Course) (number : ℕ) (outputs : Fields
       (old.end ≡ None → Learns (record { place = place_at (known_in old.known) number; outputs = outputs }) old learned) → Picks given learned turn new →
       Turns given old number (JobNext.Gives outputs) turn new
   by_end true settled past known learns picks = gives_late outputs learned turn new settled (past settled) (known settled) picks
-  by_end false open past known learns picks = gives outputs learned turn new (is_none old.end open) (learns (is_none old.end open)) picks
+  by_end false still past known learns picks = gives outputs learned turn new (is_none old.end still) (learns (is_none old.end still)) picks
 
   pub turns_given : (IsSome old.end → past_of learned ≡ past_of old) → (IsSome old.end → learned.known ≡ old.known) →
       (old.end ≡ None → Learns (record { place = place_at (known_in old.known) number; outputs = outputs }) old learned) → Picks given learned turn new →
