@@ -12,7 +12,7 @@ pub mod Seen
 pub mod Settled
 pub mod States
 pub mod Stays
-pub mod Steps
+pub mod Noted
 pub mod Taking
 pub mod Telling
 pub mod Turning
