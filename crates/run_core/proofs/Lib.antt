@@ -1,16 +1,19 @@
 pub mod Asked
 pub mod Choosing
 pub mod Holding
-pub mod Jobs
 pub mod Lists
 pub mod Loops
 pub mod Lost
 pub mod Numbers
 pub mod Once
+pub mod Rooms
 pub mod Seen
 pub mod Settled
+pub mod States
 pub mod Stays
 pub mod Telling
+||||||| 5c07e1e
+pub mod Taking
 pub mod Turning
 pub mod Work
 pub mod Working

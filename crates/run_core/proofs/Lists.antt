@@ -1,5 +1,6 @@
 -- What a result has where it is there, and lists by their last item.
-use Rattle.std.proofs.Common.{◌≡◌, ◌∙◌, ◌+◌, ◌-◌, ◌<◌, ◌≤◌, List, [], ◌∷◌, ◌++◌, length, get_or, take, Result, Ok, Err, IfOk, refl, sym, ap, arith}
+use Rattle.std.proofs.Common.{◌≡◌, ◌∙◌, ◌==◌, ◌+◌, ◌-◌, ◌<◌, ◌≤◌, ℕ, true, false, true≢false, eq-eqb, List, [], ◌∷◌, ◌++◌, length, get_or, take, Result, Ok, Err, IfOk, refl, sym, ap, arith}
+use Rattle.std.proofs.lemmas.Bool.{eqb-true}
 use Rattle.std.proofs.lemmas.List.{take_more, take_all}
 
 -- what holds of any result that is there
@@ -17,3 +18,12 @@ pub with_last : {X : Type 0} (xs : List X) (x : X) → 1 ≤ length xs → x ≡
 with_last xs x some is =
     let whole : take (length xs - 1 + 1) xs ≡ xs = take_all (length xs - 1 + 1) xs (omega arith) in
     sym whole ∙ take_more xs (length xs - 1) x (omega arith) ∙ ap (λ y. take (length xs - 1) xs ++ y ∷ []) (sym is)
+
+-- a list whose length was found to be zero, and one whose length was not
+pub counted : {X : Type 0} (xs : List X) (len : ℕ) → len ≡ length xs → (len == 0) ≡ true → xs ≡ []
+counted [] len is none = refl
+counted (x ∷ xs) len is none = let zero : len ≡ 0 = eqb-true len 0 none in absurd (omega (arith, is, zero))
+
+pub uncounted : {X : Type 0} (xs : List X) (len : ℕ) → len ≡ length xs → (len == 0) ≡ false → xs ≡ [] → ⊥
+uncounted [] len is some none = absurd (true≢false (sym (eq-eqb len 0 is) ∙ some))
+uncounted (x ∷ xs) len is some none = cc

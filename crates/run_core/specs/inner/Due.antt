@@ -97,6 +97,11 @@ CallsNext options folder (JobNext.Asks call phase) = Calls options folder call p
 CallsNext options folder (JobNext.Fails cause) = Unit {0}
 CallsNext options folder (JobNext.Gives outputs) = Unit {0}
 
+-- what is kept of the job stays where more is read
+abbrev pub KeepsStill : Kept → JobNext → Type 0
+KeepsStill kept (JobNext.Asks call (JobPhase.Reading now reading)) = now ≡ kept
+KeepsStill kept next = Unit {0}
+
 -- a job of the site's tool
 abbrev pub job_at_site : Site → JobPlace → Fields → Job
 job_at_site site place inputs = record { place = place; tool = site.tool.now; inputs = inputs }
@@ -112,6 +117,7 @@ pub record Collects (site : Site) (kept : Kept) (found : List Found) (read : Hea
   pub on : (place : JobPlace) (inputs : Fields) (started : Started) → IsKept kept started →
       CollectsOn place (job_at_site site place inputs) started found read todo (work_next place next) (events_next place next)
   pub calls : CallsNext site.options.now site.folder next
+  pub keeps : KeepsStill kept next
 
 -- the child ended well after so long, and its folder is listed next
 pub record Scans (site : Site) (kept : Kept) (millis : ℕ) (next : JobNext) : Type 0 where

@@ -1,18 +1,21 @@
-use Rattle.std.proofs.Common.{rules, ◌≡◌, ◌<◌, ◌+◌, ◌^◌, false, None, Some, IsSome, IfOk, IsTrue, ◌↔◌, OnErr, length, slice_get, ℕ, ◌-◌, ◌*◌, ◌≤◌, ◌/◌, ◌%◌, Bool, true, nat_eq, nat_lt, List, [], ◌∷◌, ◌++◌, slice_index_or, slice_set, bit_and, bit_or, Fits, w8, w32, w64, Bor, MutBor}
-use Rattle.job_graph.specs.inner.Views.{job_of as job_seen}
-use Rattle.job_graph.specs.Jobs.{Job}
-use Rattle.run_core.specs.declared.state.Given.{Given as Run}
-use Rattle.run_core.specs.inner.Course.{known_in as jobs_in}
-use Rattle.run_core.specs.inner.Picks.{Picks, Stages, sources_in}
-use Rattle.run_core.specs.inner.Turn.{collects, ends}
-use Rattle.run_rules.specs.Folders.{in_folder}
-use Rattle.staging.specs.Plan.{IsPlan}
+use Rattle.std.proofs.Common.{◌≡◌, ◌∙◌, [], refl, sym, subst}
+use Rattle.run_core.specs.declared.state.Course.{Course}
+use Rattle.run_core.specs.declared.state.Turn.{Turn}
+use Rattle.run_core.specs.inner.Picks.{Picks, drains, ends_so}
+use Rattle.run_core.proofs.Lists.{counted, uncounted}
 use Rattle.run_core.proofs.choice.settled.Goals as goal
 
--- src/choice.rt:55:9
 pub returns-then-not-is_empty : goal.returns-then-not-is_empty
-returns-then-not-is_empty c = ?
+returns-then-not-is_empty c = λ given.
+    subst (λ (turn : Turn). Picks given c.args.course.now turn c.args.course.now) (sym c.collecting.ensures)
+    (drains c.args.course.now c.requires
+    (uncounted c.args.course.now.tickets.items c.args.course.now.tickets.len c.args.course.now.tickets.ok.0 (sym c.is_empty.ensures ∙ c.if-not-is_empty.true))
+    refl refl)
 
--- src/choice.rt:50:1
 pub returns : goal.returns
-returns c = ?
+returns c = λ given.
+    let none : c.args.course.now.tickets.items ≡ [] =
+    counted c.args.course.now.tickets.items c.args.course.now.tickets.len c.args.course.now.tickets.ok.0 (sym c.is_empty.ensures ∙ c.if-not-is_empty.false) in
+    let left : Course = record c.args.course.now { end = c.replace.new.dest } in
+    subst (λ (turn : Turn). Picks given c.args.course.now turn left) (sym c.ended.ensures)
+    (ends_so c.in-Some.end left (sym c.replace.ensures.value ∙ c.in-Some.is) none none refl)

@@ -1,13 +1,6 @@
-use Rattle.std.proofs.Common.{rules, ◌≡◌, ◌<◌, ◌+◌, ◌^◌, ◌∷◌, ◌++◌, [], Contains, IfOk, OnErr, length, vec_len, vec_capacity, ℕ, ◌-◌, ◌*◌, ◌≤◌, ◌/◌, ◌%◌, Bool, true, false, nat_eq, nat_lt, List, slice_index_or, slice_set, bit_and, bit_or, Fits, w8, w32, w64, Bor, MutBor}
-use Rattle.run_core.specs.declared.state.Phase.{Phase as Waits}
-use Rattle.run_core.specs.inner.Course.{known_in}
-use Rattle.run_core.specs.inner.Follows.{AfterBytes, AfterFailure, AsksIn, CanStage, Drains, FollowsFrom, IsLeftAfter, IsOneLess, IsReady, IsReadyFor}
-use Rattle.run_core.specs.inner.Parts.{job_in, kept_in}
-use Rattle.run_core.specs.inner.Picks.{AfterChild, AfterListing, AfterStaging, AfterStart, AfterTemporary, IsSite, Turns}
-use Rattle.run_core.specs.inner.Standing.{HasRoom}
-use Rattle.run_rules.specs.Answers.{MayAnswer}
+use Rattle.std.proofs.Common.{rules}
+use Rattle.std.proofs.lemmas.Fn.{filter_same}
 use Rattle.run_core.proofs.steps.drained.Goals as goal
 
--- src/steps.rt:269:1
 pub returns : goal.returns
-returns c = ?
+returns c = record { tickets = filter_same _ _ _ (λ ticket kept f' called. search rules) _ _ c.retain.ensures.filtered; is = c.lost.ensures }
