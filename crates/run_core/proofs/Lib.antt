@@ -11,9 +11,8 @@ pub mod Seen
 pub mod Settled
 pub mod States
 pub mod Stays
-pub mod Telling
-||||||| 5c07e1e
 pub mod Taking
+pub mod Telling
 pub mod Turning
 pub mod Work
 pub mod Working
