@@ -7,10 +7,12 @@ pub mod Lost
 pub mod Numbers
 pub mod Once
 pub mod Rooms
+pub mod Same
 pub mod Seen
 pub mod Settled
 pub mod States
 pub mod Stays
+pub mod Steps
 pub mod Taking
 pub mod Telling
 pub mod Turning
