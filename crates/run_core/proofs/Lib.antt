@@ -4,9 +4,11 @@ pub mod Holding
 pub mod Lists
 pub mod Loops
 pub mod Lost
+pub mod Noted
 pub mod Numbers
 pub mod Once
 pub mod Rooms
+pub mod Same
 pub mod Seen
 pub mod Settled
 pub mod States

@@ -1,11 +1,9 @@
 -- A job's next step is the one of its rule.
-use Rattle.std.proofs.Common.{◌≡◌, ◌∙◌, ◌<◌, ◌^◌, ℕ, List, [], ◌∷◌, ◌++◌, Ok, Err, length, reverse, refl, sym, ap, subst, unwrap_or}
+use Rattle.std.proofs.Common.{◌≡◌, ◌∙◌, ◌<◌, ◌^◌, ℕ, List, [], ◌∷◌, ◌++◌, Ok, Err, length, reverse, refl, sym, ap, subst}
 use Rattle.std.proofs.lemmas.List.{reverse-append}
 use Rattle.collected_outputs.specs.Collected.{IsCollected}
 use Rattle.collected_outputs.specs.HeadsWanted.{limit_of}
 use Rattle.collected_outputs.specs.Outputs.{Left}
-use Rattle.collected_outputs.specs.declared.fault.OutputFault.{OutputFault}
-use Rattle.command_line.specs.declared.fault.BuildFault.{BuildFault}
 use Rattle.command_line.specs.declared.launch.Launch.{Launch}
 use Rattle.input_files.specs.Contents.{with_contents}
 use Rattle.input_files.specs.declared.contents.TheConstants.{MOST_CONTENTS}
@@ -15,7 +13,7 @@ use Rattle.proc_host.specs.declared.call.HostRequest.{HostRequest}
 use Rattle.staging.specs.Groups.{path_in}
 use Rattle.staging.specs.declared.found.Found.{Found}
 use Rattle.run_rules.specs.declared.outcome.Cause.{Cause}
-use Rattle.job_graph.specs.Words.{Name, Fields, JobPlace}
+use Rattle.job_graph.specs.Words.{Name, Fields}
 use Rattle.collected_outputs.specs.Contents.{Heads}
 use Rattle.run_rules.specs.CollectsOn.{CollectsOn, left_of}
 use Rattle.run_rules.specs.CollectsOn as collected
