@@ -13,6 +13,7 @@ pub mod Settled
 pub mod States
 pub mod Stays
 pub mod Taking
+pub mod Telling
 pub mod Turning
 pub mod Work
 pub mod Working

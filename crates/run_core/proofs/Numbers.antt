@@ -1,6 +1,8 @@
 -- The number of a job's folders, looked for among the jobs that were staged.
 use Rattle.std.specs.Prelude.{◌<◌}
-use Rattle.std.proofs.Common.{◌≡◌, ◌∙◌, ◌+◌, ℕ, cond, List, [], ◌∷◌, length, get_or, drop, refl, ap}
+use Rattle.std.proofs.Common.{◌≡◌, ◌∙◌, ◌+◌, ℕ, cond, List, [], ◌∷◌, length, get_or, drop, map, ◌⊎◌, inl, inr, refl, sym, ap}
+use Rattle.job_graph.specs.declared.growth.KnownJob.{KnownJob}
+use Rattle.job_graph.specs.inner.Views.{job_of}
 use Rattle.job_graph.specs.Jobs.{Job}
 use Rattle.job_graph.specs.Words.{JobPlace, is_same_place}
 use Rattle.run_core.specs.declared.state.JobState.{JobState}
@@ -17,3 +19,13 @@ number_turn jobs states place i job state within is staged folder =
 pub number_none : (jobs : List Job) (place : JobPlace) → number_in jobs [] place ≡ 0
 number_none [] place = refl
 number_none (job ∷ jobs) place = refl
+
+-- none is left where the jobs, or those that were staged, are at their end
+pub number_end : (known : List KnownJob) (states : List JobState) (place : JobPlace) (i : ℕ) (left : List KnownJob) (later : List JobState) →
+    left ≡ drop i known → later ≡ drop i states → (left ≡ []) ⊎ (later ≡ []) →
+    number_in (map (λ one. job_of one.job) (drop i known)) (drop i states) place ≡ 0
+number_end known states place i left later jobs staged (inl none) =
+    ap (λ (ones : List KnownJob). number_in (map (λ one. job_of one.job) ones) (drop i states) place) (sym jobs ∙ none)
+number_end known states place i left later jobs staged (inr none) =
+    ap (λ (ss : List JobState). number_in (map (λ one. job_of one.job) (drop i known)) ss place) (sym staged ∙ none)
+    ∙ number_none (map (λ one. job_of one.job) (drop i known)) place

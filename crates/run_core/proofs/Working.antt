@@ -1,20 +1,19 @@
 -- A job's next step is the one of its rule.
-use Rattle.std.proofs.Common.{◌≡◌, ◌∙◌, ◌<◌, ◌^◌, ℕ, List, [], ◌∷◌, ◌++◌, Ok, Err, length, reverse, refl, sym, ap, subst, unwrap_or}
+use Rattle.std.proofs.Common.{◌≡◌, ◌∙◌, ◌<◌, ◌^◌, ℕ, List, [], ◌∷◌, ◌++◌, Ok, Err, length, reverse, refl, sym, ap, subst}
 use Rattle.std.proofs.lemmas.List.{reverse-append}
 use Rattle.collected_outputs.specs.Collected.{IsCollected}
 use Rattle.collected_outputs.specs.HeadsWanted.{limit_of}
 use Rattle.collected_outputs.specs.Outputs.{Left}
-use Rattle.collected_outputs.specs.declared.fault.OutputFault.{OutputFault}
-use Rattle.command_line.specs.declared.fault.BuildFault.{BuildFault}
 use Rattle.command_line.specs.declared.launch.Launch.{Launch}
 use Rattle.input_files.specs.Contents.{with_contents}
 use Rattle.input_files.specs.declared.contents.TheConstants.{MOST_CONTENTS}
 use Rattle.input_files.specs.declared.fault.ContentsFault.{ContentsFault}
+use Rattle.plain_data.specs.ByName.{with_value}
 use Rattle.proc_host.specs.declared.call.HostRequest.{HostRequest}
 use Rattle.staging.specs.Groups.{path_in}
 use Rattle.staging.specs.declared.found.Found.{Found}
 use Rattle.run_rules.specs.declared.outcome.Cause.{Cause}
-use Rattle.job_graph.specs.Words.{Name, Fields, JobPlace}
+use Rattle.job_graph.specs.Words.{Name, Fields}
 use Rattle.collected_outputs.specs.Contents.{Heads}
 use Rattle.run_rules.specs.CollectsOn.{CollectsOn, left_of}
 use Rattle.run_rules.specs.CollectsOn as collected
@@ -28,7 +27,9 @@ use Rattle.run_core.specs.declared.state.JobNext.{JobNext}
 use Rattle.run_core.specs.declared.state.JobPhase.{JobPhase}
 use Rattle.run_core.specs.declared.state.Kept.{Kept}
 use Rattle.run_core.specs.declared.state.Reading.{Reading}
-use Rattle.run_core.specs.inner.Due.{Collects, Gathers, IsKept, Launches, Starts, call_for, gives, gives_none, has_launch, has_none, job_at_site, left_by}
+use Rattle.run_core.specs.inner.Due.{Collects, CollectsPast, Gathers, IsKept, Launches, Starts, StartsPast, call_for, gives, gives_none, has_launch, has_none, job_at_site, left_by}
+use Rattle.run_core.specs.inner.Turns.{PutsNext}
+use Rattle.run_core.proofs.Turning.{IsTurn, turn_of}
 
 -- what comes next is the first of those that are left
 pub turned : (left rest : List Name) (name : Name) → left ≡ rest ++ name ∷ [] → reverse left ≡ name ∷ reverse rest
@@ -93,4 +94,27 @@ collects_by site kept found read next (gives_none fault is) =
           collected.collects_none fault (subst (λ (left : Left). IsCollected left site.tool.now.outputs (Err fault)) (left_same kept begun found read same) is);
       calls = tt;
       keeps = tt;
+    }
+
+-- the first bytes of the file whose turn it was are put under its name, and the job goes on
+pub starts_past : (site : Site) (old : Filling) (bytes : List ℕ) (now : Filling) (next : JobNext) → PutsNext old.left old.heads bytes now.left now.heads → now.staged ≡ old.staged →
+    Starts site now.staged now.heads (reverse now.left) next → StartsPast site old bytes next
+starts_past site old bytes now next puts staged on =
+    record {
+      each = λ rest path is.
+          let turn : IsTurn old.left old.heads bytes rest path now.left now.heads = turn_of old.left old.heads bytes rest path is puts in
+          subst (λ (left : List Name). Starts site old.staged (with_value path bytes old.heads) (reverse left) next) turn.left_is
+          (subst (λ (heads : Heads). Starts site old.staged heads (reverse now.left) next) turn.found_is
+          (subst (λ (fields : Fields). Starts site fields now.heads (reverse now.left) next) staged on));
+    }
+
+pub collects_past : (site : Site) (kept : Kept) (old : Reading) (bytes : List ℕ) (now : Reading) (next : JobNext) → PutsNext old.left old.heads bytes now.left now.heads → now.found ≡ old.found →
+    Collects site kept now.found now.heads (reverse now.left) next → CollectsPast site kept old bytes next
+collects_past site kept old bytes now next puts found on =
+    record {
+      each = λ rest name is.
+          let turn : IsTurn old.left old.heads bytes rest name now.left now.heads = turn_of old.left old.heads bytes rest name is puts in
+          subst (λ (left : List Name). Collects site kept old.found (with_value name bytes old.heads) (reverse left) next) turn.left_is
+          (subst (λ (heads : Heads). Collects site kept old.found heads (reverse now.left) next) turn.found_is
+          (subst (λ (all : List Found). Collects site kept all now.heads (reverse now.left) next) found on));
     }

@@ -66,7 +66,7 @@ fn first_reading(
     kept: &Kept,
     found: &Items<Found>,
 ) -> Result<Reading, AllocError>
-    ensures found { IfOk result (λ reading. listing_of reading.found ≡ listing_of found.now) }
+    ensures found { IfOk result (λ reading. reading.found ≡ found.now) }
     ensures left { IfOk result (λ reading. AreHeadsWanted (listing_of found.now) kept.now.inputs site.entry.tool.now.outputs (reverse reading.left)) }
     ensures heads { IfOk result (λ reading. reading.heads ≡ []) }
 {

@@ -1,8 +1,9 @@
 //! What the events of a run bring about.
 ghost use Rattle.std.specs.Prelude.{◌≡◌, ◌<◌, ◌≤◌, ◌+◌, ◌^◌, ◌∷◌, [], None, Some, Contains, IsSome, IfOk, OnErr, OnOk, length, map, slice_get, vec_len, vec_capacity};
+ghost use Rattle.job_graph.specs.declared.unfolding.Unfolding.{Unfolding as Held};
 ghost use Rattle.job_graph.specs.inner.Views.{job_of as job_seen};
 ghost use Rattle.run_core.specs.inner.Course.{GivesUp, TakesOut, known_in, nothing_past, past_of, place_at, with_end, with_staging, with_start};
-ghost use Rattle.run_core.specs.inner.Knows.{Learns, end_by};
+ghost use Rattle.run_core.specs.inner.Knows.{IsTold, Learns, end_by};
 ghost use Rattle.run_core.specs.inner.Turn.{permanent};
 
 use crate::state::{Course, Flight, JobState, Kept};
@@ -182,6 +183,7 @@ pub(crate) fn note_success(
 ) -> Result<(), AllocError>
     requires { number < length (known_in course.old.known) }
     ensures settled { OnOk result (IsSome course.old.end → past_of course.new ≡ past_of course.old) }
+    ensures unlearned { OnOk result (IsSome course.old.end → course.new.known ≡ course.old.known) }
     ensures learned { OnOk result (course.old.end ≡ None → Learns (record { place = place_at (known_in course.old.known) number; outputs = outputs }) course.old course.new) }
     ensures err { OnErr result (past_of course.new ≡ past_of course.old) }
     ensures tickets { course.new.tickets.items ≡ course.old.tickets.items }
@@ -201,12 +203,18 @@ pub(crate) fn note_success(
     }
 }
 
+/// Tells what is known of the job's outputs.
 fn learn(
     alloc: Global,
     course: &mut Course<'_>,
     number: usize,
     outputs: Keyed<Value>,
-) -> Result<(), UnfoldError> {
+) -> Result<(), UnfoldError>
+    requires { number < length (known_in course.old.known) }
+    ensures told { (kept : Held) → course.old.known ≡ Some kept →
+        IsTold (record { place = place_at (known_in course.old.known) number; outputs = outputs }) kept course.new.known result }
+    ensures past { past_of course.new ≡ past_of course.old }
+{
     let place = copy_job(alloc, &job_of(course, number).place)?;
     match &mut course.known {
         Some(unfolding) => unfolding.learn(place, outputs),

@@ -22,13 +22,12 @@ pub(crate) fn kept_in(alloc: Global, phase: &mut Phase) -> Kept
     ensures is { result ≡ kept_in phase.old }
     ensures job { job_in phase.new ≡ job_in phase.old }
 {
+    let none = nothing_kept(alloc);
     match phase {
-        Phase::Working(_, JobPhase::Starting(kept))
-        | Phase::Working(_, JobPhase::Scanning(kept, _))
-        | Phase::Working(_, JobPhase::Reading(kept, _)) => {
-            mem::replace(kept, nothing_kept(alloc))
-        }
-        _ => nothing_kept(alloc),
+        Phase::Working(_, JobPhase::Starting(kept)) => mem::replace(kept, none),
+        Phase::Working(_, JobPhase::Scanning(kept, _)) => mem::replace(kept, none),
+        Phase::Working(_, JobPhase::Reading(kept, _)) => mem::replace(kept, none),
+        _ => none,
     }
 }
 

@@ -1,13 +1,15 @@
-use Rattle.std.proofs.Common.{rules, ◌≡◌, [], unwrap_or, IfOk, OnOk, reverse, ℕ, ◌+◌, ◌-◌, ◌*◌, ◌<◌, ◌≤◌, length, ◌/◌, ◌%◌, Bool, true, false, nat_eq, nat_lt, List, ◌∷◌, ◌++◌, slice_index_or, slice_set, bit_and, bit_or, Fits, w8, w32, w64, Bor, MutBor}
-use Rattle.collected_outputs.specs.HeadsWanted.{AreHeadsWanted, limit_of}
-use Rattle.collected_outputs.specs.Listing.{listing_of}
-use Rattle.proc_host.specs.declared.call.HostRequest.{HostRequest as Call}
-use Rattle.run_core.specs.inner.Due.{Collects, CollectsFirst, CollectsPast, Gathers, Scans}
-use Rattle.run_core.specs.inner.Turns.{PutsNext}
-use Rattle.run_rules.specs.Folders.{out_folder}
-use Rattle.staging.specs.Groups.{path_in as path_under}
+use Rattle.std.proofs.Common.{List, [], reverse, subst}
+use Rattle.collected_outputs.specs.Contents.{Heads}
+use Rattle.staging.specs.declared.found.Found.{Found}
+use Rattle.run_core.specs.inner.Due.{Collects}
+use Rattle.run_core.proofs.Lists.{if_ok}
 use Rattle.run_core.proofs.collects.listed.Goals as goal
 
--- src/collects.rt:44:1
 pub returns-in-Ok : goal.returns-in-Ok
-returns-in-Ok c = ?
+returns-in-Ok c =
+    if_ok c.read_on.result (λ next on. record {
+      wanted = reverse c.in-Ok.reading.left;
+      are = c.in-Ok.ensures.left;
+      on = subst (λ (found : List Found). Collects c.args.site c.args.kept found [] (reverse c.in-Ok.reading.left) next) c.in-Ok.ensures.found
+          (subst (λ (heads : Heads). Collects c.args.site c.args.kept c.in-Ok.reading.found heads (reverse c.in-Ok.reading.left) next) c.in-Ok.ensures.heads on);
+    }) c.read_on.ensures

@@ -1,13 +1,9 @@
-use Rattle.std.proofs.Common.{rules, ◌≡◌, [], unwrap_or, IfOk, OnOk, reverse, ℕ, ◌+◌, ◌-◌, ◌*◌, ◌<◌, ◌≤◌, length, ◌/◌, ◌%◌, Bool, true, false, nat_eq, nat_lt, List, ◌∷◌, ◌++◌, slice_index_or, slice_set, bit_and, bit_or, Fits, w8, w32, w64, Bor, MutBor}
-use Rattle.collected_outputs.specs.HeadsWanted.{AreHeadsWanted, limit_of}
-use Rattle.collected_outputs.specs.Listing.{listing_of}
-use Rattle.proc_host.specs.declared.call.HostRequest.{HostRequest as Call}
-use Rattle.run_core.specs.inner.Due.{Collects, CollectsFirst, CollectsPast, Gathers, Scans}
-use Rattle.run_core.specs.inner.Turns.{PutsNext}
-use Rattle.run_rules.specs.Folders.{out_folder}
-use Rattle.staging.specs.Groups.{path_in as path_under}
+use Rattle.run_core.proofs.Lists.{if_ok}
+use Rattle.run_core.proofs.Working.{collects_past}
 use Rattle.run_core.proofs.collects.read.Goals as goal
 
--- src/collects.rt:95:1
 pub returns : goal.returns
-returns c = ?
+returns c =
+    if_ok c.read_on.result (λ next on.
+    collects_past c.args.site c.args.kept c.args.reading c.args.bytes.now c.put_head.new.reading next c.in_ok-put_head.ensures.puts c.in_ok-put_head.ensures.found on)
+    c.read_on.ensures

@@ -1,4 +1,4 @@
-use Rattle.std.proofs.Common.{◌≡◌, ◌∙◌, List, [], length, reverse, take, ◌-◌, sym, ap, subst}
+use Rattle.std.proofs.Common.{◌≡◌, ◌∙◌, List, [], length, reverse, take, ◌-◌, sym, ap, subst, arith}
 use Rattle.proc_host.specs.declared.call.HostRequest.{HostRequest}
 use Rattle.job_graph.specs.Words.{Name}
 use Rattle.run_core.specs.declared.state.JobNext.{JobNext}
@@ -21,4 +21,4 @@ returns-in_ok-asks-in-len1-up c =
     subst (λ (call : HostRequest). Collects c.args.site c.args.kept c.args.reading.found c.args.reading.heads (reverse c.args.reading.left) (JobNext.Asks call (JobPhase.Reading c.args.kept c.args.reading)))
     (sym c.in_ok-asks-in-len1-up.ensures)
     (reads_name c.args.site c.args.kept c.args.reading (take (length c.as_slice.result.now - 1) c.as_slice.result.now) c.name-item.result
-    (sym c.as_slice.ensures ∙ with_last c.as_slice.result.now c.name-item.result c.in-len1-up.len_at_least c.name-item.is) ?)
+    (sym c.as_slice.ensures ∙ with_last c.as_slice.result.now c.name-item.result c.in-len1-up.len_at_least c.name-item.is) (omega (arith, c.len-few.ensures, c.len-few.type_inv)))

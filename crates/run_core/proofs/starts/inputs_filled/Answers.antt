@@ -18,7 +18,7 @@ returns-in-Ok c =
 
 pub returns-in-Err-Refused : goal.returns-in-Err-Refused
 returns-in-Err-Refused c =
-    subst (λ (x : JobNext). Starts c.args.site c.args.filling.staged c.args.filling.heads [] x) (sym c.failing.ensures)
+    subst (λ (x : JobNext). Starts c.args.site c.args.filling.staged c.args.filling.heads [] x) (sym (rw c.in-Err-Refused.field-0-is at c.failing.ensures))
     (starts_not c.args.site c.args.filling.staged c.args.filling.heads c.in-Err-Refused.fault
     (ap (λ (inputs : List NamedInput). with_contents inputs c.args.filling.staged c.args.filling.heads) (sym c.as_slice.ensures.entries)
     ∙ subst (λ (e : ContentsError). RefusesContents (with_contents c.as_slice.result.now c.args.filling.staged c.args.filling.heads) e) c.in-Err-Refused.field-0-is c.in-Err-Refused.ensures.err))

@@ -13,6 +13,6 @@ returns-in-Ok c =
 
 pub returns-in-Err-Refused : goal.returns-in-Err-Refused
 returns-in-Err-Refused c =
-    subst (λ (x : JobNext). Launches c.args.site c.args.inputs x) (sym c.failing.ensures)
+    subst (λ (x : JobNext). Launches c.args.site c.args.inputs x) (sym (rw c.in-Err-Refused.field-0-is at c.failing.ensures))
     (has_none c.in-Err-Refused.fault
     (subst (λ (e : BuildError). IsError c.args.site.tool.now c.args.inputs (runtime_of c.args.site.options.now c.args.site.folder) e) c.in-Err-Refused.field-0-is c.in-Err-Refused.ensures.err))
