@@ -1,5 +1,5 @@
 -- What a result has where it is there, and lists by their last item.
-use Rattle.std.proofs.Common.{◌≡◌, ◌∙◌, ◌==◌, ◌+◌, ◌-◌, ◌<◌, ◌≤◌, ℕ, true, false, true≢false, eq-eqb, List, [], ◌∷◌, ◌++◌, length, get_or, take, Result, Ok, Err, IfOk, refl, sym, ap, arith}
+use Rattle.std.proofs.Common.{◌≡◌, ◌∙◌, ◌==◌, ◌+◌, ◌-◌, ◌<◌, ◌≤◌, ℕ, true, false, true≢false, eq-eqb, List, [], ◌∷◌, ◌++◌, length, get_or, take, Result, Ok, Err, IfOk, OnOk, refl, sym, ap, arith}
 use Rattle.std.proofs.lemmas.Bool.{eqb-true}
 use Rattle.std.proofs.lemmas.List.{take_more, take_all}
 
@@ -27,3 +27,8 @@ counted (x ∷ xs) len is none = let zero : len ≡ 0 = eqb-true len 0 none in a
 pub uncounted : {X : Type 0} (xs : List X) (len : ℕ) → len ≡ length xs → (len == 0) ≡ false → xs ≡ [] → ⊥
 uncounted [] len is some none = absurd (true≢false (sym (eq-eqb len 0 is) ∙ some))
 uncounted (x ∷ xs) len is some none = cc
+
+-- what holds anyway
+pub on_ok : {X E P : Type 0} (result : Result X E) → P → OnOk result P
+on_ok (Ok x) holds = holds
+on_ok (Err error) holds = tt

@@ -23,3 +23,11 @@ given_up_set [] number state there = absurd cc
 given_up_set (x ∷ states) zero state there =
     let same : x ≡ state = cc in ap (λ (s : JobState). record s { gave_up = s.gave_up + 1 } ∷ states) same
 given_up_set (x ∷ states) (suc number) state there = ap (λ (others : List JobState). x ∷ others) (given_up_set states number state there)
+
+pub staged_within : (states : List JobState) (number folder : ℕ) → number ≤ length states → number < length (staged_in number folder states)
+staged_within [] zero folder next = omega arith
+staged_within [] (suc number) folder next = absurd (omega (arith, next))
+staged_within (x ∷ states) zero folder next = omega arith
+staged_within (x ∷ states) (suc number) folder next =
+    let before : number ≤ length states = omega (arith, next) in
+    let within : number < length (staged_in number folder states) = staged_within states number folder before in omega (arith, within)

@@ -3,8 +3,8 @@ ghost use Rattle.std.specs.Prelude.{◌≡◌, ◌<◌, ◌+◌, ◌^◌, ◌∷
 ghost use Rattle.run_core.specs.declared.state.Phase.{Phase as Waits};
 ghost use Rattle.run_core.specs.inner.Course.{known_in};
 ghost use Rattle.run_core.specs.inner.Follows.{AfterBytes, AfterFailure, AsksIn, CanStage, Drains, FollowsFrom, IsLeftAfter, IsOneLess, IsReady, IsReadyFor};
-ghost use Rattle.run_core.specs.inner.Parts.{job_in, kept_in};
-ghost use Rattle.run_core.specs.inner.Picks.{AfterChild, AfterListing, AfterStaging, AfterStart, AfterTemporary, IsSite, Turns};
+ghost use Rattle.run_core.specs.inner.Parts.{filling_in, job_in, kept_in, reading_in};
+ghost use Rattle.run_core.specs.inner.Picks.{AfterChild, AfterInputHead, AfterListing, AfterOutputHead, AfterStaging, AfterStart, AfterTemporary, IsScanned, IsSite, Turns};
 ghost use Rattle.run_core.specs.inner.Standing.{HasRoom};
 ghost use Rattle.run_rules.specs.Answers.{MayAnswer};
 
@@ -19,7 +19,7 @@ use crate::parts::{filling_in, job_in, kept_in, reading_in};
 use crate::site::Site;
 use crate::starts::{filled, filled_first};
 use crate::state::{Course, Flight, Given, JobNext, JobPhase, Phase, Turn};
-use crate::turn::{ended, lost, working};
+use crate::turn::{ended, failing, lost, working};
 use crate::{Answer, Cause, Request, RunFault};
 use cwl_value::Value;
 use plain_data::{Items, Keyed};
@@ -156,18 +156,39 @@ fn landed(
     ensures is { IfOk result (λ turn. AfterChild given.now course.old ending.now turn course.new) }
     ensures flying { OnErr result (IsOneLess ending.now.ticket course.old.tickets.items course.new.tickets.items) }
 {
-    let Flight { job, kept } = note_end(course, ending.ticket);
-    let next = match classify(&job_of(course, job).tool.exit_codes, ending.code) {
-        ExitClass::Success => scanning(alloc, site_of(given, course, job), kept, ending.millis)?,
+    let flight = note_end(course, ending.ticket);
+    match classify(&job_of(course, flight.job).tool.exit_codes, ending.code) {
+        ExitClass::Success => scanned(alloc, given, course, flight, ending.millis),
         ExitClass::Temporary => {
+            let Flight { job, kept } = flight;
             mem::drop(kept);
-            return gave_up(alloc, given, course, job);
+            gave_up(alloc, given, course, job)
         }
         ExitClass::Permanent => {
+            let Flight { job, kept } = flight;
             mem::drop(kept);
-            JobNext::Fails(Cause::Exit(ending.code))
+            let cause = Cause::Exit(ending.code);
+            turn_of(alloc, given, course, job, failing(cause))
         }
-    };
+    }
+}
+
+/// A child ended well: its output folder is listed.
+fn scanned(
+    alloc: Global,
+    given: &Given<'_>,
+    course: &mut Course<'_>,
+    flight: Flight,
+    millis: u64,
+) -> Result<Turn, AllocError>
+    requires folders { course.old.folders + 1 < 2 ^ 64 }
+    requires number { flight.job < length course.old.jobs.items }
+    requires known { flight.job < length (known_in course.old.known) }
+    ensures is { IfOk result (λ turn. IsScanned given.now course.old flight millis turn course.new) }
+    ensures flying { OnErr result (course.new.tickets.items ≡ course.old.tickets.items) }
+{
+    let Flight { job, kept } = flight;
+    let next = scanning(alloc, site_of(given, course, job), kept, millis)?;
     turn_of(alloc, given, course, job, next)
 }
 
@@ -223,17 +244,50 @@ fn on_bytes(
     ensures is { IfOk result (λ turn. AfterBytes given.now course.old phase.old bytes.now turn course.new) }
     ensures flying { OnErr result (course.new.tickets.items ≡ course.old.tickets.items) }
 {
-    let number = job_in(phase);
-    let site = site_of(given, course, number);
-    let next = match phase {
+    match phase {
         Phase::Working(_, JobPhase::Filling(_)) => {
-            filled(alloc, site, filling_in(alloc, phase), bytes)?
+            on_input_bytes(alloc, given, course, phase, bytes)
         }
-        _ => {
-            let reading = reading_in(alloc, phase);
-            read(alloc, site, kept_in(alloc, phase), reading, bytes)?
-        }
-    };
+        _ => on_output_bytes(alloc, given, course, phase, bytes),
+    }
+}
+
+/// The first bytes of an input file are read.
+fn on_input_bytes(
+    alloc: Global,
+    given: &Given<'_>,
+    course: &mut Course<'_>,
+    phase: &mut Phase,
+    bytes: &Items<u8>,
+) -> Result<Turn, AllocError>
+    requires ready { IsReady course.old }
+    requires number { job_in phase.old < length course.old.jobs.items }
+    ensures is { IfOk result (λ turn. AfterInputHead given.now course.old (job_in phase.old) (filling_in phase.old) bytes.now turn course.new) }
+    ensures flying { OnErr result (course.new.tickets.items ≡ course.old.tickets.items) }
+{
+    let number = job_in(phase);
+    let filling = filling_in(alloc, phase);
+    let next = filled(alloc, site_of(given, course, number), filling, bytes)?;
+    turn_of(alloc, given, course, number, next)
+}
+
+/// The first bytes of a file of the output folder are read.
+fn on_output_bytes(
+    alloc: Global,
+    given: &Given<'_>,
+    course: &mut Course<'_>,
+    phase: &mut Phase,
+    bytes: &Items<u8>,
+) -> Result<Turn, AllocError>
+    requires ready { IsReady course.old }
+    requires number { job_in phase.old < length course.old.jobs.items }
+    ensures is { IfOk result (λ turn. AfterOutputHead given.now course.old (job_in phase.old) (kept_in phase.old) (reading_in phase.old) bytes.now turn course.new) }
+    ensures flying { OnErr result (course.new.tickets.items ≡ course.old.tickets.items) }
+{
+    let number = job_in(phase);
+    let reading = reading_in(alloc, phase);
+    let kept = kept_in(alloc, phase);
+    let next = read(alloc, site_of(given, course, number), kept, reading, bytes)?;
     turn_of(alloc, given, course, number, next)
 }
 

@@ -141,6 +141,14 @@ pub data AfterTemporary (given : Given) (old : Course) (number : ℕ) (turn : Tu
   no_more : (gave_up : Course) → GivesUp (known_in old.known) number given.options.retries (past_of old) false (past_of gave_up) → gave_up.known ≡ old.known →
       Picks given gave_up turn new → AfterTemporary given old number turn new
 
+-- the child of a flight has ended well: its folder is listed
+pub record IsScanned (given : Given) (landed : Course) (flight : Flight) (millis : ℕ) (turn : Turn) (new : Course) : Type 0 where
+  pub site : Site
+  pub is_site : IsSite given landed flight.job site
+  pub next : JobNext
+  pub scans : Scans site flight.kept millis next
+  pub turns : Turns given landed flight.job next turn new
+
 -- the child of a flight has ended, and is taken out
 pub data AfterEnd (given : Given) (landed : Course) (flight : Flight) (tool : Tool) (ending : ChildEnd) (turn : Turn) (new : Course) : Type 0 where
   well : (site : Site) (next : JobNext) → class_of tool.exit_codes ending.code ≡ ExitClass.Success → IsSite given landed flight.job site →
