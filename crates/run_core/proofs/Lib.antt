@@ -23,5 +23,3 @@ pub mod events
 pub mod going
 pub mod job_steps
 pub mod standing
-||||||| merged common ancestors
-||||||||| 5c07e1e
