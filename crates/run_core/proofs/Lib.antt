@@ -5,6 +5,7 @@ pub mod Holding
 pub mod Lists
 pub mod Loops
 pub mod Lost
+pub mod Noted
 pub mod Numbers
 pub mod Once
 pub mod Rooms
@@ -13,7 +14,6 @@ pub mod Seen
 pub mod Settled
 pub mod States
 pub mod Stays
-pub mod Steps
 pub mod Taking
 pub mod Telling
 pub mod Turning

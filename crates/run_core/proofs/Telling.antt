@@ -1,6 +1,6 @@
 -- What comes of a course where one more place is told to what is known, and where it is known first.
 use Rattle.std.specs.Prelude.{OnErr, map, slice_get}
-use Rattle.std.proofs.Common.{◌≡◌, ◌∙◌, ℕ, List, [], ◌∷◌, ◌++◌, Option, Some, Result, Ok, Err, refl, sym, ap, subst}
+use Rattle.std.proofs.Common.{◌≡◌, ◌∙◌, ℕ, List, Option, Some, Result, Ok, Err, refl, sym, ap, subst}
 use Rattle.job_graph.specs.Jobs.{Job, Walker}
 use Rattle.job_graph.specs.Unfold.{Resolved, unfolded}
 use Rattle.job_graph.specs.Unfolding.{AnswersAlike, Blames, Learns as LearnsPlace}
@@ -52,7 +52,7 @@ module _ (old : Course) (fault : UnfoldFault) (end : Result Report RunFault) (en
       past_of new ≡ with_end end (past_of told) → new.known ≡ told.known → Learns one old new
   fails_told one told new error tells refused past settles same = λ walks learned kept is k.
       let now : IsTold one kept told.known (Err (Refused fault)) =
-          subst (λ (e : UnfoldError). IsTold one kept told.known (Err e)) refused (tells kept is) in
+      subst (λ (e : UnfoldError). IsTold one kept told.known (Err e)) refused (tells kept is) in
       let alike : AnswersAlike kept now.told = now.alike in
       fails fault new (now.learns walks learned k).0
       (ap known_in (same ∙ now.is) ∙ ap (map (λ (known : KnownJob). job_of known.job)) alike.jobs ∙ sym (ap known_in is))

@@ -1,5 +1,5 @@
 use Rattle.run_core.proofs.Lists.{if_ok}
-use Rattle.run_core.proofs.Steps.{staged_number}
+use Rattle.run_core.proofs.Noted.{staged_number}
 use Rattle.run_core.proofs.steps.staged.Goals as goal
 
 pub site_of-requires-clause-number : goal.site_of-requires-clause-number
