@@ -1,4 +1,5 @@
 pub mod Asked
+pub mod Choices
 pub mod Choosing
 pub mod Holding
 pub mod Lists

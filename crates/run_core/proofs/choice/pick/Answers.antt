@@ -1,22 +1,32 @@
-use Rattle.std.proofs.Common.{rules, ◌≡◌, ◌<◌, ◌+◌, ◌^◌, false, None, Some, IsSome, IfOk, IsTrue, ◌↔◌, OnErr, length, slice_get, ℕ, ◌-◌, ◌*◌, ◌≤◌, ◌/◌, ◌%◌, Bool, true, nat_eq, nat_lt, List, [], ◌∷◌, ◌++◌, slice_index_or, slice_set, bit_and, bit_or, Fits, w8, w32, w64, Bor, MutBor}
-use Rattle.job_graph.specs.inner.Views.{job_of as job_seen}
-use Rattle.job_graph.specs.Jobs.{Job}
-use Rattle.run_core.specs.declared.state.Given.{Given as Run}
-use Rattle.run_core.specs.inner.Course.{known_in as jobs_in}
-use Rattle.run_core.specs.inner.Picks.{Picks, Stages, sources_in}
-use Rattle.run_core.specs.inner.Turn.{collects, ends}
-use Rattle.run_rules.specs.Folders.{in_folder}
-use Rattle.staging.specs.Plan.{IsPlan}
+use Rattle.std.proofs.Common.{◌≡◌, ◌∙◌, ℕ, true, false, [], sym, subst}
+use Rattle.run_core.specs.declared.state.Turn.{Turn}
+use Rattle.run_core.specs.inner.Picks.{Picks, Stages}
+use Rattle.run_core.proofs.Choices.{picks_result, picks_stage, picks_wait}
+use Rattle.run_core.proofs.Choosing.{is_none}
+use Rattle.run_core.proofs.Lists.{counted, if_ok, uncounted}
 use Rattle.run_core.proofs.choice.pick.Goals as goal
 
--- src/choice.rt:41:9
 pub returns-then-can_stage-clause-is : goal.returns-then-can_stage-clause-is
-returns-then-can_stage-clause-is c = ?
+returns-then-can_stage-clause-is c =
+    if_ok c.staging.result
+    (λ turn st.
+    picks_stage c.args.given.now c.args.course.now (is_none c.args.course.now.end (sym c.is_some.ensures ∙ c.if-is_some.false)) turn
+    (c.can_stage.ensures.0 c.if-can_stage.true).0 (c.can_stage.ensures.0 c.if-can_stage.true).1
+    (subst (λ (n : ℕ). Stages c.args.given.now c.args.course.now n turn) (c.len.ensures ∙ c.args.course.now.jobs.ok.0) st))
+    c.staging.ensures
 
--- src/choice.rt:44:9
 pub returns-then-is_empty-clause-is : goal.returns-then-is_empty-clause-is
-returns-then-is_empty-clause-is c = ?
+returns-then-is_empty-clause-is c =
+    if_ok c.delivery.result
+    (λ turn d.
+    picks_result c.args.given.now c.args.course.now (is_none c.args.course.now.end (sym c.is_some.ensures ∙ c.if-is_some.false)) turn
+    (λ slot more. let never : true ≡ false = sym (c.can_stage.ensures.1 (slot, more)) ∙ c.if-can_stage.false in absurd cc)
+    (counted c.args.course.now.tickets.items c.args.course.now.tickets.len c.args.course.now.tickets.ok.0 (sym c.is_empty.ensures ∙ c.if-is_empty.true)) d)
+    c.delivery.ensures
 
--- src/choice.rt:28:1
 pub returns-clause-is : goal.returns-clause-is
-returns-clause-is c = ?
+returns-clause-is c =
+    subst (λ (turn : Turn). Picks c.args.given.now c.args.course.now turn c.args.course.now) (sym c.collecting.ensures)
+    (picks_wait c.args.given.now c.args.course.now (is_none c.args.course.now.end (sym c.is_some.ensures ∙ c.if-is_some.false))
+    (λ slot more. let never : true ≡ false = sym (c.can_stage.ensures.1 (slot, more)) ∙ c.if-can_stage.false in absurd cc)
+    (uncounted c.args.course.now.tickets.items c.args.course.now.tickets.len c.args.course.now.tickets.ok.0 (sym c.is_empty.ensures ∙ c.if-is_empty.false)))

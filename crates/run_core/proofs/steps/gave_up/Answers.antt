@@ -1,17 +1,25 @@
-use Rattle.std.proofs.Common.{rules, ◌≡◌, ◌<◌, ◌+◌, ◌^◌, ◌∷◌, ◌++◌, [], Contains, IfOk, OnErr, length, vec_len, vec_capacity, ℕ, ◌-◌, ◌*◌, ◌≤◌, ◌/◌, ◌%◌, Bool, true, false, nat_eq, nat_lt, List, slice_index_or, slice_set, bit_and, bit_or, Fits, w8, w32, w64, Bor, MutBor}
-use Rattle.run_core.specs.declared.state.Phase.{Phase as Waits}
-use Rattle.run_core.specs.inner.Course.{known_in}
-use Rattle.run_core.specs.inner.Follows.{AfterBytes, AfterFailure, AsksIn, CanStage, Drains, FollowsFrom, IsLeftAfter, IsOneLess, IsReady, IsReadyFor}
-use Rattle.run_core.specs.inner.Parts.{job_in, kept_in}
-use Rattle.run_core.specs.inner.Picks.{AfterChild, AfterListing, AfterStaging, AfterStart, AfterTemporary, IsSite, Turns}
-use Rattle.run_core.specs.inner.Standing.{HasRoom}
-use Rattle.run_rules.specs.Answers.{MayAnswer}
+use Rattle.std.proofs.Common.{Bool, refl, subst}
+use Rattle.run_core.specs.inner.Course.{GivesUp, known_in, past_of}
+use Rattle.run_core.specs.inner.Picks.{again, no_more}
+use Rattle.run_core.proofs.Lists.{if_ok}
 use Rattle.run_core.proofs.steps.gave_up.Goals as goal
 
--- src/steps.rt:189:9
 pub returns-then-branch-clause-is : goal.returns-then-branch-clause-is
-returns-then-branch-clause-is c = ?
+returns-then-branch-clause-is c =
+    if_ok c.staging.result
+    (λ turn st.
+    again c.note_giving_up.new.course
+    (subst (λ (b : Bool). GivesUp (known_in c.args.course.now.known) c.args.number c.args.given.now.options.retries (past_of c.args.course.now) b (past_of c.note_giving_up.new.course))
+    c.if-branch.true c.in_ok-note_giving_up.ensures.ok)
+    c.in_ok-note_giving_up.ensures.known st refl refl)
+    c.staging.ensures
 
--- src/steps.rt:176:1
 pub returns-clause-is : goal.returns-clause-is
-returns-clause-is c = ?
+returns-clause-is c =
+    if_ok c.pick.result
+    (λ turn picks.
+    no_more c.note_giving_up.new.course
+    (subst (λ (b : Bool). GivesUp (known_in c.args.course.now.known) c.args.number c.args.given.now.options.retries (past_of c.args.course.now) b (past_of c.note_giving_up.new.course))
+    c.if-branch.false c.in_ok-note_giving_up.ensures.ok)
+    c.in_ok-note_giving_up.ensures.known picks)
+    c.pick.ensures.is
