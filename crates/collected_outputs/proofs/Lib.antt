@@ -10,5 +10,4 @@ pub mod Matching
 pub mod ObjectRead
 pub mod Placing
 pub mod Readings
-pub mod Slashes
 pub mod Wanting

@@ -1,6 +1,5 @@
 -- What is added to the known jobs, by the code's own words.
-use Rattle.std.proofs.Common.{◌≡◌, ◌∙◌, ℕ, ◌+◌, ◌<◌, ◌≤◌, ◌⊎◌, inl, inr, List, [], ◌∷◌, ◌++◌, length, map, Bool, true, false, cond, Option, Some, None, Result, Ok, Err, refl, sym, ap, subst, take, drop, append_assoc, arith, get_or, add-one}
-use Rattle.std.specs.Prelude.{fold}
+use Rattle.std.proofs.Common.{◌≡◌, ◌∙◌, ℕ, ◌+◌, ◌<◌, ◌≤◌, ◌⊎◌, inl, inr, List, [], ◌∷◌, ◌++◌, length, Bool, true, false, cond, Option, Some, None, Result, Ok, Err, refl, sym, ap, subst, take, drop, append_assoc, arith, get_or, add-one}
 use Rattle.std.proofs.Math.Seq.{drop-cons, take-append_seam, take-length}
 use Rattle.std.proofs.lemmas.List.{length-map, map-append, take-append-drop}
 use Rattle.plan_checker.specs.declared.graph.TheConstants.{MOST_VERTICES, MOST_ENTRIES}
@@ -12,8 +11,8 @@ use Rattle.job_graph.specs.declared.growth.KnownJob.{KnownJob}
 use Rattle.job_graph.specs.Made.{any_made}
 use Rattle.job_graph.specs.Words.{Fields, JobPlace}
 use Rattle.job_graph.specs.Jobs.{Job, Met, met_job, met_fault}
-use Rattle.job_graph.specs.Unfold.{Known, Fault, fault_at, too_many_jobs, is_known, is_within_limits, with_met, first_fault, known_from, entries_from, parents_from}
-use Rattle.job_graph.specs.Unfolding.{Blames, fault_of, jobs_in, known_of}
+use Rattle.job_graph.specs.Unfold.{Known, Fault, too_many_jobs, is_known, is_within_limits, with_met, first_fault, known_from, entries_from, parents_from}
+use Rattle.job_graph.specs.Unfolding.{fault_of, jobs_in, known_of}
 use Rattle.job_graph.specs.inner.Growth.{AreCounted, Grows, GrowsTo}
 use Rattle.job_graph.specs.inner.Views.{job_of}
 use Rattle.job_graph.proofs.MetMore.{with_met_append, fault_past, fault_front, known_push, entries_push, is_within, is_past}
@@ -36,8 +35,11 @@ fault_where known within = cond known None (cond within None (Some too_many_jobs
 pub grows_known : (known : List KnownJob) (entries : ℕ) (job : Job) → is_known (jobs_in known) job ≡ true → Grows known entries (met_job job ∷ []) known (Ok entries)
 grows_known known entries job is = record {
   front = take-length known;
-  grown = λ counted. (sym (ap (λ (b : Bool). cond b (jobs_in known) (jobs_in known ++ job ∷ [])) is),
-      ap (λ (b : Bool). fault_where b (is_within_limits (jobs_in known ++ job ∷ []))) is, counted);
+  grown = λ counted. (
+    sym (ap (λ (b : Bool). cond b (jobs_in known) (jobs_in known ++ job ∷ [])) is),
+    ap (λ (b : Bool). fault_where b (is_within_limits (jobs_in known ++ job ∷ []))) is,
+    counted,
+  );
 }
 
 -- one job more
@@ -68,10 +70,11 @@ grows_push known entries total one new parents few is small = record {
       let counts : entries ≡ entries_from 0 [] (jobs_in known) = counted.count in
       let numbers : length one.parents ≡ length (parents_from 0 (jobs_in known) one.job.inputs) = ap length parents in
       let within : is_within_limits (jobs_in known ++ job_of one.job ∷ []) ≡ true =
-      is_within (jobs_in known) (job_of one.job) (omega arith) (omega arith) in
-      (more ∙ sym (ap (λ (b : Bool). cond b (jobs_in known) (jobs_in known ++ job_of one.job ∷ [])) new),
-       ap (λ (b : Bool). fault_where b (is_within_limits (jobs_in known ++ job_of one.job ∷ []))) new ∙ ap (λ (b : Bool). fault_where false b) within,
-       subst (λ (n : ℕ). AreCounted (known ++ one ∷ []) n) (sym is) (counted_push known entries one parents counted));
+      is_within (jobs_in known) (job_of one.job) (omega arith) (omega arith) in (
+        more ∙ sym (ap (λ (b : Bool). cond b (jobs_in known) (jobs_in known ++ job_of one.job ∷ [])) new),
+        ap (λ (b : Bool). fault_where b (is_within_limits (jobs_in known ++ job_of one.job ∷ []))) new ∙ ap (λ (b : Bool). fault_where false b) within,
+        subst (λ (n : ℕ). AreCounted (known ++ one ∷ []) n) (sym is) (counted_push known entries one parents counted),
+      );
 }
 
 pub grows_past : (known : List KnownJob) (entries : ℕ) (job : Job) (parents : List ℕ) → is_known (jobs_in known) job ≡ false →

@@ -1,5 +1,5 @@
 -- What loops have gathered, before what is left; and how many there are.
-use Rattle.std.proofs.Common.{◌≡◌, ◌≢◌, ◌∙◌, length, List, [], ◌∷◌, ◌++◌, Option, Some, None, refl, ap, sym, append_assoc}
+use Rattle.std.proofs.Common.{◌≡◌, ◌≢◌, length, List, [], ◌∷◌, ◌++◌, Option, Some, None, refl, ap, sym, append_assoc}
 use Rattle.std.proofs.lemmas.List.{length-map}
 use Rattle.document_links.specs.declared.process.Step.{Step}
 use Rattle.job_graph.specs.Jobs.{with_first}

@@ -1,12 +1,11 @@
 -- How the known jobs, their parents and the first fault grow by what is met.
-use Rattle.std.proofs.Common.{◌≡◌, ◌∙◌, ℕ, ◌+◌, ◌<◌, ◌≤◌, ◌⊎◌, inl, inr, List, [], ◌∷◌, ◌++◌, length, map, Bool, true, false, cond, Option, Some, None, Result, Ok, Err, refl, sym, ap, append_assoc, append-nil, take, arith, add_assoc}
-use Rattle.std.specs.Prelude.{filter_map, fold, ◌&&◌, nat_le}
+use Rattle.std.proofs.Common.{◌≡◌, ◌∙◌, ℕ, ◌+◌, ◌<◌, ◌≤◌, ◌⊎◌, inl, inr, List, [], ◌∷◌, ◌++◌, length, Bool, true, false, cond, Option, Some, None, refl, sym, ap, append_assoc, append-nil, arith}
+use Rattle.std.specs.Prelude.{filter_map, fold, ◌&&◌}
 use Rattle.std.proofs.lemmas.Bool.{le-leb, lt-leb}
 use Rattle.std.proofs.lemmas.List.{length_push}
 use Rattle.std.proofs.lemmas.List.Elements.{filter_map-append}
 use Rattle.std.proofs.lemmas.List.Sums.{fold-append}
 use Rattle.plan_checker.specs.declared.graph.TheConstants.{MOST_VERTICES, MOST_ENTRIES}
-use Rattle.job_graph.specs.Words.{Fields}
 use Rattle.job_graph.specs.Jobs.{Job, Met, met_job, met_fault}
 use Rattle.job_graph.specs.Unfold.{Fault, Known, too_many_jobs, is_known, is_within_limits, job_met, with_job, with_met, first_fault, known_from, entries_from, parents_among, parents_from}
 
@@ -50,7 +49,6 @@ fault_front (met_job job ∷ a) b jobs fault is =
 
 -- ---- one more job
 
-
 pub known_push : (earlier jobs : List Job) (job : Job) →
     known_from earlier (jobs ++ job ∷ []) ≡ known_from earlier jobs ++ record { job = job; parents = parents_among (earlier ++ jobs) job } ∷ []
 known_push earlier [] job = ap (λ (before : List Job). record { job = job; parents = parents_among before job } ∷ []) (sym (append-nil earlier))
@@ -65,7 +63,7 @@ entries_push n earlier [] job = ap (λ (before : List Job). n + length (parents_
 entries_push n earlier (first ∷ jobs) job =
     entries_push (n + length (parents_among earlier first)) (earlier ++ first ∷ []) jobs job
     ∙ ap (λ (before : List Job). entries_from (n + length (parents_among earlier first)) (earlier ++ first ∷ []) jobs + length (parents_among before job))
-        (append_assoc earlier (first ∷ []) jobs)
+    (append_assoc earlier (first ∷ []) jobs)
 
 -- ---- the limits
 

@@ -1,5 +1,5 @@
 -- A value under a name, among values that are elsewhere.
-use Rattle.std.proofs.Common.{◌≡◌, ◌∙◌, Option, Some, None, ap, sym, option_map, unwrap_or, bytes_eq}
+use Rattle.std.proofs.Common.{◌≡◌, ◌∙◌, Some, None, ap, sym, option_map, unwrap_or, bytes_eq}
 use Rattle.cwl_value.specs.declared.value.Value.{Value}
 use Rattle.std.proofs.lemmas.Map.Made.{lookup-map_values}
 use Rattle.plain_data.specs.ByName.{value_at}

@@ -13,7 +13,7 @@ use Rattle.job_graph.specs.Words.{Fields}
 use Rattle.job_graph.specs.Jobs.{Job, Walk, Walker, result_in}
 use Rattle.job_graph.specs.Equations.{meaning_of}
 use Rattle.job_graph.specs.Unfold.{Resolved, Fault, made_by, with_met, first_fault, jobs_after, fault_after, met_after, or_else, unfolded, known_from, entries_from}
-use Rattle.job_graph.specs.Unfolding.{AnswersAlike, Blames, Knows, jobs_in, known_of, walks_of}
+use Rattle.job_graph.specs.Unfolding.{Blames, Knows, jobs_in, known_of, walks_of}
 use Rattle.job_graph.specs.inner.Growth.{AreCounted, IsOfOneProcess, Unfolds, UnfoldsTo, walk_in}
 use Rattle.job_graph.specs.inner.Views.{resolved_of}
 

@@ -1,5 +1,5 @@
 -- What loops over steps and tuples have gathered, and the walk of a workflow from its parts.
-use Rattle.std.proofs.Common.{◌≡◌, ◌∙◌, ℕ, ◌+◌, ◌<◌, List, [], ◌∷◌, ◌++◌, length, map, take, get_or, Result, Ok, Err, refl, sym, ap, ap₂, append-nil}
+use Rattle.std.proofs.Common.{◌≡◌, ◌∙◌, ℕ, ◌+◌, ◌<◌, List, [], ◌∷◌, ◌++◌, length, map, take, get_or, Result, Ok, Err, sym, ap, ap₂, append-nil}
 use Rattle.std.specs.Prelude.{IfOk}
 use Rattle.std.specs.List.{flat_map}
 use Rattle.std.proofs.lemmas.Grind.{flat_map-append}
@@ -8,7 +8,7 @@ use Rattle.cwl_process.specs.declared.workflow.WorkflowOutput.{WorkflowOutput}
 use Rattle.job_graph.specs.declared.walk.Met.{Met as KeptMet}
 use Rattle.job_graph.specs.declared.walk.Walk.{Walk as KeptWalk}
 use Rattle.job_graph.specs.Words.{Name, Fields, JobPlace}
-use Rattle.job_graph.specs.Jobs.{Met, Outs, Walk}
+use Rattle.job_graph.specs.Jobs.{Met, Outs}
 use Rattle.job_graph.specs.Links.{Env, given, output_value}
 use Rattle.job_graph.specs.Equations.{StepsOf, env_after, fault_at, step_walk, workflow_walk}
 use Rattle.job_graph.specs.inner.Levels.{steps_walk}
@@ -40,5 +40,5 @@ whole_walk outputs steps place inputs env met (Err error) rounds seen all outs =
 whole_walk outputs steps place inputs env met (Ok walk) rounds seen all outs =
     let parts : walk_of walk ≡ workflow_walk (record { inputs = []; outputs = outputs; steps = steps }) place inputs env =
     ap₂ (λ (m : List Met) (o : Outs). record { met = m; outs = o })
-        (all ∙ ap (λ (front : List Met). front ++ flat_map (λ (o : Name × WorkflowOutput). fault_at place (output_value inputs env o.1.links)) outputs) seen) outs in
+    (all ∙ ap (λ (front : List Met). front ++ flat_map (λ (o : Name × WorkflowOutput). fault_at place (output_value inputs env o.1.links)) outputs) seen) outs in
     parts ∙ ap (workflow_walk (record { inputs = []; outputs = outputs; steps = steps }) place inputs) rounds

@@ -1,12 +1,9 @@
 -- The walk through any process: a tool is one job; a workflow is what its steps and outputs give, which read one another
 -- (CWL v1.2, Workflow, "Workflow", "WorkflowStep"). In this order a step's inputs come by their links and defaults, scatter,
 -- valueFrom, `when`, and then the process of the step checks them and adds its own defaults.
-use Rattle.std.specs.Prelude.{ℕ, zero, suc, Bool, true, false, List, [], ◌∷◌, ◌++◌, Option, Some, None, Result, Ok, Err, map, flat_map, length, option_map, unwrap_or}
+use Rattle.std.specs.Prelude.{ℕ, zero, suc, Bool, true, false, List, [], ◌∷◌, ◌++◌, Option, Some, None, Result, Ok, Err, map, flat_map, length, option_map}
 use Rattle.std.specs.Map.{keys_of}
-use Rattle.plain_data.specs.ByName.{value_at}
 use Rattle.cwl_value.specs.declared.value.Value.{Value}
-use Rattle.cwl_process.specs.declared.tool.Tool.{Tool}
-use Rattle.cwl_process.specs.declared.workflow.WorkflowOutput.{WorkflowOutput}
 use Rattle.document_links.specs.declared.process.Process.{Process, fold-Process}
 use Rattle.document_links.specs.declared.process.Process.TheOpen.{Process-F, Workflow-F, Step-F}
 use Rattle.document_links.specs.declared.process.Step.{Step, fold-Step}
@@ -21,7 +18,7 @@ use Rattle.job_graph.specs.declared.partly.Partly.{Partly}
 use Rattle.job_graph.specs.declared.partly.Partly.TheVariants.{Waits, Gives, Fails}
 use Rattle.job_graph.specs.Words.{Name, Fields, JobPlace, last_by_name}
 use Rattle.job_graph.specs.Inputs.{tool_inputs_for, workflow_inputs_for, root_fields}
-use Rattle.job_graph.specs.Jobs.{Met, met_fault, Walk, Outs, Made, Walker, unknown, failed, tool_walk, all_there}
+use Rattle.job_graph.specs.Jobs.{Met, met_fault, Walk, Made, Walker, unknown, failed, tool_walk, all_there}
 use Rattle.job_graph.specs.Links.{Env, by_link, entry_value, output_value, given, all_given, out_under}
 use Rattle.job_graph.specs.Scatter.{lengths_under, tuples_for, method_of, at_tuple}
 

@@ -1,6 +1,6 @@
 -- The values of a step's inputs and of a workflow's outputs, where the outputs of steps are known or not (CWL v1.2, Workflow,
 -- "WorkflowStepInput", "WorkflowOutputParameter": `source`, `outputSource`).
-use Rattle.std.specs.Prelude.{List, [], ◌∷◌, Option, Some, None, Result, Ok, Err, map, option_map, fold, unwrap_or}
+use Rattle.std.specs.Prelude.{List, [], Option, Some, None, Result, Ok, Err, map, option_map, fold, unwrap_or}
 use Rattle.plain_data.specs.ByName.{value_at, with_value}
 use Rattle.cwl_value.specs.declared.value.Value.{Value}
 use Rattle.cwl_process.specs.declared.links.Links.{Links}

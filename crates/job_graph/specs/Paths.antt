@@ -1,7 +1,7 @@
 -- Which paths are measured before a run: those of every File and Directory of the input object and of each default, at any depth, of the
 -- process and of those inside it, and those at which the files are looked for that the process itself declares and a File of its inputs
 -- lacks (CWL v1.2, "CommandInputParameter", "WorkflowInputParameter", "WorkflowStepInput": `default`, `secondaryFiles`).
-use Rattle.std.specs.Prelude.{List, [], ◌++◌, Option}
+use Rattle.std.specs.Prelude.{List, [], ◌++◌}
 use Rattle.std.specs.List.{flat_map}
 use Rattle.std.specs.Option.{option_map_or}
 use Rattle.plain_data.specs.ByName.{map_values}

@@ -1,5 +1,5 @@
 -- The tuples of a scattered step, and each job's inputs (CWL v1.2, Workflow, "WorkflowStep": `scatter`, `scatterMethod`).
-use Rattle.std.specs.Prelude.{ℕ, ◌==◌, nat_le, Bool, true, not, cond, List, [], ◌∷◌, ◌++◌, length, map, bytes_eq, Option, Some, None, Result, Ok, Err, option_map, slice_get, unwrap_or}
+use Rattle.std.specs.Prelude.{ℕ, ◌==◌, nat_le, Bool, true, cond, List, [], ◌∷◌, ◌++◌, length, map, bytes_eq, Option, Some, None, Result, Ok, Err, slice_get, unwrap_or}
 use Rattle.std.specs.List.{list_all}
 use Rattle.std.specs.Option.{option_map_or}
 use Rattle.cwl_value.specs.declared.value.DirVal.{DirVal}

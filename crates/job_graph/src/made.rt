@@ -139,11 +139,11 @@ fn copied_if_any(alloc: Global, text: &Option<Text>) -> Result<Option<Text>, All
 fn file_made(alloc: Global, job: &JobPlace, file: &FileVal) -> Result<FileVal, AllocError>
     ensures { IfOk result (λ made. made ≡ file_value_moved (made_place job.now) file.now) }
 {
-    let secondary = items_made(alloc, job, &file.secondary)?;
-    let place = place_made(alloc, job, &file.place)?;
     let basename = copied_if_any(alloc, &file.basename)?;
     let checksum = copied_if_any(alloc, &file.checksum)?;
     let contents = copied_if_any(alloc, &file.contents)?;
+    let place = place_made(alloc, job, &file.place)?;
+    let secondary = items_made(alloc, job, &file.secondary)?;
     Ok(FileVal {
         place,
         basename,

@@ -16,9 +16,9 @@ use crate::made::Facts;
 use crate::partly::Partly;
 use crate::place::step_place;
 use crate::scatter::{at_tuple, lengths_under, tuples_for};
-use crate::walk::{Met, Walk, failed, nulls, unknown, walk_tool};
+use crate::walk::{Met, Walk, failed, nulls, push_fault, unknown, walk_tool};
 use crate::workflow::walk_workflow;
-use cwl_value::{JobPlace, Value, copy_job};
+use cwl_value::{JobPlace, Value};
 use document_links::{Process, Step};
 use link_values::{value_froms, when_value};
 use param_refs::Template;
@@ -98,8 +98,9 @@ fn enter<'a>(
         values: Some(Keyed::new(alloc)),
     };
     for input in step.inputs.as_slice() {
+        let name = input.0.copied(alloc)?;
         let value = entry_value(alloc, measures, inputs, env, &input.1)?;
-        put_entry(alloc, &mut entered, &own, &input.0, value)?;
+        put_entry(alloc, &mut entered, &own, name, value)?;
     }
     Ok(entered)
 }
@@ -108,40 +109,36 @@ fn put_entry(
     alloc: Global,
     entered: &mut Entered<'_>,
     place: &JobPlace,
-    name: &Text,
+    name: Text,
     value: Partly,
 ) -> Result<(), AllocError>
     ensures faults { OnOk result (map met_of entered.new.faults ≡ map met_of entered.old.faults ++ fault_at place.now value) }
-    ensures values { OnOk result (entered.new.values ≡ with_entry entered.old.values (name.now, value)) }
+    ensures values { OnOk result (entered.new.values ≡ with_entry entered.old.values (name, value)) }
 {
     match value {
         Partly::Waits => {
             drop(mem::replace(&mut entered.values, None));
             Ok(())
         }
-        Partly::Gives(value) => put_value(alloc, entered, name, value),
+        Partly::Gives(value) => put_value(entered, name, value),
         Partly::Fails(cause) => {
             drop(mem::replace(&mut entered.values, None));
-            let place = copy_job(alloc, place)?;
-            Ok(entered.faults.push(Met::Fault(place, cause))?)
+            push_fault(alloc, &mut entered.faults, place, cause)
         }
     }
 }
 
-fn put_value(
-    alloc: Global,
-    entered: &mut Entered<'_>,
-    name: &Text,
-    value: Value,
-) -> Result<(), AllocError>
+fn put_value(entered: &mut Entered<'_>, name: Text, value: Value) -> Result<(), AllocError>
     ensures faults { OnOk result (entered.new.faults ≡ entered.old.faults) }
-    ensures values { OnOk result (entered.new.values ≡ with_entry entered.old.values (name.now, Gives value)) }
+    ensures values { OnOk result (entered.new.values ≡ with_entry entered.old.values (name, Gives value)) }
 {
-    let name = name.copied(alloc)?;
-    if let Some(values) = &mut entered.values {
-        drop(values.insert(name, value)?);
+    match &mut entered.values {
+        None => Ok(()),
+        Some(values) => {
+            drop(values.insert(name, value)?);
+            Ok(())
+        }
     }
-    Ok(())
 }
 
 /// A step whose inputs are all known.

@@ -1,5 +1,5 @@
 //! What a walk meets and gives.
-ghost use Rattle.std.specs.Prelude.{◌≡◌, ◌∷◌, [], Ok, map, IfOk};
+ghost use Rattle.std.specs.Prelude.{◌≡◌, ◌++◌, ◌∷◌, [], Ok, map, IfOk, OnOk};
 ghost use Rattle.std.specs.Map.{keys_of};
 ghost use Rattle.job_graph.specs.Inputs.{tool_inputs_for};
 ghost use Rattle.job_graph.specs.Jobs.{failed, met_fault, tool_walk, unknown};
@@ -72,6 +72,19 @@ pub(crate) fn nulls(alloc: Global, names: &[Text]) -> Result<Items<Out>, AllocEr
     Ok(outs)
 }
 
+/// Adds what fails, met at a place.
+pub(crate) fn push_fault(
+    alloc: Global,
+    met: &mut Items<Met<'_>>,
+    place: &JobPlace,
+    cause: Cause,
+) -> Result<(), AllocError>
+    ensures { OnOk result (map met_of met.new ≡ map met_of met.old ++ met_fault place.now cause ∷ []) }
+{
+    let place = copy_job(alloc, place)?;
+    met.push(Met::Fault(place, cause))
+}
+
 /// What fails, met at a place.
 fn one_fault<'a>(
     alloc: Global,
@@ -80,9 +93,8 @@ fn one_fault<'a>(
 ) -> Result<Items<Met<'a>>, AllocError>
     ensures { IfOk result (λ met. map met_of met ≡ met_fault place.now cause ∷ []) }
 {
-    let place = copy_job(alloc, place)?;
     let mut met = Items::new(alloc);
-    met.push(Met::Fault(place, cause))?;
+    push_fault(alloc, &mut met, place, cause)?;
     Ok(met)
 }
 

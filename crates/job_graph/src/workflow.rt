@@ -12,9 +12,9 @@ use crate::links::{Env, output_value};
 use crate::made::Facts;
 use crate::partly::Partly;
 use crate::step::walk_step;
-use crate::walk::{Met, Out, Walk, failed_process};
+use crate::walk::{Met, Out, Walk, failed_process, push_fault};
 use cwl_process::{Entries, WorkflowOutput};
-use cwl_value::{JobPlace, Value, copy_job};
+use cwl_value::{JobPlace, Value};
 use document_links::{Step, Workflow};
 use plain_data::{Items, Keyed, Text};
 use std::alloc::{AllocError, Global};
@@ -163,8 +163,9 @@ fn with_outputs<'a>(
         outs: Items::new(alloc),
     };
     for output in outputs {
+        let name = output.0.copied(alloc)?;
         let value = output_value(alloc, inputs, env, &output.1.links)?;
-        put_output(alloc, &mut walk, place, &output.0, value)?;
+        put_output(alloc, &mut walk, place, name, value)?;
     }
     Ok(walk)
 }
@@ -173,20 +174,18 @@ fn put_output(
     alloc: Global,
     walk: &mut Walk<'_>,
     place: &JobPlace,
-    name: &Text,
+    name: Text,
     value: Partly,
 ) -> Result<(), AllocError>
     ensures met { OnOk result (map met_of walk.new.met ≡ map met_of walk.old.met ++ fault_at place.now value) }
-    ensures outs { OnOk result (walk.new.outs ≡ walk.old.outs ++ (name.now, given value) ∷ []) }
+    ensures outs { OnOk result (walk.new.outs ≡ walk.old.outs ++ (name, given value) ∷ []) }
 {
-    let name = name.copied(alloc)?;
     match value {
-        Partly::Waits => Ok(walk.outs.push((name, None))?),
-        Partly::Gives(value) => Ok(walk.outs.push((name, Some(value)))?),
+        Partly::Waits => walk.outs.push((name, None)),
+        Partly::Gives(value) => walk.outs.push((name, Some(value))),
         Partly::Fails(cause) => {
-            walk.outs.push((name, None))?;
-            let place = copy_job(alloc, place)?;
-            Ok(walk.met.push(Met::Fault(place, cause))?)
+            push_fault(alloc, &mut walk.met, place, cause)?;
+            walk.outs.push((name, None))
         }
     }
 }

@@ -1,8 +1,8 @@
-use Rattle.std.proofs.Common.{◌≡◌, ◌∙◌, ℕ, ◌+◌, List, ap, length, map}
+use Rattle.std.proofs.Common.{◌∙◌, ℕ, ◌+◌, List, ap, length, map}
 use Rattle.std.proofs.lemmas.List.{length_push, map-append}
 use Rattle.document_links.specs.declared.process.Step.{Step}
 use Rattle.job_graph.specs.Equations.{instance, step_meaning_of, step_place, step_walk, StepMeaning}
-use Rattle.job_graph.specs.Jobs.{Met, Walk}
+use Rattle.job_graph.specs.Jobs.{Walk}
 use Rattle.job_graph.specs.Scatter.{at_tuple}
 use Rattle.job_graph.specs.Words.{Name}
 use Rattle.job_graph.specs.inner.Levels.{step_of, steps_of}
@@ -15,7 +15,7 @@ step::instances-loop-tuple-preserved t c = record {
   one_each = ap length c.in_ok-push.ensures.items ∙ length_push c.loop-tuple.walks.items c.in_ok-instance_at.field-0 ∙ ap (λ (n : ℕ). n + 1) c.loop-tuple.invariant.one_each;
   walks = each_push walk_of
       (λ (tuple : List ℕ). instance (step_of c.args.facts.now c.args.step.now) (step_place c.args.place.now c.args.id.now tuple)
-          (at_tuple (step_of c.args.facts.now c.args.step.now).scatter tuple c.args.values.now))
+      (at_tuple (step_of c.args.facts.now c.args.step.now).scatter tuple c.args.values.now))
       c.loop-tuple.walks.items c.push.new.self.items c.in_ok-instance_at.field-0 c.args.tuples.now c.loop-tuple.tuple-index c.tuple-item.result
       c.in_ok-push.ensures.items c.loop-tuple.invariant.walks c.in_ok-instance_at.ensures c.loop-tuple-test.true c.tuple-item.is;
 }

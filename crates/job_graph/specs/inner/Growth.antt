@@ -1,8 +1,8 @@
 -- How the known jobs grow by what is met.
-use Rattle.std.specs.Prelude.{◌≡◌, ℕ, List, [], ◌∷◌, ◌++◌, None, Option, Some, Result, Ok, Err, OnErr, length, map, option_map, take}
+use Rattle.std.specs.Prelude.{◌≡◌, ℕ, List, [], ◌∷◌, ◌++◌, None, Some, Result, Ok, Err, OnErr, length, map, option_map, take}
 use Rattle.job_graph.specs.Jobs.{Met, Walk, Walker, result_in}
 use Rattle.job_graph.specs.Unfold.{Resolved, entries_from, first_fault, known_from, unfolded, with_met}
-use Rattle.job_graph.specs.Unfolding.{AnswersAlike, Blames, Knows, fault_of, jobs_in, known_of, walks_of}
+use Rattle.job_graph.specs.Unfolding.{AnswersAlike, Blames, Knows, jobs_in, known_of, walks_of}
 use Rattle.job_graph.specs.inner.Views.{made_from}
 use Rattle.job_graph.specs.declared.fault.UnfoldError.{UnfoldError}
 use Rattle.job_graph.specs.declared.fault.UnfoldError.TheVariants.{Refused, OutOfMemory}

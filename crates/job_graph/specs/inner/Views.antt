@@ -1,5 +1,5 @@
 -- What is kept of a walk and of the jobs that have ended, as the definitions see it.
-use Rattle.std.specs.Prelude.{List, map}
+use Rattle.std.specs.Prelude.{map}
 use Rattle.job_graph.specs.Jobs.{Job, Made, Met, met_job, met_fault, Walk}
 use Rattle.job_graph.specs.Unfold.{Resolved, made_by}
 use Rattle.job_graph.specs.declared.made.Facts.{Facts}

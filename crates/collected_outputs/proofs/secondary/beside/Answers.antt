@@ -1,6 +1,6 @@
 use Rattle.std.proofs.Common.{◌≡◌, ◌-◌, Some, None, lit<, take, ap, ◌∙◌, arith}
 use Rattle.std.proofs.lemmas.Str.Pattern.{rfind_char}
-use Rattle.collected_outputs.proofs.Slashes.{beside-at, beside-none}
+use Rattle.file_values.proofs.Slashes.{beside-at, beside-none}
 use Rattle.collected_outputs.proofs.secondary.beside.Goals as goal
 
 pub returns-in-Some : goal.returns-in-Some

@@ -1,7 +1,7 @@
 use Rattle.std.proofs.Common.{◌≡◌, ◌-◌, ◌==◌, ◌∷◌, ℕ, List, length, refl, rules, Some, None, [], lit<, take, sym, ap, ◌∙◌, arith}
 use Rattle.std.specs.Prelude.{bytes_eq}
 use Rattle.std.proofs.lemmas.Str.Pattern.{rfind_char}
-use Rattle.collected_outputs.proofs.Slashes.{before-at, before-none}
+use Rattle.file_values.proofs.Slashes.{before-at, before-none}
 use Rattle.collected_outputs.proofs.values.stands_in.Goals as goal
 
 pub returns-in-Some : goal.returns-in-Some

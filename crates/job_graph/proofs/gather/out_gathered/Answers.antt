@@ -1,4 +1,4 @@
-use Rattle.std.proofs.Common.{◌≡◌, ◌∙◌, Some, ap, option_map}
+use Rattle.std.proofs.Common.{◌∙◌, Some, ap, option_map}
 use Rattle.scatter_shape.specs.Gathered.{gathered}
 use Rattle.job_graph.proofs.gather.out_gathered.Goals as goal
 

@@ -1,4 +1,4 @@
-use Rattle.std.proofs.Common.{◌≡◌, ◌∷◌, [], Ok, List, sym, subst, inl, inr, arith, ap, ◌∙◌}
+use Rattle.std.proofs.Common.{◌∷◌, [], Ok, List, sym, subst, inl, inr, arith, ap, ◌∙◌}
 use Rattle.job_graph.specs.Jobs.{met_job}
 use Rattle.job_graph.specs.Unfold.{parents_from}
 use Rattle.job_graph.specs.Unfolding.{jobs_in}
@@ -23,5 +23,5 @@ returns-in-Ok c =
     let one : KnownJob = record { job = c.args.job; parents = c.in_ok-parents.parents } in
     subst (λ (new : List KnownJob). Grows c.args.known.now.items c.args.entries (met_job (job_of c.args.job) ∷ []) new (Ok c.saturating_add-entries.result)) (sym c.in-Ok.ensures.items)
     (grows_push c.args.known.now.items c.args.entries c.saturating_add-entries.result one c.requires
-        (c.in_ok-parents.ensures ∙ ap (λ (known : List KnownJob). parents_from 0 (jobs_in known) c.args.job.inputs) c.as_slice.ensures.value)
-        (omega arith) (omega arith) (omega arith))
+    (c.in_ok-parents.ensures ∙ ap (λ (known : List KnownJob). parents_from 0 (jobs_in known) c.args.job.inputs) c.as_slice.ensures.value)
+    (omega arith) (omega arith) (omega arith))

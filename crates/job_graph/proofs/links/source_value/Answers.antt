@@ -1,6 +1,5 @@
-use Rattle.std.proofs.Common.{◌≡◌, ◌∙◌, Some, ap, sym, refl, rules}
-use Rattle.plain_data.specs.ByName.{value_at}
-use Rattle.job_graph.specs.Links.{out_under, value_from}
+use Rattle.std.proofs.Common.{◌∙◌, ap, sym}
+use Rattle.job_graph.specs.Links.{value_from}
 use Rattle.job_graph.proofs.links.source_value.Goals as goal
 
 pub returns-in_ok-copied-in-Some : goal.returns-in_ok-copied-in-Some

@@ -1,4 +1,4 @@
-use Rattle.std.proofs.Common.{◌≡◌, ◌∙◌, Some, None, ap, sym, refl, rules}
+use Rattle.std.proofs.Common.{◌∙◌, sym, rules}
 use Rattle.job_graph.proofs.Outs.{made_none, made_some}
 use Rattle.job_graph.proofs.made.value_under.Goals as goal
 

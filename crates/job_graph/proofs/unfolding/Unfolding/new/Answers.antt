@@ -1,4 +1,4 @@
-use Rattle.std.proofs.Common.{◌≡◌, [], ap, refl}
+use Rattle.std.proofs.Common.{[], ap, refl}
 use Rattle.job_graph.specs.Equations.{meaning_of, walker}
 use Rattle.job_graph.specs.Jobs.{Made}
 use Rattle.job_graph.specs.Words.{Fields}
