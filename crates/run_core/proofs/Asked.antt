@@ -1,6 +1,6 @@
 -- What an answer of each kind tells of the phase, and of the course.
 use Rattle.std.specs.Prelude.{◌<◌, Contains, vec_capacity, vec_len}
-use Rattle.std.proofs.Common.{◌≡◌, ℕ, List, [], length, refl}
+use Rattle.std.proofs.Common.{◌≡◌, ℕ, List, [], length, refl, subst}
 use Rattle.cwl_value.specs.declared.place.Segment.{Segment}
 use Rattle.proc_host.specs.Answers.{is_measured, is_staged, is_started, has_ended, is_listed, is_read, is_delivered, has_failed}
 use Rattle.proc_host.specs.declared.call.HostAnswer.{HostAnswer}
@@ -70,6 +70,25 @@ module _ (flying : List ℕ) (course : Course) where
 
   pub it_flies : (asks : Request) (ending : ChildEnd) → MayAnswer flying asks (Answer.Host (HostAnswer.Ended ending)) → Contains flying ending.ticket
   it_flies asks ending (by_host place request answer (has_ended ended flies)) = flies
+
+-- nothing of this kind is answered while the machine drains
+
+module _ (flying : List ℕ) (course : Course) (asks : Request) (phase : Phase) where
+  pub still_measures : (measure : Measure) → MayAnswer flying asks (Answer.Host (HostAnswer.Measured measure)) → AsksOf course asks phase → phase ≡ Phase.Draining → ⊥
+  still_measures measure (by_host place request answer (is_measured path measured)) fits drains =
+      subst (λ (p : Phase). AsksOf course (Request.Host place (HostRequest.Measure path)) p) drains fits
+
+  pub still_starts : (ticket : ℕ) → MayAnswer flying asks (Answer.Host (HostAnswer.Started ticket)) → AsksOf course asks phase → phase ≡ Phase.Draining → ⊥
+  still_starts ticket (by_host place request answer (is_started launch started fresh)) fits drains =
+      subst (λ (p : Phase). AsksOf course (Request.Host place (HostRequest.Start launch)) p) drains fits
+
+  pub still_lists : (found : List Found) → MayAnswer flying asks (Answer.Host (HostAnswer.Listed found)) → AsksOf course asks phase → phase ≡ Phase.Draining → ⊥
+  still_lists found (by_host place request answer (is_listed folder listed)) fits drains =
+      subst (λ (p : Phase). AsksOf course (Request.Host place (HostRequest.Scan folder)) p) drains fits
+
+  pub still_reads : (bytes : List ℕ) → MayAnswer flying asks (Answer.Host (HostAnswer.FirstBytes bytes)) → AsksOf course asks phase → phase ≡ Phase.Draining → ⊥
+  still_reads bytes (by_host place request answer (is_read path limit read short)) fits drains =
+      subst (λ (p : Phase). AsksOf course (Request.Host place (HostRequest.Head path limit)) p) drains fits
 
 pub ready_but : (course : Course) (phase : Phase) → (phase ≡ Phase.Draining → ⊥) → IsReadyFor course phase → IsReady course
 ready_but course Phase.Draining other ready = absurd (other refl)

@@ -1,5 +1,5 @@
 -- What a result has where it is there, and lists by their last item.
-use Rattle.std.proofs.Common.{◌≡◌, ◌∙◌, ◌==◌, ◌+◌, ◌-◌, ◌<◌, ◌≤◌, ℕ, true, false, true≢false, eq-eqb, List, [], ◌∷◌, ◌++◌, length, get_or, take, Result, Ok, Err, IfOk, OnOk, refl, sym, ap, arith}
+use Rattle.std.proofs.Common.{◌≡◌, ◌∙◌, ◌==◌, ◌+◌, ◌-◌, ◌<◌, ◌≤◌, ℕ, true, false, true≢false, eq-eqb, List, [], ◌∷◌, ◌++◌, length, get_or, take, Result, Ok, Err, IfOk, OnErr, OnOk, refl, sym, ap, arith}
 use Rattle.std.proofs.lemmas.Bool.{eqb-true}
 use Rattle.std.proofs.lemmas.List.{take_more, take_all}
 
@@ -32,3 +32,7 @@ uncounted (x ∷ xs) len is some none = cc
 pub on_ok : {X E P : Type 0} (result : Result X E) → P → OnOk result P
 on_ok (Ok x) holds = holds
 on_ok (Err error) holds = tt
+
+pub on_err : {X E P : Type 0} (result : Result X E) → P → OnErr result P
+on_err (Ok x) holds = tt
+on_err (Err error) holds = holds

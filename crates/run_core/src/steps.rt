@@ -302,6 +302,7 @@ fn failed(
     requires ready { IsReadyFor course.old turn.now.phase }
     ensures is { IfOk result (λ next. AfterFailure given.now course.old turn.now fault next course.new) }
     ensures flying { OnErr result (course.new.tickets.items ≡ course.old.tickets.items) }
+    ensures going { OnErr result (turn.now.phase ≡ Waits.Draining → ⊥) }
 {
     match turn.phase {
         Phase::Collecting => {

@@ -2,7 +2,7 @@ use Rattle.std.proofs.Common.{◌≡◌, ◌∙◌, ℕ, List, Err, ap}
 use Rattle.run_rules.specs.declared.outcome.RunFault.{RunFault}
 use Rattle.run_core.specs.inner.Course.{Past, past_of, with_end}
 use Rattle.run_core.proofs.Choices.{fault_by, if_lost}
-use Rattle.run_core.proofs.Lists.{if_ok}
+use Rattle.run_core.proofs.Lists.{if_ok, on_err}
 use Rattle.run_core.proofs.steps.failed.Goals as goal
 
 pub returns-in_default : goal.returns-in_default
@@ -18,4 +18,5 @@ returns-in_default c = record {
       }))
       c.pick.ensures.is;
   flying = if_lost c.pick.result (λ same. same ∙ ap (λ (p : Past). p.tickets) c.settle.ensures.past) c.pick.ensures.flying;
+  going = on_err c.pick.result c.in_default.not-Draining;
 }
