@@ -73,21 +73,21 @@ module _ (flying : List ℕ) (course : Course) where
 
 -- nothing of this kind is answered while the machine drains
 
-module _ (flying : List ℕ) (course : Course) (asks : Request) (phase : Phase) where
-  pub still_measures : (measure : Measure) → MayAnswer flying asks (Answer.Host (HostAnswer.Measured measure)) → AsksOf course asks phase → phase ≡ Phase.Draining → ⊥
-  still_measures measure (by_host place request answer (is_measured path measured)) fits drains =
+module _ (flying : List ℕ) (course : Course) where
+  pub still_measures : (asks : Request) (phase : Phase) (measure : Measure) → MayAnswer flying asks (Answer.Host (HostAnswer.Measured measure)) → AsksOf course asks phase → phase ≡ Phase.Draining → ⊥
+  still_measures asks phase measure (by_host place request answer (is_measured path measured)) fits drains =
       subst (λ (p : Phase). AsksOf course (Request.Host place (HostRequest.Measure path)) p) drains fits
 
-  pub still_starts : (ticket : ℕ) → MayAnswer flying asks (Answer.Host (HostAnswer.Started ticket)) → AsksOf course asks phase → phase ≡ Phase.Draining → ⊥
-  still_starts ticket (by_host place request answer (is_started launch started fresh)) fits drains =
+  pub still_starts : (asks : Request) (phase : Phase) (ticket : ℕ) → MayAnswer flying asks (Answer.Host (HostAnswer.Started ticket)) → AsksOf course asks phase → phase ≡ Phase.Draining → ⊥
+  still_starts asks phase ticket (by_host place request answer (is_started launch started fresh)) fits drains =
       subst (λ (p : Phase). AsksOf course (Request.Host place (HostRequest.Start launch)) p) drains fits
 
-  pub still_lists : (found : List Found) → MayAnswer flying asks (Answer.Host (HostAnswer.Listed found)) → AsksOf course asks phase → phase ≡ Phase.Draining → ⊥
-  still_lists found (by_host place request answer (is_listed folder listed)) fits drains =
+  pub still_lists : (asks : Request) (phase : Phase) (found : List Found) → MayAnswer flying asks (Answer.Host (HostAnswer.Listed found)) → AsksOf course asks phase → phase ≡ Phase.Draining → ⊥
+  still_lists asks phase found (by_host place request answer (is_listed folder listed)) fits drains =
       subst (λ (p : Phase). AsksOf course (Request.Host place (HostRequest.Scan folder)) p) drains fits
 
-  pub still_reads : (bytes : List ℕ) → MayAnswer flying asks (Answer.Host (HostAnswer.FirstBytes bytes)) → AsksOf course asks phase → phase ≡ Phase.Draining → ⊥
-  still_reads bytes (by_host place request answer (is_read path limit read short)) fits drains =
+  pub still_reads : (asks : Request) (phase : Phase) (bytes : List ℕ) → MayAnswer flying asks (Answer.Host (HostAnswer.FirstBytes bytes)) → AsksOf course asks phase → phase ≡ Phase.Draining → ⊥
+  still_reads asks phase bytes (by_host place request answer (is_read path limit read short)) fits drains =
       subst (λ (p : Phase). AsksOf course (Request.Host place (HostRequest.Head path limit)) p) drains fits
 
 pub ready_but : (course : Course) (phase : Phase) → (phase ≡ Phase.Draining → ⊥) → IsReadyFor course phase → IsReady course

@@ -11,7 +11,6 @@ pub mod Once
 pub mod Rooms
 pub mod Same
 pub mod Seen
-pub mod Settled
 pub mod States
 pub mod Stays
 pub mod Taking

@@ -52,9 +52,9 @@ module _ (core : RunCore) (limits : IsWithinLimits core.given.options) (accepted
       let none_long : length core.course.tickets.items ≡ 0 = ap length none_flies in
       let two : pairs_ahead (past_of core.course) core.turn.phase ≤ length core.course.tickets.items + 2 = two_at_most (past_of core.course) core.turn.phase in
       both_fit (vec_len core.pairs) (vec_capacity core.pairs) (pairs_ahead (past_of core.course) core.turn.phase) (length core.course.tickets.items) fits none_long two
-      where
-        both_fit : (n m a k : ℕ) → n + 2 ≤ m → k ≡ 0 → a ≤ k + 2 → n + a ≤ m
-        both_fit n m a k fits none two = omega (arith, fits, none, two)
+    where
+      both_fit : (n m a k : ℕ) → n + 2 ≤ m → k ≡ 0 → a ≤ k + 2 → n + a ≤ m
+      both_fit n m a k fits none two = omega (arith, fits, none, two)
 
   pub begins_at : Begins core.given.process.now core.given.inputs.now core.given.options core
   begins_at = record {

@@ -124,8 +124,12 @@ module _ (options : Options) (entries : List Entry) (past : Past) where
       let within : number < length past.jobs = slice_get_within past.jobs number state there in
       record {
         bounded = record {
-          jobs = omega (arith, length_again (given_up_in number past.jobs) number (past.folders + 1) (omega (arith, within, length_given_up past.jobs number)),
-              length_given_up past.jobs number, books.bounded.jobs);
+          jobs = omega (
+            arith,
+            length_again (given_up_in number past.jobs) number (past.folders + 1) (omega (arith, within, length_given_up past.jobs number)),
+            length_given_up past.jobs number,
+            books.bounded.jobs,
+          );
           retries = gave_up_staged options.retries (given_up_in number past.jobs) number (past.folders + 1)
               (gave_up_once_more options.retries past.jobs number state there few books.bounded.retries);
           folders = omega (arith, tries_more number within, books.bounded.folders);

@@ -117,9 +117,9 @@ module _ (given : Given) (old : Course) where
       let none : after.settled.tickets.items ≡ [] = ap (λ (p : Past). p.tickets) after.past ∙ empty in
       let last : answers_left given.options (past_of new) turn.phase ≤ 0 = picks_last given.options given after.settled turn new its.1 none after.picks in
       sum_last (answers_left given.options (past_of new) turn.phase) Before last
-      where
-        sum_last : (a b : ℕ) → a ≤ 0 → a < b + 1
-        sum_last a b none = omega (arith, none)
+    where
+      sum_last : (a b : ℕ) → a ≤ 0 → a < b + 1
+      sum_last a b none = omega (arith, none)
 
   -- Measuring
 
@@ -139,9 +139,9 @@ module _ (given : Given) (old : Course) where
   measuring_fewer left next turn new shorter (measures rest path its_new is same known) =
       subst (λ (p : Past). weight_of_past given.options p + (2 + length next.left) < weight_of_past given.options (past_of old) + (2 + left)) (sym same)
       (one_step (weight_of_past given.options (past_of old)) (length next.left) left shorter)
-      where
-        one_step : (w a b : ℕ) → a + 1 ≡ b → w + (2 + a) < w + (2 + b)
-        one_step w a b is = omega (arith, is)
+    where
+      one_step : (w a b : ℕ) → a + 1 ≡ b → w + (2 + a) < w + (2 + b)
+      one_step w a b is = omega (arith, is)
 
   -- The work on a job
 

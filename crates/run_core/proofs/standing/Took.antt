@@ -64,9 +64,9 @@ pairs_fit : (pairs room : ℕ) (past last : Past) (old new : Turn) → last ≡ 
 pairs_fit pairs room past last old new same (has_room fits) = subst (λ (p : Past). pairs + pairs_ahead p new.phase ≤ room) (sym same) fits
 pairs_fit pairs room past last old new same (no_room fits) =
     subst (λ (p : Past). pairs + pairs_ahead p new.phase ≤ room) (sym same) (smaller pairs room (pairs_ahead past (lost_after past).phase) (length past.tickets) fits (lost_room past))
-    where
-      smaller : (n m a b : ℕ) → n + b ≤ m → a ≤ b → n + a ≤ m
-      smaller n m a b fits less = omega (arith, fits, less)
+  where
+    smaller : (n m a b : ℕ) → n + b ≤ m → a ≤ b → n + a ≤ m
+    smaller n m a b fits less = omega (arith, fits, less)
 
 module _ (core : RunCore) (answer : Answer) (pairs : Vec Pair Global) (course : Course) (turn : Turn) (stands : Stands core)
     (longer : pairs.items ≡ core.pairs.items ++ noted core.turn.asks answer ∷ []) (room : HasRoom course turn.phase)
@@ -138,9 +138,9 @@ module _ (core : RunCore) (answer : Answer) (runs_on : RunsOn core.given) (stand
       let left : length new.tickets.items + 1 ≤ pairs_ahead (past_of core.course) core.turn.phase =
       leaves_room core.given runs_on core.pairs.items core.course core.turn answer next new (going_of core stands.going) may moved in
       still_fit pairs room (vec_len core.pairs) (vec_capacity core.pairs) (length new.tickets.items) (pairs_ahead (past_of core.course) core.turn.phase) left one wider stands.pairs_room
-      where
-        still_fit : (pairs room n m a b : ℕ) → a + 1 ≤ b → pairs ≡ n + 1 → m ≤ room → n + b ≤ m → pairs + a ≤ room
-        still_fit pairs room n m a b left one wider fits = omega (arith, left, one, wider, fits)
+    where
+      still_fit : (pairs room n m a b : ℕ) → a + 1 ≤ b → pairs ≡ n + 1 → m ≤ room → n + b ≤ m → pairs + a ≤ room
+      still_fit pairs room n m a b left one wider fits = omega (arith, left, one, wider, fits)
 
 pub one_fits : (pairs room ahead : ℕ) → 0 < ahead → pairs + ahead ≤ room → pairs < room
 one_fits pairs room ahead some fits = omega (arith, some, fits)

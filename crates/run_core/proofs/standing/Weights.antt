@@ -42,9 +42,9 @@ folders_at_most options past bounded =
     let most : length past.jobs * (options.retries + 1) ≤ MOST_VERTICES * (options.retries + 1) =
     mul-le (length past.jobs) (options.retries + 1) MOST_VERTICES (options.retries + 1) bounded.jobs (same_at_most (options.retries + 1)) in
     steps past.folders (tries_of past.jobs) (length past.jobs * (options.retries + 1)) (MOST_VERTICES * (options.retries + 1)) bounded.folders tries most
-    where
-      steps : (a b c d : ℕ) → a ≤ b → b ≤ c → c ≤ d → a ≤ d
-      steps a b c d one two three = omega (arith, one, two, three)
+  where
+    steps : (a b c d : ℕ) → a ≤ b → b ≤ c → c ≤ d → a ≤ d
+    steps a b c d one two three = omega (arith, one, two, three)
 
 falls_by_one : (most folders flown : ℕ) → folders + 1 ≤ most →
     (most - (folders + 1)) * (2 * many_files + 8) + flown + (2 * many_files + 8) ≤ (most - folders) * (2 * many_files + 8) + flown
@@ -149,9 +149,9 @@ module _ (options : Options) (given : Given) where
   turns_few old number next turn new most two few knows (asks call phase its_new same known) =
       subst (λ (p : Past). weight_of_past options p + weight_next (JobNext.Asks call phase) ≤ Before old + most) (sym same)
       (added (Before old) (weight_next (JobNext.Asks call phase)) most few)
-      where
-        added : (w a b : ℕ) → a ≤ b → w + a ≤ w + b
-        added w a b less = omega (arith, less)
+    where
+      added : (w a b : ℕ) → a ≤ b → w + a ≤ w + b
+      added w a b less = omega (arith, less)
   turns_few old number next turn new most two few knows (fails cause failed its_turn its_new is known picks) =
       picks_from failed old turn new most (ap (weight_of_past options) is) two picks
   turns_few old number next turn new most two few knows (gives_late outputs late its_turn its_new settled same known picks) =
