@@ -1,5 +1,5 @@
 -- What the program writes to its two writers for these words, and the status that it then answers.
-use Rattle.std.specs.Prelude.{◌≡◌, ◌≢◌, ℕ, List, ◌++◌, Option, codes}
+use Rattle.std.specs.Prelude.{◌≡◌, ◌≢◌, ℕ, List, ◌++◌, Bool, true, false, Option, codes}
 use Rattle.std.specs.Io.KnownBytes.{Appends}
 use Rattle.clap.specs.Words.{IsAmong, Text, fault_of}
 use Rattle.clap.specs.declared.error.ErrorKind.{ErrorKind}
@@ -30,7 +30,7 @@ abbrev pub Prints : Exit → (out out_new err err_new : Held) → Type 0
 Prints (Output line) out out_new err err_new = IsGiven line out out_new err err_new
 Prints (Broken rule) out out_new err err_new = IsGiven (codes "broken " ++ name_of rule) out out_new err err_new
 Prints (Shows ending) out out_new err err_new = record_program.Prints ending out out_new err err_new
-Prints (Permanent place) out out_new err err_new = IsGiven (codes "permanentFail " ++ place) err err_new out out_new
+Prints (Permanent place cause) out out_new err err_new = IsGiven (codes "permanentFail " ++ place) err err_new out out_new
 Prints (Temporary place) out out_new err err_new = IsGiven (codes "temporaryFail " ++ place) err err_new out out_new
 Prints (Refused refusal) out out_new err err_new = IsGiven (codes "refused: " ++ refusal_code refusal) err err_new out out_new
 Prints (Fault fault) out out_new err err_new = IsGiven (codes "fault: " ++ word_of fault) err err_new out out_new
@@ -46,10 +46,15 @@ IsEndOf (Check file) exit = IsCheck exit
 IsEndOf (Run words) exit = IsRunExit exit
 IsEndOf (Record words) exit = IsRecordExit exit
 
--- the end that these words lead to
-pub data LeadsTo (words : List Text) : Exit → Type 0 where
-  chooses : {exit : Exit} (choice : Choice) → Asks words (wish_of choice) → IsEndOf choice exit → LeadsTo words exit
-  out_of_memory : LeadsTo words (Fault faults.OutOfMemory)
+-- whether the choice asks for words on what went wrong
+abbrev pub asks_why : Choice → Bool
+asks_why (Run words) = words.explain
+asks_why _ = false
+
+-- the end that these words lead to, and whether it is to be explained
+pub data LeadsTo (words : List Text) : Exit → Bool → Type 0 where
+  chooses : {exit : Exit} (choice : Choice) → Asks words (wish_of choice) → IsEndOf choice exit → LeadsTo words exit (asks_why choice)
+  out_of_memory : (explains : Bool) → LeadsTo words (Fault faults.OutOfMemory) explains
 
 -- `clap` answers with what is wrong, and not with the help that the words ask for
 abbrev pub IsWrong : ErrorKind → Type 0
@@ -62,16 +67,21 @@ pub data Explains (kind : ErrorKind) (out out_new err err_new : Held) : ℕ → 
   -- a write failed
   unwritten : Explains kind out out_new err err_new 3
 
--- an end is said in its line, with its status
-pub data Says (exit : Exit) (out out_new err err_new : Held) : ℕ → Type 0 where
-  says : Prints exit out out_new err err_new → Says exit out out_new err err_new (status_of exit)
+-- an end is said in its line; where it is to be explained, more may follow on the errors
+pub data IsTold (exit : Exit) (out out_new err err_new : Held) : Bool → Type 0 where
+  alone : Prints exit out out_new err err_new → IsTold exit out out_new err err_new false
+  explained : (err_told : Held) → Prints exit out out_new err err_told → IsTold exit out out_new err err_new true
+
+-- an end is said, with its status
+pub data Says (exit : Exit) (explains : Bool) (out out_new err err_new : Held) : ℕ → Type 0 where
+  says : IsTold exit out out_new err err_new explains → Says exit explains out out_new err err_new (status_of exit)
   -- a write failed
-  fails : Says exit out out_new err err_new 3
+  fails : Says exit explains out out_new err err_new 3
 
 -- what is written and answered for these words
 pub data Tells (words : List Text) (out out_new err err_new : Held) (status : ℕ) : Type 0 where
   -- the words lead to this end
-  ends : (exit : Exit) → LeadsTo words exit → Says exit out out_new err err_new status →
+  ends : (exit : Exit) (explains : Bool) → LeadsTo words exit explains → Says exit explains out out_new err err_new status →
       Tells words out out_new err err_new status
   -- the words ask for help, or are refused, by a kind that they may be refused by
   explains : (kind : ErrorKind) → IsAmong kind (fault_of command_line words) →

@@ -13,6 +13,7 @@ mod demo;
 mod documents;
 mod entry;
 mod exit;
+mod explaining;
 mod inputs;
 mod paths;
 mod record_words;

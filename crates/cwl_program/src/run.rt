@@ -293,8 +293,6 @@ where
 {
     let Given { process, inputs } = given;
     let report = run(alloc, &mut host, process, inputs, options);
-    let exit = exit_of_run(alloc, &report);
-    mem::drop(report);
     mem::drop(host);
-    exit
+    exit_of_run(alloc, report)
 }

@@ -1,6 +1,6 @@
 ghost use Rattle.std.specs.Prelude.{◌≡◌, IfOk, IfErr, false};
 ghost use Rattle.clap.specs.Words.{app_of, found_of, kind_of, rows_of, rule_of};
-ghost use Rattle.cwl_program.specs.RunWords.{IsLocal, named_rule, placed_rule, run_command, run_wish, wish_of_run, with_document, with_folders};
+ghost use Rattle.cwl_program.specs.RunWords.{IsLocal, flag_rule, named_rule, placed_rule, run_command, run_wish, wish_of_run, with_document, with_folders, with_options};
 
 use clap::error::ErrorKind;
 use clap::{Arg, ArgAction, ArgMatches, Command, Error};
@@ -9,6 +9,8 @@ use std::alloc::Global;
 const WORK_HELP: &str = "The folder for the jobs, made and removed by the run [cwl-work]";
 
 const OUTDIR_HELP: &str = "The folder for the output files, made where it is absent [.]";
+
+const EXPLAIN_HELP: &str = "Say in words what went wrong, and where";
 
 const INPUTS_HELP: &str = "The input object's file, in JSON; without it the object is empty";
 
@@ -19,6 +21,8 @@ pub struct RunWords<'a> {
     pub inputs: Option<&'a str>,
     pub work: &'a str,
     pub outdir: &'a str,
+    /// Whether to say in words what went wrong.
+    pub explain: bool,
 }
 
 /// An argument by its place.
@@ -59,6 +63,28 @@ fn folders_command<'a>(alloc: Global) -> Result<Command<'a>, Error>
     Ok(command)
 }
 
+/// An option without a value, as `--explain`.
+fn flag<'a>(alloc: Global, id: &'a str, help: &'a str) -> Arg<'a>
+    ensures rule { rule_of result ≡ flag_rule id.now }
+    ensures local { result.global ≡ false }
+{
+    Arg::new(alloc, id)
+        .long(id)
+        .action(ArgAction::SetTrue)
+        .help(help)
+}
+
+// And with its other option.
+fn options_command<'a>(alloc: Global) -> Result<Command<'a>, Error>
+    ensures ok { IfOk result (λ command. app_of command ≡ with_options) }
+    ensures local { IfOk result IsLocal }
+    ensures err { IfErr result (λ e. kind_of e ≡ ErrorKind.OutOfMemory) }
+{
+    let explain = flag(alloc, "explain", EXPLAIN_HELP);
+    let command = folders_command(alloc)?.arg(explain)?;
+    Ok(command)
+}
+
 // And with its document.
 fn document_command<'a>(alloc: Global) -> Result<Command<'a>, Error>
     ensures ok { IfOk result (λ command. app_of command ≡ with_document) }
@@ -66,7 +92,7 @@ fn document_command<'a>(alloc: Global) -> Result<Command<'a>, Error>
     ensures err { IfErr result (λ e. kind_of e ≡ ErrorKind.OutOfMemory) }
 {
     let document = placed(alloc, "DOCUMENT", true, "The tool's document, in JSON");
-    let command = folders_command(alloc)?.arg(document)?;
+    let command = options_command(alloc)?.arg(document)?;
     Ok(command)
 }
 
@@ -90,5 +116,6 @@ pub fn run_words<'a>(words: &ArgMatches<'a>) -> RunWords<'a>
         inputs: words.get_str("INPUTS"),
         work: words.get_str("work").unwrap_or("cwl-work"),
         outdir: words.get_str("outdir").unwrap_or("."),
+        explain: words.get_str("explain").unwrap_or("") == "true",
     }
 }
