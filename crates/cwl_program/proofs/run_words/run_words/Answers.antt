@@ -16,4 +16,6 @@ returns c =
     or_other _ _ _ _ (codes "cwl-work") (c.get_str-3.ensures ∙ first_value-rows found (codes "work")) c.unwrap_or-2.ensures refl in
     let outdir : c.unwrap_or-3.result.now ≡ unwrap_or (first_of (codes "outdir") (rows_of found)) (codes ".") =
     or_other _ _ _ _ (codes ".") (c.get_str-4.ensures ∙ first_value-rows found (codes "outdir")) c.unwrap_or-3.ensures refl in
-    rw (document, inputs, work, outdir) refl
+    let explain : c.unwrap_or-4.result.now ≡ unwrap_or (first_of (codes "explain") (rows_of found)) (codes "") =
+    or_other _ _ _ _ (codes "") (c.get_str-5.ensures ∙ first_value-rows found (codes "explain")) c.unwrap_or-4.ensures refl in
+    rw (document, inputs, work, outdir, explain) refl
