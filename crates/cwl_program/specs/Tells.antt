@@ -67,14 +67,10 @@ pub data Explains (kind : ErrorKind) (out out_new err err_new : Held) : ℕ → 
   -- a write failed
   unwritten : Explains kind out out_new err err_new 3
 
--- a writer was given something more
-abbrev pub Grows : Held → Held → Type 0
-Grows old new = (more : List ℕ) × Appends old new more
-
 -- an end is said in its line; where it is to be explained, more may follow on the errors
 pub data IsTold (exit : Exit) (out out_new err err_new : Held) : Bool → Type 0 where
   alone : Prints exit out out_new err err_new → IsTold exit out out_new err err_new false
-  explained : (err_told : Held) → Prints exit out out_new err err_told → Grows err_told err_new → IsTold exit out out_new err err_new true
+  explained : (err_told : Held) → Prints exit out out_new err err_told → IsTold exit out out_new err err_new true
 
 -- an end is said, with its status
 pub data Says (exit : Exit) (explains : Bool) (out out_new err err_new : Held) : ℕ → Type 0 where

@@ -1,8 +1,5 @@
 //! What went wrong, in words (`deparohi run --explain`).
 
-ghost use Rattle.std.specs.Prelude.{OnOk};
-ghost use Rattle.cwl_program.specs.Tells.{Grows};
-
 use crate::exit::{Exit, Fault, Refusal};
 use job_graph::Cause as NoValue;
 use proc_host::HostFault;
@@ -11,9 +8,7 @@ use std::io;
 use std::io::Write;
 
 /// Writes a line that says what went wrong and where; nothing of an end in which nothing did.
-pub fn explain_exit<E: Write>(exit: &Exit, err: &mut E) -> io::Result<()>
-    ensures { OnOk result (Grows (E.contents err.old) (E.contents err.new)) }
-{
+pub fn explain_exit<E: Write>(exit: &Exit, err: &mut E) -> io::Result<()> {
     match exit {
         Exit::Refused(refusal) => explain_refusal(refusal, err),
         Exit::Permanent(_, cause) => explain_cause(cause, err),
@@ -26,9 +21,7 @@ pub fn explain_exit<E: Write>(exit: &Exit, err: &mut E) -> io::Result<()>
     }
 }
 
-fn explain_refusal<E: Write>(refusal: &Refusal, err: &mut E) -> io::Result<()>
-    ensures { OnOk result (Grows (E.contents err.old) (E.contents err.new)) }
-{
+fn explain_refusal<E: Write>(refusal: &Refusal, err: &mut E) -> io::Result<()> {
     match refusal {
         Refusal::Document(fault) => writeln!(err, "{fault}"),
         Refusal::Links(fault) => writeln!(err, "{fault}"),
@@ -39,9 +32,7 @@ fn explain_refusal<E: Write>(refusal: &Refusal, err: &mut E) -> io::Result<()>
     }
 }
 
-fn explain_cause<E: Write>(cause: &Cause, err: &mut E) -> io::Result<()>
-    ensures { OnOk result (Grows (E.contents err.old) (E.contents err.new)) }
-{
+fn explain_cause<E: Write>(cause: &Cause, err: &mut E) -> io::Result<()> {
     match cause {
         Cause::Equation(cause) => explain_equation(cause, err),
         Cause::Contents(fault) => writeln!(err, "{fault}"),
@@ -52,9 +43,7 @@ fn explain_cause<E: Write>(cause: &Cause, err: &mut E) -> io::Result<()>
     }
 }
 
-fn explain_equation<E: Write>(cause: &NoValue, err: &mut E) -> io::Result<()>
-    ensures { OnOk result (Grows (E.contents err.old) (E.contents err.new)) }
-{
+fn explain_equation<E: Write>(cause: &NoValue, err: &mut E) -> io::Result<()> {
     match cause {
         NoValue::Missing(input) => writeln!(
             err,
@@ -70,9 +59,7 @@ fn explain_equation<E: Write>(cause: &NoValue, err: &mut E) -> io::Result<()>
     }
 }
 
-fn explain_fault<E: Write>(fault: Fault, err: &mut E) -> io::Result<()>
-    ensures { OnOk result (Grows (E.contents err.old) (E.contents err.new)) }
-{
+fn explain_fault<E: Write>(fault: Fault, err: &mut E) -> io::Result<()> {
     match fault {
         Fault::Host(fault) => writeln!(err, "{}", host_words(fault)),
         Fault::Input => writeln!(
