@@ -24,7 +24,7 @@ use Rattle.cwl_value.specs.Places.{job_text}
 use Rattle.cwl_value.specs.declared.value.Value.TheVariants as values
 use Rattle.cwl_value.specs.declared.place.Segment.{Segment}
 use Rattle.proc_host.specs.declared.call.Entry.{Entry}
-use Rattle.run_rules.specs.Words.{Fields}
+use Rattle.job_graph.specs.Words.{Fields}
 use Rattle.run_rules.specs.declared.outcome.Outcome.{Outcome}
 use Rattle.run_rules.specs.declared.outcome.Outcome.TheVariants as outcomes
 use Rattle.run_rules.specs.declared.outcome.Report.{Report}
@@ -36,7 +36,6 @@ use Rattle.cwl_program.specs.declared.exit.Exit.{Exit}
 use Rattle.cwl_program.specs.declared.exit.Exit.TheVariants as exits
 use Rattle.cwl_program.specs.declared.exit.Fault.{Fault}
 use Rattle.cwl_program.specs.declared.exit.Fault.TheVariants as faults
-use Rattle.run_rules.specs.RunsToday.{RunsToday}
 use Rattle.cwl_program.specs.declared.exit.Refusal.TheVariants as refusals
 use Rattle.cwl_program.specs.declared.run.Given.{Given}
 use Rattle.cwl_program.specs.declared.stop.Stop.{Stop}
@@ -79,11 +78,10 @@ IsLocated value = (bytes : List ℕ) × (base : Parts) × (read : Value) × Read
 abbrev pub IsInputs : Fields → Type 0
 IsInputs inputs = IsLocated (values.Fields inputs)
 
--- a process and inputs that are run so far
+-- an accepted process, and the inputs of some text
 pub record IsReady (given : Given) : Type 0 where
   pub process : IsAccepted given.process
   pub inputs : IsInputs given.inputs
-  pub runs : RunsToday given.process given.inputs
 
 -- ---- what is not run
 
@@ -124,9 +122,6 @@ pub data IsRunExit : Exit → Type 0 where
   no_url : IsRunExit (exits.Refused (refusals.Location NotAFileUrl))
   -- a file can't be read, or the inputs are no object
   no_input : IsRunExit (exits.Fault faults.Input)
-  -- the process is not run so far
-  not_yet : (process : Process) (inputs : Fields) → IsAccepted process → IsInputs inputs → ¬ RunsToday process inputs →
-      IsRunExit (exits.Refused refusals.Workflow)
   -- the work folder can't be made
   no_work : IsRunExit (exits.Fault faults.Work)
 

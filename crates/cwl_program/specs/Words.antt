@@ -1,7 +1,5 @@
 -- The words by which the program names what went wrong: rules of certificates, refusals and faults.
 use Rattle.std.specs.Prelude.{ℕ, List, codes}
-use Rattle.document_table.specs.Codes.{code_of as document_code}
-use Rattle.document_table.specs.declared.fault.Cause.TheVariants.{WrongClass}
 use Rattle.document_links.specs.Codes.{code_of as link_code}
 use Rattle.workflow_check.specs.Codes.{code_of as rule_code}
 use Rattle.cwl_value.specs.Codes.{code_of as value_code}
@@ -30,7 +28,6 @@ name_of (rules.Sum total worth) = codes "Sum"
 abbrev pub refusal_code : Refusal → List ℕ
 refusal_code (refusals.Document fault) = link_code fault
 refusal_code (refusals.Links fault) = rule_code fault.rule
-refusal_code refusals.Workflow = document_code WrongClass
 refusal_code (refusals.Inputs refusal) = value_code refusal
 refusal_code (refusals.Location fault) = file_code fault
 refusal_code refusals.Certificate = codes "X1"

@@ -4,7 +4,7 @@ ghost use Rattle.run_core.specs.Limits.{IsWithinLimits};
 ghost use Rattle.cwl_program.specs.Runs.{IsAccepted, IsInputs, IsReady, IsRunExit, IsStop};
 
 use crate::documents::accepted_of;
-use crate::exit::{Exit, Refusal};
+use crate::exit::Exit;
 use crate::inputs::inputs_at;
 use crate::paths::base_of;
 use crate::report::exit_of_run;
@@ -14,7 +14,7 @@ use cwl_value::Value;
 use document_links::{Docs, Process};
 use plain_data::{Items, Keyed, Text};
 use proc_host::{Reply, Scripted};
-use run_core::{Options, runs_today};
+use run_core::Options;
 use staging::Found;
 use std::alloc::{AllocError, Global};
 use std::mem;
@@ -55,7 +55,12 @@ fn on_process(alloc: Global, process: Process, path: &str) -> Result<Exit, Alloc
     ensures { IfOk result IsRunExit }
 {
     match inputs_of(alloc) {
-        Ok(inputs) => on_given(alloc, Given { process, inputs }, path),
+        Ok(inputs) => {
+            let given = Given { process, inputs };
+            let exit = in_world(alloc, &given, path);
+            mem::drop(given);
+            exit
+        }
         Err(stop) => {
             mem::drop(process);
             stopped(stop)
@@ -71,41 +76,22 @@ fn inputs_of(alloc: Global) -> Result<Keyed<Value>, Stop>
     inputs_at(alloc, INPUTS.as_bytes(), &base)
 }
 
-#[tactic(auto, using(crate::specs::Runs::not_yet))]
-fn on_given(alloc: Global, given: Given, path: &str) -> Result<Exit, AllocError>
-    requires process { IsAccepted given.process }
-    requires inputs { IsInputs given.inputs }
+fn in_world(alloc: Global, given: &Given, path: &str) -> Result<Exit, AllocError>
+    requires { IsReady given.now }
     ensures { IfOk result IsRunExit }
 {
-    if runs_today(&given.process, &given.inputs) {
-        return in_world(alloc, given, path);
-    }
-    mem::drop(given);
-    Ok(Exit::Refused(Refusal::Workflow))
+    let world = world_of(alloc, path)?;
+    ended(alloc, given, world)
 }
 
-fn in_world(alloc: Global, given: Given, path: &str) -> Result<Exit, AllocError>
-    requires { IsReady given }
-    ensures { IfOk result IsRunExit }
-{
-    match world_of(alloc, path) {
-        Ok(world) => ended(alloc, given, world),
-        Err(error) => {
-            mem::drop(given);
-            Err(error)
-        }
-    }
-}
-
-fn ended(alloc: Global, given: Given, world: World) -> Result<Exit, AllocError>
-    requires ready { IsReady given }
+fn ended(alloc: Global, given: &Given, world: World) -> Result<Exit, AllocError>
+    requires ready { IsReady given.now }
     requires limits { IsWithinLimits world.options }
     ensures { IfOk result IsRunExit }
 {
-    let Given { process, inputs } = given;
     let World { options, script } = world;
     let mut host = Scripted::new(alloc, script, 0);
-    let report = run(alloc, &mut host, process, inputs, options);
+    let report = run(alloc, &mut host, &given.process, &given.inputs, options);
     let exit = exit_of_run(alloc, &report);
     mem::drop(report);
     mem::drop(host);

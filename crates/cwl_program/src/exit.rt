@@ -5,7 +5,6 @@ ghost use Rattle.cwl_program.specs.Words.{name_of, word_of, refusal_code};
 
 use cwl_value::ValueRefusal;
 use document_links::LinkFault;
-use document_table::Cause;
 use file_values::FileFault;
 use plain_data::Text;
 use plan_checker::Broken;
@@ -34,15 +33,13 @@ pub enum Exit {
     Fault(Fault),
 }
 
-/// Why what the program was given is no document, input object or certificate, or none that is run so far.
+/// Why what the program was given is no document, input object or certificate.
 #[derive(Drop)]
 pub enum Refusal {
     /// The document, or one that it leads to, represents no process.
     Document(LinkFault),
     /// A link of the process is wrong.
     Links(LinkCheckFault),
-    /// The process is a workflow, which is not run so far.
-    Workflow,
     Inputs(ValueRefusal),
     /// A document or a file of the inputs has no path.
     Location(FileFault),
@@ -70,7 +67,6 @@ impl Refusal {
         match self {
             Refusal::Document(fault) => fault.code(),
             Refusal::Links(fault) => fault.code(),
-            Refusal::Workflow => Cause::WrongClass.code(),
             Refusal::Inputs(refusal) => refusal.code(),
             Refusal::Location(fault) => fault.code(),
             Refusal::Certificate => "X1",

@@ -4,7 +4,7 @@ ghost use Rattle.run_core.specs.Limits.{IsWithinLimits};
 ghost use Rattle.cwl_program.specs.Runs.{IsAccepted, IsInputs, IsReady, IsRunExit, IsStop};
 
 use crate::documents::accepted_of;
-use crate::exit::{Exit, Fault, Refusal};
+use crate::exit::{Exit, Fault};
 use crate::inputs::inputs_at;
 use crate::paths::{base_of, from_root};
 use crate::report::exit_of_run;
@@ -15,7 +15,7 @@ use cwl_value::Value;
 use document_links::Process;
 use plain_data::{Keyed, Text};
 use process_machine::{Machine, World};
-use run_core::{Options, runs_today};
+use run_core::Options;
 use std::alloc::{AllocError, Global};
 use std::process::Stdio;
 use std::rt::Env;
@@ -34,7 +34,7 @@ struct Call<'a> {
     path: &'a str,
 }
 
-/// What is run.
+/// What is run: an accepted process, and its input object.
 #[derive(Drop)]
 pub struct Given {
     pub process: Process,
@@ -133,7 +133,12 @@ where
     ensures { IfOk result IsRunExit }
 {
     match inputs_of(rt, call) {
-        Ok(inputs) => on_given(rt, Given { process, inputs }, call),
+        Ok(inputs) => {
+            let given = Given { process, inputs };
+            let exit = in_places(rt, &given, call);
+            mem::drop(given);
+            exit
+        }
         Err(stop) => {
             mem::drop(process);
             stopped(stop)
@@ -161,28 +166,12 @@ fn inputs_bytes<R: World>(rt: &R, words: &RunWords) -> Result<Vec<u8>, Stop>
     }
 }
 
-// The one place that says which processes are run so far.
-#[tactic(auto, using(crate::specs::Runs::not_yet))]
-fn on_given<R: World>(rt: &R, given: Given, call: &Call<'_>) -> Result<Exit, AllocError>
-where
-    R::File: Into<Stdio>,
-    requires process { IsAccepted given.process }
-    requires inputs { IsInputs given.inputs }
-    ensures { IfOk result IsRunExit }
-{
-    if runs_today(&given.process, &given.inputs) {
-        return in_places(rt, given, call);
-    }
-    mem::drop(given);
-    Ok(Exit::Refused(Refusal::Workflow))
-}
-
 /// Makes the work folder, runs, and removes the folder where that is possible.
 #[tactic(auto, using(crate::specs::Runs::no_work))]
-fn in_places<R: World>(rt: &R, given: Given, call: &Call<'_>) -> Result<Exit, AllocError>
+fn in_places<R: World>(rt: &R, given: &Given, call: &Call<'_>) -> Result<Exit, AllocError>
 where
     R::File: Into<Stdio>,
-    requires { IsReady given }
+    requires { IsReady given.now }
     ensures { IfOk result IsRunExit }
 {
     match places_of(rt, call) {
@@ -192,10 +181,7 @@ where
             mem::drop(places);
             exit
         }
-        Err(_) => {
-            mem::drop(given);
-            Ok(Exit::Fault(Fault::Work))
-        }
+        Err(_) => Ok(Exit::Fault(Fault::Work)),
     }
 }
 
@@ -212,19 +198,14 @@ fn places_from(alloc: Global, call: &Call<'_>) -> Result<Places, AllocError> {
     Ok(Places { work, outdir })
 }
 
-fn in_work<R: World>(rt: &R, given: Given, places: &Places, path: &str) -> Result<Exit, AllocError>
+fn in_work<R: World>(rt: &R, given: &Given, places: &Places, path: &str) -> Result<Exit, AllocError>
 where
     R::File: Into<Stdio>,
-    requires { IsReady given }
+    requires { IsReady given.now }
     ensures { IfOk result IsRunExit }
 {
-    match options_of(rt.alloc(), places, path) {
-        Ok(options) => with_options(rt, given, options, places),
-        Err(error) => {
-            mem::drop(given);
-            Err(error)
-        }
-    }
+    let options = options_of(rt.alloc(), places, path)?;
+    with_options(rt, given, options, places)
 }
 
 fn options_of(alloc: Global, places: &Places, path: &str) -> Result<Options, AllocError>
@@ -244,20 +225,19 @@ fn options_of(alloc: Global, places: &Places, path: &str) -> Result<Options, All
 
 fn with_options<R: World>(
     rt: &R,
-    given: Given,
+    given: &Given,
     options: Options,
     places: &Places,
 ) -> Result<Exit, AllocError>
 where
     R::File: Into<Stdio>,
-    requires ready { IsReady given }
+    requires ready { IsReady given.now }
     requires limits { IsWithinLimits options }
     ensures { IfOk result IsRunExit }
 {
     match machine_of(rt, places) {
         Ok(host) => ended(rt.alloc(), host, given, options),
         Err(error) => {
-            mem::drop(given);
             mem::drop(options);
             Err(error)
         }
@@ -281,18 +261,17 @@ fn machine_at<R: World>(rt: R, places: Places) -> Machine<R>
 fn ended<R: World>(
     alloc: Global,
     mut host: Machine<R>,
-    given: Given,
+    given: &Given,
     options: Options,
 ) -> Result<Exit, AllocError>
 where
     R::File: Into<Stdio>,
     requires idle { host.running ≡ [] }
-    requires ready { IsReady given }
+    requires ready { IsReady given.now }
     requires limits { IsWithinLimits options }
     ensures { IfOk result IsRunExit }
 {
-    let Given { process, inputs } = given;
-    let report = run(alloc, &mut host, process, inputs, options);
+    let report = run(alloc, &mut host, &given.process, &given.inputs, options);
     let exit = exit_of_run(alloc, &report);
     mem::drop(report);
     mem::drop(host);

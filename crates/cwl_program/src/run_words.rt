@@ -52,7 +52,7 @@ fn folders_command<'a>(alloc: Global) -> Result<Command<'a>, Error>
 {
     let work = named(alloc, "work", "DIR", WORK_HELP);
     let command = Command::new(alloc, "run")
-        .about("Runs a tool and prints its output object")
+        .about("Runs a process and prints its output object")
         .arg(work)?;
     let outdir = named(alloc, "outdir", "DIR", OUTDIR_HELP);
     let command = command.arg(outdir)?;
@@ -65,7 +65,12 @@ fn document_command<'a>(alloc: Global) -> Result<Command<'a>, Error>
     ensures local { IfOk result IsLocal }
     ensures err { IfErr result (λ e. kind_of e ≡ ErrorKind.OutOfMemory) }
 {
-    let document = placed(alloc, "DOCUMENT", true, "The tool's document, in JSON");
+    let document = placed(
+        alloc,
+        "DOCUMENT",
+        true,
+        "The document of the process, in JSON",
+    );
     let command = folders_command(alloc)?.arg(document)?;
     Ok(command)
 }

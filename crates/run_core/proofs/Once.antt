@@ -4,7 +4,7 @@ use Rattle.std.specs.List.{list_any}
 use Rattle.std.proofs.lemmas.Cmp.{nat_list_eq_equiv}
 use Rattle.std.proofs.lemmas.List.Folds.{list_any-append}
 use Rattle.input_files.specs.Paths.{with_new, each_once}
-use Rattle.run_rules.specs.Words.{Name}
+use Rattle.job_graph.specs.Words.{Name}
 
 -- no name stands twice
 abbrev pub Once : List Name → Type 0

@@ -2,7 +2,7 @@
 use Rattle.std.proofs.Common.{◌≡◌, ◌∙◌, ℕ, ◌+◌, ◌<◌, ◌^◌, List, [], ◌∷◌, ◌++◌, length, reverse, refl, sym, ap, arith, length-append, codes}
 use Rattle.std.proofs.lemmas.List.{reverse-append, reverse-reverse}
 use Rattle.plain_data.specs.ByName.{with_value}
-use Rattle.run_rules.specs.Words.{Name}
+use Rattle.job_graph.specs.Words.{Name}
 use Rattle.run_core.specs.inner.Turns.{PutsNext, no_turn, its_turn}
 
 -- a list of one at least is not empty

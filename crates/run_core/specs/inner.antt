@@ -1,6 +1,15 @@
-pub mod Lone
-pub mod Machine
+pub mod Anyway
+pub mod Attempts
+pub mod Course
+pub mod Due
+pub mod Follows
+pub mod Keeps
+pub mod Knows
 pub mod Measured
+pub mod Measures
+pub mod Parts
+pub mod Picks
 pub mod Places
 pub mod Standing
+pub mod Turn
 pub mod Turns

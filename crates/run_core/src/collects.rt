@@ -1,42 +1,57 @@
-//! What the machine waits for once the job's output folder is listed.
-ghost use Rattle.std.specs.Prelude.{◌≡◌, [], true, unwrap_or, IfOk, OnOk};
-ghost use Rattle.run_core.specs.inner.Machine.{AreLeft, Delivers, DeliversFiles, Gathers, IsFirst, Lists, ReadsOn, TakesHead, delivered_in, ends, head_of, kept_in, outputs_made, reading_in, result_of};
-ghost use Rattle.run_core.specs.inner.Places.{left_place};
+//! What comes of a job once its child has ended well, until its outputs are collected.
+ghost use Rattle.std.specs.Prelude.{◌≡◌, [], unwrap_or, IfOk, OnOk, reverse};
+ghost use Rattle.collected_outputs.specs.HeadsWanted.{AreHeadsWanted, limit_of};
+ghost use Rattle.collected_outputs.specs.Listing.{listing_of};
+ghost use Rattle.proc_host.specs.declared.call.HostRequest.{HostRequest as Call};
+ghost use Rattle.run_core.specs.inner.Due.{Collects, CollectsFirst, CollectsPast, Gathers, Scans};
 ghost use Rattle.run_core.specs.inner.Turns.{PutsNext};
-ghost use Rattle.run_rules.specs.Delivered.{any_file, located};
-ghost use Rattle.run_rules.specs.Made.{fields_moved};
-ghost use Rattle.run_rules.specs.Reports.{reported};
-ghost use Rattle.staging.specs.Plan.{IsPlan};
+ghost use Rattle.run_rules.specs.Folders.{out_folder};
+ghost use Rattle.staging.specs.Groups.{path_in as path_under};
 
+use crate::Cause;
 use crate::folders::{out_folder, path_in};
-use crate::places::{Way, moved_fields};
-use crate::results::{Outputs, outputs_made};
-use crate::state::{
-    Kept, Lone, Phase, Reading, State, ended, failed_for_good, kept_in, reading_in, reported,
-    waiting,
-};
+use crate::site::Site;
+use crate::state::{JobNext, JobPhase, Kept, Reading};
+use crate::turn::failing;
 use crate::turns::{last_first, put_next};
-use crate::{Cause, Options, Outcome, Request};
 use collected_outputs::{CollectError, StreamNames, collect_outputs, head_limit, heads_wanted};
-use cwl_value::Value;
 use plain_data::{Items, Keyed, Text};
 use proc_host::HostRequest;
-use staging::{Found, StagePlan, deliver_plan, listing_in};
+use staging::{Found, listing_in};
 use std::alloc::{AllocError, Global};
 use std::mem;
+
+/// The output folder is listed next.
+pub(crate) fn scanning(
+    alloc: Global,
+    site: Site<'_, '_>,
+    kept: Kept,
+    millis: u64,
+) -> Result<JobNext, AllocError>
+    ensures { IfOk result (Scans site.entry kept millis) }
+{
+    match out_folder(alloc, &site.options.work, site.folder) {
+        Ok(folder) => {
+            Ok(JobNext::Asks(HostRequest::Scan(folder), JobPhase::Scanning(kept, millis)))
+        }
+        Err(error) => {
+            mem::drop(kept);
+            Err(error)
+        }
+    }
+}
 
 /// The output folder is listed: the first bytes of the files that need it are read, and then the outputs are collected.
 pub(crate) fn listed(
     alloc: Global,
-    lone: &Lone,
-    phase: &mut Phase,
+    site: Site<'_, '_>,
+    kept: Kept,
     found: &Items<Found>,
-) -> Result<State, AllocError>
-    ensures { IfOk result (λ state. Lists lone.now (kept_in phase.old) found.now state) }
+) -> Result<JobNext, AllocError>
+    ensures { IfOk result (CollectsFirst site.entry kept found.now) }
 {
-    let kept = kept_in(alloc, phase);
-    match first_reading(alloc, lone, &kept, found) {
-        Ok(reading) => read_on(alloc, lone, kept, reading),
+    match first_reading(alloc, site, &kept, found) {
+        Ok(reading) => read_on(alloc, site, kept, reading),
         Err(error) => {
             mem::drop(kept);
             Err(error)
@@ -47,14 +62,16 @@ pub(crate) fn listed(
 /// What is read before any first bytes are.
 fn first_reading(
     alloc: Global,
-    lone: &Lone,
+    site: Site<'_, '_>,
     kept: &Kept,
     found: &Items<Found>,
 ) -> Result<Reading, AllocError>
-    ensures { IfOk result (IsFirst lone.now kept.now found.now) }
+    ensures found { IfOk result (λ reading. reading.found ≡ found.now) }
+    ensures left { IfOk result (λ reading. AreHeadsWanted (listing_of found.now) kept.now.inputs site.entry.tool.now.outputs (reverse reading.left)) }
+    ensures heads { IfOk result (λ reading. reading.heads ≡ []) }
 {
     Ok(Reading {
-        left: names_left(alloc, lone, kept, found.as_slice())?,
+        left: names_left(alloc, site, kept, found.as_slice())?,
         found: listing_in(alloc, found)?,
         heads: Keyed::new(alloc),
     })
@@ -63,13 +80,13 @@ fn first_reading(
 /// The names of the files whose first bytes are read, the first of them last.
 fn names_left(
     alloc: Global,
-    lone: &Lone,
+    site: Site<'_, '_>,
     kept: &Kept,
     found: &[Found],
 ) -> Result<Items<Text>, AllocError>
-    ensures { IfOk result (AreLeft lone.now kept.now found.now) }
+    ensures { IfOk result (λ left. AreHeadsWanted (listing_of found.now) kept.now.inputs site.entry.tool.now.outputs (reverse left)) }
 {
-    match heads_wanted(alloc, &lone.tool, &kept.inputs, found) {
+    match heads_wanted(alloc, site.tool, &kept.inputs, found) {
         Ok(wanted) => Ok(last_first(wanted)),
         Err(_) => Err(AllocError),
     }
@@ -78,15 +95,15 @@ fn names_left(
 /// The first bytes of a file are read.
 pub(crate) fn read(
     alloc: Global,
-    lone: &Lone,
-    phase: &mut Phase,
+    site: Site<'_, '_>,
+    kept: Kept,
+    mut reading: Reading,
     bytes: &Items<u8>,
-) -> Result<State, AllocError>
-    ensures { IfOk result (λ state. TakesHead lone.now (kept_in phase.old) (reading_in phase.old) bytes.now state) }
+) -> Result<JobNext, AllocError>
+    ensures { IfOk result (CollectsPast site.entry kept reading bytes.now) }
 {
-    let mut reading = reading_in(alloc, phase);
     put_head(alloc, &mut reading, bytes)?;
-    read_on(alloc, lone, kept_in(alloc, phase), reading)
+    read_on(alloc, site, kept, reading)
 }
 
 /// Puts the first bytes of the file whose turn it is under its name.
@@ -99,28 +116,32 @@ fn put_head(alloc: Global, reading: &mut Reading, bytes: &Items<u8>) -> Result<(
 }
 
 /// The next file's first bytes are read; where all are, the outputs are collected.
-fn read_on(alloc: Global, lone: &Lone, kept: Kept, reading: Reading) -> Result<State, AllocError>
-    ensures { IfOk result (λ state. ReadsOn lone.now kept reading state) }
+fn read_on(
+    alloc: Global,
+    site: Site<'_, '_>,
+    kept: Kept,
+    reading: Reading,
+) -> Result<JobNext, AllocError>
+    ensures { IfOk result (Collects site.entry kept reading.found reading.heads (reverse reading.left)) }
 {
+    // That a list has fewer items than 2^64 is a fact of its type.
+    let _few = reading.left.len();
     match reading.left.as_slice() {
-        [] => gathered_from(alloc, lone, kept, reading),
+        [] => gathered_from(alloc, site, kept, reading),
         [.., name] => {
-            let asks = head_of(alloc, &lone.options.work, name)?;
-            Ok(waiting(alloc, asks, Phase::Reading(kept, reading)))
+            let asks = head_of(alloc, site, name)?;
+            Ok(JobNext::Asks(asks, JobPhase::Reading(kept, reading)))
         }
     }
 }
 
 /// Asks for the first bytes of a file of the output folder.
-fn head_of(alloc: Global, work: &Text, name: &Text) -> Result<Request, AllocError>
-    ensures { IfOk result (λ asks. asks ≡ head_of work.now name.now) }
+fn head_of(alloc: Global, site: Site<'_, '_>, name: &Text) -> Result<HostRequest, AllocError>
+    ensures { IfOk result (λ asks. asks ≡ Call.Head (path_under (out_folder site.entry.options.now.work site.entry.folder) name.now) (limit_of name.now)) }
 {
-    let folder = out_folder(alloc, work, 1)?;
+    let folder = out_folder(alloc, &site.options.work, site.folder)?;
     let path = path_in(alloc, &folder, name)?;
-    Ok(Request::Host(
-        Items::new(alloc),
-        HostRequest::Head(path, head_limit(name.as_str())),
-    ))
+    Ok(HostRequest::Head(path, head_limit(name.as_str())))
 }
 
 fn name_or_empty(name: &Option<Text>) -> &str
@@ -134,18 +155,23 @@ fn name_or_empty(name: &Option<Text>) -> &str
 
 fn gathered_from(
     alloc: Global,
-    lone: &Lone,
+    site: Site<'_, '_>,
     kept: Kept,
     reading: Reading,
-) -> Result<State, AllocError>
-    ensures { IfOk result (λ state. Gathers lone.now kept reading.found reading.heads state) }
+) -> Result<JobNext, AllocError>
+    ensures { IfOk result (Gathers site.entry kept reading.found reading.heads) }
 {
-    gathered(alloc, lone, &kept, &reading)
+    gathered(alloc, site, &kept, &reading)
 }
 
-/// The outputs are collected and delivered, or there is a cause why there are none.
-fn gathered(alloc: Global, lone: &Lone, kept: &Kept, reading: &Reading) -> Result<State, AllocError>
-    ensures { IfOk result (λ state. Gathers lone.now kept.now reading.now.found reading.now.heads state) }
+/// The outputs are collected, or there is a cause why there are none.
+fn gathered(
+    alloc: Global,
+    site: Site<'_, '_>,
+    kept: &Kept,
+    reading: &Reading,
+) -> Result<JobNext, AllocError>
+    ensures { IfOk result (Gathers site.entry kept.now reading.now.found reading.now.heads) }
 {
     let streams = StreamNames {
         stdout: name_or_empty(&kept.stdout),
@@ -154,74 +180,14 @@ fn gathered(alloc: Global, lone: &Lone, kept: &Kept, reading: &Reading) -> Resul
     let found = reading.found.as_slice();
     match collect_outputs(
         alloc,
-        &lone.tool,
+        site.tool,
         &kept.inputs,
         streams,
         found,
         &reading.heads,
     ) {
-        Ok(named) => delivered(alloc, lone, named),
-        Err(CollectError::Refused(fault)) => Ok(failed_for_good(alloc, Cause::Collect(fault))),
+        Ok(outputs) => Ok(JobNext::Gives(outputs)),
+        Err(CollectError::Refused(fault)) => Ok(failing(Cause::Collect(fault))),
         Err(CollectError::OutOfMemory) => Err(AllocError),
     }
-}
-
-/// The result's files are to be copied to their targets, where it has some.
-fn delivered(alloc: Global, lone: &Lone, named: Keyed<Value>) -> Result<State, AllocError>
-    ensures { IfOk result (λ state. Delivers lone.now named state) }
-{
-    let outputs = result_of(alloc, lone, named)?;
-    if outputs.has_file {
-        return delivering(alloc, &lone.options, outputs.values);
-    }
-    let located = located(alloc, outputs.values)?;
-    Ok(ended(alloc, reported(alloc, Outcome::Success(located))))
-}
-
-/// The result: each output of the tool with its value, as the job made it.
-fn result_of(alloc: Global, lone: &Lone, named: Keyed<Value>) -> Result<Outputs, AllocError>
-    ensures values { IfOk result (λ outputs. outputs.values ≡ result_of lone.now named) }
-    ensures has_file { IfOk result (λ outputs. outputs.has_file ≡ any_file (outputs_made lone.now.tool.outputs named)) }
-{
-    outputs_made(alloc, lone.tool.outputs.as_slice(), &named)
-}
-
-/// The output object, each file at its location.
-fn located(alloc: Global, values: Keyed<Value>) -> Result<Value, AllocError>
-    ensures { IfOk result (λ value. value ≡ located values) }
-{
-    Ok(Value::Fields(moved_fields(alloc, Way::Located, &values)?))
-}
-
-/// The files are to be copied.
-fn delivering(alloc: Global, options: &Options, outputs: Keyed<Value>) -> Result<State, AllocError>
-    ensures { IfOk result (λ state. DeliversFiles options.now outputs state) }
-{
-    let plan = plan_of(alloc, options, outputs)?;
-    let located = Value::Fields(moved_fields(alloc, Way::Located, &plan.value)?);
-    Ok(waiting(
-        alloc,
-        Request::Host(Items::new(alloc), HostRequest::Deliver(plan)),
-        Phase::Delivering(located),
-    ))
-}
-
-/// Where the result's files are put.
-fn plan_of(alloc: Global, options: &Options, outputs: Keyed<Value>) -> Result<StagePlan, AllocError>
-    ensures { IfOk result (IsPlan true options.now.outdir (fields_moved (left_place options.now.work) outputs)) }
-{
-    let files = moved_fields(alloc, Way::Left(&options.work), &outputs);
-    mem::drop(outputs);
-    deliver_plan(alloc, &files?, options.outdir.as_str())
-}
-
-/// The result's files are where they are wanted: the outputs that name them are the end.
-pub(crate) fn placed(alloc: Global, phase: &mut Phase) -> State
-    ensures { result ≡ ends (reported (Outcome.Success (delivered_in phase.old))) }
-{
-    let outputs = match phase {
-        Phase::Delivering(outputs) => mem::replace(outputs, Value::Null),
-        _ => Value::Null,
-    };
-    ended(alloc, reported(alloc, Outcome::Success(outputs)))
 }

@@ -1,29 +1,37 @@
 //! Values whose files stand elsewhere.
-ghost use Rattle.std.specs.Prelude.{◌≡◌, [], IfOk, map};
+ghost use Rattle.std.specs.Prelude.{◌≡◌, IfOk, map};
 ghost use Rattle.run_rules.specs.Delivered.{location_place, made_path};
-ghost use Rattle.run_rules.specs.Made.{value_moved, fields_moved, made_place};
-ghost use Rattle.run_core.specs.inner.Places.{file_elsewhere, dir_elsewhere, file_with, left_place, number_of, place_by};
+ghost use Rattle.job_graph.specs.Made.{value_moved, fields_moved};
+ghost use Rattle.run_core.specs.inner.Places.{file_elsewhere, dir_elsewhere, file_with, left_place, number_at_source, place_by};
 
 use crate::folders::{out_folder, path_in};
+use crate::state::JobState;
 use cwl_value::{DirVal, FileVal, JobPlace, Place, Value};
 use file_values::path_to_location;
+use job_graph::{KnownJob, is_same_place};
 use plain_data::{Items, Keyed, Text};
 use std::alloc::{AllocError, Global};
 
+/// Where the files of jobs are: below the work folder, in the folders of the job that made them.
+#[derive(Clone, Copy, Drop)]
+pub(crate) struct Sources<'s, 'a> {
+    pub work: &'s Text,
+    pub known: &'s [KnownJob<'a>],
+    pub jobs: &'s [JobState],
+}
+
 /// Where files go.
 #[derive(Clone, Copy, Drop)]
-pub(crate) enum Way<'a> {
-    /// From their names in the output folder to the lone job that made them.
-    Made,
-    /// From the job that made them to their paths, below this work folder.
-    Left(&'a Text),
+pub(crate) enum Way<'s, 'a> {
+    /// From the job that made them to their paths.
+    Left(Sources<'s, 'a>),
     /// From paths to locations.
     Located,
 }
 
 /// The value with each File and Directory in it at another place.
 #[cycle(moving)]
-pub(crate) fn moved(alloc: Global, way: Way<'_>, value: &Value) -> Result<Value, AllocError>
+pub(crate) fn moved(alloc: Global, way: Way<'_, '_>, value: &Value) -> Result<Value, AllocError>
     ensures { IfOk result (λ found. found ≡ value_moved (place_by way.entry) value.now) }
 {
     match value {
@@ -36,7 +44,7 @@ pub(crate) fn moved(alloc: Global, way: Way<'_>, value: &Value) -> Result<Value,
 }
 
 #[cycle(moving)]
-fn moved_file(alloc: Global, way: Way<'_>, file: &FileVal) -> Result<FileVal, AllocError>
+fn moved_file(alloc: Global, way: Way<'_, '_>, file: &FileVal) -> Result<FileVal, AllocError>
     ensures { IfOk result (λ found. found ≡ file_elsewhere (place_by way.entry) file.now) }
 {
     let secondary = moved_items(alloc, way, &file.secondary)?;
@@ -45,7 +53,7 @@ fn moved_file(alloc: Global, way: Way<'_>, file: &FileVal) -> Result<FileVal, Al
 }
 
 #[cycle(moving)]
-fn moved_dir(alloc: Global, way: Way<'_>, dir: &DirVal) -> Result<DirVal, AllocError>
+fn moved_dir(alloc: Global, way: Way<'_, '_>, dir: &DirVal) -> Result<DirVal, AllocError>
     ensures { IfOk result (λ found. found ≡ dir_elsewhere (place_by way.entry) dir.now) }
 {
     let basename = copy_if_any(alloc, &dir.basename)?;
@@ -64,7 +72,7 @@ fn moved_dir(alloc: Global, way: Way<'_>, dir: &DirVal) -> Result<DirVal, AllocE
 #[cycle(moving)]
 fn moved_items(
     alloc: Global,
-    way: Way<'_>,
+    way: Way<'_, '_>,
     items: &Items<Value>,
 ) -> Result<Items<Value>, AllocError>
     ensures { IfOk result (λ found. found ≡ map (value_moved (place_by way.entry)) items.now) }
@@ -80,7 +88,7 @@ fn moved_items(
 #[cycle(moving)]
 pub(crate) fn moved_fields(
     alloc: Global,
-    way: Way<'_>,
+    way: Way<'_, '_>,
     fields: &Keyed<Value>,
 ) -> Result<Keyed<Value>, AllocError>
     ensures { IfOk result (λ found. found ≡ fields_moved (place_by way.entry) fields.now) }
@@ -124,44 +132,38 @@ fn copy_if_any(alloc: Global, text: &Option<Text>) -> Result<Option<Text>, Alloc
     }
 }
 
-fn moved_place(alloc: Global, way: Way<'_>, place: &Place) -> Result<Place, AllocError>
+fn moved_place(alloc: Global, way: Way<'_, '_>, place: &Place) -> Result<Place, AllocError>
     ensures { IfOk result (λ found. found ≡ place_by way.entry place.now) }
 {
     match way {
-        Way::Made => made_place(alloc, place),
-        Way::Left(work) => left_place(alloc, work, place),
+        Way::Left(sources) => left_place(alloc, sources, place),
         Way::Located => located_place(alloc, place),
     }
 }
 
-/// A name in the output folder becomes the lone job's.
-fn made_place(alloc: Global, place: &Place) -> Result<Place, AllocError>
-    ensures { IfOk result (λ found. found ≡ made_place [] place.now) }
-{
-    match place {
-        Place::Url(name) => Ok(Place::Made(Items::new(alloc), name.copied(alloc)?)),
-        _ => place.clone_in(alloc),
-    }
-}
-
 /// What a job made becomes its path.
-fn left_place(alloc: Global, work: &Text, place: &Place) -> Result<Place, AllocError>
-    ensures { IfOk result (λ found. found ≡ left_place work.now place.now) }
+fn left_place(alloc: Global, sources: Sources<'_, '_>, place: &Place) -> Result<Place, AllocError>
+    ensures { IfOk result (λ found. found ≡ left_place sources.entry place.now) }
 {
     match place {
         Place::Made(job, name) => {
-            let folder = out_folder(alloc, work, number_of(job))?;
+            let folder = out_folder(alloc, sources.work, number_in(sources, job))?;
             Ok(Place::Path(path_below(alloc, &folder, name)?))
         }
         _ => place.clone_in(alloc),
     }
 }
 
-/// The number of the folders of a job: the lone one has the first.
-fn number_of(job: &JobPlace) -> u64
-    ensures { result ≡ number_of job.now }
+/// The number of the folders of the job at a place; 0 where it was never staged.
+fn number_in(sources: Sources<'_, '_>, place: &JobPlace) -> u64
+    ensures { result ≡ number_at_source sources.entry place.now }
 {
-    if job.as_slice().is_empty() { 1 } else { 0 }
+    for (known, job) in sources.known.iter().zip(sources.jobs) {
+        if is_same_place(known.job.place.as_slice(), place.as_slice()) {
+            return job.folder;
+        }
+    }
+    0
 }
 
 /// The path of what has this name below a folder; `.` is the folder itself.

@@ -1,28 +1,33 @@
-ghost use Rattle.std.specs.Prelude.{◌≡◌, ◌≢◌, ◌↔◌, ◌+◌, ◌<◌, ◌≤◌, ◌∷◌, ◌++◌, [], Err, IfOk, IfErr, OnOk, vec_len, vec_capacity, bytes_eq};
-ghost use Rattle.std.specs.List.{IsDistinct};
-ghost use Rattle.std.specs.Map.{keys_of};
-ghost use Rattle.run_rules.specs.declared.outcome.RunFault.{RunFault};
+ghost use Rattle.std.specs.Prelude.{◌≡◌, ◌≢◌, ◌↔◌, ◌+◌, ◌<◌, ◌≤◌, ◌∷◌, ◌++◌, [], None, Err, IfOk, IfErr, OnOk, length, vec_len, vec_capacity};
 ghost use Rattle.proc_host.specs.declared.call.HostRequest.{HostRequest};
+ghost use Rattle.run_rules.specs.declared.outcome.RunFault.{RunFault};
 ghost use Rattle.run_rules.specs.declared.request.Request.{Request};
+ghost use Rattle.run_rules.specs.Answers.{MayAnswer, flying_after};
+ghost use Rattle.run_rules.specs.Blame.{BlamesRightly};
+ghost use Rattle.run_rules.specs.Reports.{entries_of, Concludes};
+ghost use Rattle.job_graph.specs.Words.{JobPlace};
 ghost use Rattle.run_core.specs.declared.state.Phase.{Phase};
 ghost use Rattle.run_core.specs.Core.{setting_of, transcript, asked, flying, IsLost, IsEnded, Stands, MayAsk, Begins, Took};
-ghost use Rattle.run_core.specs.inner.Lone.{IsTool};
-ghost use Rattle.run_core.specs.inner.Machine.{AsksIn, HasRoom, MakesRoom, Moves, Begins as BeginsAt, pairs_wanted, told_of};
-ghost use Rattle.run_rules.specs.Answers.{MayAnswer};
-ghost use Rattle.run_rules.specs.Blame.{BlamesRightly};
-ghost use Rattle.run_rules.specs.RunsToday.{RunsToday};
 ghost use Rattle.run_core.specs.Limits.{IsWithinLimits};
-ghost use Rattle.run_rules.specs.Words.{JobPlace};
-ghost use Rattle.run_rules.specs.Reports.{entries_of, Concludes};
+ghost use Rattle.run_core.specs.inner.Course.{past_of};
+ghost use Rattle.run_core.specs.inner.Follows.{AsksIn, HasPairs, IsReadyFor, MakesRoom, Moves, told_of};
+ghost use Rattle.run_core.specs.inner.Measures.{Begins as BeginsAt};
+ghost use Rattle.run_core.specs.inner.Standing.{HasRoom};
+ghost use Rattle.workflow_check.specs.Checked.{fault_in};
 
-use crate::starts::begun;
-use crate::state::{Lone, Phase, State, ended};
-use crate::steps::{can_go_on, follows};
+use crate::anyway::can_go_on;
+use crate::course::{at_first, reserve_one};
+use crate::measuring::begun;
+use crate::parts::job_in;
+use crate::state::{Course, Given, Phase, Turn};
+use crate::steps::follows;
+use crate::turn::{ended, lost};
 use crate::{Answer, Options, Pair, Report, Request, RunFault};
-use cwl_process::Tool;
 use cwl_value::Value;
 use document_links::Process;
+use job_graph::see_ids;
 use plain_data::Keyed;
+use run_rules::an_honest_run_is_reported_rightly;
 use std::alloc::{AllocError, Global};
 use std::mem;
 
@@ -30,37 +35,47 @@ use std::mem;
 ///
 /// It touches nothing but memory. For every sequence of answers, what it asked and was answered is a run of the process.
 #[derive(Drop)]
-pub struct RunCore {
+pub struct RunCore<'a> {
     alloc: Global,
-    lone: Lone,
+    given: Given<'a>,
     pairs: Vec<Pair>,
-    state: State,
+    course: Course<'a>,
+    turn: Turn,
 }
 
-impl RunCore {
-    /// A run of a process on an input object, where it is one that is run so far (`runs_today`).
+impl<'a> RunCore<'a> {
+    /// A run of a process on an input object.
     pub fn new(
         alloc: Global,
-        process: Process,
-        inputs: Keyed<Value>,
+        process: &'a Process,
+        inputs: &'a Keyed<Value>,
         options: Options,
-    ) -> Result<RunCore, RunFault>
-        requires runs { RunsToday process inputs }
+    ) -> Result<RunCore<'a>, RunFault>
+        requires accepted { fault_in process.now ≡ None }
         requires limits { IsWithinLimits options }
-        ensures ok { IfOk result (λ core. Begins process inputs options core) }
+        ensures ok { IfOk result (λ core. Begins process.now inputs.now options core) }
         ensures err { IfErr result (λ fault. fault ≡ RunFault.OutOfMemory) }
     {
+        see_ids(process);
         let mut core = RunCore {
             alloc,
-            lone: Lone {
-                tool: tool_in(process),
+            given: Given {
+                process,
                 inputs,
                 options,
             },
             pairs: Vec::new(alloc),
-            state: ended(alloc, Err(RunFault::OutOfMemory)),
+            course: at_first(alloc),
+            turn: ended(Err(RunFault::OutOfMemory)),
         };
-        match start(alloc, &core.lone, &mut core.pairs, &mut core.state) {
+        let machine = &mut core;
+        match start(
+            alloc,
+            &machine.given,
+            &mut machine.pairs,
+            &mut machine.course,
+            &mut machine.turn,
+        ) {
             Ok(()) => Ok(core),
             Err(AllocError) => {
                 mem::drop(core);
@@ -76,39 +91,52 @@ impl RunCore {
         ensures flying { (place : JobPlace) → asked self.now ≡ Request.Host place HostRequest.Collect → flying self.now ≢ [] }
         ensures allowed { asked self.now ≢ Request.Finished → MayAsk self.now }
     {
-        &self.state.asks
+        &self.turn.asks
     }
 
     /// The tickets of the children in flight, while it asks something.
     pub fn in_flight(&self) -> &[u64]
         ensures { result.now ≡ flying self.now }
     {
-        self.state.flying.as_slice()
+        self.course.tickets.as_slice()
     }
 
-    /// Takes the answer to what it asks. Where memory runs out for what comes next, the pair is kept, it asks
-    /// nothing more, and `finish` says so too. That comes only where no child is in flight.
+    /// Takes the answer to what it asks. Where memory runs out for what comes next, the pair is kept, the children in
+    /// flight are waited for, and nothing else is asked; once none is in flight it answers so, and `finish` says so too.
     pub fn take(&mut self, answer: Answer) -> Result<(), RunFault>
         requires stands { Stands self.old }
         requires answers { MayAnswer (flying self.old) (asked self.old) answer }
         ensures { Took self.old answer result self.new }
     {
-        let request = step(self.alloc, &self.lone, &mut self.state, &answer);
+        can_go_on(&self.course, job_in(&self.turn.phase));
+        let request = step(
+            self.alloc,
+            &self.given,
+            &mut self.course,
+            &mut self.turn,
+            &answer,
+        );
         note(&mut self.pairs, request, answer);
-        make_room(self.alloc, &mut self.pairs, &mut self.state);
-        told_of(&self.state.phase)
+        make_room(
+            self.alloc,
+            &mut self.pairs,
+            &mut self.course,
+            &mut self.turn,
+        );
+        told_of(&self.turn.phase)
     }
 
     /// What came of the run, where it has ended.
     pub fn finish(self) -> Result<Report, RunFault>
         requires stands { Stands self }
         requires finished { asked self ≡ Request.Finished }
-        ensures concluded { Concludes (setting_of self) (transcript self) result }
-        ensures faults { IfErr result (BlamesRightly (entries_of (transcript self))) }
-        ensures lost { (result ≡ Err RunFault.OutOfMemory) ↔ IsLost self }
+        ensures concluded { Concludes (setting_of self.entry) (transcript self.entry) result }
+        ensures faults { IfErr result (BlamesRightly (entries_of (transcript self.entry))) }
+        ensures lost { (result ≡ Err RunFault.OutOfMemory) ↔ IsLost self.entry }
     {
+        an_honest_run_is_reported_rightly();
         let mut core = self;
-        let phase = mem::replace(&mut core.state.phase, Phase::Staging);
+        let phase = mem::replace(&mut core.turn.phase, Phase::Collecting);
         mem::drop(core);
         outcome_of(phase)
     }
@@ -116,7 +144,7 @@ impl RunCore {
     /// Leaves the run as it is, since memory ran out somewhere else.
     pub fn abandon(self) -> Result<Report, RunFault>
         requires { Stands self }
-        ensures concluded { Concludes (setting_of self) (transcript self) result }
+        ensures concluded { Concludes (setting_of self.entry) (transcript self.entry) result }
         ensures memory { result ≡ Err RunFault.OutOfMemory }
     {
         mem::drop(self);
@@ -124,69 +152,64 @@ impl RunCore {
     }
 }
 
-/// The tool that is run.
-fn tool_in(process: Process) -> Tool
-    requires { IsTool process }
-    ensures { process ≡ Process.Tool result }
-{
-    match process {
-        Process::Tool(tool) => tool,
-        Process::Workflow(_) => unreachable!(),
-    }
-}
-
-/// Comes to the first state, with room for one pair.
-fn start(
+/// Comes to the first state, with room for one pair and one more.
+fn start<'a>(
     alloc: Global,
-    lone: &Lone,
+    given: &Given<'a>,
     pairs: &mut Vec<Pair>,
-    state: &mut State,
+    course: &mut Course<'a>,
+    turn: &mut Turn,
 ) -> Result<(), AllocError>
+    requires { course.old.folders ≡ 0 }
     ensures items { pairs.new.items ≡ pairs.old.items }
-    ensures ids { IsDistinct bytes_eq (keys_of lone.now.tool.outputs) }
-    ensures room { OnOk result (vec_len pairs.new < vec_capacity pairs.new) }
-    ensures state { OnOk result (BeginsAt lone.now state.new) }
+    ensures room { OnOk result (vec_len pairs.new + 2 ≤ vec_capacity pairs.new) }
+    ensures begins { OnOk result (BeginsAt given.now course.old turn.new course.new) }
+    ensures one_more { OnOk result (HasRoom course.new turn.new.phase) }
 {
-    // That no two outputs have one id is a fact of their type.
-    let _outputs = lone.tool.outputs.as_slice();
-    pairs.reserve(1)?;
-    mem::drop(mem::replace(state, begun(alloc, lone)?));
-    Ok(())
+    let first = begun(alloc, given, course)?;
+    mem::drop(mem::replace(turn, first));
+    reserve(pairs, course)
 }
 
 /// Moves to the state that follows from the answer, and gives back what was asked.
-fn step(alloc: Global, lone: &Lone, state: &mut State, answer: &Answer) -> Request
-    requires answers { MayAnswer state.old.flying state.old.asks answer.now }
-    requires asks { AsksIn state.old.asks state.old.phase }
-    ensures asked { result ≡ state.old.asks }
-    ensures moved { Moves lone.now state.old answer.now state.new }
+fn step<'a>(
+    alloc: Global,
+    given: &Given<'a>,
+    course: &mut Course<'a>,
+    turn: &mut Turn,
+    answer: &Answer,
+) -> Request
+    requires answers { MayAnswer course.old.tickets.items turn.old.asks answer.now }
+    requires asks { AsksIn course.old turn.old }
+    requires room { HasRoom course.old turn.old.phase }
+    requires ready { IsReadyFor course.old turn.old.phase }
+    ensures asked { result ≡ turn.old.asks }
+    ensures moved { Moves given.now course.old turn.old answer.now turn.new course.new }
 {
-    let next = next_state(alloc, lone, state, answer);
-    let asked = mem::replace(&mut state.asks, Request::Finished);
-    mem::drop(mem::replace(state, next));
+    let next = next_turn(alloc, given, course, turn, answer);
+    let asked = mem::replace(&mut turn.asks, Request::Finished);
+    mem::drop(mem::replace(turn, next));
     asked
 }
 
-/// The state that follows from the answer, or the one that asks nothing more where memory runs out.
-fn next_state(alloc: Global, lone: &Lone, state: &mut State, answer: &Answer) -> State
-    requires answers { MayAnswer state.old.flying state.old.asks answer.now }
-    requires asks { AsksIn state.old.asks state.old.phase }
-    ensures asked { state.new.asks ≡ state.old.asks }
-    ensures moved { Moves lone.now state.old answer.now result }
+/// The turn that follows from the answer, or the one that waits for the children in flight alone where memory runs out.
+fn next_turn<'a>(
+    alloc: Global,
+    given: &Given<'a>,
+    course: &mut Course<'a>,
+    turn: &mut Turn,
+    answer: &Answer,
+) -> Turn
+    requires answers { MayAnswer course.old.tickets.items turn.old.asks answer.now }
+    requires asks { AsksIn course.old turn.old }
+    requires room { HasRoom course.old turn.old.phase }
+    requires ready { IsReadyFor course.old turn.old.phase }
+    ensures asked { turn.new.asks ≡ turn.old.asks }
+    ensures moved { Moves given.now course.old turn.old answer.now result course.new }
 {
-    match follows(
-        alloc,
-        lone,
-        &state.asks,
-        &mut state.phase,
-        &mut state.flying,
-        answer,
-    ) {
+    match follows(alloc, given, course, turn, answer) {
         Ok(next) => next,
-        Err(AllocError) => {
-            can_go_on(lone);
-            ended(alloc, Err(RunFault::OutOfMemory))
-        }
+        Err(AllocError) => lost(alloc, course),
     }
 }
 
@@ -200,39 +223,45 @@ fn note(pairs: &mut Vec<Pair>, request: Request, answer: Answer)
     pairs.push(Pair { request, answer }).unwrap();
 }
 
-/// Makes room for the pairs that come next; where there is none, nothing more is asked. Before a child is started it
-/// makes room for its end too, so that none runs where memory is refused.
-#[tactic(auto, using(crate::specs::inner::Machine::has_room, crate::specs::inner::Machine::wants_none, crate::specs::inner::Machine::no_room))]
-fn make_room(alloc: Global, pairs: &mut Vec<Pair>, state: &mut State)
-    requires { HasRoom (vec_len pairs.old) (vec_capacity pairs.old) state.old.phase }
+/// Makes room for what comes next. Where there is none, nothing but the ends of the children in flight is asked for, and
+/// they have room.
+fn make_room(alloc: Global, pairs: &mut Vec<Pair>, course: &mut Course<'_>, turn: &mut Turn)
+    requires { HasPairs (vec_len pairs.old) (vec_capacity pairs.old) (past_of course.old) turn.old }
     ensures items { pairs.new.items ≡ pairs.old.items }
-    ensures room { MakesRoom (vec_len pairs.new) (vec_capacity pairs.new) state.old state.new }
+    ensures past { past_of course.new ≡ past_of course.old }
+    ensures known { course.new.known ≡ course.old.known }
+    ensures room { MakesRoom (vec_len pairs.new) (vec_capacity pairs.new) (past_of course.old) turn.old turn.new }
+    ensures one_more { HasRoom course.new turn.new.phase }
 {
-    let more = pairs_wanted(&state.phase);
-    if more == 0 {
-        return;
+    match turn.phase {
+        Phase::Draining | Phase::Ended(_) => return,
+        _ => {}
     }
-    match pairs.reserve(more) {
+    match reserve(pairs, course) {
         Ok(()) => {}
-        Err(AllocError) => {
-            let lost = ended(alloc, Err(RunFault::OutOfMemory));
-            mem::drop(mem::replace(state, lost));
-        }
+        Err(AllocError) => mem::drop(mem::replace(turn, lost(alloc, course))),
     }
 }
 
-/// For how many pairs room is made in a phase.
-fn pairs_wanted(phase: &Phase) -> usize
-    ensures { result ≡ pairs_wanted phase.now }
+/// Makes room for one more job and one more child, and for the pairs that come next: the answer to what is asked, and the
+/// end of each child in flight. Where it fails there is still the room that there was.
+fn reserve(pairs: &mut Vec<Pair>, course: &mut Course<'_>) -> Result<(), AllocError>
+    ensures items { pairs.new.items ≡ pairs.old.items }
+    ensures len { vec_len pairs.new ≡ vec_len pairs.old }
+    ensures past { past_of course.new ≡ past_of course.old }
+    ensures known { course.new.known ≡ course.old.known }
+    ensures kept { vec_capacity pairs.old ≤ vec_capacity pairs.new }
+    ensures pairs { OnOk result (vec_len pairs.new + (length course.old.tickets.items + 2) ≤ vec_capacity pairs.new) }
+    ensures tickets { OnOk result (vec_len course.new.tickets < vec_capacity course.new.tickets) }
+    ensures flights { OnOk result (vec_len course.new.flights < vec_capacity course.new.flights) }
+    ensures jobs { OnOk result (vec_len course.new.jobs < vec_capacity course.new.jobs) }
 {
-    match phase {
-        Phase::Starting(_, _) => 2,
-        Phase::Running(_) | Phase::Ended(_) => 0,
-        _ => 1,
-    }
+    // One more, since a start is answered by one more child in flight.
+    pairs.reserve(course.tickets.len().saturating_add(2))?;
+    reserve_one(course)
 }
 
-/// What `take` answers: whether memory ran out.
+/// What `take` answers: whether memory ran out and no child is in flight.
 fn told_of(phase: &Phase) -> Result<(), RunFault>
     ensures { result ≡ told_of phase.now }
 {

@@ -1,21 +1,18 @@
-ghost use Rattle.std.specs.Prelude.{◌≡◌, Err, []};
-ghost use Rattle.run_core.specs.inner.Machine.{waits, ends, fails_for_good, filling_in, host_fails, kept_in, measuring_in, nothing_kept, nothing_read, reading_in};
-ghost use Rattle.run_rules.specs.Reports.{reported};
+//! Where a run is: what its events have brought about so far, and what it waits for.
 
-use crate::{Cause, Options, Outcome, Report, Request, RunFault};
-use cwl_process::Tool;
+use crate::{Cause, Options, Report, Request, RunFault};
 use cwl_value::Value;
+use document_links::Process;
+use job_graph::Unfolding;
 use plain_data::{Items, Keyed, Text};
-use proc_host::HostFault;
+use proc_host::HostRequest;
 use staging::{Found, Measure};
-use std::alloc::Global;
-use std::mem;
 
-/// What a run of a lone tool is of.
+/// What a run is of.
 #[derive(Drop)]
-pub(crate) struct Lone {
-    pub tool: Tool,
-    pub inputs: Keyed<Value>,
+pub(crate) struct Given<'a> {
+    pub process: &'a Process,
+    pub inputs: &'a Keyed<Value>,
     pub options: Options,
 }
 
@@ -29,17 +26,6 @@ pub(crate) struct Kept {
     pub stderr: Option<Text>,
 }
 
-/// Files of the output folder whose first bytes are read.
-#[derive(Drop)]
-pub(crate) struct Reading {
-    /// All that was found in the folder.
-    pub found: Items<Found>,
-    /// The names of the files that are still to be read; the last comes next.
-    pub left: Items<Text>,
-    /// The first bytes that were read, by name.
-    pub heads: Keyed<Items<u8>>,
-}
-
 /// Input files that are measured.
 #[derive(Drop)]
 pub(crate) struct Measuring {
@@ -49,7 +35,7 @@ pub(crate) struct Measuring {
     pub measures: Keyed<Measure>,
 }
 
-/// Input files whose contents are read.
+/// Input files of a job whose contents are read.
 #[derive(Drop)]
 pub(crate) struct Filling {
     /// The staged inputs.
@@ -60,155 +46,98 @@ pub(crate) struct Filling {
     pub heads: Keyed<Items<u8>>,
 }
 
+/// Files of a job's output folder whose first bytes are read.
+#[derive(Drop)]
+pub(crate) struct Reading {
+    /// All that was found in the folder.
+    pub found: Items<Found>,
+    /// The names of the files that are still to be read; the last comes next.
+    pub left: Items<Text>,
+    /// The first bytes that were read, by name.
+    pub heads: Keyed<Items<u8>>,
+}
+
+/// What the open work on one job waits for.
+#[derive(Drop)]
+pub(crate) enum JobPhase {
+    /// The first bytes of one of these input files.
+    Filling(Filling),
+    /// Its child's ticket.
+    Starting(Kept),
+    /// The entries of its output folder; its child ran for so many milliseconds.
+    Scanning(Kept, u64),
+    /// The first bytes of one of these output files.
+    Reading(Kept, Reading),
+}
+
+/// What becomes of a job after an answer.
+#[derive(Drop)]
+pub(crate) enum JobNext {
+    /// This is asked for it, and waited for.
+    Asks(HostRequest, JobPhase),
+    /// It gives no outputs.
+    Fails(Cause),
+    /// It gives these outputs.
+    Gives(Keyed<Value>),
+}
+
 /// What the machine waits for.
 #[derive(Drop)]
 pub(crate) enum Phase {
-    /// What stands at the path of an input file.
+    /// What is at the path of an input file.
     Measuring(Measuring),
-    /// The job's folders.
-    Staging,
-    /// The first bytes of one of these input files.
-    Filling(Filling),
-    /// Its child's ticket, for which this list of one has a place.
-    Starting(Items<u64>, Kept),
-    /// Its child's end.
-    Running(Kept),
-    /// The entries of its output folder.
-    Scanning(Kept),
-    /// The first bytes of one of these files.
-    Reading(Kept, Reading),
+    /// The folders of the job of this number.
+    Staging(usize),
+    /// The open work on the job of this number.
+    Working(usize, JobPhase),
+    /// The end of a child.
+    Collecting,
     /// The result's files at their targets, which this output object names.
     Delivering(Value),
+    /// The end of a child, after memory ran out.
+    Draining,
     /// Nothing: this is what `finish` answers.
     Ended(Result<Report, RunFault>),
 }
 
-/// The state of the machine.
+/// What the machine asks, and waits for.
 #[derive(Drop)]
-pub(crate) struct State {
+pub(crate) struct Turn {
     pub asks: Request,
     pub phase: Phase,
-    /// The tickets of the children in flight.
-    pub flying: Items<u64>,
 }
 
-fn nothing_kept(alloc: Global) -> Kept
-    ensures { result ≡ nothing_kept }
-{
-    Kept {
-        inputs: Keyed::new(alloc),
-        stdout: None,
-        stderr: None,
-    }
+/// A child in flight.
+#[derive(Drop)]
+pub(crate) struct Flight {
+    /// The number of its job.
+    pub job: usize,
+    pub kept: Kept,
 }
 
-/// Takes what is kept of the job out of a phase.
-pub(crate) fn kept_in(alloc: Global, phase: &mut Phase) -> Kept
-    ensures { result ≡ kept_in phase.old }
-{
-    match phase {
-        Phase::Starting(_, kept)
-        | Phase::Running(kept)
-        | Phase::Scanning(kept)
-        | Phase::Reading(kept, _) => mem::replace(kept, nothing_kept(alloc)),
-        _ => nothing_kept(alloc),
-    }
+/// A job that was staged.
+#[derive(Drop)]
+pub(crate) struct JobState {
+    /// The number of the folders that it was staged in last.
+    pub folder: u64,
+    /// How often it failed temporarily.
+    pub gave_up: u64,
 }
 
-/// Takes what is measured out of a phase.
-pub(crate) fn measuring_in(alloc: Global, phase: &mut Phase) -> Measuring
-    ensures { result ≡ measuring_in phase.old }
-{
-    let none = Measuring {
-        left: Items::new(alloc),
-        measures: Keyed::new(alloc),
-    };
-    match phase {
-        Phase::Measuring(measuring) => mem::replace(measuring, none),
-        _ => none,
-    }
-}
-
-/// Takes the contents that are read out of a phase.
-pub(crate) fn filling_in(alloc: Global, phase: &mut Phase) -> Filling
-    ensures { result ≡ filling_in phase.old }
-{
-    let none = Filling {
-        staged: Keyed::new(alloc),
-        left: Items::new(alloc),
-        heads: Keyed::new(alloc),
-    };
-    match phase {
-        Phase::Filling(filling) => mem::replace(filling, none),
-        _ => none,
-    }
-}
-
-fn nothing_read(alloc: Global) -> Reading
-    ensures { result ≡ nothing_read }
-{
-    Reading {
-        found: Items::new(alloc),
-        left: Items::new(alloc),
-        heads: Keyed::new(alloc),
-    }
-}
-
-/// Takes what is read out of a phase.
-pub(crate) fn reading_in(alloc: Global, phase: &mut Phase) -> Reading
-    ensures reading { result ≡ reading_in phase.old }
-    ensures kept { kept_in phase.new ≡ kept_in phase.old }
-{
-    match phase {
-        Phase::Reading(_, reading) => mem::replace(reading, nothing_read(alloc)),
-        _ => nothing_read(alloc),
-    }
-}
-
-pub(crate) fn reported(alloc: Global, outcome: Outcome) -> Result<Report, RunFault>
-    ensures { result ≡ reported outcome }
-{
-    Ok(Report {
-        outcome,
-        plans: Items::new(alloc),
-        notes: Items::new(alloc),
-    })
-}
-
-/// It asks this, while no child is in flight.
-pub(crate) fn waiting(alloc: Global, asks: Request, phase: Phase) -> State
-    ensures { result ≡ waits asks phase }
-{
-    State {
-        asks,
-        phase,
-        flying: Items::new(alloc),
-    }
-}
-
-pub(crate) fn ended(alloc: Global, result_now: Result<Report, RunFault>) -> State
-    ensures { result ≡ ends result_now }
-{
-    State {
-        asks: Request::Finished,
-        phase: Phase::Ended(result_now),
-        flying: Items::new(alloc),
-    }
-}
-
-/// The lone job gives no outputs.
-pub(crate) fn failed_for_good(alloc: Global, cause: Cause) -> State
-    ensures { result ≡ fails_for_good cause }
-{
-    ended(
-        alloc,
-        reported(alloc, Outcome::PermanentFail(Items::new(alloc), cause)),
-    )
-}
-
-/// A call of the host's failed, and nobody waits for these children any more.
-pub(crate) fn host_failed(alloc: Global, fault: HostFault, running: Items<u64>) -> State
-    ensures { result ≡ host_fails fault running }
-{
-    ended(alloc, Err(RunFault::Host(fault, running)))
+/// What a run has come to so far.
+#[derive(Drop)]
+pub(crate) struct Course<'a> {
+    /// The tickets of the children in flight, in the order of their starts.
+    pub tickets: Vec<u64>,
+    /// Their jobs, in the same order.
+    pub flights: Vec<Flight>,
+    /// The jobs that were staged. They are the first of the known ones, by number: each is in flight, or its outputs
+    /// were collected, or the end is settled.
+    pub jobs: Vec<JobState>,
+    /// How many folders were made.
+    pub folders: u64,
+    /// The jobs that are known, once all input files are measured.
+    pub known: Option<Unfolding<'a>>,
+    /// The failure that settled the end.
+    pub end: Option<Result<Report, RunFault>>,
 }

@@ -1,22 +1,21 @@
-ghost use Rattle.std.specs.Prelude.{◌≡◌, [], IfOk};
+ghost use Rattle.std.specs.Prelude.{◌≡◌, ◌≤◌, [], IfOk};
 ghost use Rattle.run_core.specs.Limits.{IsWithinLimits};
-ghost use Rattle.run_rules.specs.RunsToday.{RunsToday};
 
 use crate::end::end_json;
 use crate::list::numbers;
 use crate::requests::requests;
 use crate::script::script_of;
-use cwl_process::{Process as NamedProcess, read_unlinked};
 use cwl_value::{Value, from_json};
-use document_links::Process;
+use document_links::{Process, read_process};
 use file_values::resolve;
 use plain_data::{Keyed, Text};
 use proc_host::Scripted;
 use row_io::{Row, RowFault, json_text};
-use run_core::{Options, runs_today};
+use run_core::Options;
 use std::alloc::{AllocError, Global};
 use std::mem;
 use url::Url;
+use workflow_check::{Accepted, accept};
 use workflow_engine::run;
 
 /// How a run of the row's document on its inputs ends over its script, what was asked, and the tickets left.
@@ -39,47 +38,33 @@ fn answer_on(alloc: Global, row: &Row, host: &mut Scripted) -> Result<String, Ro
 fn end_on(alloc: Global, row: &Row, host: &mut Scripted) -> Result<String, RowFault>
     requires { host.old.running ≡ [] }
 {
-    let options = options(alloc)?;
+    let options = options_of(alloc, row)?;
     let inputs = inputs_of(alloc, row)?;
-    let process = process_of(alloc, row)?;
-    if runs_today(&process, &inputs) {
-        return end_of(alloc, host, process, inputs, options);
-    }
-    mem::drop(process);
-    mem::drop(inputs);
-    mem::drop(options);
-    Err(RowFault::BadArgument)
-}
-
-fn end_of(
-    alloc: Global,
-    host: &mut Scripted,
-    process: Process,
-    inputs: Keyed<Value>,
-    options: Options,
-) -> Result<String, RowFault>
-    requires idle { host.old.running ≡ [] }
-    requires runs { RunsToday process inputs }
-    requires limits { IsWithinLimits options }
-{
-    let end = run(alloc, host, process, inputs, options);
+    let process = accepted(alloc, row)?;
+    let end = run(alloc, host, process.as_process(), &inputs, options);
     let text = end_json(alloc, &end);
     mem::drop(end);
     text
 }
 
+/// A host that answers from the row's script; it collects once `least_started` children were started, where the row says so.
 fn host_of(alloc: Global, row: &Row) -> Result<Scripted, RowFault>
     ensures { IfOk result (λ host. host.running ≡ []) }
 {
-    Ok(Scripted::new(alloc, script_of(alloc, row)?, 0))
+    let least_started = natural_or(row, "least_started", 0)?;
+    Ok(Scripted::new(alloc, script_of(alloc, row)?, least_started))
 }
 
+fn accepted(alloc: Global, row: &Row) -> Result<Accepted, RowFault> {
+    let process = process_of(alloc, row)?;
+    done(accept(alloc, process))
+}
+
+/// The row's document, in a file of the folder `/d`; there is no other document.
 fn process_of(alloc: Global, row: &Row) -> Result<Process, RowFault> {
     let document = json_text(alloc, row.json("document")?)?;
-    match read_unlinked(alloc, document.as_bytes()) {
-        Ok(NamedProcess::Tool(tool)) => Ok(Process::Tool(tool)),
-        _ => Err(RowFault::BadArgument),
-    }
+    let base = done(Url::parse(alloc, "file:///d/document.json"))?;
+    done(read_process(alloc, document.as_bytes(), &base, &Keyed::new(alloc)))
 }
 
 /// The inputs of a row, in a file of the folder `/d`.
@@ -101,15 +86,38 @@ fn done<T, E: Drop>(outcome: Result<T, E>) -> Result<T, RowFault> {
     }
 }
 
-fn options(alloc: Global) -> Result<Options, AllocError>
+/// A number of the row, or this one where it has none.
+fn natural_or(row: &Row, name: &str, absent: u64) -> Result<u64, RowFault> {
+    if row.find(name).is_none() {
+        return Ok(absent);
+    }
+    row.natural(name)
+}
+
+/// What the row's run may use: its `slots` and `retries`, which are 1 and 0 where it has none.
+fn options_of(alloc: Global, row: &Row) -> Result<Options, RowFault>
+    ensures { IfOk result IsWithinLimits }
+{
+    let slots = natural_or(row, "slots", 1)?;
+    let retries = natural_or(row, "retries", 0)?;
+    if slots == 0 || slots > 64 || retries > 10 {
+        return Err(RowFault::BadArgument);
+    }
+    Ok(options(alloc, slots, retries)?)
+}
+
+fn options(alloc: Global, slots: u64, retries: u64) -> Result<Options, AllocError>
+    requires least_slots { 1 ≤ slots }
+    requires slots { slots ≤ 64 }
+    requires retries { retries ≤ 10 }
     ensures { IfOk result IsWithinLimits }
 {
     Ok(Options {
         work: Text::from_text(alloc, "w")?,
         outdir: Text::from_text(alloc, "/out")?,
         path_env: Text::from_text(alloc, "/bin")?,
-        slots: 1,
-        retries: 0,
+        slots,
+        retries,
         base: 1,
         rate: 100_000,
         keep: false,

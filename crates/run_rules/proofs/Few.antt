@@ -4,10 +4,11 @@ use Rattle.document_links.specs.declared.process.Process as process
 use Rattle.cwl_process.specs.declared.tool.Tool.{Tool}
 use Rattle.input_files.specs.Measured.{Measures}
 use Rattle.job_graph.specs.declared.cause.Cause.{Cause}
-use Rattle.run_rules.specs.Words.{Fields}
-use Rattle.run_rules.specs.Jobs.{Walker, inputs_of, tool_walk, walker}
-use Rattle.run_rules.specs.Unfold.{fault_at, too_many_jobs, Resolved, fault_after, unfolded}
-use Rattle.run_rules.proofs.Lone.{walker_tool}
+use Rattle.job_graph.specs.Equations.{walker}
+use Rattle.job_graph.specs.Jobs.{Walker, tool_walk}
+use Rattle.job_graph.specs.Unfold.{fault_at, too_many_jobs, Resolved, fault_after, unfolded}
+use Rattle.job_graph.specs.Words.{Fields}
+use Rattle.run_rules.proofs.Lone.{inputs_of, walker_tool}
 use Rattle.run_rules.proofs.OneJob.{one_job}
 
 pub no_fault : (tool : Tool) (inputs : Fields) (known : List Resolved) → fault_after (tool_walk tool [] (Ok inputs)) known ≡ None
@@ -25,5 +26,5 @@ few_by tool (Err cause) known many = let never : Some (fault_at [] cause) ≡ So
 pub few : (tool : Tool) (given : Fields) (measures : Measures) (known : List Resolved) →
     (unfolded (walker (process.Tool tool) given measures) known).fault ≢ Some too_many_jobs
 few tool given measures known =
-    subst (λ (walks : Measures → Walker). (unfolded (walks measures) known).fault ≢ Some too_many_jobs) (sym (walker_tool tool given))
+    subst (λ (walks : Walker). (unfolded walks known).fault ≢ Some too_many_jobs) (sym (walker_tool tool given measures))
     (few_by tool (inputs_of tool given measures) (reverse known))

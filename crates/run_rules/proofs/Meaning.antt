@@ -3,20 +3,20 @@ use Rattle.std.proofs.Common.{◌≡◌, [], Some, None, Ok, Err, option_map, re
 use Rattle.cwl_value.specs.Erased.{fields_erased}
 use Rattle.cwl_process.specs.declared.tool.Tool.{Tool}
 use Rattle.job_graph.specs.declared.cause.Cause.{Cause}
-use Rattle.run_rules.specs.Words.{Fields}
+use Rattle.job_graph.specs.Eval.{World, eval_by}
+use Rattle.job_graph.specs.Jobs.{tool_walk, all_named, outs_of, output_names}
+use Rattle.job_graph.specs.Made.{fields_made}
+use Rattle.job_graph.specs.Words.{Fields}
 use Rattle.run_rules.specs.Key.{key}
-use Rattle.run_rules.specs.Eval.{World, eval_by}
-use Rattle.run_rules.specs.Jobs.{tool_walk, all_named, outs_of, output_names}
-use Rattle.run_rules.specs.Made.{fields_made}
 
 module _ (tool : Tool) (inputs : Fields) (world : World) where
-  pub fails : world (key tool inputs) ≡ None → eval_by world (tool_walk tool [] (Ok inputs)) ≡ None
+  pub fails : world (key tool inputs) ≡ None → eval_by key world (tool_walk tool [] (Ok inputs)) ≡ None
   fails none = rw none refl
 
   pub gives : (named outputs : Fields) → world (key tool inputs) ≡ Some named →
       all_named (outs_of (output_names tool) (Some (fields_made [] named))) ≡ Some outputs →
-      eval_by world (tool_walk tool [] (Ok inputs)) ≡ Some (fields_erased outputs)
+      eval_by key world (tool_walk tool [] (Ok inputs)) ≡ Some (fields_erased outputs)
   gives named outputs some result = rw some (ap (option_map fields_erased) result)
 
-pub misfit_fails : (tool : Tool) (cause : Cause) (world : World) → eval_by world (tool_walk tool [] (Err cause)) ≡ None
+pub misfit_fails : (tool : Tool) (cause : Cause) (world : World) → eval_by key world (tool_walk tool [] (Err cause)) ≡ None
 misfit_fails tool cause world = refl

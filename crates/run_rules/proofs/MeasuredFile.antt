@@ -15,12 +15,12 @@ use Rattle.staging.specs.declared.measure.Measure.TheVariants.{Absent, File}
 use Rattle.staging.specs.declared.plan.StagePlan.{StagePlan}
 use Rattle.job_graph.specs.declared.cause.Cause.{Cause as Unmet}
 use Rattle.run_rules.specs.declared.outcome.Cause.{Cause}
-use Rattle.run_rules.specs.Words.{Name, JobPlace}
+use Rattle.job_graph.specs.Jobs.{Job, Walker, failed, met_job}
+use Rattle.job_graph.specs.Words.{Name, JobPlace}
 use Rattle.run_rules.specs.Allowed.{MayMeasure, MayStage}
 use Rattle.run_rules.specs.End.{fails_permanently, fails_temporarily, ended_by_host}
 use Rattle.run_rules.specs.EndsSo.{EndsSo, fails}
 use Rattle.run_rules.specs.Events.{Event, Work, Progress, file_measured, job_staged, job_started, child_exited, job_failed, job_failed_for_now, host_failed, nothing_due, scan_due, at_first, unfolding_at}
-use Rattle.run_rules.specs.Jobs.{Job, Walker, failed, met_job}
 use Rattle.run_rules.specs.Scene.{Scene}
 use Rattle.run_rules.specs.Steps.{Steps, call, measures_file, exits_well, exits_for_now, exits_badly}
 use Rattle.run_rules.proofs.TwoJobs.{tool as plain_tool, options, launch, a, job, two}

@@ -8,9 +8,10 @@ use Rattle.std.proofs.lemmas.List.Sums.{fold-append, AllPass-from_list_all}
 use Rattle.input_files.specs.Measured.{Measures}
 use Rattle.staging.specs.declared.found.Found.{Found}
 use Rattle.run_rules.specs.declared.request.Pair.{Pair}
-use Rattle.run_rules.specs.Words.{Name, Fields, Heads, JobPlace}
-use Rattle.run_rules.specs.Jobs.{Job}
-use Rattle.run_rules.specs.Unfold.{Resolved, Unfolded, is_at, nothing_known, unfolded}
+use Rattle.collected_outputs.specs.Contents.{Heads}
+use Rattle.job_graph.specs.Jobs.{Job}
+use Rattle.job_graph.specs.Unfold.{Resolved, Unfolded, is_at, nothing_known, unfolded}
+use Rattle.job_graph.specs.Words.{Name, Fields, JobPlace}
 use Rattle.run_rules.specs.Scene.{Scene}
 use Rattle.run_rules.specs.Events.{Event, file_measured, job_staged, job_started, child_exited, job_succeeded, job_failed, job_failed_for_now, result_delivered, host_failed, collect_failed, Work, Progress, Started, measures, measures_after, measures_path, is_measured, are_measured, resolves, resolved, unfolding_at, job_at}
 use Rattle.run_rules.specs.StartsOn.{StartsOn, reads_on as starts_reading, has_launch, has_no_launch, has_no_contents}
@@ -28,7 +29,7 @@ pub right_true : (a b : Bool) → (a && b) ≡ true → b ≡ true
 right_true true b both = both
 right_true false b both = absurd cc
 
-both_true : (a b : Bool) → a ≡ true → b ≡ true → (a && b) ≡ true
+pub both_true : (a b : Bool) → a ≡ true → b ≡ true → (a && b) ≡ true
 both_true true b is is_too = is_too
 both_true false b is is_too = absurd cc
 
@@ -49,18 +50,29 @@ all_more (p ∷ paths) es e are =
     (one_more p es e (left_true (is_measured es p) (list_all (is_measured es) paths) are))
     (all_more paths es e (right_true (is_measured es p) (list_all (is_measured es) paths) are))
 
-measures_more : (es : List Event) (e : Event) → measures (es ++ e ∷ []) ≡ measures_after (measures es) e
+pub measures_more : (es : List Event) (e : Event) → measures (es ++ e ∷ []) ≡ measures_after (measures es) e
 measures_more es e = fold-append measures_after [] es (e ∷ [])
 
-resolved_more : (es : List Event) (e : Event) → resolves e ≡ None → resolved (es ++ e ∷ []) ≡ resolved es
+pub resolved_more : (es : List Event) (e : Event) → resolves e ≡ None → resolved (es ++ e ∷ []) ≡ resolved es
 resolved_more [] e none = ap (λ (o : Option Resolved). filter_map (λ (x : Option Resolved). x) (o ∷ [])) none
 resolved_more (x ∷ es) e none = ap (λ (rest : List Resolved). cons_option (resolves x) rest) (resolved_more es e none)
+
+cons_then : (o : Option Resolved) (known more : List Resolved) → cons_option o (known ++ more) ≡ cons_option o known ++ more
+cons_then None known more = refl
+cons_then (Some r) known more = refl
+
+pub resolved_success : (es : List Event) (place : JobPlace) (outputs : Fields) →
+    resolved (es ++ job_succeeded place outputs ∷ []) ≡ resolved es ++ record { place = place; outputs = outputs } ∷ []
+resolved_success [] place outputs = refl
+resolved_success (x ∷ es) place outputs =
+    ap (λ (rest : List Resolved). cons_option (resolves x) rest) (resolved_success es place outputs)
+    ∙ cons_then (resolves x) (resolved es) (record { place = place; outputs = outputs } ∷ [])
 
 one_same : (p : Name) (es : List Event) (e : Event) → measures_path p e ≡ false → is_measured (es ++ e ∷ []) p ≡ is_measured es p
 one_same p [] e none = ap (λ (b : Bool). b || false) none
 one_same p (x ∷ es) e none = ap (λ (b : Bool). measures_path p x || b) (one_same p es e none)
 
-all_same : (paths : List Name) (es : List Event) (e : Event) → ((p : Name) → measures_path p e ≡ false) →
+pub all_same : (paths : List Name) (es : List Event) (e : Event) → ((p : Name) → measures_path p e ≡ false) →
     list_all (is_measured (es ++ e ∷ [])) paths ≡ list_all (is_measured es) paths
 all_same [] es e none = refl
 all_same (p ∷ paths) es e none =

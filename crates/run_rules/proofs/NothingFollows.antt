@@ -7,7 +7,7 @@ use Rattle.std.proofs.Common.{◌≡◌, ◌∙◌, ℕ, ◌<◌, Bool, true, fa
 use Rattle.proc_host.specs.declared.call.HostRequest.{HostRequest}
 use Rattle.run_rules.specs.declared.request.Request.{Request}
 use Rattle.staging.specs.declared.plan.StagePlan.{StagePlan}
-use Rattle.run_rules.specs.Words.{Fields, JobPlace}
+use Rattle.job_graph.specs.Words.{Fields, JobPlace}
 use Rattle.run_rules.specs.Scene.{Scene}
 use Rattle.run_rules.specs.Delivered.{any_file}
 use Rattle.run_rules.specs.Events.{nothing_due, Progress, in_flight, is_measured, delivered_at, unfolding_at}

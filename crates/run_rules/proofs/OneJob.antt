@@ -2,9 +2,9 @@
 use Rattle.std.proofs.Common.{◌≡◌, List, [], ◌∷◌, Ok, Err, refl}
 use Rattle.cwl_process.specs.declared.tool.Tool.{Tool}
 use Rattle.job_graph.specs.declared.cause.Cause.{Cause}
-use Rattle.run_rules.specs.Words.{Fields}
-use Rattle.run_rules.specs.Jobs.{Job, tool_walk}
-use Rattle.run_rules.specs.Unfold.{Resolved, jobs_after}
+use Rattle.job_graph.specs.Jobs.{Job, tool_walk}
+use Rattle.job_graph.specs.Unfold.{Resolved, jobs_after}
+use Rattle.job_graph.specs.Words.{Fields}
 
 module _ (tool : Tool) (inputs : Fields) where
   abbrev pub job : Job

@@ -1,10 +1,12 @@
 -- What is reported of a run is right in each world where it is honest.
 use Rattle.std.proofs.Common.{◌∙◌, List, Some, option_map, sym, ap}
+use Rattle.input_files.specs.Measured.{Measures}
+use Rattle.job_graph.specs.Equations.{walker}
 use Rattle.run_rules.specs.declared.request.Pair.{Pair}
 use Rattle.run_rules.specs.declared.setting.Setting.{Setting}
 use Rattle.run_rules.specs.Delivered.{object_of}
 use Rattle.run_rules.specs.End.{End, succeeds_with, fails_permanently, fails_temporarily, beyond_limits, ended_by_host}
-use Rattle.run_rules.specs.Eval.{World}
+use Rattle.job_graph.specs.Eval.{World}
 use Rattle.run_rules.specs.Honest.{IsHonest, Means}
 use Rattle.run_rules.specs.Reports.{IsRight, report_of}
 use Rattle.plan_checker.specs.declared.plan.Mark.{Mark}
@@ -13,7 +15,7 @@ use Rattle.run_rules.specs.Events.{Progress, measures}
 use Rattle.run_rules.specs.Scene.{scene_of}
 use Rattle.run_rules.specs.Run.{IsRun}
 use Rattle.run_rules.proofs.PlacesErased.{keeps_the_value}
-use Rattle.run_rules.proofs.RightEnds.{ends_rightly}
+use Rattle.run_rules.proofs.RightEnds.{Evaluates, ends_rightly}
 use Rattle.run_rules.proofs.SuccessCollects.{success_is_delivered}
 
 rightly_reported : (setting : Setting) (f : Progress) (marks : List Mark) (world : World) (end : End) → EndsSo (scene_of setting) f marks end →
@@ -25,7 +27,8 @@ rightly_reported setting f marks world (fails_temporarily place) ends means = tt
 rightly_reported setting f marks world beyond_limits ends means = tt
 rightly_reported setting f marks world (ended_by_host fault running) ends means = tt
 
-pub reports_rightly : (setting : Setting) (t : List Pair) (end : End) (run : IsRun setting t end) (world : World) →
-    IsHonest setting world run.happened.events → IsRight setting (measures run.happened.events) world (report_of end)
-reports_rightly setting t end run world honest =
-    rightly_reported setting run.happened run.marks world end run.ended (ends_rightly setting t end run world honest)
+pub reports_rightly : (setting : Setting) (world : World) → ((all : Measures) → Evaluates world (walker setting.process setting.inputs all)) →
+    (t : List Pair) (end : End) (run : IsRun setting t end) → IsHonest setting world run.happened.events →
+    IsRight setting (measures run.happened.events) world (report_of end)
+reports_rightly setting world evaluates t end run honest =
+    rightly_reported setting run.happened run.marks world end run.ended (ends_rightly setting world evaluates t end run honest)

@@ -36,11 +36,14 @@ use Rattle.staging.specs.declared.group.Member.{Member}
 use Rattle.staging.specs.declared.group.Placed.{Placed}
 use Rattle.staging.specs.declared.plan.Move.{Move}
 use Rattle.staging.specs.declared.plan.StagePlan.{StagePlan}
-use Rattle.input_files.specs.Measured.{Measures, is_there, as_measured, dir_there, file_there, dir_level, file_level}
-use Rattle.input_files.specs.Present.{value_there}
+use Rattle.input_files.specs.Measured.{Measures, as_measured, dir_level, file_level}
+use Rattle.input_files.specs.Present.{is_present, value_there, dir_present, file_present}
+use Rattle.input_files.specs.Taken.{tool_inputs, tool_root_fields}
+use Rattle.job_graph.specs.Inputs.{by_input}
 use Rattle.input_files.specs.Paths.{Paths, input_paths, value_paths, dir_paths, file_paths}
 use Rattle.input_files.specs.Beside.{all_beside}
-use Rattle.input_files.specs.Given.{files_in}
+use Rattle.input_files.specs.Given.{files_in, null}
+use Rattle.input_files.specs.declared.fault.InputFault.{InputFault}
 use Rattle.collected_outputs.specs.Collected.{IsCollected}
 use Rattle.collected_outputs.specs.HeadsWanted.{AreHeadsWanted}
 use Rattle.collected_outputs.specs.Listing.{listing_of}
@@ -50,7 +53,10 @@ use Rattle.run_rules.specs.declared.outcome.Outcome.{Outcome}
 use Rattle.run_rules.specs.declared.setting.Options.{Options}
 use Rattle.run_rules.specs.declared.setting.Setting.{Setting}
 use Rattle.type_check.specs.Fits.{fits_member, is_plain}
-use Rattle.run_rules.specs.Words.{Name, Fields, JobPlace}
+use Rattle.job_graph.specs.Eval.{World, eval, eval_by}
+use Rattle.job_graph.specs.Jobs.{Job}
+use Rattle.job_graph.specs.Made.{value_moved, file_moved, dir_moved, made_place}
+use Rattle.job_graph.specs.Words.{Name, Fields, JobPlace}
 use Rattle.run_rules.specs.Delivered.{any_file, has_file_at, location_place, source_place, sources}
 use Rattle.run_rules.specs.Events.{Event, Progress, job_staged, job_started, child_exited, job_succeeded, job_failed, job_failed_for_now, result_delivered, host_failed, collect_failed, nothing_due, start_due, Started, at_first, number_at, unfolding_at}
 use Rattle.run_rules.specs.Folders.{runtime_of}
@@ -62,14 +68,11 @@ use Rattle.run_rules.specs.EndsSo.{EndsSo, IsDelivered, no_file, copied as was_c
 use Rattle.plan_checker.specs.declared.plan.Mark.{Mark}
 use Rattle.plan_checker.specs.declared.plan.Mark.TheVariants.{Load, Compute}
 use Rattle.run_rules.specs.Allowed.{MayStage}
-use Rattle.run_rules.specs.Eval.{World, eval, eval_by}
-use Rattle.run_rules.specs.Jobs.{Job, inputs_of}
 use Rattle.run_rules.specs.Key.{key}
-use Rattle.run_rules.specs.Made.{value_moved, file_moved, dir_moved, made_place}
 use Rattle.run_rules.specs.Reports.{report_of, reported}
 use Rattle.run_rules.specs.Scene.{Scene, scene_of}
 use Rattle.run_rules.proofs.Leads.{Leads, stays, follows}
-use Rattle.run_rules.proofs.Lone.{lone, scene_tool, setting_on as tool_setting}
+use Rattle.run_rules.proofs.Lone.{inputs_of, lone, scene_tool, setting_on as tool_setting}
 use Rattle.run_rules.proofs.Meaning.{fails as world_fails, gives}
 use Rattle.run_rules.proofs.NothingFollows.{flies_on}
 use Rattle.run_rules.proofs.TranscriptTells.{none_in, only_in}
@@ -168,21 +171,39 @@ a_text = search (rules, the_lemmas)
 no_files : files_in abc_text ≡ []
 no_files = rw (out-roll-Value, out-roll-Value) refl
 
-module _ (measures : Measures) where
-  all_there : is_there measures abc_text ≡ true
-  all_there = fold-roll-Value Bool Bool Bool value_there (dir_there measures) (file_there measures) (Value-F.Text (codes "abc"))
+all_there : is_present abc_text ≡ true
+all_there = fold-roll-Value Bool Bool Bool value_there dir_present file_present (Value-F.Text (codes "abc"))
 
+module _ (measures : Measures) where
   as_it_stands : as_measured measures abc_text ≡ abc_text
   as_it_stands = fold-roll-Value Value DirVal FileVal roll-Value (dir_level measures) (file_level measures) (Value-F.Text (codes "abc"))
 
   nothing_beside : all_beside measures [] abc_text ≡ abc_text
   nothing_beside = rw (out-roll-Value, out-roll-Value) refl
 
+  it_is_handed : tool_root_fields hello.inputs abc measures ≡ abc
+  it_is_handed = rw (out-roll-Value, as_it_stands, nothing_beside) refl
+
+  it_is_taken : tool_inputs hello.inputs abc measures ≡ Ok abc
+  it_is_taken = rw (a_text, out-roll-Value, all_there, no_files, out-roll-Value) refl
+
   it_fits : inputs_of hello abc measures ≡ Ok abc
-  it_fits = rw (a_text, out-roll-Value, all_there, no_files, as_it_stands, nothing_beside, out-roll-Value) refl
+  it_fits = ap (λ (fields : Fields). by_input (tool_inputs hello.inputs fields measures)) it_is_handed ∙ ap by_input it_is_taken
+
+  nothing_as_it_stands : as_measured measures null ≡ null
+  nothing_as_it_stands = fold-roll-Value Value DirVal FileVal roll-Value (dir_level measures) (file_level measures) Value-F.Null
+
+  none_beside_nothing : all_beside measures [] null ≡ null
+  none_beside_nothing = rw (out-roll-Value, out-roll-Value) refl
+
+  nothing_is_handed : tool_root_fields hello.inputs [] measures ≡ (codes "t", null) ∷ []
+  nothing_is_handed = rw (out-roll-Value, nothing_as_it_stands, none_beside_nothing) refl
+
+  it_is_lacking : tool_inputs hello.inputs ((codes "t", null) ∷ []) measures ≡ Err (InputFault.Kind (codes "t"))
+  it_is_lacking = rw (a_text, out-roll-Value, out-roll-Value) refl
 
   an_input_left_out : inputs_of hello [] measures ≡ Err (Unmet.Kind (codes "t"))
-  an_input_left_out = rw (a_text, out-roll-Value, out-roll-Value) refl
+  an_input_left_out = ap (λ (fields : Fields). by_input (tool_inputs hello.inputs fields measures)) nothing_is_handed ∙ ap by_input it_is_lacking
 
 no_paths : input_paths hello.inputs abc ≡ []
 no_paths = rw (fold-roll-Value Paths Paths Paths value_paths dir_paths file_paths (Value-F.Text (codes "abc")), no_files) refl
@@ -324,17 +345,17 @@ its_other_scene =
 
 module _ (world : World) (measures : Measures) where
   -- the file without its place, where the world has the file at the job's key
-  its_value : world (key hello abc) ≡ Some found_out → eval world (process.Tool hello) abc measures ≡ Some (out_at Place.Nowhere)
+  its_value : world (key hello abc) ≡ Some found_out → eval key world (process.Tool hello) abc measures ≡ Some (out_at Place.Nowhere)
   its_value answers =
-      ap (λ (x : Scene). eval_by world (x.walker measures)) its_scene
+      ap (λ (x : Scene). eval_by key world (x.walker measures)) its_scene
       ∙ gives hello abc world found_out made_out answers its_result
       ∙ ap (λ (file : Value). Some (with_file file)) (file_erases (Place.Made [] (codes "out.txt")) out)
 
-  no_value_of_its : world (key hello abc) ≡ None → eval world (process.Tool hello) abc measures ≡ None
-  no_value_of_its none = ap (λ (x : Scene). eval_by world (x.walker measures)) its_scene ∙ world_fails hello abc world none
+  no_value_of_its : world (key hello abc) ≡ None → eval key world (process.Tool hello) abc measures ≡ None
+  no_value_of_its none = ap (λ (x : Scene). eval_by key world (x.walker measures)) its_scene ∙ world_fails hello abc world none
 
-  no_value_without_inputs : eval world (process.Tool hello) [] measures ≡ None
-  no_value_without_inputs = ap (λ (x : Scene). eval_by world (x.walker measures)) its_other_scene
+  no_value_without_inputs : eval key world (process.Tool hello) [] measures ≡ None
+  no_value_without_inputs = ap (λ (x : Scene). eval_by key world (x.walker measures)) its_other_scene
 
 an_end_at_once : EndsSo (scene_of (setting_on [])) at_first [] (fails_permanently [] (Cause.Equation (Unmet.Kind (codes "t"))))
 an_end_at_once =

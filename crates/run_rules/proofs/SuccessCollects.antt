@@ -1,21 +1,15 @@
 -- A success is the result, and each job that it is of ran well.
-use Rattle.std.specs.Prelude.{nat_lt, is_some, bytes_eq, ◌&&◌, Contains}
-use Rattle.std.specs.Cmp.Lexicographic.{bytes_decides}
-use Rattle.std.specs.List.{list_all}
-use Rattle.std.proofs.Common.{◌≡◌, suc, Bool, true, false, cond, List, [], ◌∷◌, ◌++◌, length, filter, find, reverse, Option, Some, None, option_map, refl, sym, ap, subst, arith}
-use Rattle.std.proofs.lemmas.List.Elements.{All-contains}
-use Rattle.std.proofs.lemmas.List.Sums.{AllPass-from_list_all}
-use Rattle.cwl_process.specs.declared.tool.Tool.{Tool}
-use Rattle.cwl_value.specs.declared.place.Segment.{Segment}
+use Rattle.std.specs.Prelude.{nat_lt, is_some, Contains}
+use Rattle.std.proofs.Common.{◌≡◌, ◌∙◌, suc, Bool, true, false, cond, List, [], ◌∷◌, ◌++◌, append-nil, length, filter, find, Option, Some, None, option_map, refl, sym, ap, subst, arith}
+use Rattle.cwl_process.specs.declared.tool.ExitCodes.{ExitCodes}
+use Rattle.input_files.specs.Measured.{Measures}
 use Rattle.run_rules.specs.declared.outcome.Cause.{Cause}
 use Rattle.run_rules.specs.declared.request.Pair.{Pair}
 use Rattle.run_rules.specs.declared.setting.Setting.{Setting}
-use Rattle.run_rules.specs.Words.{Name, Fields, JobPlace, is_same_place, segment_eq}
-use Rattle.input_files.specs.Paths.{input_paths}
-use Rattle.run_rules.specs.declared.setting.Options.{Options}
-use Rattle.run_rules.specs.Jobs.{Job, Made, Met, met_job, Walker, inputs_of, tool_walk, result, all_named, is_well}
-use Rattle.run_rules.specs.Made.{fields_made}
-use Rattle.run_rules.specs.Unfold.{Fault, fault_at, too_many_jobs, Resolved, made_by, or_else}
+use Rattle.job_graph.specs.Equations.{walker}
+use Rattle.job_graph.specs.Jobs.{Job, Walker}
+use Rattle.job_graph.specs.Unfold.{Fault, fault_at, too_many_jobs, Resolved, Unfolded, is_at, or_else, outputs_at, unfolded}
+use Rattle.job_graph.specs.Words.{Fields, JobPlace, is_same_place}
 use Rattle.run_rules.specs.Scene.{Scene, scene_of}
 use Rattle.run_rules.specs.Events.{Event, file_measured, job_staged, job_started, child_exited, job_succeeded, job_failed, job_failed_for_now, result_delivered, host_failed, collect_failed, Progress, measures, are_measured, resolved, unfolding_at, job_at}
 use Rattle.run_rules.specs.End.{End, succeeds_with, fails_permanently, fails_temporarily, fault_end, gives_up, settled_by, unfold_end, settled_from, settled}
@@ -24,11 +18,10 @@ use Rattle.plan_checker.specs.declared.plan.Mark.{Mark}
 use Rattle.run_rules.specs.Plans.{LoadsHeld}
 use Rattle.run_rules.specs.Run.{Ends, IsRun}
 use Rattle.run_rules.specs.RanWell.{RanWell}
-use Rattle.run_rules.proofs.Lone.{InputsBy, lone}
-use Rattle.run_rules.proofs.Measuring.{left_true, right_true}
-use Rattle.run_rules.proofs.Known.{known_job, met_if_known, result_known}
-use Rattle.run_rules.proofs.TranscriptTells.{knows, none_in}
-use Rattle.run_rules.proofs.Scenes.{by_process, no_jobs}
+use Rattle.run_rules.proofs.Measuring.{Fits, goes_fitting}
+use Rattle.run_rules.proofs.Places.{same_place}
+use Rattle.run_rules.proofs.Staying.{fits_after, has_result, stays_known, unfolding_if}
+use Rattle.run_rules.proofs.TranscriptTells.{knows}
 
 -- Failures alone settle an end
 
@@ -91,21 +84,6 @@ module _ (s : Scene) where
 
 -- What was collected
 
-same_segment : (a b : Segment) → segment_eq a b ≡ true → a ≡ b
-same_segment a b same =
-    let step : a.step ≡ b.step = (bytes_decides a.step b.step).0 (left_true (bytes_eq a.step b.step) (bytes_eq a.index b.index) same) in
-    let index : a.index ≡ b.index = (bytes_decides a.index b.index).0 (right_true (bytes_eq a.step b.step) (bytes_eq a.index b.index) same) in
-    λ i. record { step = step i; index = index i }
-
-pub same_place : (p q : JobPlace) → is_same_place p q ≡ true → p ≡ q
-same_place [] [] same = refl
-same_place [] (b ∷ q) same = absurd cc
-same_place (a ∷ p) [] same = absurd cc
-same_place (a ∷ p) (b ∷ q) same =
-    let first : a ≡ b = same_segment a b (left_true (segment_eq a b) (is_same_place p q) same) in
-    let rest : p ≡ q = same_place p q (right_true (segment_eq a b) (is_same_place p q) same) in
-    λ i. first i ∷ rest i
-
 -- a resolved place is one where outputs were collected
 pub record IsCollected (es : List Event) (place : JobPlace) : Type 0 where
   pub outputs : Fields
@@ -122,7 +100,7 @@ by_place at place outputs es true same is rest =
     record { outputs = outputs; there = (0, omega arith, ap (λ (p : JobPlace). job_succeeded p outputs) (same_place at place same)) }
 by_place at place outputs es false same is rest = further (job_succeeded at outputs) es place (rest is)
 
-where_collected : (es : List Event) (place : JobPlace) → is_some (find (λ (r : Resolved). is_same_place r.place place) (resolved es)) ≡ true → IsCollected es place
+pub where_collected : (es : List Event) (place : JobPlace) → is_some (find (λ (r : Resolved). is_same_place r.place place) (resolved es)) ≡ true → IsCollected es place
 where_collected [] place is = absurd cc
 where_collected (job_succeeded at outputs ∷ es) place is = by_place at place outputs es (is_same_place at place) refl is (where_collected es place)
 where_collected (file_measured path measure ∷ es) place is = further _ es place (where_collected es place is)
@@ -135,51 +113,53 @@ where_collected (result_delivered plan ∷ es) place is = further _ es place (wh
 where_collected (host_failed at fault ∷ es) place is = further _ es place (where_collected es place is)
 where_collected (collect_failed ∷ es) place is = further _ es place (where_collected es place is)
 
--- Where there is a result, the outputs of each job that the walk meets were collected
+-- What is known of a walk with a result: each known job is at a place of its own, and its outputs are known
 
-well_if_some : (well : Bool) (named : Option Fields) (outputs : Fields) → cond well named None ≡ Some outputs → well ≡ true
-well_if_some true named outputs is = refl
-well_if_some false named outputs is = absurd cc
+pub record Finishes (walks : Walker) : Type 0 where
+  pub resolves_all : (known : List Resolved) (outputs : Fields) (job : Job) → (unfolded walks known).result ≡ Some outputs →
+      Contains (unfolded walks known).jobs job → is_some (outputs_at known job.place) ≡ true
+  pub found_again : (known : List Resolved) (job : Job) → Contains (unfolded walks known).jobs job →
+      find (is_at job.place) (unfolded walks known).jobs ≡ Some job
 
-mapped_some : {X Y : Type 0} (f : X → Y) (o : Option X) → is_some (option_map f o) ≡ true → is_some o ≡ true
+pub mapped_some : {X Y : Type 0} (f : X → Y) (o : Option X) → is_some (option_map f o) ≡ true → is_some o ≡ true
 mapped_some f None is = is
 mapped_some f (Some x) is = refl
 
-pub met_collected : (walks : Walker) (es : List Event) (outputs : Fields) (job : Job) → result walks (made_by (resolved es)) ≡ Some outputs →
-    Contains (walks (made_by (resolved es))).met (met_job job) → IsCollected es job.place
-met_collected walks es outputs job is there =
-    let made : Made = made_by (resolved es) in
-    let well : list_all (is_well made) (walks made).met ≡ true = well_if_some _ (all_named (walks made).outs) outputs is in
-    where_collected es job.place
-    (mapped_some (λ (r : Resolved). fields_made job.place r.outputs) (find (λ (r : Resolved). is_same_place r.place job.place) (resolved es))
-    (All-contains (λ (m : Met). is_well made m ≡ true) (walks made).met (met_job job) (AllPass-from_list_all (is_well made) (walks made).met well) there))
+abbrev codes_in : Option Job → ExitCodes
+codes_in None = record { success = []; temporary = []; permanent = [] }
+codes_in (Some job) = job.tool.exit_codes
 
--- A lone tool's known jobs are those that its walk meets
+module _ (s : Scene) (finishes : (all : Measures) → Finishes (s.walker all)) where
+  -- the exit codes of the job that is known at a place in the end
+  abbrev codes_at : List Event → JobPlace → ExitCodes
+  codes_at all place = codes_in (job_at s all place)
 
-module _ (tool : Tool) (inputs_by : InputsBy) (paths : List Name) (options : Options) where
-  abbrev s : Scene
-  s = lone tool inputs_by paths options
+  its_codes : (all es rest : List Event) → Fits s [] all → es ++ rest ≡ all → (place : JobPlace) (job : Job) → job_at s es place ≡ Some job →
+      job.tool.exit_codes ≡ codes_at all place
+  its_codes all es rest fits is place job known =
+      let later : Fits s es rest = fits_after s [] es rest (subst (λ (x : List Event). Fits s [] x) (sym is) fits) in
+      ap codes_in (sym (subst (λ (x : List Event). job_at s x place ≡ Some job) is (stays_known s es rest place job later known)))
 
-  its_codes : (es : List Event) (place : JobPlace) (job : Job) → job_at s es place ≡ Some job → job.tool.exit_codes ≡ tool.exit_codes
-  its_codes es place job is =
-      ap (λ (j : Job). j.tool.exit_codes) (known_job tool (are_measured s es) (inputs_by (measures es)) (resolved es) place job is).is
-
-  pub ran_if_known : (t : List Pair) (outputs delivered : Fields) (run : Ends s (LoadsHeld s) t (succeeds_with outputs delivered)) (job : Job) →
+  ran_if_known : (t : List Pair) (outputs delivered : Fields) (run : Ends s (LoadsHeld s) t (succeeds_with outputs delivered)) (job : Job) →
       Contains (unfolding_at s run.happened.events).jobs job → RanWell t job.place job.tool.exit_codes
   ran_if_known t outputs delivered run job there =
       let es : List Event = run.happened.events in
-      let walks : Walker = tool_walk tool [] (inputs_by (measures es)) in
-      let met = met_if_known tool (are_measured s es) (inputs_by (measures es)) (made_by (resolved es)) (resolved es) job there in
-      let result_is = result_known (are_measured s es) walks (resolved es) outputs (success_is_result s outputs delivered run.ended) in
-      let collected_it : IsCollected es job.place = met_collected walks es outputs job result_is.1 met.0 in
-      subst (λ (its : Tool). RanWell t job.place its.exit_codes) (sym met.1)
-      ((knows (λ place. tool.exit_codes) s its_codes (LoadsHeld s) run.goes).success job.place collected_it.outputs collected_it.there)
+      let result_is : (unfolding_at s es).result ≡ Some outputs = success_is_result s outputs delivered run.ended in
+      let all : are_measured s es ≡ true = has_result (are_measured s es) (unfolded (s.walker (measures es)) (resolved es)) outputs result_is in
+      let walks : Walker = s.walker (measures es) in
+      let known_so : unfolding_at s es ≡ unfolded walks (resolved es) = unfolding_if s es all in
+      let its_there : Contains (unfolded walks (resolved es)).jobs job = subst (λ (u : Unfolded). Contains u.jobs job) known_so there in
+      let its_outputs : is_some (outputs_at (resolved es) job.place) ≡ true =
+      (finishes (measures es)).resolves_all (resolved es) outputs job (sym (ap (λ (u : Unfolded). u.result) known_so) ∙ result_is) its_there in
+      let collected_it : IsCollected es job.place =
+      where_collected es job.place (mapped_some (λ (r : Resolved). r.outputs) (find (λ (r : Resolved). is_same_place r.place job.place) (resolved es)) its_outputs) in
+      let found : job_at s es job.place ≡ Some job =
+      ap (λ (u : Unfolded). find (is_at job.place) u.jobs) known_so ∙ (finishes (measures es)).found_again (resolved es) job its_there in
+      subst (λ (c : ExitCodes). RanWell t job.place c) (ap codes_in found)
+      ((knows (codes_at es) s es (λ front rest is place known is_known. its_codes es front rest (goes_fitting s (LoadsHeld s) run.goes) is place known is_known) (LoadsHeld s)
+      run.goes [] (append-nil es)).success job.place collected_it.outputs collected_it.there)
 
-pub success_ran : (setting : Setting) (t : List Pair) (outputs delivered : Fields) (run : IsRun setting t (succeeds_with outputs delivered)) (job : Job) →
+pub success_ran : (setting : Setting) → ((all : Measures) → Finishes (walker setting.process setting.inputs all)) → (t : List Pair) (outputs delivered : Fields)
+    (run : IsRun setting t (succeeds_with outputs delivered)) (job : Job) →
     Contains (unfolding_at (scene_of setting) run.happened.events).jobs job → RanWell t job.place job.tool.exit_codes
-success_ran setting t outputs delivered run job there =
-    by_process setting (λ (x : Scene). (its_run : Ends x (LoadsHeld x) t (succeeds_with outputs delivered)) → Contains (unfolding_at x its_run.happened.events).jobs job → RanWell t job.place job.tool.exit_codes)
-    (λ tool its_run its_there. ran_if_known tool (inputs_of tool setting.inputs) (input_paths tool.inputs setting.inputs) setting.options t outputs delivered its_run job its_there)
-    (λ workflow its_run its_there. absurd (none_in job
-    (subst (λ (jobs : List Job). Contains jobs job) (no_jobs workflow setting.options (reverse (resolved its_run.happened.events))) its_there)))
-    run there
+success_ran setting finishes t outputs delivered run job there = ran_if_known (scene_of setting) finishes t outputs delivered run job there

@@ -1,6 +1,7 @@
 -- What has happened in a run, its transcript tells, of each job.
 use Rattle.std.specs.Prelude.{Contains}
-use Rattle.std.proofs.Common.{◌≡◌, ◌⊎◌, inl, inr, ℕ, zero, suc, ◌==◌, Bool, not, List, [], ◌∷◌, ◌++◌, filter, fold, Some, refl, subst, arith}
+use Rattle.std.proofs.Common.{◌≡◌, ◌∙◌, ◌⊎◌, inl, inr, ℕ, zero, suc, ◌==◌, Bool, not, List, [], ◌∷◌, ◌++◌, filter, fold, Some, refl, sym, subst, arith}
+use Rattle.std.proofs.lemmas.List.{append_assoc}
 use Rattle.std.proofs.lemmas.List.Elements.{Contains-append_left, Contains-append_cases, Contains-push, Contains-push_cases, All-contains, All-filter, All-contains_itself}
 use Rattle.std.proofs.lemmas.List.Sums.{fold-append}
 use Rattle.command_line.specs.declared.launch.Launch.{Launch}
@@ -15,8 +16,9 @@ use Rattle.run_rules.specs.declared.request.Request.{Request}
 use Rattle.run_rules.specs.declared.request.Pair.{Pair}
 use Rattle.cwl_process.specs.declared.tool.ExitCodes.{ExitCodes}
 use Rattle.staging.specs.declared.found.Found.{Found}
-use Rattle.run_rules.specs.Words.{Name, Fields, Heads, JobPlace}
-use Rattle.run_rules.specs.Jobs.{Job}
+use Rattle.collected_outputs.specs.Contents.{Heads}
+use Rattle.job_graph.specs.Jobs.{Job}
+use Rattle.job_graph.specs.Words.{Name, Fields, JobPlace}
 use Rattle.run_rules.specs.Scene.{Scene}
 use Rattle.run_rules.specs.Events.{Event, file_measured, job_staged, job_started, child_exited, job_succeeded, job_failed, job_failed_for_now, result_delivered, host_failed, collect_failed, Work, nothing_due, input_heads_due, start_due, scan_due, output_heads_due, Progress, Started, flight_after, in_flight, job_at}
 use Rattle.run_rules.specs.StartsOn.{StartsOn, reads_on as starts_reading, has_launch, has_no_launch, has_no_contents}
@@ -123,8 +125,8 @@ module _ (codes : JobPlace → ExitCodes) where
   scanned t s es (output_heads_due at found [] read) place folder told is = absurd cc
   scanned t s es (output_heads_due at found (name ∷ todo) read) place folder told is = absurd cc
 
-  module _ (t : List Pair) (s : Scene) (its_codes : (es : List Event) (place : JobPlace) (job : Job) → job_at s es place ≡ Some job → job.tool.exit_codes ≡ codes place)
-      (f : Progress) (marks : List Mark) (knows : Knows t f) where
+  module _ (t : List Pair) (s : Scene) (f : Progress) (its_codes : (place : JobPlace) (job : Job) → job_at s f.events place ≡ Some job → job.tool.exit_codes ≡ codes place)
+      (marks : List Mark) (knows : Knows t f) where
     abbrev flying : List Flight
     flying = in_flight f.events
 
@@ -154,7 +156,7 @@ module _ (codes : JobPlace → ExitCodes) where
           ending = e;
           started = was.there;
           ended = ended;
-          well = subst (λ (c : ExitCodes). class_of c e.code ≡ ExitClass.Success) (its_codes f.events place job known) well;
+          well = subst (λ (c : ExitCodes). class_of c e.code ≡ ExitClass.Success) (its_codes place job known) well;
         }
 
     landed : (ticket : ℕ) (x : Flight) → Contains (filter (λ (y : Flight). not (y.0 == ticket)) flying) x → Contains flying x
@@ -224,14 +226,17 @@ module _ (codes : JobPlace → ExitCodes) where
     step_told now may loses_collect = quiet_one collect_failed refl (λ at outputs is. cc)
     step_told now may (call_fails place request other) = quiet_one (host_failed place (fault_of request)) refl (λ at outputs is. cc)
 
-  module _ (s : Scene) (its_codes : (es : List Event) (place : JobPlace) (job : Job) → job_at s es place ≡ Some job → job.tool.exit_codes ≡ codes place)
-      (Plans : Progress → List Mark → Type 0) where
-    pub knows : {t : List Pair} {f : Progress} {marks : List Mark} → Goes s Plans t f marks → Knows t f
-    knows (begins marks plans) = record {
+  -- of a run whose events are the first of these, where the jobs that are known after any first events have these codes
+  module _ (s : Scene) (all : List Event) (its_codes : (es rest : List Event) → es ++ rest ≡ all → (place : JobPlace) (job : Job) →
+      job_at s es place ≡ Some job → job.tool.exit_codes ≡ codes place) (Plans : Progress → List Mark → Type 0) where
+    pub knows : {t : List Pair} {f : Progress} {marks : List Mark} → Goes s Plans t f marks → (rest : List Event) → f.events ++ rest ≡ all → Knows t f
+    knows (begins marks plans) rest is = record {
       flights = λ x there. absurd (none_in x there);
       work = tt;
       success = λ place outputs there. absurd (none_in _ there);
     }
-    knows (asks t f old p work new marks goes allowed steps plans) =
-        let before : Knows (t ++ p ∷ []) f = knows_still t p f (knows goes) in
-        later (t ++ p ∷ []) f work new before (step_told (t ++ p ∷ []) s its_codes f old before (Contains-push t p) allowed steps)
+    knows (asks t f old p work new marks goes allowed steps plans) rest is =
+        let front : f.events ++ (new ++ rest) ≡ all = sym (append_assoc f.events new rest) ∙ is in
+        let before : Knows (t ++ p ∷ []) f = knows_still t p f (knows goes (new ++ rest) front) in
+        later (t ++ p ∷ []) f work new before
+        (step_told (t ++ p ∷ []) s f (λ place job known. its_codes f.events (new ++ rest) front place job known) old before (Contains-push t p) allowed steps)

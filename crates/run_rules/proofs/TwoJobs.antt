@@ -21,8 +21,9 @@ use Rattle.run_rules.specs.declared.outcome.Cause.{Cause}
 use Rattle.run_rules.specs.declared.request.Pair.{Pair}
 use Rattle.run_rules.specs.declared.request.Request.{Request}
 use Rattle.run_rules.specs.declared.setting.Options.{Options}
-use Rattle.run_rules.specs.Words.{Name, Heads, JobPlace, is_same_place}
-use Rattle.run_rules.specs.Jobs.{Job, met_job, Made, Walk}
+use Rattle.collected_outputs.specs.Contents.{Heads}
+use Rattle.job_graph.specs.Jobs.{Job, met_job, Made, Walk}
+use Rattle.job_graph.specs.Words.{Name, JobPlace, is_same_place}
 use Rattle.run_rules.specs.Events.{Event, job_staged, job_started, child_exited, job_succeeded, job_failed, job_failed_for_now, host_failed, collect_failed, nothing_due, input_heads_due, start_due, output_heads_due, Progress, Started, at_first, in_flight, unfolding_at}
 use Rattle.run_rules.specs.Folders.{runtime_of, in_folder}
 use Rattle.run_rules.specs.StartsOn.{has_launch, reads_on}

@@ -8,10 +8,11 @@ use Rattle.staging.specs.Plan.{IsPlan}
 use Rattle.staging.specs.declared.plan.StagePlan.{StagePlan}
 use Rattle.input_files.specs.declared.contents.TheConstants.{MOST_CONTENTS}
 use Rattle.run_rules.specs.declared.request.Request.{Request}
-use Rattle.run_rules.specs.Words.{Name, Fields, JobPlace}
+use Rattle.job_graph.specs.Jobs.{Job}
+use Rattle.job_graph.specs.Made.{fields_moved}
+use Rattle.job_graph.specs.Words.{Name, Fields, JobPlace}
 use Rattle.run_rules.specs.Folders.{out_folder, in_folder}
-use Rattle.run_rules.specs.Jobs.{Job}
-use Rattle.run_rules.specs.Delivered.{any_file}
+use Rattle.run_rules.specs.Delivered.{any_file, source_place}
 use Rattle.run_rules.specs.Events.{Event, Work, nothing_due, input_heads_due, start_due, scan_due, output_heads_due, Progress, in_flight, is_held, is_measured, is_staging, are_measured, number_at, delivered_at, unfolding_at, job_at}
 use Rattle.run_rules.specs.End.{settled, IsDelivery, is_lost_collect}
 use Rattle.plan_checker.specs.declared.plan.Mark.{Mark}
@@ -38,7 +39,8 @@ module _ (s : Scene) where
     pub still : IsOpen f
     pub measured : are_measured s f.events ≡ true
 
-  -- a job is staged that the plan computes and that is not held, where a slot is free: its input files are copied to its own folder
+  -- a job is staged that the plan computes and that is not held, where a slot is free: its input files are copied to its own folder, those
+  -- that other jobs made from where these left them
   pub record MayStage (f : Progress) (marks : List Mark) (place : JobPlace) (plan : StagePlan) (number : ℕ) : Type 0 where
     pub free : IsFree f
     pub job : Job
@@ -47,7 +49,7 @@ module _ (s : Scene) where
     pub not_held : is_held f.events place ≡ false
     pub slot : length (in_flight f.events) < s.options.slots
     pub next_number : number ≡ length (filter is_staging f.events) + 1
-    pub staged : IsPlan false (in_folder s.options.work number) job.inputs plan
+    pub staged : IsPlan false (in_folder s.options.work number) (fields_moved (source_place (number_at f.events) s.options.work) job.inputs) plan
 
   -- nothing more can be staged
   pub record IsBusy (f : Progress) (marks : List Mark) : Type 0 where

@@ -5,7 +5,7 @@ use Rattle.proc_host.specs.declared.call.HostAnswer.{HostAnswer}
 use Rattle.proc_host.specs.declared.call.HostRequest.{HostRequest}
 use Rattle.run_rules.specs.declared.request.Answer.{Answer}
 use Rattle.run_rules.specs.declared.request.Request.{Request}
-use Rattle.run_rules.specs.Words.{JobPlace}
+use Rattle.job_graph.specs.Words.{JobPlace}
 
 -- an answer that the request's call can give, where these children are in flight
 pub data MayAnswer (flying : List ℕ) : Request → Answer → Type 0 where

@@ -8,8 +8,9 @@ use Rattle.collected_outputs.specs.Patterns.{runtime}
 use Rattle.collected_outputs.specs.declared.fault.OutputFault.{OutputFault}
 use Rattle.staging.specs.declared.found.Found.{Found}
 use Rattle.run_rules.specs.declared.outcome.Cause.{Cause}
-use Rattle.run_rules.specs.Words.{Name, Fields, Heads, JobPlace}
-use Rattle.run_rules.specs.Jobs.{Job}
+use Rattle.collected_outputs.specs.Contents.{Heads}
+use Rattle.job_graph.specs.Jobs.{Job}
+use Rattle.job_graph.specs.Words.{Name, Fields, JobPlace}
 use Rattle.run_rules.specs.Events.{Event, job_succeeded, job_failed, Work, nothing_due, output_heads_due, Started}
 
 -- what a child left behind: it was started so, this was found in its output folder, and these first bytes were read

@@ -4,8 +4,8 @@ use Rattle.proc_host.specs.declared.call.HostFault.{HostFault}
 use Rattle.staging.specs.Plan.{IsPlan}
 use Rattle.staging.specs.declared.plan.StagePlan.{StagePlan}
 use Rattle.run_rules.specs.declared.outcome.Cause.{Cause}
-use Rattle.run_rules.specs.Words.{Fields, JobPlace, is_same_place}
-use Rattle.run_rules.specs.Unfold.{Fault, fault_at, too_many_jobs, or_else}
+use Rattle.job_graph.specs.Unfold.{Fault, fault_at, too_many_jobs, or_else}
+use Rattle.job_graph.specs.Words.{Fields, JobPlace, is_same_place}
 use Rattle.run_rules.specs.Delivered.{sources}
 use Rattle.run_rules.specs.Events.{Event, job_failed, job_failed_for_now, host_failed, collect_failed, number_at, unfolding_at}
 use Rattle.run_rules.specs.Scene.{Scene}

@@ -3,7 +3,7 @@ use Rattle.std.specs.Prelude.{◌≡◌, true, false, List, [], Some, None}
 use Rattle.std.specs.List.{list_any}
 use Rattle.proc_host.specs.declared.call.HostFault.{HostFault}
 use Rattle.staging.specs.declared.plan.StagePlan.{StagePlan}
-use Rattle.run_rules.specs.Words.{Fields, last_by_name}
+use Rattle.job_graph.specs.Words.{Fields, last_by_name}
 use Rattle.run_rules.specs.Delivered.{any_file}
 use Rattle.run_rules.specs.Events.{Event, nothing_due, Progress, in_flight, tickets, delivered_at, unfolding_at}
 use Rattle.run_rules.specs.End.{End, succeeds_with, ended_by_host, settled, IsDelivery, is_lost_collect}

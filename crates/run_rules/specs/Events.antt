@@ -9,9 +9,10 @@ use Rattle.staging.specs.declared.found.Found.{Found}
 use Rattle.staging.specs.declared.measure.Measure.{Measure}
 use Rattle.staging.specs.declared.plan.StagePlan.{StagePlan}
 use Rattle.run_rules.specs.declared.outcome.Cause.{Cause}
-use Rattle.run_rules.specs.Words.{Name, Fields, Heads, JobPlace, is_same_place}
-use Rattle.run_rules.specs.Jobs.{Job}
-use Rattle.run_rules.specs.Unfold.{Resolved, Unfolded, unfolded, nothing_known, is_at}
+use Rattle.collected_outputs.specs.Contents.{Heads}
+use Rattle.job_graph.specs.Jobs.{Job}
+use Rattle.job_graph.specs.Unfold.{Resolved, Unfolded, unfolded, nothing_known, is_at}
+use Rattle.job_graph.specs.Words.{Name, Fields, JobPlace, is_same_place}
 use Rattle.run_rules.specs.Scene.{Scene}
 
 pub data Event : Type 0 where

@@ -3,7 +3,7 @@ use Rattle.std.specs.Prelude.{ℕ, ◌++◌, codes}
 use Rattle.std.specs.Fmt.{decimal}
 use Rattle.command_line.specs.declared.runtime.Runtime.{Runtime}
 use Rattle.run_rules.specs.declared.setting.Options.{Options}
-use Rattle.run_rules.specs.Words.{Name}
+use Rattle.job_graph.specs.Words.{Name}
 
 -- the folder of the job that was staged as the n-th
 abbrev pub job_folder : Name → ℕ → Name

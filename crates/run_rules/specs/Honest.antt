@@ -3,9 +3,9 @@ use Rattle.std.specs.Prelude.{◌≡◌, List, [], ◌∷◌, ◌++◌, Some, No
 use Rattle.cwl_value.specs.Erased.{fields_erased}
 use Rattle.input_files.specs.Measured.{Measures}
 use Rattle.run_rules.specs.declared.setting.Setting.{Setting}
-use Rattle.run_rules.specs.Jobs.{Job}
+use Rattle.job_graph.specs.Eval.{World, eval}
+use Rattle.job_graph.specs.Jobs.{Job}
 use Rattle.run_rules.specs.Key.{key}
-use Rattle.run_rules.specs.Eval.{World, eval}
 use Rattle.run_rules.specs.Events.{Event, job_succeeded, job_failed, job_at}
 use Rattle.run_rules.specs.End.{End, succeeds_with, fails_permanently}
 use Rattle.run_rules.specs.Scene.{Scene, scene_of}
@@ -30,6 +30,6 @@ IsHonest setting world events = AgreesFrom (scene_of setting) world [] events
 -- what an end says of computing every job, where the input files were measured so
 abbrev pub Means : Setting → Measures → World → End → Type 0
 Means setting measures world (succeeds_with outputs delivered) =
-    eval world setting.process setting.inputs measures ≡ Some (fields_erased outputs)
-Means setting measures world (fails_permanently place cause) = eval world setting.process setting.inputs measures ≡ None
+    eval key world setting.process setting.inputs measures ≡ Some (fields_erased outputs)
+Means setting measures world (fails_permanently place cause) = eval key world setting.process setting.inputs measures ≡ None
 Means setting measures world _ = Unit {0}

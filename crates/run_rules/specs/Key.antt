@@ -8,10 +8,8 @@ use Rattle.cwl_value.specs.declared.value.Value.{roll-Value}
 use Rattle.cwl_value.specs.declared.value.Value.TheOpen.{Value-F}
 use Rattle.cwl_process.specs.Acting.{environment_of}
 use Rattle.cwl_process.specs.declared.tool.Tool.{Tool}
-use Rattle.run_rules.specs.Words.{Name, Fields, last_by_name}
-
-abbrev pub Key : Type 0
-Key = List ℕ
+use Rattle.job_graph.specs.Eval.{Key}
+use Rattle.job_graph.specs.Words.{Name, Fields, last_by_name}
 
 -- the variables that are in force, by their names, each with its text as it is written
 abbrev pub variables_of : Tool → List (Name × Name)

@@ -1,10 +1,4 @@
-pub mod Words
-pub mod Jobs
-pub mod Made
-pub mod RunsToday
-pub mod Unfold
 pub mod Key
-pub mod Eval
 pub mod Folders
 pub mod Delivered
 pub mod Scene

@@ -4,9 +4,9 @@ use Rattle.std.specs.List.{list_any}
 use Rattle.plan_checker.specs.Plan.{mark}
 use Rattle.plan_checker.specs.declared.plan.Mark.{Mark}
 use Rattle.plan_checker.specs.declared.plan.Mark.TheVariants.{Load, Compute}
-use Rattle.run_rules.specs.Words.{JobPlace}
-use Rattle.run_rules.specs.Jobs.{Job}
-use Rattle.run_rules.specs.Unfold.{is_at}
+use Rattle.job_graph.specs.Jobs.{Job}
+use Rattle.job_graph.specs.Unfold.{is_at}
+use Rattle.job_graph.specs.Words.{JobPlace}
 use Rattle.run_rules.specs.Events.{Event, Work, nothing_due, Progress, is_at_hand, is_held, unfolding_at}
 use Rattle.run_rules.specs.End.{settled}
 use Rattle.run_rules.specs.Scene.{Scene}

@@ -8,7 +8,7 @@ use Rattle.proc_host.specs.declared.child.ChildEnd.{ChildEnd}
 use Rattle.proc_host.specs.declared.child.ExitClass.{ExitClass}
 use Rattle.proc_host.specs.ExitClass.{class_of}
 use Rattle.run_rules.specs.declared.request.Pair.{Pair}
-use Rattle.run_rules.specs.Words.{JobPlace}
+use Rattle.job_graph.specs.Words.{JobPlace}
 use Rattle.run_rules.specs.Steps.{call}
 
 -- a child of the job at this place was started, and it ended well, as its tool's exit codes say

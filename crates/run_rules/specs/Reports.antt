@@ -1,7 +1,8 @@
 -- What a run gains on its host, and what it reports.
-use Rattle.std.specs.Prelude.{◌≡◌, List, [], Option, Some, None, Result, Ok, Err, filter_map, option_map}
+use Rattle.std.specs.Prelude.{◌≡◌, List, [], ◌∷◌, ◌++◌, Option, Some, None, Result, Ok, Err, filter_map, option_map}
 use Rattle.document_links.specs.declared.process.Process.{Process}
 use Rattle.proc_host.specs.declared.call.Entry.{Entry}
+use Rattle.proc_host.specs.declared.call.HostRequest.{HostRequest}
 use Rattle.run_rules.specs.declared.request.Answer.{Answer}
 use Rattle.run_rules.specs.declared.request.Request.{Request}
 use Rattle.run_rules.specs.declared.request.Pair.{Pair}
@@ -10,16 +11,17 @@ use Rattle.run_rules.specs.declared.outcome.Report.{Report}
 use Rattle.run_rules.specs.declared.outcome.RunFault.{RunFault}
 use Rattle.run_rules.specs.declared.setting.Options.{Options}
 use Rattle.run_rules.specs.declared.setting.Setting.{Setting}
-use Rattle.run_rules.specs.Words.{Fields}
+use Rattle.job_graph.specs.Eval.{World, eval}
+use Rattle.job_graph.specs.Words.{Fields}
 use Rattle.cwl_value.specs.Erased.{erased}
 use Rattle.input_files.specs.Measured.{Measures}
 use Rattle.run_rules.specs.Delivered.{located, object_of}
-use Rattle.run_rules.specs.Eval.{World, eval}
 use Rattle.run_rules.specs.Events.{Progress, measures}
 use Rattle.run_rules.specs.End.{End, succeeds_with, fails_permanently, fails_temporarily, beyond_limits, ended_by_host}
 use Rattle.plan_checker.specs.declared.plan.Mark.{Mark}
 use Rattle.run_rules.specs.Run.{IsRunSoFar, IsRun}
 use Rattle.run_rules.specs.Honest.{IsHonest}
+use Rattle.run_rules.specs.Key.{key}
 
 -- a call as the host's log has it, without the place of its job
 abbrev pub call_entry : Request → Answer → Option Entry
@@ -48,18 +50,27 @@ report_of (ended_by_host fault running) = Err (RunFault.Host fault running)
 -- places, and where a job fails permanently there is none
 abbrev pub IsRightOutcome : Setting → Measures → World → Outcome → Type 0
 IsRightOutcome setting measures world (Outcome.Success value) =
-    option_map object_of (eval world setting.process setting.inputs measures) ≡ Some (erased value)
-IsRightOutcome setting measures world (Outcome.PermanentFail place cause) = eval world setting.process setting.inputs measures ≡ None
+    option_map object_of (eval key world setting.process setting.inputs measures) ≡ Some (erased value)
+IsRightOutcome setting measures world (Outcome.PermanentFail place cause) = eval key world setting.process setting.inputs measures ≡ None
 IsRightOutcome setting measures world (Outcome.TemporaryFail place) = Unit {0}
 
 abbrev pub IsRight : Setting → Measures → World → Result Report RunFault → Type 0
 IsRight setting measures world (Ok report) = IsRightOutcome setting measures world report.outcome
 IsRight setting measures world (Err fault) = Unit {0}
 
+-- only the ends of children were waited for
+abbrev pub IsWait : Pair → Type 0
+IsWait pair = pair.request ≡ Request.Host [] HostRequest.Collect
+
+abbrev pub AreWaits : List Pair → Type 0
+AreWaits [] = Unit {0}
+AreWaits (pair ∷ more) = IsWait pair × AreWaits more
+
 -- how a transcript is reported
 pub data Concludes (setting : Setting) (t : List Pair) : Result Report RunFault → Type 0 where
-  -- out of memory, so there may be no end; it is a valid prefix of a run
-  lost : (f : Progress) (marks : List Mark) → IsRunSoFar setting t f marks → Concludes setting t (Err RunFault.OutOfMemory)
+  -- out of memory, so there may be no end; it is a valid prefix of a run, and then the children in flight were waited for
+  lost : (front waits : List Pair) (f : Progress) (marks : List Mark) → IsRunSoFar setting front f marks → AreWaits waits → t ≡ front ++ waits →
+      Concludes setting t (Err RunFault.OutOfMemory)
   -- it is a whole run, its end is reported, and in each world where it is honest the report is right
   whole : (end : End) (run : IsRun setting t end) →
       ((world : World) → IsHonest setting world run.happened.events → IsRight setting (measures run.happened.events) world (report_of end)) →

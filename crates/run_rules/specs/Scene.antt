@@ -3,8 +3,10 @@ use Rattle.std.specs.Prelude.{List}
 use Rattle.input_files.specs.Measured.{Measures}
 use Rattle.run_rules.specs.declared.setting.Options.{Options}
 use Rattle.run_rules.specs.declared.setting.Setting.{Setting}
-use Rattle.run_rules.specs.Words.{Name}
-use Rattle.run_rules.specs.Jobs.{Walker, walker, paths}
+use Rattle.job_graph.specs.Equations.{walker}
+use Rattle.job_graph.specs.Jobs.{Walker}
+use Rattle.job_graph.specs.Paths.{input_paths}
+use Rattle.job_graph.specs.Words.{Name}
 
 pub record Scene : Type 0 where
   pub walker : Measures → Walker
@@ -14,6 +16,6 @@ pub record Scene : Type 0 where
 abbrev pub scene_of : Setting → Scene
 scene_of setting = record {
   walker = walker setting.process setting.inputs;
-  paths = paths setting.process setting.inputs;
+  paths = input_paths setting.process setting.inputs;
   options = setting.options;
 }

@@ -8,9 +8,10 @@ use Rattle.input_files.specs.Contents.{with_contents}
 use Rattle.input_files.specs.declared.fault.ContentsFault.{ContentsFault}
 use Rattle.run_rules.specs.declared.outcome.Cause.{Cause}
 use Rattle.run_rules.specs.declared.setting.Options.{Options}
-use Rattle.run_rules.specs.Words.{Name, Fields, Heads, JobPlace}
+use Rattle.collected_outputs.specs.Contents.{Heads}
+use Rattle.job_graph.specs.Jobs.{Job}
+use Rattle.job_graph.specs.Words.{Name, Fields, JobPlace}
 use Rattle.run_rules.specs.Folders.{runtime_of}
-use Rattle.run_rules.specs.Jobs.{Job}
 use Rattle.run_rules.specs.Events.{Event, job_failed, Work, nothing_due, input_heads_due, start_due}
 
 -- the job at a place, in the folders of this number, with these staged inputs, where these first bytes were read and those of these paths are not

@@ -19,8 +19,9 @@ use Rattle.run_rules.specs.declared.outcome.Cause.{Cause}
 use Rattle.run_rules.specs.declared.request.Answer.{Answer}
 use Rattle.run_rules.specs.declared.request.Pair.{Pair}
 use Rattle.run_rules.specs.declared.request.Request.{Request}
-use Rattle.run_rules.specs.Words.{Name, Fields, Heads, JobPlace}
-use Rattle.run_rules.specs.Jobs.{Job}
+use Rattle.collected_outputs.specs.Contents.{Heads}
+use Rattle.job_graph.specs.Jobs.{Job}
+use Rattle.job_graph.specs.Words.{Name, Fields, JobPlace}
 use Rattle.run_rules.specs.Events.{Event, file_measured, job_staged, job_started, child_exited, job_failed, job_failed_for_now, result_delivered, host_failed, collect_failed, Work, nothing_due, input_heads_due, start_due, scan_due, output_heads_due, Progress, Started, in_flight, number_at, started_at, job_at}
 use Rattle.run_rules.specs.StartsOn.{StartsOn}
 use Rattle.run_rules.specs.CollectsOn.{CollectsOn}

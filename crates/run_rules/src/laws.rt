@@ -1,6 +1,6 @@
 //! What follows from the definitions alone, for any run: each law is the contract of a function that
-//! does nothing.
-ghost use Rattle.std.specs.Prelude.{◌≡◌, ◌≢◌, List, Some, Contains};
+//! does nothing, or only calls laws of `job_graph`.
+ghost use Rattle.std.specs.Prelude.{◌≡◌, ◌≢◌, true, List, Some, Contains};
 ghost use Rattle.run_rules.specs.declared.request.Pair.{Pair};
 ghost use Rattle.run_rules.specs.declared.request.Request.{Request};
 ghost use Rattle.run_rules.specs.declared.setting.Setting.{Setting};
@@ -8,27 +8,37 @@ ghost use Rattle.document_links.specs.declared.process.Process as process;
 ghost use Rattle.cwl_process.specs.declared.tool.Tool.{Tool};
 ghost use Rattle.input_files.specs.Measured.{Measures};
 ghost use Rattle.cwl_value.specs.Erased.{erased, fields_erased};
-ghost use Rattle.run_rules.specs.Words.{Fields};
+ghost use Rattle.job_graph.specs.Apart.{ids_differ};
+ghost use Rattle.job_graph.specs.Equations.{walker};
+ghost use Rattle.job_graph.specs.Eval.{World};
+ghost use Rattle.job_graph.specs.Jobs.{Job};
+ghost use Rattle.job_graph.specs.Unfold.{Resolved, too_many_jobs, unfolded};
+ghost use Rattle.job_graph.specs.Words.{Fields};
 ghost use Rattle.run_rules.specs.Allowed.{Allowed};
 ghost use Rattle.run_rules.specs.Delivered.{located, object_of};
 ghost use Rattle.run_rules.specs.End.{End, succeeds_with};
 ghost use Rattle.run_rules.specs.EndsSo.{EndsSo, IsDelivered};
-ghost use Rattle.run_rules.specs.Eval.{World};
 ghost use Rattle.run_rules.specs.Events.{Event, Progress, measures, unfolding_at};
 ghost use Rattle.run_rules.specs.Honest.{IsHonest, Means};
-ghost use Rattle.run_rules.specs.Jobs.{Job, walker};
 ghost use Rattle.plan_checker.specs.declared.plan.Mark.{Mark};
 ghost use Rattle.run_rules.specs.Reports.{IsRight, report_of};
 ghost use Rattle.run_rules.specs.Run.{IsRun};
 ghost use Rattle.run_rules.specs.Scene.{Scene, scene_of};
 ghost use Rattle.run_rules.specs.RanWell.{RanWell};
-ghost use Rattle.run_rules.specs.Unfold.{Resolved, too_many_jobs, unfolded};
+
+use job_graph::{
+    failed_jobs_fail_eval, faults_fail_eval, known_jobs_agree, known_places_differ,
+    results_are_eval, results_learned_each_job,
+};
 
 /// In a run that ends in success each known job ran well: a child was started for the job at its place, and it ended well.
 pub fn success_ran_each_job()
     ensures { (setting : Setting) (t : List Pair) (outputs delivered : Fields) (run : IsRun setting t (succeeds_with outputs delivered)) (job : Job)
         → Contains (unfolding_at (scene_of setting) run.happened.events).jobs job → RanWell t job.place job.tool.exit_codes }
-{}
+{
+    known_places_differ();
+    results_learned_each_job();
+}
 
 /// Of any scene: a run comes to one end.
 pub fn one_end()
@@ -50,17 +60,28 @@ pub fn a_lone_tool_is_within_limits()
 {}
 
 /// In each world where all that happened in a run is as the world says, its end is right: a success is the value of
-/// the process there, on the input files as they were measured, and where it failed permanently the process has none.
+/// the process there, on the input files as they were measured, and where it failed permanently the process has none. No
+/// two steps of a workflow have one id: documents are read so.
 pub fn an_honest_run_ends_rightly()
     ensures { (setting : Setting) (t : List Pair) (end : End) (run : IsRun setting t end) (world : World)
-        → IsHonest setting world run.happened.events → Means setting (measures run.happened.events) world end }
-{}
+        → ids_differ setting.process ≡ true → IsHonest setting world run.happened.events → Means setting (measures run.happened.events) world end }
+{
+    known_jobs_agree();
+    results_are_eval();
+    faults_fail_eval();
+    failed_jobs_fail_eval();
+}
 
 /// And so is what is reported of it: without places, the output object of a success is the value of the process.
 pub fn an_honest_run_is_reported_rightly()
     ensures { (setting : Setting) (t : List Pair) (end : End) (run : IsRun setting t end) (world : World)
-        → IsHonest setting world run.happened.events → IsRight setting (measures run.happened.events) world (report_of end) }
-{}
+        → ids_differ setting.process ≡ true → IsHonest setting world run.happened.events → IsRight setting (measures run.happened.events) world (report_of end) }
+{
+    known_jobs_agree();
+    results_are_eval();
+    faults_fail_eval();
+    failed_jobs_fail_eval();
+}
 
 /// What is reported of a success is its value: without their places, the outputs as they were delivered are the outputs,
 /// in the order of their names.

@@ -11,9 +11,9 @@ pub struct Options {
     pub outdir: Text,
     /// Where children seek programs: the text of their `PATH`.
     pub path_env: Text,
-    /// How many children may run side by side: 1.
+    /// How many children may run side by side, from 1 to 64.
     pub slots: u64,
-    /// How often a job that a signal ended is started again: 0.
+    /// How often a job that fails temporarily is started again, from 0 to 10.
     pub retries: u64,
     /// What any load costs, from 0 to 10^12.
     pub base: u64,

@@ -10,7 +10,7 @@ use Rattle.proc_host.specs.declared.call.HostRequest.{HostRequest}
 use Rattle.run_rules.specs.Answers.{MayAnswer, by_host}
 use Rattle.run_rules.specs.declared.request.Answer.{Answer}
 use Rattle.run_rules.specs.declared.request.Request.{Request}
-use Rattle.run_rules.specs.Words.{JobPlace}
+use Rattle.job_graph.specs.Words.{JobPlace}
 use Rattle.workflow_engine.specs.Gains.{answered}
 
 module _ (running : List ℕ) (request : HostRequest) where

@@ -6,7 +6,7 @@ use Rattle.document_links.specs.declared.process.Process.{Process}
 use Rattle.run_rules.specs.declared.outcome.RunFault.{RunFault}
 use Rattle.run_rules.specs.declared.setting.Options.{Options}
 use Rattle.run_rules.specs.declared.setting.Setting.{Setting}
-use Rattle.run_rules.specs.Words.{Fields}
+use Rattle.job_graph.specs.Words.{Fields}
 use Rattle.run_rules.specs.Events.{at_first, is_held, unfolding_at}
 use Rattle.plan_checker.specs.declared.plan.Mark.{Mark}
 use Rattle.run_rules.specs.Plans.{is_planning, mark_if_held}
@@ -27,7 +27,7 @@ nothing_asked process inputs options =
     record {
       transcript = [];
       entries = refl;
-      concluded = lost at_first first.0 (begins first.0 first.1);
+      concluded = lost [] [] at_first first.0 (begins first.0 first.1) tt refl;
     }
 
 pub err_is : (result : Result Report RunFault) (P : RunFault → Type 0) (fault : RunFault) → IsErrAnd result P →

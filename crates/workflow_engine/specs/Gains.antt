@@ -9,7 +9,7 @@ use Rattle.run_rules.specs.declared.outcome.Report.{Report}
 use Rattle.run_rules.specs.declared.outcome.RunFault.{RunFault}
 use Rattle.run_rules.specs.declared.setting.Options.{Options}
 use Rattle.run_rules.specs.Reports.{GainsRun}
-use Rattle.run_rules.specs.Words.{Fields}
+use Rattle.job_graph.specs.Words.{Fields}
 
 -- a fault is an answer too; out of memory is none
 abbrev pub answered : Option HostAnswer → Result HostAnswer AllocError

@@ -1,9 +1,9 @@
 //! A whole run on a host.
-ghost use Rattle.std.specs.Prelude.{◌≡◌, ◌≢◌, ◌++◌, [], OnOk, IfErr};
+ghost use Rattle.std.specs.Prelude.{◌≡◌, ◌++◌, [], None, OnOk, IfErr};
 ghost use Rattle.run_core.specs.Core.{setting_of, transcript, asked, flying, Stands};
 ghost use Rattle.run_core.specs.Limits.{IsWithinLimits};
 ghost use Rattle.run_rules.specs.Reports.{entries_of};
-ghost use Rattle.run_rules.specs.RunsToday.{RunsToday};
+ghost use Rattle.workflow_check.specs.Checked.{fault_in};
 ghost use Rattle.workflow_engine.specs.Blame.{IsHostsFault};
 ghost use Rattle.workflow_engine.specs.inner.Held.{Covers};
 ghost use Rattle.workflow_engine.specs.Gains.{RunsOn};
@@ -17,23 +17,23 @@ use proc_host::{Host, Ticket};
 use run_core::{Answer, Options, Report, Request, RunCore, RunFault};
 use std::alloc::Global;
 
-/// Runs a process on an input object, where it is one that is run so far (`run_core::runs_today`).
+/// Runs an accepted process on an input object.
 ///
 /// What the host's log gains is a run of the process, and the report is what that run comes to: the delivered output
 /// object, a permanent failure with its place and cause, a temporary failure, or the host's fault with the tickets that
-/// nobody waits for any more. `Err(OutOfMemory)` says only that an allocation failed; what was asked
-/// until then is a valid prefix of a run.
+/// nobody waits for any more. `Err(OutOfMemory)` says only that an allocation failed; what was asked is a valid prefix
+/// of a run, after which only the ends of children were waited for.
 pub fn run<H: Host>(
     alloc: Global,
     host: &mut H,
-    process: Process,
-    inputs: Keyed<Value>,
+    process: &Process,
+    inputs: &Keyed<Value>,
     options: Options,
 ) -> Result<Report, RunFault>
     requires idle { H.running host.old ≡ [] }
-    requires runs { RunsToday process inputs }
+    requires accepted { fault_in process.now ≡ None }
     requires limits { IsWithinLimits options }
-    ensures run { RunsOn (H.log host.old) (H.log host.new) process inputs options result }
+    ensures run { RunsOn (H.log host.old) (H.log host.new) process.now inputs.now options result }
     // A fault is the host's only where its failures rose, by this very fault.
     ensures fault { IfErr result (IsHostsFault (H.log host.old) (H.log host.new)) }
     ensures closed { H.running host.new ≡ [] }
@@ -49,7 +49,11 @@ pub fn run<H: Host>(
 }
 
 /// Asks the host what the machine asks, until it asks nothing more or runs out of memory.
-fn drive<H: Host>(host: &mut H, core: &mut RunCore, held: &mut Vec<Ticket>) -> Result<(), RunFault>
+fn drive<H: Host>(
+    host: &mut H,
+    core: &mut RunCore<'_>,
+    held: &mut Vec<Ticket>,
+) -> Result<(), RunFault>
     requires stands { Stands core.old }
     requires first { transcript core.old ≡ [] }
     requires flying { flying core.old ≡ H.running host.old }

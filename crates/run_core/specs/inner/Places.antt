@@ -1,14 +1,17 @@
--- Where the files of values go: from names in an output folder to the job that made them, from there to paths, and to locations.
-use Rattle.std.specs.Prelude.{ℕ, List, [], ◌∷◌}
+-- Where the files of values go: from the job that made them to their paths, and to locations.
+use Rattle.std.specs.Prelude.{ℕ, List, map}
 use Rattle.cwl_value.specs.declared.place.Place.{Place}
 use Rattle.cwl_value.specs.declared.value.Value.{Value, roll-Value}
 use Rattle.cwl_value.specs.declared.value.FileVal.{FileVal, fold-FileVal, out-FileVal, roll-FileVal}
 use Rattle.cwl_value.specs.declared.value.DirVal.{DirVal, fold-DirVal}
-use Rattle.run_rules.specs.Words.{Name, JobPlace}
+use Rattle.job_graph.specs.inner.Views.{job_of}
+use Rattle.job_graph.specs.Words.{JobPlace}
 use Rattle.run_rules.specs.Delivered.{source_place, location_place}
-use Rattle.run_rules.specs.Made.{file_moved, dir_moved, made_place}
+use Rattle.job_graph.specs.Made.{file_moved, dir_moved}
+use Rattle.run_core.specs.declared.places.Sources.{Sources}
 use Rattle.run_core.specs.declared.places.Way.{Way}
 use Rattle.run_core.specs.declared.places.Way.TheVariants as way
+use Rattle.run_core.specs.inner.Course.{number_in}
 
 -- what is not a value itself
 
@@ -22,16 +25,14 @@ dir_elsewhere move = fold-DirVal Value DirVal FileVal roll-Value (dir_moved move
 abbrev pub file_with : FileVal → Place → List Value → FileVal
 file_with file place secondary = roll-FileVal (record (out-FileVal file) { place = place; secondary = secondary })
 
--- the number of a job's folders, where the lone job was staged first
-abbrev pub number_of : JobPlace → ℕ
-number_of [] = 1
-number_of (segment ∷ place) = 0
+-- the number of the folders of the job at a place
+abbrev pub number_at_source : Sources → JobPlace → ℕ
+number_at_source sources place = number_in (map (λ known. job_of known.job) sources.known.now) sources.jobs.now place
 
 -- what a job made is at its path
-abbrev pub left_place : Name → Place → Place
-left_place work place = source_place number_of work place
+abbrev pub left_place : Sources → Place → Place
+left_place sources place = source_place (number_at_source sources) sources.work.now place
 
 abbrev pub place_by : Way → Place → Place
-place_by way.Made place = made_place [] place
-place_by (way.Left work) place = left_place work.now place
+place_by (way.Left sources) place = left_place sources place
 place_by way.Located place = location_place place

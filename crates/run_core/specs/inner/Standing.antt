@@ -1,115 +1,144 @@
--- The states that the machine can be in, with what has happened and the plan in force there.
-use Rattle.std.specs.Prelude.{◌≡◌, ◌<◌, ◌^◌, ℕ, true, false, List, [], ◌∷◌, ◌++◌, length, reverse, None, Ok, Err, IfErr}
-use Rattle.std.specs.Map.{keys_of}
-use Rattle.command_line.specs.declared.launch.Launch.{Launch}
-use Rattle.command_line.specs.Launch.{IsLaunch}
-use Rattle.input_files.specs.Paths.{input_paths}
+-- Where the machine is in its run.
+use Rattle.std.specs.Prelude.{◌≡◌, ◌≢◌, ◌≤◌, ◌<◌, ◌+◌, ℕ, List, [], ◌∷◌, ◌++◌, Option, Some, None, Result, Ok, Err, IfErr, length, vec_len, vec_capacity}
+use Rattle.plan_checker.specs.declared.plan.Mark.{Mark}
 use Rattle.proc_host.specs.declared.call.Entry.{Entry}
-use Rattle.staging.specs.declared.found.Found.{Found}
+use Rattle.proc_host.specs.declared.call.HostRequest.{HostRequest}
 use Rattle.staging.specs.declared.measure.Measure.{Measure}
 use Rattle.staging.specs.declared.plan.StagePlan.{StagePlan}
-use Rattle.staging.specs.Plan.{IsPlan}
+use Rattle.job_graph.specs.Jobs.{Job}
+use Rattle.job_graph.specs.Words.{JobPlace, Name}
+use Rattle.run_rules.specs.declared.outcome.Report.{Report}
 use Rattle.run_rules.specs.declared.outcome.RunFault.{RunFault}
-use Rattle.run_core.specs.declared.state.Filling.{Filling}
-use Rattle.run_core.specs.declared.state.Lone.{Lone}
+use Rattle.run_rules.specs.declared.request.Pair.{Pair}
+use Rattle.run_rules.specs.declared.request.Request.{Request}
+use Rattle.run_rules.specs.Allowed.{MayStage, MayCollect, MayDeliver}
+use Rattle.run_rules.specs.Blame.{BlamesRightly, IsToBlame, WereStarted}
+use Rattle.run_rules.specs.Delivered.{located}
+use Rattle.run_rules.specs.End.{End}
+use Rattle.run_rules.specs.EndsSo.{EndsSo}
+use Rattle.run_rules.specs.Events.{Event, Progress, Started, nothing_due, started_at}
+use Rattle.run_rules.specs.Plans.{LoadsHeld}
+use Rattle.run_rules.specs.Reports.{report_of}
+use Rattle.run_rules.specs.Run.{Goes}
+use Rattle.run_rules.specs.Scene.{Scene}
+use Rattle.run_rules.proofs.events.Places.{IsJob}
+use Rattle.run_core.specs.declared.state.Course.{Course}
+use Rattle.run_core.specs.declared.state.JobPhase.{JobPhase}
+use Rattle.run_core.specs.declared.state.Kept.{Kept}
 use Rattle.run_core.specs.declared.state.Measuring.{Measuring}
 use Rattle.run_core.specs.declared.state.Phase.{Phase}
-use Rattle.run_core.specs.declared.state.Reading.{Reading}
-use Rattle.run_core.specs.declared.state.State.{State}
-use Rattle.run_rules.specs.Words.{Fields, Heads, Name}
-use Rattle.run_rules.specs.Delivered.{any_file}
-use Rattle.run_rules.specs.Folders.{in_folder, runtime_of}
-use Rattle.run_rules.specs.Events.{Event, job_staged, job_started, child_exited, job_succeeded, nothing_due, input_heads_due, start_due, scan_due, output_heads_due, Progress, at_first, are_measured, measures}
-use Rattle.run_rules.specs.Jobs.{inputs_of}
-use Rattle.run_rules.specs.End.{End, settled}
-use Rattle.run_rules.specs.EndsSo.{EndsSo}
-use Rattle.plan_checker.specs.declared.plan.Mark.{Mark}
-use Rattle.plan_checker.specs.declared.plan.Mark.TheVariants.{Load, Compute}
-use Rattle.run_rules.specs.Scene.{scene_of}
-use Rattle.run_rules.specs.Reports.{report_of}
-use Rattle.run_core.specs.inner.Lone.{setting_in}
-use Rattle.run_core.specs.inner.Machine.{waits, ends, stages_by, starts, after_ticket, kept_of, scans, delivers_by, contents_of, head_of, measure_of, outputs_made, result_of}
-use Rattle.run_core.specs.inner.Measured.{AreMeasures, measured_by}
-use Rattle.run_core.specs.inner.Places.{left_place}
-use Rattle.run_core.specs.Limits.{IsWithinLimits}
-use Rattle.run_rules.specs.Blame.{WereStarted, BlamesRightly}
-use Rattle.run_rules.specs.Made.{fields_moved}
+use Rattle.run_core.specs.declared.state.Turn.{Turn}
+use Rattle.run_core.specs.inner.Course.{Past, known_in, nothing_past, past_of}
+use Rattle.run_core.specs.inner.Due.{Calls, IsKept, work_of}
+use Rattle.run_core.specs.inner.Keeps.{Reflects, state_at}
+use Rattle.run_core.specs.inner.Measured.{IsMeasuring, measured_by}
+use Rattle.run_core.specs.inner.Turn.{collects, ends, waits, works}
 
--- its input files are measured, and its inputs are these
-pub record IsLone (lone : Lone) (inputs : Fields) (ms : List Event) : Type 0 where
-  pub limits : IsWithinLimits lone.options
-  pub are : AreMeasures ms
-  pub measured : are_measured (scene_of (setting_in lone)) ms ≡ true
-  pub fit : inputs_of lone.tool lone.inputs (measures ms) ≡ Ok inputs
-  pub still : settled (scene_of (setting_in lone)) ms ≡ None
+-- what is kept of the child of a job that has ended well
+pub record HasStarted (es : List Event) (place : JobPlace) (kept : Kept) : Type 0 where
+  pub started : Started
+  pub at : started_at es place ≡ Some started
+  pub kept_is : IsKept kept started
 
--- its first input files are measured, and the others are still to be
-pub record IsMeasuring (lone : Lone) (found : List (Name × Measure)) (measuring : Measuring) : Type 0 where
-  pub limits : IsWithinLimits lone.options
-  pub paths : input_paths lone.tool.inputs lone.inputs ≡ keys_of found ++ reverse measuring.left
-  pub measures : measuring.measures ≡ measures (measured_by found)
-  pub few : length measuring.left < 2 ^ 64
-  pub still : settled (scene_of (setting_in lone)) (measured_by found) ≡ None
+-- of a job whose child has ended is kept what it was started by
+abbrev pub WorksOn : List Event → JobPlace → JobPhase → Type 0
+WorksOn es place (JobPhase.Filling filling) = Unit {0}
+WorksOn es place (JobPhase.Starting kept) = Unit {0}
+WorksOn es place (JobPhase.Scanning kept millis) = HasStarted es place kept
+WorksOn es place (JobPhase.Reading kept reading) = HasStarted es place kept
 
--- the same, after these events
-abbrev pub after : List Event → Progress → Progress
-after ms f = record { work = f.work; events = ms ++ f.events }
+-- the job of a number whose open work this is
+pub record IsWorking (s : Scene) (f : Progress) (course : Course) (number : ℕ) (job : Job) (call : HostRequest) (phase : JobPhase) : Type 0 where
+  pub it : IsJob (known_in course.known) number job
+  pub due : f.work ≡ work_of job.place call phase
+  pub calls : Calls s.options (state_at course.jobs.items number).folder call phase
+  pub on : WorksOn f.events job.place phase
 
-abbrev pub when_filling : Fields → List Name → Heads → Progress
-when_filling staged todo read = record { work = input_heads_due [] staged todo read; events = job_staged [] 1 ∷ [] }
+-- a job that is to be staged: the first that never was, or the one that is worked on and failed temporarily
+pub record IsStaging (s : Scene) (f : Progress) (marks : List Mark) (course : Course) (at_work : Option ℕ) (number : ℕ) (job : Job) (plan : StagePlan) : Type 0 where
+  pub it : IsJob (known_in course.known) number job
+  pub may : MayStage s f marks job.place plan (course.folders + 1)
+  pub next : number ≤ length course.jobs.items
+  pub alone : (other : ℕ) → at_work ≡ Some other → other ≡ number
+  pub going : course.end ≡ None
 
-abbrev pub when_staged : Fields → Launch → Progress
-when_staged inputs launch = record { work = start_due [] inputs launch; events = job_staged [] 1 ∷ [] }
+-- what it waits for is what its run has come to: a rule for each phase
+pub data IsAt (s : Scene) (f : Progress) (marks : List Mark) (course : Course) : Turn → Type 0 where
+  measuring : (found : List (Name × Measure)) (measuring : Measuring) (rest : List Name) (path : Name) → IsMeasuring s found measuring →
+      measuring.left ≡ rest ++ path ∷ [] → f ≡ record { work = nothing_due; events = measured_by found } → course.known ≡ None →
+      past_of course ≡ nothing_past → IsAt s f marks course (waits (HostRequest.Measure path) (Phase.Measuring measuring))
+  staging : (at_work : Option ℕ) (number : ℕ) (job : Job) (plan : StagePlan) → Reflects s f.events course at_work →
+      IsStaging s f marks course at_work number job plan →
+      IsAt s f marks course (record { asks = Request.Host job.place (HostRequest.Stage plan (course.folders + 1)); phase = Phase.Staging number })
+  working : (number : ℕ) (job : Job) (call : HostRequest) (phase : JobPhase) → Reflects s f.events course (Some number) →
+      IsWorking s f course number job call phase → IsAt s f marks course (works job.place number call phase)
+  collecting : Reflects s f.events course None → MayCollect s f marks [] → IsAt s f marks course collects
+  -- each known job was staged
+  delivering : (plan : StagePlan) → Reflects s f.events course None → MayDeliver s f marks [] plan → course.end ≡ None →
+      length (known_in course.known) ≤ length course.jobs.items →
+      IsAt s f marks course (waits (HostRequest.Deliver plan) (Phase.Delivering (located plan.value)))
+  ended : (end : End) → EndsSo s f marks end → IsAt s f marks course (ends (report_of end))
 
-abbrev pub when_running : Fields → Launch → ℕ → Progress
-when_running inputs launch ticket = record { work = nothing_due; events = job_staged [] 1 ∷ job_started [] inputs launch ticket ∷ [] }
+-- a run so far, and where the machine is in it
+pub record Runs (s : Scene) (t : List Pair) (course : Course) (turn : Turn) : Type 0 where
+  pub happened : Progress
+  pub marks : List Mark
+  pub goes : Goes s (LoadsHeld s) t happened marks
+  pub at : IsAt s happened marks course turn
 
--- the events once the child is back
-abbrev pub events_back : Fields → Launch → ℕ → List Event
-events_back inputs launch ticket = job_staged [] 1 ∷ job_started [] inputs launch ticket ∷ child_exited ticket ∷ []
+-- collects alone, whatever they were answered
+abbrev pub AreCollects : List Pair → Type 0
+AreCollects [] = Unit {0}
+AreCollects (pair ∷ pairs) = (pair.request ≡ Request.Host [] HostRequest.Collect) × AreCollects pairs
 
-abbrev pub when_back : Fields → Launch → ℕ → ℕ → Progress
-when_back inputs launch ticket millis = record { work = scan_due [] millis; events = events_back inputs launch ticket }
+-- the children in flight are waited for, and then it has ended
+pub data IsLostAt (past : Past) : Turn → Type 0 where
+  draining : past.tickets ≢ [] → IsLostAt past (record { asks = Request.Host [] HostRequest.Collect; phase = Phase.Draining })
+  lost : IsLostAt past (record { asks = Request.Finished; phase = Phase.Ended (Err RunFault.OutOfMemory) })
 
-abbrev pub when_reading : Fields → Launch → ℕ → List Found → List Name → Heads → Progress
-when_reading inputs launch ticket found todo read = record { work = output_heads_due [] found todo read; events = events_back inputs launch ticket }
+-- memory ran out: what was asked and answered is a run so far, and collects after it
+pub record RanOut (s : Scene) (t : List Pair) (past : Past) (turn : Turn) : Type 0 where
+  pub front : List Pair
+  pub tail : List Pair
+  pub pairs : t ≡ front ++ tail
+  pub happened : Progress
+  pub marks : List Mark
+  pub goes : Goes s (LoadsHeld s) front happened marks
+  pub collects : AreCollects tail
+  pub at : IsLostAt past turn
 
-abbrev pub when_gathered : Fields → Launch → ℕ → Fields → Progress
-when_gathered inputs launch ticket named =
-    record { work = nothing_due; events = job_staged [] 1 ∷ job_started [] inputs launch ticket ∷ child_exited ticket ∷ job_succeeded [] named ∷ [] }
+-- a failure that settled the end: one of the host's blames it rightly, and memory that ran out settles none
+abbrev pub SettlesRightly : List Entry → Result Report RunFault → Type 0
+SettlesRightly entries (Ok report) = Unit {0}
+SettlesRightly entries (Err (RunFault.Host fault running)) = IsToBlame entries fault running
+SettlesRightly entries (Err RunFault.TooManyJobs) = Unit {0}
+SettlesRightly entries (Err RunFault.OutOfMemory) = ⊥
 
-pub data IsAt (lone : Lone) : Progress → List Mark → State → Type 0 where
-  measuring : (found : List (Name × Measure)) (measuring : Measuring) (rest : List Name) (path : Name) → IsMeasuring lone found measuring →
-      measuring.left ≡ rest ++ path ∷ [] →
-      IsAt lone (record { work = nothing_due; events = measured_by found }) [] (waits (measure_of path) (Phase.Measuring measuring))
-  staging : (inputs : Fields) (ms : List Event) (plan : StagePlan) → IsLone lone inputs ms → IsPlan false (in_folder lone.options.work 1) inputs plan →
-      IsAt lone (after ms at_first) (Compute ∷ []) (stages_by plan)
-  filling : (inputs : Fields) (ms : List Event) (filling : Filling) (rest : List Name) (path : Name) → IsLone lone inputs ms →
-      filling.left ≡ rest ++ path ∷ [] → length filling.left < 2 ^ 64 →
-      IsAt lone (after ms (when_filling filling.staged (reverse filling.left) filling.heads)) (Compute ∷ []) (waits (contents_of path) (Phase.Filling filling))
-  starting : (inputs : Fields) (ms : List Event) (own : Fields) (launch : Launch) → IsLone lone inputs ms → IsLaunch lone.tool own (runtime_of lone.options 1) launch →
-      IsAt lone (after ms (when_staged own launch)) (Compute ∷ []) (starts own launch)
-  running : (inputs : Fields) (ms : List Event) (own : Fields) (launch : Launch) (ticket : ℕ) → IsLone lone inputs ms →
-      IsAt lone (after ms (when_running own launch ticket)) (Load ∷ []) (after_ticket ticket (kept_of own launch))
-  scanning : (inputs : Fields) (ms : List Event) (own : Fields) (launch : Launch) (ticket millis : ℕ) → IsLone lone inputs ms →
-      IsAt lone (after ms (when_back own launch ticket millis)) (Load ∷ []) (scans lone.options (kept_of own launch))
-  reading : (inputs : Fields) (ms : List Event) (own : Fields) (launch : Launch) (ticket : ℕ) (reading : Reading) (rest : List Name) (name : Name) → IsLone lone inputs ms →
-      reading.left ≡ rest ++ name ∷ [] → length reading.left < 2 ^ 64 →
-      IsAt lone (after ms (when_reading own launch ticket reading.found (reverse reading.left) reading.heads)) (Load ∷ [])
-      (waits (head_of lone.options.work name) (Phase.Reading (kept_of own launch) reading))
-  delivering : (inputs : Fields) (ms : List Event) (own : Fields) (launch : Launch) (ticket : ℕ) (named : Fields) (plan : StagePlan) → IsLone lone inputs ms →
-      any_file (outputs_made lone.tool.outputs named) ≡ true → IsPlan true lone.options.outdir (fields_moved (left_place lone.options.work) (result_of lone named)) plan →
-      IsAt lone (after ms (when_gathered own launch ticket named)) (Load ∷ []) (delivers_by plan)
-  ended : (f : Progress) (marks : List Mark) (end : End) → EndsSo (scene_of (setting_in lone)) f marks end →
-      IsAt lone f marks (ends (report_of end))
-  lost : (f : Progress) (marks : List Mark) → IsAt lone f marks (ends (Err RunFault.OutOfMemory))
+-- what it knows of its host while it goes on: the children in flight were started, and what settled the end blames it rightly
+pub record BlamesSoFar (entries : List Entry) (past : Past) : Type 0 where
+  pub flying : WereStarted entries past.tickets
+  pub settled : (end : Result Report RunFault) → past.end ≡ Some end → SettlesRightly entries end
 
--- an end by the host's fault blames it rightly
-abbrev pub EndsRightly : List Entry → Phase → Type 0
-EndsRightly entries (Phase.Ended result) = IfErr result (BlamesRightly entries)
-EndsRightly entries phase = Unit {0}
+-- and an end by the host's fault blames it rightly
+abbrev pub Blames : List Entry → Past → Phase → Type 0
+Blames entries past (Phase.Ended outcome) = IfErr outcome (BlamesRightly entries)
+Blames entries past Phase.Draining = Unit {0}
+Blames entries past phase = BlamesSoFar entries past
 
--- what it knows of its host: the children in flight were started, and what it blames on the host is so
-pub record Blames (entries : List Entry) (state : State) : Type 0 where
-  pub flying : WereStarted entries state.flying
-  pub rightly : EndsRightly entries state.phase
+-- for how many pairs there is room: the one that comes next, and the end of each child that is or will be in flight
+abbrev pub pairs_ahead : Past → Phase → ℕ
+pairs_ahead past (Phase.Ended outcome) = 0
+pairs_ahead past Phase.Draining = length past.tickets
+pairs_ahead past phase = length past.tickets + 2
+
+-- before a child is started there is room for it and its job
+abbrev pub TakesOne : Phase → Type 0
+TakesOne (Phase.Staging number) = Unit {0}
+TakesOne (Phase.Working number (JobPhase.Filling filling)) = Unit {0}
+TakesOne (Phase.Working number (JobPhase.Starting kept)) = Unit {0}
+TakesOne phase = ⊥
+
+pub record HasRoom (course : Course) (phase : Phase) : Type 0 where
+  pub tickets : TakesOne phase → vec_len course.tickets < vec_capacity course.tickets
+  pub flights : TakesOne phase → vec_len course.flights < vec_capacity course.flights
+  pub jobs : (number : ℕ) → phase ≡ Phase.Staging number → vec_len course.jobs < vec_capacity course.jobs

@@ -1,7 +1,7 @@
 -- Lists whose last item comes next.
 use Rattle.std.specs.Prelude.{◌≡◌, List, [], ◌∷◌, ◌++◌}
 use Rattle.plain_data.specs.ByName.{with_value}
-use Rattle.run_rules.specs.Words.{Name}
+use Rattle.job_graph.specs.Words.{Name}
 
 -- a value is put under the name that comes next
 pub data PutsNext {T : Type 0} (left : List Name) (found : List (Name × T)) (value : T) : List Name → List (Name × T) → Type 0 where

@@ -7,19 +7,20 @@ use Rattle.staging.specs.Plan.{IsPlan}
 use Rattle.staging.specs.declared.plan.StagePlan.{StagePlan}
 use Rattle.run_rules.specs.declared.request.Pair.{Pair}
 use Rattle.run_rules.specs.declared.request.Request.{Request}
-use Rattle.run_rules.specs.Words.{Fields, JobPlace}
+use Rattle.job_graph.specs.Words.{Fields, JobPlace}
+use Rattle.job_graph.specs.Made.{fields_moved}
 use Rattle.run_rules.specs.Folders.{in_folder}
-use Rattle.run_rules.specs.Jobs.{Job}
+use Rattle.job_graph.specs.Jobs.{Job}
 use Rattle.run_rules.specs.Scene.{Scene}
-use Rattle.run_rules.specs.Delivered.{any_file}
-use Rattle.run_rules.specs.Events.{Work, nothing_due, Progress, in_flight, is_held, is_staging, delivered_at, unfolding_at}
+use Rattle.run_rules.specs.Delivered.{any_file, source_place}
+use Rattle.run_rules.specs.Events.{Work, nothing_due, Progress, in_flight, is_held, is_staging, delivered_at, number_at, unfolding_at}
 use Rattle.run_rules.specs.End.{End, settled, IsDelivery, is_lost_collect}
 use Rattle.run_rules.specs.Allowed.{IsFree, MayStage, IsBusy, MayCollect, MayDeliver, due, due_in}
 use Rattle.run_rules.specs.Plans.{LoadsHeld}
 use Rattle.run_rules.specs.Run.{Goes}
 use Rattle.run_rules.proofs.events.Flights.{Flight}
 use Rattle.run_rules.proofs.events.Places.{AreApart, IsFound, IsJob, found_at, found_is}
-use Rattle.run_rules.proofs.SuccessCollects.{same_place}
+use Rattle.run_rules.proofs.Places.{same_place}
 use Rattle.run_rules.proofs.events.Planned.{computed, jobs_in}
 
 module _ (s : Scene) (f : Progress) (marks : List Mark) where
@@ -30,7 +31,7 @@ module _ (s : Scene) (f : Progress) (marks : List Mark) where
   -- a job may be staged that is not held
   pub may_stage : {t : List Pair} (n : ℕ) (job : Job) (plan : StagePlan) (number : ℕ) → Goes s (LoadsHeld s) t f marks → IsFree s f → AreApart (jobs_in s f) →
       IsJob (jobs_in s f) n job → is_held f.events job.place ≡ false → length (in_flight f.events) < s.options.slots →
-      number ≡ length (filter is_staging f.events) + 1 → IsPlan false (in_folder s.options.work number) job.inputs plan →
+      number ≡ length (filter is_staging f.events) + 1 → IsPlan false (in_folder s.options.work number) (fields_moved (source_place (number_at f.events) s.options.work) job.inputs) plan →
       MayStage s f marks job.place plan number
   may_stage n job plan number goes free apart it away slot next staged = record {
     free = free;

@@ -2,8 +2,8 @@
 use Rattle.std.specs.Prelude.{◌||◌}
 use Rattle.std.proofs.Common.{◌≡◌, ◌∙◌, ◌==◌, ℕ, false, cond, List, [], ◌∷◌, ◌++◌, Option, Some, ap}
 use Rattle.command_line.specs.declared.launch.Launch.{Launch}
-use Rattle.run_rules.specs.Words.{Fields}
-use Rattle.run_rules.specs.Jobs.{Job}
+use Rattle.job_graph.specs.Words.{Fields}
+use Rattle.job_graph.specs.Jobs.{Job}
 use Rattle.run_rules.specs.Events.{Started, job_staged, job_started, job_succeeded, job_failed_for_now, brings, number_if, started_if}
 use Rattle.run_rules.specs.End.{gives_up}
 use Rattle.run_rules.proofs.events.Flights.{Flight, flies_more, is_flying}

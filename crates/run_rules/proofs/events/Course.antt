@@ -7,15 +7,15 @@ use Rattle.std.proofs.Common.{length-append, ◌≡◌, ◌∙◌, ◌⊎◌, in
 use Rattle.std.proofs.lemmas.Bool.{eqb-false, eqb-true, ne_eqb, or_cases, or_from, or_left, or_parts, or_right}
 use Rattle.command_line.specs.declared.launch.Launch.{Launch}
 use Rattle.proc_host.specs.Tickets.{IsFresh}
-use Rattle.run_rules.specs.Words.{Fields, JobPlace, is_same_place}
-use Rattle.run_rules.specs.Jobs.{Job}
-use Rattle.run_rules.specs.Unfold.{is_at}
+use Rattle.job_graph.specs.Words.{Fields, JobPlace, is_same_place}
+use Rattle.job_graph.specs.Jobs.{Job}
+use Rattle.job_graph.specs.Unfold.{is_at}
 use Rattle.run_rules.specs.Events.{job_staged, job_started, child_exited, job_succeeded, job_failed_for_now}
 use Rattle.run_rules.proofs.events.ByNumber.{flies_by, gives_up_by, number_by}
 use Rattle.run_rules.proofs.events.Flights.{Flight, FlyApart, flies_more, is_flying, landed_flies_no_more, landed_is_one_less, landing_leaves_apart, others_fly_on, start_flies_apart, tickets_more}
 use Rattle.run_rules.proofs.events.Known.{IsFront, found_still, numbered_still}
 use Rattle.run_rules.proofs.events.Places.{AreApart, not_found, IsFound, found_is, IsJob, one_job, same_by_number, same_itself}
-use Rattle.run_rules.proofs.SuccessCollects.{same_place}
+use Rattle.run_rules.proofs.Places.{same_place}
 use Rattle.run_rules.proofs.events.Tally.{Readings, readings, reads_after}
 
 -- A machine's books

@@ -12,7 +12,7 @@ use Rattle.std.proofs.lemmas.List.Folds.{list_any-append, list_any_none}
 use Rattle.std.proofs.lemmas.Map.Keys.{IsDistinct-cons, IsDistinct-head, IsDistinct-push, IsDistinct-tail}
 use Rattle.std.proofs.lemmas.Map.Made.{IsDistinct-keys_filter}
 use Rattle.proc_host.specs.Tickets.{IsFresh, without}
-use Rattle.run_rules.specs.Words.{JobPlace, is_same_place}
+use Rattle.job_graph.specs.Words.{JobPlace, is_same_place}
 use Rattle.run_rules.specs.Events.{Event, flight_after, in_flight, is_at_hand, is_held}
 use Rattle.run_rules.proofs.events.Places.{same_place_equiv}
 use Rattle.run_rules.proofs.events.Readings.{in_flight_after, is_at_hand_after}

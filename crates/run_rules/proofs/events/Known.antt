@@ -2,17 +2,17 @@
 use Rattle.std.specs.Prelude.{◌||◌, ◌&&◌}
 use Rattle.std.specs.List.{list_all, list_any}
 use Rattle.std.specs.Option.{option_or}
-use Rattle.std.proofs.Common.{◌≡◌, ◌∙◌, ◌+◌, ℕ, Bool, true, false, cond, List, [], ◌∷◌, ◌++◌, length, find, fold, reverse, Option, Some, None, refl, sym, ap, subst, arith, append_assoc, append-nil, length-append}
+use Rattle.std.proofs.Common.{◌≡◌, ◌∙◌, ◌+◌, ℕ, Bool, true, false, cond, List, [], ◌∷◌, ◌++◌, length, filter_map, find, fold, reverse, Option, Some, None, refl, sym, ap, subst, arith, append_assoc, append-nil, length-append}
 use Rattle.std.proofs.lemmas.Bool.{and_from, and_parts, or_left, or_parts}
 use Rattle.std.proofs.lemmas.List.{get_or_append_left, reverse-append}
 use Rattle.std.proofs.lemmas.List.Folds.{find-append}
 use Rattle.input_files.specs.Measured.{Measures}
-use Rattle.run_rules.specs.Words.{Name, JobPlace}
-use Rattle.run_rules.specs.Jobs.{Job, Walker}
-use Rattle.run_rules.specs.Unfold.{Resolved, Unfolded, is_at, jobs_after, nothing_known, unfolded}
+use Rattle.job_graph.specs.Words.{Name, JobPlace}
+use Rattle.job_graph.specs.Jobs.{Job, Walker}
+use Rattle.job_graph.specs.Unfold.{Resolved, Unfolded, is_at, is_known, job_met, jobs_after, met_after, nothing_known, unfolded, with_job}
 use Rattle.run_rules.specs.Scene.{Scene}
 use Rattle.run_rules.specs.Events.{Event, file_measured, job_succeeded, measures_after, measures, measures_path, is_measured, are_measured, resolves, resolved, unfolding_at, job_at}
-use Rattle.run_rules.proofs.events.Places.{AreApart, IsJob, found_at}
+use Rattle.run_rules.proofs.events.Places.{IsJob}
 use Rattle.run_rules.proofs.events.Readings.{all_measures_after, is_measured_after, resolved_after}
 
 -- whether an event is the measure of an input file
@@ -132,11 +132,21 @@ pub numbered_still : (front jobs : List Job) (n : ℕ) (job : Job) → IsFront f
 numbered_still front jobs n job leads it =
     subst (λ (all : List Job). IsJob all n job) (sym leads.is) (numbered_in_front front leads.rest n job it)
 
+one_leads : (jobs : List Job) (job : Job) (there : Bool) → IsFront jobs (cond there jobs (jobs ++ job ∷ []))
+one_leads jobs job true = front_itself jobs
+one_leads jobs job false = record { rest = job ∷ []; is = refl }
+
+-- what is met comes after what is known
+met_lead : (jobs met : List Job) → IsFront jobs (fold with_job jobs met)
+met_lead jobs [] = front_itself jobs
+met_lead jobs (job ∷ met) =
+    front_of_front jobs (with_job jobs job) (fold with_job (with_job jobs job) met) (one_leads jobs job (is_known jobs job)) (met_lead (with_job jobs job) met)
+
 one_more_resolved : (walks : Walker) (learned : List Resolved) (r : Resolved) →
     IsFront (unfolded walks learned).jobs (unfolded walks (learned ++ r ∷ [])).jobs
 one_more_resolved walks learned r =
     subst (λ (latest : List Resolved). IsFront (jobs_after walks (reverse learned)) (jobs_after walks latest)) (sym (reverse-append learned (r ∷ [])))
-    (record { rest = _; is = refl })
+    (met_lead (jobs_after walks (reverse learned)) (filter_map job_met (met_after walks (r ∷ reverse learned))))
 
 module _ (s : Scene) where
   -- where each input file is measured, they stay measured, and what is known is what was unfolded
@@ -200,8 +210,3 @@ module _ (s : Scene) where
       job_at s es place ≡ Some job → job_at s (es ++ e ∷ []) place ≡ Some job
   known_job_stays es e place job none is =
       found_still place job (unfolding_at s es).jobs (unfolding_at s (es ++ e ∷ [])).jobs (known_jobs_stay es e none) is
-
-  -- a job of a front of what is known is the one that is known at its place
-  pub job_known : (es : List Event) (jobs : List Job) (n : ℕ) (job : Job) → IsFront jobs (unfolding_at s es).jobs → AreApart jobs → IsJob jobs n job →
-      job_at s es job.place ≡ Some job
-  job_known es jobs n job leads apart it = found_still job.place job jobs (unfolding_at s es).jobs leads (found_at jobs apart n job it)

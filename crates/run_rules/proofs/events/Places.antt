@@ -1,17 +1,16 @@
 -- The test of two places is equality; and known jobs that are at different places are told apart by it, as by their numbers.
-use Rattle.std.specs.Prelude.{bytes_eq, ◌&&◌, slice_get, slice_index_or}
+use Rattle.std.specs.Prelude.{bytes_eq, ◌&&◌, slice_index_or}
 use Rattle.std.specs.Cmp.{IsEquivalence}
 use Rattle.std.specs.List.{AllByRecursion, IsDistinct}
 use Rattle.std.proofs.Common.{None, ◌≡◌, ◌∙◌, ◌<◌, ◌+◌, ◌==◌, ℕ, zero, suc, Bool, true, false, cond, List, [], ◌∷◌, length, map, find, Some, refl, sym, ap, subst, arith}
 use Rattle.std.proofs.lemmas.Bool.{eqb-true, eq-eqb}
 use Rattle.std.proofs.lemmas.Cmp.{nat_list_eq_equiv}
 use Rattle.std.proofs.lemmas.Map.Keys.{IsDistinct-head, IsDistinct-tail}
-use Rattle.std.proofs.lemmas.Option.{get_or_from_slice_get, slice_get_within}
-use Rattle.run_rules.specs.Words.{JobPlace, is_same_place}
-use Rattle.run_rules.specs.Jobs.{Job}
-use Rattle.run_rules.specs.Unfold.{is_at}
+use Rattle.job_graph.specs.Words.{JobPlace, is_same_place}
+use Rattle.job_graph.specs.Jobs.{Job}
+use Rattle.job_graph.specs.Unfold.{is_at}
 use Rattle.run_rules.specs.Plans.{number_from, number_of}
-use Rattle.run_rules.proofs.SuccessCollects.{same_place}
+use Rattle.run_rules.proofs.Places.{same_place}
 
 pub same_itself : (p : JobPlace) → is_same_place p p ≡ true
 same_itself [] = refl
@@ -79,9 +78,6 @@ numbered_from m (x ∷ jobs) (suc n) job apart within is =
     ap (λ b. cond b m (number_from (m + 1) job.place jobs)) differs
     ∙ numbered_from (m + 1) jobs n job (IsDistinct-tail is_same_place x.place (places jobs) apart) (omega (arith, within)) is
     ∙ omega arith
-
-pub job_of_get : (jobs : List Job) (n : ℕ) (job : Job) → slice_get jobs n ≡ Some job → IsJob jobs n job
-job_of_get jobs n job is = record { within = slice_get_within jobs n job is; is = get_or_from_slice_get jobs n job job is }
 
 -- within a list it doesn't matter what is read past its end
 read_within : (jobs : List Job) (n : ℕ) (d e : Job) → n < length jobs → slice_index_or jobs n d ≡ slice_index_or jobs n e

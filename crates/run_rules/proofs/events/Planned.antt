@@ -9,7 +9,7 @@ use Rattle.plan_checker.specs.Plan.{mark}
 use Rattle.plan_checker.specs.declared.plan.Mark.{Mark}
 use Rattle.plan_checker.specs.declared.plan.Mark.TheVariants.{Compute, Prune}
 use Rattle.run_rules.specs.declared.request.Pair.{Pair}
-use Rattle.run_rules.specs.Jobs.{Job}
+use Rattle.job_graph.specs.Jobs.{Job}
 use Rattle.run_rules.specs.Scene.{Scene}
 use Rattle.run_rules.specs.Events.{nothing_due, Progress, in_flight, is_at_hand, is_held, unfolding_at}
 use Rattle.run_rules.specs.End.{settled}

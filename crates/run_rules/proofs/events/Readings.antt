@@ -5,7 +5,7 @@ use Rattle.std.proofs.Common.{◌≡◌, ◌∙◌, ◌+◌, List, [], ◌++◌,
 use Rattle.std.proofs.lemmas.List.Elements.{filter-append, filter_map-append}
 use Rattle.std.proofs.lemmas.List.Folds.{list_any-append}
 use Rattle.std.proofs.lemmas.List.Sums.{fold-append}
-use Rattle.run_rules.specs.Words.{Name, JobPlace}
+use Rattle.job_graph.specs.Words.{Name, JobPlace}
 use Rattle.run_rules.specs.Events.{Event, measures_after, measures, measures_path, is_measured, resolves, resolved, flight_after, in_flight, brings, is_at_hand, number_if, number_at, started_if, started_at, delivered_if, delivered_at, is_staging}
 use Rattle.run_rules.specs.End.{gives_up, is_lost_collect}
 

@@ -3,9 +3,9 @@ use Rattle.std.specs.List.{list_all, list_any}
 use Rattle.std.specs.Prelude.{◌||◌, nat_lt}
 use Rattle.std.proofs.Common.{◌≡◌, ◌∙◌, Bool, true, false, cond, List, [], ◌∷◌, ◌++◌, length, filter, Option, Some, None, refl, sym, ap, subst, append_assoc, append-nil}
 use Rattle.std.proofs.lemmas.Bool.{and_parts}
-use Rattle.run_rules.specs.Unfold.{Unfolded, or_else}
+use Rattle.job_graph.specs.Unfold.{Unfolded, or_else}
 use Rattle.run_rules.specs.Scene.{Scene}
-use Rattle.run_rules.specs.Words.{JobPlace}
+use Rattle.job_graph.specs.Words.{JobPlace}
 use Rattle.run_rules.specs.Events.{Event, file_measured, job_staged, job_started, child_exited, job_succeeded, job_failed, job_failed_for_now, result_delivered, host_failed, collect_failed}
 use Rattle.run_rules.specs.End.{End, fails_temporarily, fault_end, gives_up, settled_by, unfold_end, settled_from, settled}
 use Rattle.run_rules.proofs.events.Known.{teaches, unfolding_stays}
@@ -132,31 +132,6 @@ module _ (s : Scene) where
       let longer : (es ++ quiet) ++ e ∷ [] ≡ es ++ (quiet ++ e ∷ []) = append_assoc es quiet (e ∷ []) in
       subst (λ (all : List Event). settled s all ≡ or_else (settled_by s (es ++ quiet) e) (unfold_end s all)) longer
       (settled_more (es ++ quiet) e (unsettled_quietly es quiet are still))
-
-  -- and whether an end was settled before or not
-  pub settled_one : (es : List Event) (e : Event) →
-      settled s (es ++ e ∷ []) ≡ or_else (settled s es) (or_else (settled_by s es e) (unfold_end s (es ++ e ∷ [])))
-  settled_one es e =
-      settled_after es (e ∷ [])
-      ∙ ap (λ (o : Option End). or_else (settled s es) (or_else (settled_by s es e) o)) (or_none (unfold_end s (es ++ e ∷ [])))
-
-  -- a failure settles it where nothing did before
-  pub settled_by_failure : (es : List Event) (e : Event) (end : End) → settled_by s es e ≡ Some end →
-      settled s (es ++ e ∷ []) ≡ or_else (settled s es) (Some end)
-  settled_by_failure es e end is =
-      settled_one es e ∙ ap (λ (o : Option End). or_else (settled s es) (or_else o (unfold_end s (es ++ e ∷ [])))) is
-
-  still_by : (es : List Event) (e : Event) (o : Option End) → settled s es ≡ o → settled_by s es e ≡ None → teaches e ≡ false → settled s (es ++ e ∷ []) ≡ o
-  still_by es e None still none quiet =
-      settled_more es e still
-      ∙ ap (λ (o : Option End). or_else o (unfold_end s (es ++ e ∷ []))) none
-      ∙ end_stays es (e ∷ []) (ap (λ b. b || false) quiet)
-      ∙ no_fault_unsettled es still
-  still_by es e (Some end) still none quiet = settled_stays es (e ∷ []) end still
-
-  -- what settles nothing, and by which nothing is known, leaves it as it was
-  pub settled_still : (es : List Event) (e : Event) → settled_by s es e ≡ None → teaches e ≡ false → settled s (es ++ e ∷ []) ≡ settled s es
-  settled_still es e none quiet = still_by es e (settled s es) refl none quiet
 
   -- a failure for now settles the end where the job was started again often enough
   pub settled_for_now : (es : List Event) (place : JobPlace) → settled s es ≡ None →

@@ -1,7 +1,7 @@
 -- All that is read of the jobs, as one record, and how it goes on with each event.
 use Rattle.std.specs.Prelude.{◌||◌}
 use Rattle.std.proofs.Common.{◌≡◌, ◌∙◌, ◌+◌, ℕ, suc, Bool, true, false, cond, List, [], ◌∷◌, ◌++◌, length, filter, fold, refl, sym, ap, arith, append_assoc, append-nil}
-use Rattle.run_rules.specs.Words.{JobPlace}
+use Rattle.job_graph.specs.Words.{JobPlace}
 use Rattle.run_rules.specs.Events.{Event, file_measured, job_staged, job_started, child_exited, job_succeeded, job_failed, job_failed_for_now, result_delivered, host_failed, collect_failed, brings, flight_after, in_flight, is_at_hand, is_staging, number_at, number_if}
 use Rattle.run_rules.specs.End.{gives_up}
 use Rattle.run_rules.proofs.events.Flights.{Flight}

@@ -10,10 +10,12 @@ use Rattle.proc_host.specs.Tickets.{without}
 use Rattle.staging.specs.Plan.{IsPlan}
 use Rattle.staging.specs.declared.plan.StagePlan.{StagePlan}
 use Rattle.run_rules.specs.declared.request.Pair.{Pair}
+use Rattle.job_graph.specs.Made.{fields_moved}
+use Rattle.run_rules.specs.Delivered.{source_place}
 use Rattle.run_rules.specs.Folders.{in_folder}
-use Rattle.run_rules.specs.Jobs.{Job}
+use Rattle.job_graph.specs.Jobs.{Job}
 use Rattle.run_rules.specs.Scene.{Scene}
-use Rattle.run_rules.specs.Events.{Progress}
+use Rattle.run_rules.specs.Events.{Progress, number_at}
 use Rattle.run_rules.specs.Allowed.{IsFree, IsBusy, MayStage}
 use Rattle.run_rules.specs.Plans.{LoadsHeld}
 use Rattle.run_rules.specs.Run.{Goes}
@@ -96,7 +98,7 @@ module _ (s : Scene) (f : Progress) (marks : List Mark) (c : Course) (k : Keeps 
 
   -- the first job that was never staged may be
   pub next_may_stage : {t : List Pair} (job : Job) (plan : StagePlan) → Goes s (LoadsHeld s) t f marks → IsJob (jobs_in s f) c.staged job →
-      length c.tickets < s.options.slots → IsPlan false (in_folder s.options.work (c.folders + 1)) job.inputs plan →
+      length c.tickets < s.options.slots → IsPlan false (in_folder s.options.work (c.folders + 1)) (fields_moved (source_place (number_at f.events) s.options.work) job.inputs) plan →
       MayStage s f marks job.place plan (c.folders + 1)
   next_may_stage job plan goes it slot staged =
       may_stage s f marks c.staged job plan (c.folders + 1) goes free k.apart it (k.unstaged c.staged job it (omega arith))
@@ -104,7 +106,7 @@ module _ (s : Scene) (f : Progress) (marks : List Mark) (c : Course) (k : Keeps 
 
   -- and so may one that gave up
   pub again_may_stage : {t : List Pair} (n : ℕ) (job : Job) (plan : StagePlan) → Goes s (LoadsHeld s) t f marks → IsJob (jobs_in s f) n job → c.at_work ≡ Some n →
-      length c.tickets < s.options.slots → IsPlan false (in_folder s.options.work (c.folders + 1)) job.inputs plan →
+      length c.tickets < s.options.slots → IsPlan false (in_folder s.options.work (c.folders + 1)) (fields_moved (source_place (number_at f.events) s.options.work) job.inputs) plan →
       MayStage s f marks job.place plan (c.folders + 1)
   again_may_stage n job plan goes it at_work slot staged =
       may_stage s f marks n job plan (c.folders + 1) goes free k.apart it (k.worked n job it at_work)

@@ -1,5 +1,5 @@
 use Rattle.plain_data.proofs.ByName.{by_name_built}
-use Rattle.run_rules.specs.Made.{value_moved}
+use Rattle.job_graph.specs.Made.{value_moved}
 use Rattle.run_core.specs.inner.Places.{place_by}
 use Rattle.run_core.proofs.places.+moving.Goals as goal
 

@@ -1,5 +1,5 @@
 use Rattle.std.proofs.Common.{◌≡◌, map, take}
-use Rattle.run_rules.specs.Made.{value_moved, fields_moved}
+use Rattle.job_graph.specs.Made.{value_moved, fields_moved}
 use Rattle.run_core.specs.inner.Places.{place_by}
 use Rattle.run_core.proofs.places.+moving.Given as goal
 

@@ -1,5 +1,8 @@
+use Rattle.run_rules.proofs.Evaluating.{evaluates}
 use Rattle.run_rules.proofs.RightEnds.{ends_rightly}
 use Rattle.run_rules.proofs.laws.an_honest_run_ends_rightly.Goals as goal
 
 pub returns : goal.returns
-returns c = ends_rightly
+returns c = λ setting t end run world apart honest.
+    ends_rightly setting world (λ measures. evaluates setting.process setting.inputs measures apart
+    c.known_jobs_agree.ensures c.results_are_eval.ensures c.faults_fail_eval.ensures c.failed_jobs_fail_eval.ensures world) t end run honest

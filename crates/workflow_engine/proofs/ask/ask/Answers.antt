@@ -1,4 +1,4 @@
-use Rattle.proc_host.specs.Answers.{is_measured, is_staged, is_listed, is_read, is_delivered}
+use Rattle.proc_host.specs.Answers.{is_measured, is_staged, is_listed, is_delivered}
 use Rattle.proc_host.specs.declared.call.HostAnswer.{HostAnswer}
 use Rattle.proc_host.specs.declared.call.HostRequest.{HostRequest}
 use Rattle.workflow_engine.proofs.Calls.{answer_told, head_told}

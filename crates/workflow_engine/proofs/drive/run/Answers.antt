@@ -11,7 +11,7 @@ returns-in_err-core-clause-run g c =
     rw none (record {
       gained = [];
       logged = sym (append-nil (g.H.Host.log c.args.host.now));
-      run = nothing_asked c.args.process c.args.inputs c.args.options;
+      run = nothing_asked c.args.process.now c.args.inputs.now c.args.options;
     })
 
 pub returns-in_err-core-clause-fault : goal.returns-in_err-core-clause-fault

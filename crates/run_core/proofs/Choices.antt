@@ -1,0 +1,59 @@
+-- What is picked, by the tests that lead there.
+use Rattle.std.specs.Prelude.{◌<◌, ◌≤◌, ◌≢◌, OnErr}
+use Rattle.std.proofs.Common.{◌≡◌, ◌∙◌, ◌⊎◌, inl, inr, ℕ, [], length, None, Result, Ok, Err, refl, sym, ap, subst}
+use Rattle.std.proofs.lemmas.Bool.{cases_lt}
+use Rattle.proc_host.specs.declared.call.HostFault.{HostFault}
+use Rattle.proc_host.specs.declared.call.HostRequest.{HostRequest}
+use Rattle.job_graph.specs.Words.{JobPlace}
+use Rattle.run_core.specs.declared.state.Course.{Course}
+use Rattle.run_core.specs.declared.state.Given.{Given}
+use Rattle.run_core.specs.declared.state.JobNext.{JobNext}
+use Rattle.run_core.specs.declared.state.JobPhase.{JobPhase}
+use Rattle.run_core.specs.declared.state.Phase.{Phase}
+use Rattle.run_core.specs.declared.state.Turn.{Turn}
+use Rattle.run_core.specs.inner.Course.{known_in, place_at}
+use Rattle.run_core.specs.inner.Follows.{AfterFailureIn}
+use Rattle.run_core.specs.inner.Picks.{AfterFault, Delivers, NoneToStage, Picks, Stages, Turns, all_staged, asks, has_result, slots_full, stages, waits_for_one}
+use Rattle.run_core.specs.inner.Turn.{collects, works}
+
+module _ (given : Given) (course : Course) (going : course.end ≡ None) where
+  pub picks_stage : (turn : Turn) → length course.tickets.items < given.options.slots → length course.jobs.items < length (known_in course.known) →
+      Stages given course (length course.jobs.items) turn → Picks given course turn course
+  picks_stage turn slot more st = stages turn course going slot more st refl refl
+
+  none_to_stage : (length course.tickets.items < given.options.slots → length course.jobs.items < length (known_in course.known) → ⊥) → NoneToStage given course
+  none_to_stage never = elim (cases_lt (length course.tickets.items) given.options.slots) [
+    | inl slot ↦ elim (cases_lt (length course.jobs.items) (length (known_in course.known))) [
+      | inl more ↦ absurd (never slot more)
+      | inr all ↦ all_staged all
+    ]
+    | inr full ↦ slots_full full
+  ]
+
+  pub picks_result : (turn : Turn) → (length course.tickets.items < given.options.slots → length course.jobs.items < length (known_in course.known) → ⊥) →
+      course.tickets.items ≡ [] → Delivers given course turn → Picks given course turn course
+  picks_result turn never none d = has_result turn course going none (none_to_stage never) d refl refl
+
+  pub picks_wait : (length course.tickets.items < given.options.slots → length course.jobs.items < length (known_in course.known) → ⊥) → course.tickets.items ≢ [] →
+      Picks given course collects course
+  picks_wait never some = waits_for_one course going some (none_to_stage never) refl refl
+
+-- where memory ran out
+pub if_lost : {X E : Type 0} (result : Result X E) {A B : Type 0} → (A → B) → OnErr result A → OnErr result B
+if_lost (Ok x) leads holds = tt
+if_lost (Err error) leads holds = leads holds
+
+-- a job goes on
+pub turns_asks : (given : Given) (course : Course) (number : ℕ) (next : JobNext) (call : HostRequest) (phase : JobPhase) (place : JobPlace) (turn : Turn) →
+    next ≡ JobNext.Asks call phase → place_at (known_in course.known) number ≡ place → turn ≡ works place number call phase → Turns given course number next turn course
+turns_asks given course number next call phase place turn is at so =
+    subst (λ (n : JobNext). Turns given course number n turn course) (sym is)
+    (subst (λ (t : Turn). Turns given course number (JobNext.Asks call phase) t course) (sym (so ∙ ap (λ (p : JobPlace). works p number call phase) (sym at)))
+    (asks call phase course refl refl))
+
+-- after a call that is no collect
+pub fault_by : (given : Given) (old : Course) (phase : Phase) (fault : HostFault) (turn : Turn) (new : Course) → (phase ≡ Phase.Collecting → ⊥) → (phase ≡ Phase.Draining → ⊥) →
+    AfterFault given old fault turn new → AfterFailureIn given old phase fault turn new
+fault_by given old Phase.Collecting fault turn new one other after = absurd (one refl)
+fault_by given old Phase.Draining fault turn new one other after = absurd (other refl)
+fault_by given old phase fault turn new one other after = after

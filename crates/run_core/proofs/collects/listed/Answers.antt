@@ -1,0 +1,15 @@
+use Rattle.std.proofs.Common.{List, [], reverse, subst}
+use Rattle.collected_outputs.specs.Contents.{Heads}
+use Rattle.staging.specs.declared.found.Found.{Found}
+use Rattle.run_core.specs.inner.Due.{Collects}
+use Rattle.run_core.proofs.Lists.{if_ok}
+use Rattle.run_core.proofs.collects.listed.Goals as goal
+
+pub returns-in-Ok : goal.returns-in-Ok
+returns-in-Ok c =
+    if_ok c.read_on.result (λ next on. record {
+      wanted = reverse c.in-Ok.reading.left;
+      are = c.in-Ok.ensures.left;
+      on = subst (λ (found : List Found). Collects c.args.site c.args.kept found [] (reverse c.in-Ok.reading.left) next) c.in-Ok.ensures.found
+          (subst (λ (heads : Heads). Collects c.args.site c.args.kept c.in-Ok.reading.found heads (reverse c.in-Ok.reading.left) next) c.in-Ok.ensures.heads on);
+    }) c.read_on.ensures

@@ -1,0 +1,3 @@
+-- What callers are told: what the machine asks, and what came of its run.
+pub mod Asking
+pub mod Concluding

@@ -1,0 +1,107 @@
+-- What is reported of the machine's run: where it has ended, and where it is left as it is.
+use Rattle.std.proofs.Common.{◌≡◌, true, List, [], ◌∷◌, Result, Err, sym, subst, append-nil}
+use Rattle.plan_checker.specs.declared.plan.Mark.{Mark}
+use Rattle.job_graph.specs.Apart.{ids_differ}
+use Rattle.job_graph.specs.Eval.{World}
+use Rattle.run_rules.specs.declared.outcome.Report.{Report}
+use Rattle.run_rules.specs.declared.outcome.RunFault.{RunFault}
+use Rattle.run_rules.specs.declared.request.Pair.{Pair}
+use Rattle.run_rules.specs.declared.request.Request.{Request}
+use Rattle.run_rules.specs.declared.setting.Setting.{Setting}
+use Rattle.run_rules.specs.End.{End}
+use Rattle.run_rules.specs.EndsSo.{EndsSo}
+use Rattle.run_rules.specs.Events.{Progress, measures}
+use Rattle.run_rules.specs.Honest.{IsHonest}
+use Rattle.run_rules.specs.Reports.{AreWaits, Concludes, IsRight, report_of, whole}
+use Rattle.run_rules.specs.Reports as reports
+use Rattle.run_rules.specs.Run.{IsRun}
+use Rattle.run_rules.specs.Scene.{Scene, scene_of}
+use Rattle.run_core.specs.declared.runner.RunCore.{RunCore}
+use Rattle.run_core.specs.declared.state.Course.{Course}
+use Rattle.run_core.specs.declared.state.Phase.{Phase}
+use Rattle.run_core.specs.declared.state.Turn.{Turn}
+use Rattle.run_core.specs.Core.{Goes, IsEnded, Stands, off_run, on_run, setting_of}
+use Rattle.run_core.specs.inner.Course.{Past, past_of}
+use Rattle.run_core.specs.inner.Standing.{AreCollects, IsAt, IsLostAt, Runs, collecting, delivering, draining, ended, lost, measuring, staging, working}
+
+-- the law that what is reported of a run is right in each world where it is honest
+abbrev pub ReportsRightly : Type 0
+ReportsRightly =
+    (setting : Setting) (t : List Pair) (end : End) (run : IsRun setting t end) (world : World) → ids_differ setting.process ≡ true →
+    IsHonest setting world run.happened.events → IsRight setting (measures run.happened.events) world (report_of end)
+
+are_waits : (tail : List Pair) → AreCollects tail → AreWaits tail
+are_waits [] collects = tt
+are_waits (pair ∷ tail) collects = (collects.0, are_waits tail collects.1)
+
+-- On the run
+
+-- the end that it has come to
+record HasEnded (s : Scene) (f : Progress) (marks : List Mark) (result : Result Report RunFault) : Type 0 where
+  pub end : End
+  pub so : EndsSo s f marks end
+  pub is : report_of end ≡ result
+
+module _ (s : Scene) (f : Progress) (marks : List Mark) (course : Course) where
+  ended_at : {turn : Turn} (result : Result Report RunFault) → IsAt s f marks course turn → turn.phase ≡ Phase.Ended result → HasEnded s f marks result
+  ended_at result (measuring found m rest path is left happened none nothing) phase = absurd cc
+  ended_at result (staging at_work n job plan r st) phase = absurd cc
+  ended_at result (working n job call phase r w) is = absurd cc
+  ended_at result (collecting r may) phase = absurd cc
+  ended_at result (delivering plan r may going all) phase = absurd cc
+  ended_at result (ended end so) phase = record { end = end; so = so; is = let same : report_of end ≡ result = cc in same }
+
+  asks_no_more : {turn : Turn} → IsAt s f marks course turn → turn.asks ≡ Request.Finished → IsEnded turn.phase
+  asks_no_more (measuring found m rest path is left happened none nothing) asks = absurd cc
+  asks_no_more (staging at_work n job plan r st) asks = absurd cc
+  asks_no_more (working n job call phase r w) asks = absurd cc
+  asks_no_more (collecting r may) asks = absurd cc
+  asks_no_more (delivering plan r may going all) asks = absurd cc
+  asks_no_more (ended end so) asks = tt
+
+whole_run : (law : ReportsRightly) (setting : Setting) (t : List Pair) (course : Course) (turn : Turn) (result : Result Report RunFault) → ids_differ setting.process ≡ true →
+    Runs (scene_of setting) t course turn → turn.phase ≡ Phase.Ended result → Concludes setting t result
+whole_run law setting t course turn result ids runs phase =
+    let its : HasEnded (scene_of setting) runs.happened runs.marks result = ended_at (scene_of setting) runs.happened runs.marks course result runs.at phase in
+    let run : IsRun setting t its.end = record { happened = runs.happened; marks = runs.marks; goes = runs.goes; ended = its.so } in
+    subst (Concludes setting t) its.is (whole its.end run (λ world honest. law setting t its.end run world ids honest))
+
+-- Off the run
+
+lost_at : (setting : Setting) (t : List Pair) (past : Past) {turn : Turn} (result : Result Report RunFault) → IsLostAt past turn → turn.phase ≡ Phase.Ended result →
+    Concludes setting t (Err RunFault.OutOfMemory) → Concludes setting t result
+lost_at setting t past result (draining some) phase told = absurd cc
+lost_at setting t past result lost phase told = let same : Err RunFault.OutOfMemory ≡ result = cc in subst (Concludes setting t) same told
+
+lost_asks_no_more : (past : Past) {turn : Turn} → IsLostAt past turn → turn.asks ≡ Request.Finished → IsEnded turn.phase
+lost_asks_no_more past (draining some) asks = absurd cc
+lost_asks_no_more past lost asks = tt
+
+-- Wherever the machine is
+
+module _ (core : RunCore) where
+  lost_so : Goes core → Concludes (setting_of core) core.pairs.items (Err RunFault.OutOfMemory)
+  lost_so (on_run runs) = reports.lost core.pairs.items [] runs.happened runs.marks runs.goes tt (sym (append-nil core.pairs.items))
+  lost_so (off_run out) = reports.lost out.front out.tail out.happened out.marks out.goes (are_waits out.tail out.collects) out.pairs
+
+  -- where it is left as it is
+  pub left_so : Stands core → Concludes (setting_of core) core.pairs.items (Err RunFault.OutOfMemory)
+  left_so stands = lost_so stands.going
+
+  concludes_so : (law : ReportsRightly) (result : Result Report RunFault) → ids_differ core.given.process.now ≡ true → Goes core → core.turn.phase ≡ Phase.Ended result →
+      Concludes (setting_of core) core.pairs.items result
+  concludes_so law result ids (on_run runs) phase = whole_run law (setting_of core) core.pairs.items core.course core.turn result ids runs phase
+  concludes_so law result ids (off_run out) phase =
+      lost_at (setting_of core) core.pairs.items (past_of core.course) result out.at phase (lost_so (off_run out))
+
+  -- where it has ended
+  pub concludes : (law : ReportsRightly) (result : Result Report RunFault) → Stands core → core.turn.phase ≡ Phase.Ended result →
+      Concludes (setting_of core) core.pairs.items result
+  concludes law result stands = concludes_so law result stands.ids stands.going
+
+  ended_so : Goes core → core.turn.asks ≡ Request.Finished → IsEnded core.turn.phase
+  ended_so (on_run runs) asks = asks_no_more (scene_of (setting_of core)) runs.happened runs.marks core.course runs.at asks
+  ended_so (off_run out) asks = lost_asks_no_more (past_of core.course) out.at asks
+
+  pub has_ended : Stands core → core.turn.asks ≡ Request.Finished → IsEnded core.turn.phase
+  has_ended stands = ended_so stands.going

@@ -1,0 +1,5 @@
+-- What the machine keeps, beside the events of its run.
+pub mod Kept
+pub mod Numbers
+pub mod Keeping
+pub mod Reflecting

@@ -1,0 +1,395 @@
+-- What the machine keeps goes on with each event: a lemma for each.
+use Rattle.std.specs.Prelude.{◌<◌, ◌≤◌, ◌||◌, Contains, IsSome, is_some, nat_lt, option_map, slice_get, slice_index_or}
+use Rattle.std.specs.List.{remove}
+use Rattle.std.proofs.Common.{◌≡◌, ◌∙◌, ◌⊎◌, inl, inr, ◌==◌, ◌+◌, ℕ, zero, suc, Bool, true, false, cond, List, [], ◌∷◌, ◌++◌, length, filter, Option, Some, None, refl, sym, ap, subst, arith, length-append}
+use Rattle.std.proofs.lemmas.Bool.{eqb-true, lt-ltb, le-ltb, or_parts}
+use Rattle.std.proofs.lemmas.List.Edits.{length-remove}
+use Rattle.std.proofs.lemmas.List.Elements.{Contains-append_cases}
+use Rattle.std.proofs.lemmas.Option.{get_or_from_slice_get, slice_get_within}
+use Rattle.command_line.specs.declared.launch.Launch.{Launch}
+use Rattle.proc_host.specs.Tickets.{IsFresh, without}
+use Rattle.job_graph.specs.Jobs.{Job}
+use Rattle.job_graph.specs.Unfold.{Unfolded, or_else}
+use Rattle.job_graph.specs.Words.{Fields, JobPlace, is_same_place}
+use Rattle.run_rules.specs.declared.outcome.Outcome.{Outcome}
+use Rattle.run_rules.specs.declared.outcome.Report.{Report}
+use Rattle.run_rules.specs.declared.outcome.RunFault.{RunFault}
+use Rattle.std.specs.Prelude.{Result}
+use Rattle.run_rules.specs.End.{End, fails_temporarily, gives_up, settled, settled_by, unfold_end}
+use Rattle.run_rules.specs.Events.{Event, child_exited, in_flight, is_held, job_failed_for_now, job_staged, job_started, job_succeeded, started_at, unfolding_at}
+use Rattle.run_rules.specs.Reports.{report_of, reported}
+use Rattle.run_rules.specs.Scene.{Scene}
+use Rattle.run_rules.proofs.Places.{same_place}
+use Rattle.run_rules.proofs.events.Course.{Course as Books, Keeps as AreKept, keeps_at_first, keeps_succeeded}
+use Rattle.run_rules.proofs.events.Flights.{Flight as Flying, is_flying}
+use Rattle.run_rules.proofs.events.Known.{IsFront, front_itself, front_of_front, known_jobs_stay, numbered_still, teaches, unfolding_stays}
+use Rattle.run_rules.proofs.events.Places.{AreApart, IsJob, one_job, same_itself}
+use Rattle.run_rules.proofs.events.Readings.{started_after}
+use Rattle.run_rules.proofs.events.Settled.{is_quiet, settled_for_now, settled_more, settled_quietly, settled_stays}
+use Rattle.run_rules.proofs.events.Tally.{Readings, is_aside, nothing_read, readings, readings_after, reads_after}
+use Rattle.run_rules.proofs.events.Turns.{so_many}
+use Rattle.run_core.specs.declared.state.Flight.{Flight}
+use Rattle.run_core.specs.declared.state.JobState.{JobState}
+use Rattle.run_core.specs.declared.state.Kept.{Kept}
+use Rattle.run_core.specs.inner.Course.{Past, TakesOut, nothing_past, with_end, with_giving_up, with_staging, with_start}
+use Rattle.run_core.specs.inner.Due.{IsKept}
+use Rattle.run_core.specs.inner.Keeps.{Keeps, KeepsFlight, course_of, state_at, worked}
+use Rattle.run_core.specs.inner.Standing.{HasStarted}
+use Rattle.run_core.proofs.events.Kept.{Lands, counted_once_more, gave_up_staged, keeps_end, keeps_failing, keeps_giving_up, keeps_landing, keeps_over, keeps_staging, keeps_starting, once_more}
+use Rattle.run_core.proofs.events.Numbers.{Flies, contains_before, flight_flies, state_there}
+
+flights_still : (es es' : List Event) (jobs more : List Job) (flights : List Flight) → ((place : JobPlace) → started_at es' place ≡ started_at es place) → IsFront jobs more →
+    ((flight : Flight) → Contains flights flight → KeepsFlight es jobs flight) → (flight : Flight) → Contains flights flight → KeepsFlight es' more flight
+flights_still es es' jobs more flights same leads kept flight there =
+    let k : KeepsFlight es jobs flight = kept flight there in
+    record { job = k.job; it = numbered_still jobs more flight.job k.job leads k.it; started = k.started; at = same k.job.place ∙ k.at; kept = k.kept }
+
+only_one : {X : Type 0} (x y : X) (k : ℕ) → k < length (x ∷ []) → slice_index_or (x ∷ []) k y ≡ y → x ≡ y
+only_one x y zero within is = is
+only_one x y (suc k) within is = absurd (omega (arith, within))
+
+-- a place in flight is none that is not
+differs_by : (test : Bool) (flying : List Flying) (at place : JobPlace) → is_same_place at place ≡ test → is_flying flying at ≡ false → is_flying flying place ≡ true →
+    is_same_place at place ≡ false
+differs_by true flying at place is none flies =
+    let never : true ≡ false = sym flies ∙ ap (is_flying flying) (sym (same_place at place is)) ∙ none in absurd cc
+differs_by false flying at place is none flies = is
+
+-- an end that is there is one
+is_there : {T : Type 0} (o : Option T) → IsSome o → is_some o ≡ true
+is_there None some = some
+is_there (Some x) some = refl
+
+pub never_none : {T : Type 0} (o : Option T) (x : T) → or_else o (Some x) ≡ None → ⊥
+never_none None x none = cc
+never_none (Some y) x none = cc
+
+abbrev Outcomes : Type 0
+Outcomes = Result Report RunFault
+
+settles_by : (before after : Option End) (end : End) (kept : Option Outcomes) → kept ≡ option_map report_of before → (before ≡ None → after ≡ Some end) →
+    ((old : End) → before ≡ Some old → after ≡ Some old) → or_else kept (Some (report_of end)) ≡ option_map report_of after
+settles_by None after end kept is first stays =
+    ap (λ (o : Option Outcomes). or_else o (Some (report_of end))) is ∙ sym (ap (option_map report_of) (first refl))
+settles_by (Some old) after end kept is first stays =
+    ap (λ (o : Option Outcomes). or_else o (Some (report_of end))) is ∙ sym (ap (option_map report_of) (stays old refl))
+
+none_before : (before : Option End) (kept : Option Outcomes) → kept ≡ option_map report_of before → before ≡ None → kept ≡ None
+none_before before kept is none = is ∙ ap (option_map report_of) none
+
+pub none_settled : (before : Option End) (kept : Option Outcomes) → kept ≡ option_map report_of before → kept ≡ None → before ≡ None
+none_settled None kept is none = refl
+none_settled (Some end) kept is none = let never : None ≡ Some (report_of end) = sym none ∙ is in absurd cc
+
+-- with nothing to work on no slot more is taken
+idle_slots : (at_work : Option ℕ) (tickets most : ℕ) → tickets + worked at_work ≤ most → tickets + 0 ≤ most
+idle_slots None tickets most within = within
+idle_slots (Some n) tickets most within = let here : tickets + 1 ≤ most = within in omega (arith, here)
+
+fewer_times : (test : Bool) (n m times most : ℕ) (of : ℕ → ℕ) → (n == m) ≡ test → of n ≡ times → times < most → of m ≤ most → cond (n == m) (suc (of m)) (of m) ≤ most
+fewer_times true n m times most of same is below within =
+    subst (λ b. cond b (suc (of m)) (of m) ≤ most) (sym same)
+    (let its : of m ≡ times = ap of (sym (eqb-true n m same)) ∙ is in omega (arith, its, below))
+fewer_times false n m times most of differs is below within = subst (λ b. cond b (suc (of m)) (of m) ≤ most) (sym differs) within
+
+module _ (s : Scene) (es : List Event) (jobs : List Job) where
+  books_after : (e : Event) (more : List Job) (c : Books) → AreKept more (reads_after (readings es) e) c → AreKept more (readings (es ++ e ∷ [])) c
+  books_after e more c k = subst (λ (r : Readings). AreKept more r c) (sym (readings_after es (e ∷ []))) k
+
+  front_still : (e : Event) → teaches e ≡ false → IsFront jobs (unfolding_at s es).jobs → IsFront jobs (unfolding_at s (es ++ e ∷ [])).jobs
+  front_still e none leads = subst (λ (u : Unfolded). IsFront jobs u.jobs) (sym (unfolding_stays s es (e ∷ []) (ap (λ b. b || false) none))) leads
+
+  -- a job is staged
+  pub staged_keeps : (past : Past) (at_work : Option ℕ) (n : ℕ) (job : Job) → IsJob jobs n job → n ≤ length past.jobs → is_held es job.place ≡ false →
+      length (in_flight es) < s.options.slots → ((m : ℕ) → at_work ≡ Some m → m ≡ n) → Keeps s es jobs past at_work →
+      Keeps s (es ++ job_staged job.place (past.folders + 1) ∷ []) jobs (with_staging n past) (Some n)
+  staged_keeps past at_work n job it within free slot alone k = record {
+    gave_up = k.gave_up;
+    books = books_after (job_staged job.place (past.folders + 1)) jobs (course_of (with_staging n past) (Some n) k.gave_up)
+        (keeps_staging jobs (readings es) past k.gave_up at_work n job it within k.books free alone);
+    counts = λ still m. k.counts still m ∙ sym (gave_up_staged past n within m);
+    retries = λ m. subst (λ times. times ≤ s.options.retries) (sym (gave_up_staged past n within m)) (k.retries m);
+    slots = let many : length (in_flight es) ≡ length past.tickets = so_many jobs (readings es) (course_of past at_work k.gave_up) k.books in omega (arith, slot, many);
+    flights = flights_still es (es ++ job_staged job.place (past.folders + 1) ∷ []) jobs jobs past.flights
+        (λ place. started_after es (job_staged job.place (past.folders + 1) ∷ []) place) (front_itself jobs) k.flights;
+    front = front_still (job_staged job.place (past.folders + 1)) refl k.front;
+    end = k.end ∙ ap (option_map report_of) (sym (settled_quietly s es (job_staged job.place (past.folders + 1) ∷ []) refl));
+  }
+
+  -- its child is started
+  started_flights : (past : Past) (n : ℕ) (job : Job) (inputs : Fields) (launch : Launch) (kept : Kept) (ticket : ℕ) → IsJob jobs n job →
+      IsKept kept (record { inputs = inputs; launch = launch }) → Keeps s es jobs past (Some n) →
+      (flight : Flight) → Contains past.flights flight ⊎ Contains (record { job = n; kept = kept } ∷ []) flight →
+      KeepsFlight (es ++ job_started job.place inputs launch ticket ∷ []) jobs flight
+  started_flights past n job inputs launch kept ticket it same k flight (inl before) =
+      let its : KeepsFlight es jobs flight = k.flights flight before in
+      let flies : Flies jobs (in_flight es) flight.job = flight_flies jobs (readings es) past (Some n) k.gave_up k.books flight before in
+      let one : flies.job ≡ its.job = one_job jobs flight.job flight.job flies.job its.job refl flies.it its.it in
+      let differs : is_same_place job.place its.job.place ≡ false =
+      differs_by (is_same_place job.place its.job.place) (in_flight es) job.place its.job.place refl
+      (or_parts (is_flying (in_flight es) job.place) ((readings es).at_hand job.place) (k.books.worked n job it refl)).0
+      (subst (λ (j : Job). is_flying (in_flight es) j.place ≡ true) one flies.flies) in
+      record {
+        job = its.job;
+        it = its.it;
+        started = its.started;
+        at = started_after es (job_started job.place inputs launch ticket ∷ []) its.job.place
+            ∙ ap (λ b. cond b (Some (record { inputs = inputs; launch = launch })) (started_at es its.job.place)) differs ∙ its.at;
+        kept = its.kept;
+      }
+  started_flights past n job inputs launch kept ticket it same k flight (inr now) =
+      subst (KeepsFlight (es ++ job_started job.place inputs launch ticket ∷ []) jobs)
+      (only_one (record { job = n; kept = kept }) flight now.0 now.1 now.2)
+      (record {
+        job = job;
+        it = it;
+        started = record { inputs = inputs; launch = launch };
+        at = started_after es (job_started job.place inputs launch ticket ∷ []) job.place
+            ∙ ap (λ b. cond b (Some (record { inputs = inputs; launch = launch })) (started_at es job.place)) (same_itself job.place);
+        kept = same;
+      })
+
+  pub started_keeps : (past : Past) (n : ℕ) (job : Job) (inputs : Fields) (launch : Launch) (kept : Kept) (ticket : ℕ) → IsJob jobs n job →
+      IsKept kept (record { inputs = inputs; launch = launch }) → IsFresh ticket past.tickets → Keeps s es jobs past (Some n) →
+      Keeps s (es ++ job_started job.place inputs launch ticket ∷ []) jobs (with_start n kept ticket past) None
+  started_keeps past n job inputs launch kept ticket it same fresh k = record {
+    gave_up = k.gave_up;
+    books = books_after (job_started job.place inputs launch ticket) jobs (course_of (with_start n kept ticket past) None k.gave_up)
+        (keeps_starting jobs (readings es) past k.gave_up n job it k.books inputs launch kept ticket fresh);
+    counts = k.counts;
+    retries = k.retries;
+    slots = let more : length (past.tickets ++ ticket ∷ []) ≡ length past.tickets + 1 = length-append past.tickets (ticket ∷ []) in
+        let before : length past.tickets + 1 ≤ s.options.slots = k.slots in omega (arith, more, before);
+    flights = λ flight there. started_flights past n job inputs launch kept ticket it same k flight
+        (Contains-append_cases past.flights (record { job = n; kept = kept } ∷ []) flight there);
+    front = front_still (job_started job.place inputs launch ticket) refl k.front;
+    end = k.end ∙ ap (option_map report_of) (sym (settled_quietly s es (job_started job.place inputs launch ticket ∷ []) refl));
+  }
+
+  -- a child has ended
+  pub record HasLanded (ticket : ℕ) (flight : Flight) (old new : Past) : Type 0 where
+    pub job : Job
+    pub it : IsJob jobs flight.job job
+    pub there : Contains (in_flight es) (ticket, job.place)
+    pub left : new.tickets ≡ without ticket old.tickets
+    pub begun : HasStarted (es ++ child_exited ticket ∷ []) job.place flight.kept
+    pub keeps : Keeps s (es ++ child_exited ticket ∷ []) jobs new (Some flight.job)
+
+  landed_at : (past : Past) (ticket index : ℕ) (flight : Flight) → slice_get past.tickets index ≡ Some ticket → slice_get past.flights index ≡ Some flight →
+      Keeps s es jobs past None → HasLanded ticket flight past (record past { tickets = remove past.tickets index; flights = remove past.flights index })
+  landed_at past ticket index flight is_ticket is_flight k =
+      let new : Past = record past { tickets = remove past.tickets index; flights = remove past.flights index } in
+      let lands : Lands jobs (readings es) k.gave_up ticket flight past new =
+      keeps_landing jobs (readings es) k.gave_up past new ticket flight
+      (record { index = index; ticket_there = is_ticket; flight_there = is_flight; is = refl }) k.books in
+      let its : KeepsFlight es jobs flight =
+      k.flights flight (index, slice_get_within past.flights index flight is_flight, get_or_from_slice_get past.flights index flight flight is_flight) in
+      let one : its.job ≡ lands.job = one_job jobs flight.job flight.job its.job lands.job refl its.it lands.it in
+      record {
+        job = lands.job;
+        it = lands.it;
+        there = lands.there;
+        left = lands.left;
+        begun = record {
+          started = its.started;
+          at = started_after es (child_exited ticket ∷ []) lands.job.place ∙ ap (λ (j : Job). started_at es j.place) (sym one) ∙ its.at;
+          kept_is = its.kept;
+        };
+        keeps = record {
+          gave_up = k.gave_up;
+          books = books_after (child_exited ticket) jobs (course_of new (Some flight.job) k.gave_up) lands.keeps;
+          counts = k.counts;
+          retries = k.retries;
+          slots = let fewer : length (remove past.tickets index) + 1 ≡ length past.tickets = length-remove past.tickets index (slice_get_within past.tickets index ticket is_ticket) in
+              let before : length past.tickets + 0 ≤ s.options.slots = k.slots in omega (arith, fewer, before);
+          flights = λ other there.
+              flights_still es (es ++ child_exited ticket ∷ []) jobs jobs past.flights (λ place. started_after es (child_exited ticket ∷ []) place) (front_itself jobs) k.flights
+              other (contains_before past.flights index other there);
+          front = front_still (child_exited ticket) refl k.front;
+          end = k.end ∙ ap (option_map report_of) (sym (settled_quietly s es (child_exited ticket ∷ []) refl));
+        };
+      }
+
+  pub landed_keeps : (old new : Past) (ticket : ℕ) (flight : Flight) → TakesOut ticket flight old new → Keeps s es jobs old None → HasLanded ticket flight old new
+  landed_keeps old new ticket flight taken k =
+      subst (HasLanded ticket flight old) (sym taken.is) (landed_at old ticket taken.index flight taken.ticket_there taken.flight_there k)
+
+  -- it failed for now, and may be started again unless the end is settled
+  still_by : (o : Option End) (place : JobPlace) (times : ℕ) → settled s es ≡ o → (settled s es ≡ None → length (filter (gives_up place) es) ≡ times) →
+      times < s.options.retries → settled s (es ++ job_failed_for_now place ∷ []) ≡ settled s es
+  still_by None place times is counted below =
+      settled_for_now s es place is
+      ∙ ap (λ b. cond b None (Some (fails_temporarily place)))
+      (ap (λ n. nat_lt n s.options.retries) (counted is) ∙ lt-ltb times s.options.retries below)
+      ∙ sym is
+  still_by (Some end) place times is counted below = settled_stays s es (job_failed_for_now place ∷ []) end is ∙ sym is
+
+  -- how often it did is what is kept
+  counted_so : (past : Past) (n : ℕ) (job : Job) (state : JobState) → IsJob jobs n job → slice_get past.jobs n ≡ Some state → Keeps s es jobs past (Some n) →
+      settled s es ≡ None → length (filter (gives_up job.place) es) ≡ state.gave_up
+  counted_so past n job state it is k none =
+      k.books.gave_up n job it ∙ k.counts (none_before (settled s es) past.end k.end none) n ∙ ap (λ (j : JobState). j.gave_up) (state_there past.jobs n state is)
+
+  pub gave_up_keeps : (past : Past) (n : ℕ) (job : Job) (state : JobState) → IsJob jobs n job → slice_get past.jobs n ≡ Some state → state.gave_up < s.options.retries →
+      Keeps s es jobs past (Some n) → Keeps s (es ++ job_failed_for_now job.place ∷ []) jobs (with_giving_up n past) (Some n)
+  gave_up_keeps past n job state it is below k =
+      let within : n < length past.jobs = k.books.worked_staged n refl in
+      record {
+        gave_up = once_more n k.gave_up;
+        books = books_after (job_failed_for_now job.place) jobs (course_of (with_giving_up n past) (Some n) (once_more n k.gave_up))
+            (keeps_giving_up jobs (readings es) past k.gave_up n job it k.books);
+        counts = λ still m. ap (λ times. cond (n == m) (suc times) times) (k.counts still m) ∙ counted_once_more past n within m;
+        retries = λ m. subst (λ times. times ≤ s.options.retries) (counted_once_more past n within m)
+            (fewer_times (n == m) n m state.gave_up s.options.retries (λ j. (state_at past.jobs j).gave_up) refl
+            (ap (λ (j : JobState). j.gave_up) (state_there past.jobs n state is)) below (k.retries m));
+        slots = k.slots;
+        flights = flights_still es (es ++ job_failed_for_now job.place ∷ []) jobs jobs past.flights
+            (λ place. started_after es (job_failed_for_now job.place ∷ []) place) (front_itself jobs) k.flights;
+        front = front_still (job_failed_for_now job.place) refl k.front;
+        end = k.end ∙ ap (option_map report_of) (sym (still_by (settled s es) job.place state.gave_up refl (counted_so past n job state it is k) below));
+      }
+
+  -- nothing is worked on any more once the end is settled
+  pub over_keeps : (past : Past) (at_work : Option ℕ) → IsSome past.end → Keeps s es jobs past at_work → Keeps s es jobs past None
+  over_keeps past at_work over k = record {
+    gave_up = k.gave_up;
+    books = keeps_over jobs (readings es) past at_work k.gave_up (is_there past.end over) k.books;
+    counts = k.counts;
+    retries = k.retries;
+    slots = idle_slots at_work (length past.tickets) s.options.slots k.slots;
+    flights = k.flights;
+    front = k.front;
+    end = k.end;
+  }
+
+  -- it was started again often enough
+  too_often_settles : (past : Past) (n : ℕ) (job : Job) (state : JobState) → IsJob jobs n job → slice_get past.jobs n ≡ Some state → s.options.retries ≤ state.gave_up →
+      Keeps s es jobs past (Some n) → settled s es ≡ None → settled s (es ++ job_failed_for_now job.place ∷ []) ≡ Some (fails_temporarily job.place)
+  too_often_settles past n job state it is often k none =
+      settled_for_now s es job.place none
+      ∙ ap (λ b. cond b None (Some (fails_temporarily job.place)))
+      (ap (λ times. nat_lt times s.options.retries) (counted_so past n job state it is k none) ∙ le-ltb state.gave_up s.options.retries often)
+
+  pub too_often_keeps : (past : Past) (n : ℕ) (job : Job) (state : JobState) → IsJob jobs n job → slice_get past.jobs n ≡ Some state → s.options.retries ≤ state.gave_up →
+      Keeps s es jobs past (Some n) →
+      Keeps s (es ++ job_failed_for_now job.place ∷ []) jobs (with_end (reported (Outcome.TemporaryFail job.place)) past) None
+  too_often_keeps past n job state it is often k = record {
+    gave_up = once_more n k.gave_up;
+    books = books_after (job_failed_for_now job.place) jobs (course_of (with_end (reported (Outcome.TemporaryFail job.place)) past) None (once_more n k.gave_up))
+        (keeps_end jobs (reads_after (readings es) (job_failed_for_now job.place)) past (Some n) (once_more n k.gave_up) (reported (Outcome.TemporaryFail job.place))
+        (keeps_failing jobs (readings es) past k.gave_up n job it k.books));
+    counts = λ still m. absurd (never_none past.end (reported (Outcome.TemporaryFail job.place)) still);
+    retries = k.retries;
+    slots = idle_slots (Some n) (length past.tickets) s.options.slots k.slots;
+    flights = flights_still es (es ++ job_failed_for_now job.place ∷ []) jobs jobs past.flights
+        (λ place. started_after es (job_failed_for_now job.place ∷ []) place) (front_itself jobs) k.flights;
+    front = front_still (job_failed_for_now job.place) refl k.front;
+    end = settles_by (settled s es) (settled s (es ++ job_failed_for_now job.place ∷ [])) (fails_temporarily job.place) past.end k.end
+        (too_often_settles past n job state it is often k) (λ old was. settled_stays s es (job_failed_for_now job.place ∷ []) old was);
+  }
+
+  -- a failure settles the end
+  pub failed_keeps : (past : Past) (at_work : Option ℕ) (e : Event) (end : End) → is_aside e ≡ true → teaches e ≡ false →
+      ((place : JobPlace) → started_at (es ++ e ∷ []) place ≡ started_at es place) → settled_by s es e ≡ Some end → Keeps s es jobs past at_work →
+      Keeps s (es ++ e ∷ []) jobs (with_end (report_of end) past) None
+  failed_keeps past at_work e end aside none same is k = record {
+    gave_up = k.gave_up;
+    books = books_after e jobs (course_of (with_end (report_of end) past) None k.gave_up)
+        (subst (λ (r : Readings). AreKept jobs r (course_of (with_end (report_of end) past) None k.gave_up)) (sym (nothing_read (readings es) e aside))
+        (keeps_end jobs (readings es) past at_work k.gave_up (report_of end) k.books));
+    counts = λ still m. absurd (never_none past.end (report_of end) still);
+    retries = k.retries;
+    slots = idle_slots at_work (length past.tickets) s.options.slots k.slots;
+    flights = flights_still es (es ++ e ∷ []) jobs jobs past.flights same (front_itself jobs) k.flights;
+    front = front_still e none k.front;
+    end = settles_by (settled s es) (settled s (es ++ e ∷ [])) end past.end k.end
+        (λ still. settled_more s es e still ∙ ap (λ (o : Option End). or_else o (unfold_end s (es ++ e ∷ []))) is)
+        (λ old was. settled_stays s es (e ∷ []) old was);
+  }
+
+  -- what settles nothing and is nothing of a job
+  pub aside_keeps : (past : Past) (at_work : Option ℕ) (e : Event) → is_aside e ≡ true → is_quiet e ≡ true → teaches e ≡ false →
+      ((place : JobPlace) → started_at (es ++ e ∷ []) place ≡ started_at es place) → settled s (es ++ e ∷ []) ≡ settled s es → Keeps s es jobs past at_work →
+      Keeps s (es ++ e ∷ []) jobs past at_work
+  aside_keeps past at_work e aside quiet none same still k = record {
+    gave_up = k.gave_up;
+    books = books_after e jobs (course_of past at_work k.gave_up)
+        (subst (λ (r : Readings). AreKept jobs r (course_of past at_work k.gave_up)) (sym (nothing_read (readings es) e aside)) k.books);
+    counts = k.counts;
+    retries = k.retries;
+    slots = k.slots;
+    flights = flights_still es (es ++ e ∷ []) jobs jobs past.flights same (front_itself jobs) k.flights;
+    front = front_still e none k.front;
+    end = k.end ∙ ap (option_map report_of) (sym still);
+  }
+
+  -- a job's outputs were collected
+  module _ (past : Past) (n : ℕ) (job : Job) (outputs : Fields) (it : IsJob jobs n job) (k : Keeps s es jobs past (Some n)) (more : List Job) (leads : IsFront jobs more)
+      (apart : AreApart more) (front : IsFront more (unfolding_at s (es ++ job_succeeded job.place outputs ∷ [])).jobs) where
+    success_kept : AreKept more (reads_after (readings es) (job_succeeded job.place outputs)) (course_of past None k.gave_up)
+    success_kept = keeps_succeeded jobs (readings es) (course_of past (Some n) k.gave_up) k.books n job outputs more it refl leads apart
+
+    success_flights : (flight : Flight) → Contains past.flights flight → KeepsFlight (es ++ job_succeeded job.place outputs ∷ []) more flight
+    success_flights = flights_still es (es ++ job_succeeded job.place outputs ∷ []) jobs more past.flights
+        (λ place. started_after es (job_succeeded job.place outputs ∷ []) place) leads k.flights
+
+    pub succeeded_keeps : settled s (es ++ job_succeeded job.place outputs ∷ []) ≡ settled s es → Keeps s (es ++ job_succeeded job.place outputs ∷ []) more past None
+    succeeded_keeps still = record {
+      gave_up = k.gave_up;
+      books = books_after (job_succeeded job.place outputs) more (course_of past None k.gave_up) success_kept;
+      counts = k.counts;
+      retries = k.retries;
+      slots = idle_slots (Some n) (length past.tickets) s.options.slots k.slots;
+      flights = success_flights;
+      front = front;
+      end = k.end ∙ ap (option_map report_of) (sym still);
+    }
+
+    -- and an equation fails by them
+    pub success_fails_keeps : (end : End) → settled s es ≡ None → settled s (es ++ job_succeeded job.place outputs ∷ []) ≡ Some end →
+        Keeps s (es ++ job_succeeded job.place outputs ∷ []) more (with_end (report_of end) past) None
+    success_fails_keeps end none is = record {
+      gave_up = k.gave_up;
+      books = books_after (job_succeeded job.place outputs) more (course_of (with_end (report_of end) past) None k.gave_up)
+          (keeps_end more (reads_after (readings es) (job_succeeded job.place outputs)) past None k.gave_up (report_of end) success_kept);
+      counts = λ still m. absurd (never_none past.end (report_of end) still);
+      retries = k.retries;
+      slots = idle_slots (Some n) (length past.tickets) s.options.slots k.slots;
+      flights = success_flights;
+      front = front;
+      end = settles_by (settled s es) (settled s (es ++ job_succeeded job.place outputs ∷ [])) end past.end k.end (λ still. is)
+          (λ old was. let never : None ≡ Some old = sym none ∙ was in absurd cc);
+    }
+
+  -- before any job is staged
+  pub first_keeps : readings es ≡ readings [] → AreApart jobs → IsFront jobs (unfolding_at s es).jobs → settled s es ≡ None → Keeps s es jobs nothing_past None
+  first_keeps nothing apart leads none = record {
+    gave_up = λ m. 0;
+    books = subst (λ (r : Readings). AreKept jobs r (course_of nothing_past None (λ m. 0))) (sym nothing) (keeps_at_first jobs apart);
+    counts = λ still m. refl;
+    retries = λ m. omega arith;
+    slots = omega arith;
+    flights = λ flight there. absurd (omega (arith, there.1));
+    front = leads;
+    end = sym (ap (option_map report_of) none);
+  }
+
+  pub first_fails_keeps : (end : End) → readings es ≡ readings [] → AreApart jobs → IsFront jobs (unfolding_at s es).jobs → settled s es ≡ Some end →
+      Keeps s es jobs (with_end (report_of end) nothing_past) None
+  first_fails_keeps end nothing apart leads is = record {
+    gave_up = λ m. 0;
+    books = keeps_end jobs (readings es) nothing_past None (λ m. 0) (report_of end)
+        (subst (λ (r : Readings). AreKept jobs r (course_of nothing_past None (λ m. 0))) (sym nothing) (keeps_at_first jobs apart));
+    counts = λ still m. absurd (never_none None (report_of end) still);
+    retries = λ m. omega arith;
+    slots = omega arith;
+    flights = λ flight there. absurd (omega (arith, there.1));
+    front = leads;
+    end = sym (ap (option_map report_of) is);
+  }
+
+-- known jobs that are the first of those of the rules still are
+pub front_late : (s : Scene) (es : List Event) (jobs : List Job) (place : JobPlace) (outputs : Fields) → IsFront jobs (unfolding_at s es).jobs →
+    IsFront jobs (unfolding_at s (es ++ job_succeeded place outputs ∷ [])).jobs
+front_late s es jobs place outputs leads =
+    front_of_front jobs (unfolding_at s es).jobs (unfolding_at s (es ++ job_succeeded place outputs ∷ [])).jobs leads (known_jobs_stay s es (job_succeeded place outputs) (λ all. refl))

@@ -1,0 +1,347 @@
+-- What a course reflects goes on with each event: a lemma for each.
+use Rattle.std.specs.Prelude.{◌<◌, ◌≤◌, ◌||◌, Contains, IsSome, is_some, Result, Err, option_map}
+use Rattle.std.specs.List.{list_any}
+use Rattle.std.proofs.Common.{◌≡◌, ◌∙◌, ◌+◌, ℕ, Bool, true, false, cond, List, [], ◌∷◌, ◌++◌, length, Option, Some, None, refl, sym, ap, subst}
+use Rattle.std.proofs.lemmas.Bool.{or_from}
+use Rattle.command_line.specs.declared.launch.Launch.{Launch}
+use Rattle.input_files.specs.Measured.{Measures}
+use Rattle.proc_host.specs.Tickets.{IsFresh, without}
+use Rattle.proc_host.specs.declared.call.HostFault.{HostFault}
+use Rattle.job_graph.specs.declared.fault.UnfoldFault.{UnfoldFault}
+use Rattle.job_graph.specs.declared.unfolding.Unfolding.{Unfolding}
+use Rattle.staging.specs.declared.plan.StagePlan.{StagePlan}
+use Rattle.job_graph.specs.Jobs.{Job, Walker}
+use Rattle.job_graph.specs.Unfold.{Fault, Resolved, Unfolded, outputs_at, unfolded}
+use Rattle.job_graph.specs.Words.{Fields, JobPlace}
+use Rattle.run_rules.specs.declared.outcome.Cause.{Cause}
+use Rattle.run_rules.specs.declared.outcome.Outcome.{Outcome}
+use Rattle.run_rules.specs.declared.outcome.Report.{Report}
+use Rattle.run_rules.specs.declared.outcome.RunFault.{RunFault}
+use Rattle.run_rules.specs.End.{End, beyond_limits, ended_by_host, fails_permanently, fault_end, is_lost_collect, settled, settled_by}
+use Rattle.run_rules.specs.Events.{Event, child_exited, delivered_at, delivered_if, in_flight, is_held, job_at, job_failed, job_failed_for_now, job_staged, job_started, job_succeeded, host_failed, measures, number_at, resolved, started_at, unfolding_at}
+use Rattle.run_rules.specs.Reports.{report_of, reported}
+use Rattle.run_rules.specs.Scene.{Scene}
+use Rattle.run_rules.proofs.events.Known.{IsFront, found_still, front_itself, is_measure, measured_still, measures_stay, resolved_stay, teaches, unfolding_learns}
+use Rattle.run_rules.proofs.events.Places.{AreApart, IsJob, found_at}
+use Rattle.run_rules.proofs.events.Readings.{delivered_after, lost_after, resolved_after, started_after}
+use Rattle.run_rules.proofs.events.Settled.{settled_more, settled_stays}
+use Rattle.run_rules.proofs.events.Tally.{is_aside, readings}
+use Rattle.run_rules.proofs.events.Turns.{FliesAt, flight_of}
+use Rattle.run_core.specs.declared.state.Course.{Course}
+use Rattle.run_core.specs.declared.state.Flight.{Flight}
+use Rattle.run_core.specs.declared.state.Kept.{Kept}
+use Rattle.run_core.specs.inner.Course.{GivesUp, Past, TakesOut, again, known_in, no_more, past_of, place_at, too_often, with_end, with_giving_up, with_staging, with_start}
+use Rattle.run_core.specs.inner.Due.{IsKept}
+use Rattle.run_core.specs.inner.Keeps.{Keeps, Reflects, course_of, numbers_of, state_at}
+use Rattle.run_core.specs.inner.Knows.{IsKnown, IsUnfolded, Knows, Learns, end_by, fails, fault_of, knows}
+use Rattle.run_core.specs.inner.Standing.{HasStarted}
+use Rattle.run_core.specs.inner.Turn.{permanent}
+use Rattle.run_core.proofs.events.Keeping.{HasLanded, failed_keeps, front_late, gave_up_keeps, landed_keeps, never_none, none_settled, over_keeps, staged_keeps, started_keeps, succeeded_keeps, success_fails_keeps, too_often_keeps}
+use Rattle.run_core.proofs.events.Numbers.{place_there}
+
+-- whether an event leaves what is known, delivered and collected as it was
+abbrev pub is_plain : Event → Bool
+is_plain (job_staged place number) = true
+is_plain (job_started place inputs launch ticket) = true
+is_plain (child_exited ticket) = true
+is_plain (job_failed place cause) = true
+is_plain (job_failed_for_now place) = true
+is_plain (host_failed place fault) = true
+is_plain _ = false
+
+plain_teaches_nothing : (e : Event) → is_plain e ≡ true → teaches e ≡ false
+plain_teaches_nothing (job_staged place number) plain = refl
+plain_teaches_nothing (job_started place inputs launch ticket) plain = refl
+plain_teaches_nothing (child_exited ticket) plain = refl
+plain_teaches_nothing (job_failed place cause) plain = refl
+plain_teaches_nothing (job_failed_for_now place) plain = refl
+plain_teaches_nothing (host_failed place fault) plain = refl
+plain_teaches_nothing _ plain = absurd cc
+
+plain_measures_nothing : (e : Event) → is_plain e ≡ true → is_measure e ≡ false
+plain_measures_nothing (job_staged place number) plain = refl
+plain_measures_nothing (job_started place inputs launch ticket) plain = refl
+plain_measures_nothing (child_exited ticket) plain = refl
+plain_measures_nothing (job_failed place cause) plain = refl
+plain_measures_nothing (job_failed_for_now place) plain = refl
+plain_measures_nothing (host_failed place fault) plain = refl
+plain_measures_nothing _ plain = absurd cc
+
+plain_loses_nothing : (e : Event) → is_plain e ≡ true → is_lost_collect e ≡ false
+plain_loses_nothing (job_staged place number) plain = refl
+plain_loses_nothing (job_started place inputs launch ticket) plain = refl
+plain_loses_nothing (child_exited ticket) plain = refl
+plain_loses_nothing (job_failed place cause) plain = refl
+plain_loses_nothing (job_failed_for_now place) plain = refl
+plain_loses_nothing (host_failed place fault) plain = refl
+plain_loses_nothing _ plain = absurd cc
+
+plain_delivers_nothing : (e : Event) → is_plain e ≡ true → delivered_if None e ≡ None
+plain_delivers_nothing (job_staged place number) plain = refl
+plain_delivers_nothing (job_started place inputs launch ticket) plain = refl
+plain_delivers_nothing (child_exited ticket) plain = refl
+plain_delivers_nothing (job_failed place cause) plain = refl
+plain_delivers_nothing (job_failed_for_now place) plain = refl
+plain_delivers_nothing (host_failed place fault) plain = refl
+plain_delivers_nothing _ plain = absurd cc
+
+one_test : (b : Bool) → b ≡ false → (b || false) ≡ false
+one_test b is = ap (λ c. c || false) is
+
+-- an end that is there is not open
+not_open : {T : Type 0} (o : Option T) → IsSome o → o ≡ None → ⊥
+not_open None some none = let never : false ≡ true = some in cc
+not_open (Some x) some none = let never : Some x ≡ None = none in cc
+
+-- what was settled stays
+settled_late : (kept : Option (Result Report RunFault)) (before after : Option End) → kept ≡ option_map report_of before → IsSome kept →
+    ((old : End) → before ≡ Some old → after ≡ Some old) → after ≡ before
+settled_late kept None after is some stays = absurd (not_open kept some is)
+settled_late kept (Some old) after is some stays = stays old refl
+
+-- the end by a fault
+abbrev pub end_of : UnfoldFault → End
+end_of UnfoldFault.TooManyJobs = beyond_limits
+end_of (UnfoldFault.Fault place cause) = fails_permanently place (Cause.Equation cause)
+
+pub fault_ends : (fault : UnfoldFault) → fault_end (Some (fault_of fault)) ≡ Some (end_of fault)
+fault_ends UnfoldFault.TooManyJobs = refl
+fault_ends (UnfoldFault.Fault place cause) = refl
+
+pub end_reported : (fault : UnfoldFault) → report_of (end_of fault) ≡ end_by fault
+end_reported UnfoldFault.TooManyJobs = refl
+end_reported (UnfoldFault.Fault place cause) = refl
+
+pub unfolds_by : (o : Option Unfolding) (walks : Walker) (learned : List Resolved) (one : Resolved) (old new : Course) → old.known ≡ o → IsKnown walks learned o →
+    Learns one old new → IsUnfolded walks (learned ++ one ∷ []) old new
+unfolds_by None walks learned one old new is known learns = absurd known
+unfolds_by (Some kept) walks learned one old new is known learns = learns walks learned kept is known
+
+-- two laws of walks: known jobs are at different places, and where each known job is resolved and no equation fails the result is there
+pub record Laws (s : Scene) : Type 0 where
+  pub differ : (walks : Walker) (learned : List Resolved) → AreApart (unfolded walks learned).jobs
+  pub results : (measures : Measures) (learned : List Resolved) → (unfolded (s.walker measures) learned).fault ≡ None →
+      ((job : Job) → Contains (unfolded (s.walker measures) learned).jobs job → is_some (outputs_at learned job.place) ≡ true) →
+      IsSome (unfolded (s.walker measures) learned).result
+
+module _ (s : Scene) where
+  -- the same course
+  pub moved : (es : List Event) (jobs : List Job) (past : Past) (at_work : Option ℕ) (new : Course) → known_in new.known ≡ jobs → past_of new ≡ past →
+      Keeps s es jobs past at_work → Keeps s es (known_in new.known) (past_of new) at_work
+  moved es jobs past at_work new known same keeps =
+      subst (λ (js : List Job). Keeps s es js (past_of new) at_work) (sym known) (subst (λ (p : Past). Keeps s es jobs p at_work) (sym same) keeps)
+
+  pub reflects_same : (es : List Event) (old new : Course) (at_work : Option ℕ) → past_of new ≡ past_of old → new.known ≡ old.known → Reflects s es old at_work →
+      Reflects s es new at_work
+  reflects_same es old new at_work past known r = record {
+    keeps = moved es (known_in old.known) (past_of old) at_work new (ap known_in known) past r.keeps;
+    measured = λ still. r.measured (ap (λ (p : Past). p.end) (sym past) ∙ still);
+    knows = λ still. subst (λ (k : Option Unfolding). IsKnown (s.walker (measures es)) (resolved es) k) (sym known) (r.knows (ap (λ (p : Past). p.end) (sym past) ∙ still));
+    collects = r.collects;
+    undelivered = r.undelivered;
+  }
+
+  known_after : (es : List Event) (e : Event) (known : Option Unfolding) → is_measure e ≡ false → teaches e ≡ false →
+      IsKnown (s.walker (measures es)) (resolved es) known → IsKnown (s.walker (measures (es ++ e ∷ []))) (resolved (es ++ e ∷ [])) known
+  known_after es e known no_measure none is =
+      subst (λ (m : Measures). IsKnown (s.walker m) (resolved (es ++ e ∷ [])) known) (sym (measures_stay es (e ∷ []) (one_test (is_measure e) no_measure)))
+      (subst (λ (learned : List Resolved). IsKnown (s.walker (measures es)) learned known) (sym (resolved_stay es (e ∷ []) (one_test (teaches e) none))) is)
+
+  pub undelivered_after : (es : List Event) (e : Event) → delivered_at es ≡ None → delivered_if None e ≡ None → delivered_at (es ++ e ∷ []) ≡ None
+  undelivered_after es e none so = delivered_after es (e ∷ []) ∙ ap (λ (o : Option StagePlan). delivered_if o e) none ∙ so
+
+  pub collects_after : (es : List Event) (e : Event) → list_any is_lost_collect es ≡ false → is_lost_collect e ≡ false → list_any is_lost_collect (es ++ e ∷ []) ≡ false
+  collects_after es e none so = lost_after es (e ∷ []) ∙ or_from (list_any is_lost_collect es) (is_lost_collect e || false) none (one_test (is_lost_collect e) so)
+
+  -- a plain event leaves what is known
+  reflects_on : (es : List Event) (e : Event) (old new : Course) (past : Past) (before after : Option ℕ) → is_plain e ≡ true → past_of new ≡ past → new.known ≡ old.known →
+      (past.end ≡ None → old.end ≡ None) → Reflects s es old before → Keeps s (es ++ e ∷ []) (known_in old.known) past after → Reflects s (es ++ e ∷ []) new after
+  reflects_on es e old new past before after plain same known opens r keeps = record {
+    keeps = moved (es ++ e ∷ []) (known_in old.known) past after new (ap known_in known) same keeps;
+    measured = λ still. measured_still s es (e ∷ []) (r.measured (opens (ap (λ (p : Past). p.end) (sym same) ∙ still)));
+    knows = λ still. subst (λ (k : Option Unfolding). IsKnown (s.walker (measures (es ++ e ∷ []))) (resolved (es ++ e ∷ [])) k) (sym known)
+        (known_after es e old.known (plain_measures_nothing e plain) (plain_teaches_nothing e plain) (r.knows (opens (ap (λ (p : Past). p.end) (sym same) ∙ still))));
+    collects = collects_after es e r.collects (plain_loses_nothing e plain);
+    undelivered = undelivered_after es e r.undelivered (plain_delivers_nothing e plain);
+  }
+
+  pub staged_reflects : (es : List Event) (old new : Course) (at_work : Option ℕ) (n : ℕ) (job : Job) → IsJob (known_in old.known) n job → n ≤ length old.jobs.items →
+      is_held es job.place ≡ false → length (in_flight es) < s.options.slots → ((m : ℕ) → at_work ≡ Some m → m ≡ n) → past_of new ≡ with_staging n (past_of old) → new.known ≡ old.known →
+      Reflects s es old at_work → Reflects s (es ++ job_staged job.place (old.folders + 1) ∷ []) new (Some n)
+  staged_reflects es old new at_work n job it within free slot alone past known r =
+      reflects_on es (job_staged job.place (old.folders + 1)) old new (with_staging n (past_of old)) at_work (Some n) refl past known (λ still. still) r
+      (staged_keeps s es (known_in old.known) (past_of old) at_work n job it within free slot alone r.keeps)
+
+  pub started_reflects : (es : List Event) (old new : Course) (n : ℕ) (job : Job) (inputs : Fields) (launch : Launch) (kept : Kept) (ticket : ℕ) → IsJob (known_in old.known) n job →
+      IsKept kept (record { inputs = inputs; launch = launch }) → IsFresh ticket old.tickets.items → past_of new ≡ with_start n kept ticket (past_of old) → new.known ≡ old.known →
+      Reflects s es old (Some n) → Reflects s (es ++ job_started job.place inputs launch ticket ∷ []) new None
+  started_reflects es old new n job inputs launch kept ticket it same fresh past known r =
+      reflects_on es (job_started job.place inputs launch ticket) old new (with_start n kept ticket (past_of old)) (Some n) None refl past known (λ still. still) r
+      (started_keeps s es (known_in old.known) (past_of old) n job inputs launch kept ticket it same fresh r.keeps)
+
+  -- a child has ended
+  pub record Landed (es : List Event) (old new : Course) (ticket : ℕ) (flight : Flight) : Type 0 where
+    pub job : Job
+    pub it : IsJob (known_in old.known) flight.job job
+    pub there : Contains (in_flight es) (ticket, job.place)
+    pub left : new.tickets.items ≡ without ticket old.tickets.items
+    pub begun : HasStarted (es ++ child_exited ticket ∷ []) job.place flight.kept
+    pub reflects : Reflects s (es ++ child_exited ticket ∷ []) new (Some flight.job)
+
+  pub landed_reflects : (es : List Event) (old new : Course) (ticket : ℕ) (flight : Flight) → TakesOut ticket flight (past_of old) (past_of new) → new.known ≡ old.known →
+      Reflects s es old None → Landed es old new ticket flight
+  landed_reflects es old new ticket flight taken known r =
+      let lands : HasLanded s es (known_in old.known) ticket flight (past_of old) (past_of new) =
+      landed_keeps s es (known_in old.known) (past_of old) (past_of new) ticket flight taken r.keeps in
+      record {
+        job = lands.job;
+        it = lands.it;
+        there = lands.there;
+        left = lands.left;
+        begun = lands.begun;
+        reflects = reflects_on es (child_exited ticket) old new (past_of new) None (Some flight.job) refl refl known
+            (λ still. ap (λ (p : Past). p.end) (sym taken.is) ∙ still) r lands.keeps;
+      }
+
+  -- a failure settles the end
+  failure_reflects : (es : List Event) (old new : Course) (at_work : Option ℕ) (e : Event) (end : End) → is_plain e ≡ true → is_aside e ≡ true →
+      ((place : JobPlace) → started_at (es ++ e ∷ []) place ≡ started_at es place) → settled_by s es e ≡ Some end →
+      past_of new ≡ with_end (report_of end) (past_of old) → new.known ≡ old.known → Reflects s es old at_work → Reflects s (es ++ e ∷ []) new None
+  failure_reflects es old new at_work e end plain aside same is past known r =
+      reflects_on es e old new (with_end (report_of end) (past_of old)) at_work None plain past known (λ still. absurd (never_none old.end (report_of end) still)) r
+      (failed_keeps s es (known_in old.known) (past_of old) at_work e end aside (plain_teaches_nothing e plain) same is r.keeps)
+
+  pub job_failed_reflects : (es : List Event) (old new : Course) (at_work : Option ℕ) (place : JobPlace) (cause : Cause) →
+      past_of new ≡ with_end (permanent place cause) (past_of old) → new.known ≡ old.known → Reflects s es old at_work → Reflects s (es ++ job_failed place cause ∷ []) new None
+  job_failed_reflects es old new at_work place cause past known r =
+      failure_reflects es old new at_work (job_failed place cause) (fails_permanently place cause) refl refl (λ p. started_after es (job_failed place cause ∷ []) p) refl past known r
+
+  pub host_failed_reflects : (es : List Event) (old new : Course) (at_work : Option ℕ) (place : JobPlace) (fault : HostFault) →
+      past_of new ≡ with_end (Err (RunFault.Host fault [])) (past_of old) → new.known ≡ old.known → Reflects s es old at_work → Reflects s (es ++ host_failed place fault ∷ []) new None
+  host_failed_reflects es old new at_work place fault past known r =
+      failure_reflects es old new at_work (host_failed place fault) (ended_by_host fault []) refl refl (λ p. started_after es (host_failed place fault ∷ []) p) refl past known r
+
+  -- a job failed for now: it may be started again, or not
+  pub gave_up_reflects : (es : List Event) (old new : Course) (n : ℕ) (job : Job) (again : Bool) (past : Past) → IsJob (known_in old.known) n job →
+      GivesUp (known_in old.known) n s.options.retries (past_of old) again past → past_of new ≡ past → new.known ≡ old.known →
+      Reflects s es old (Some n) → Reflects s (es ++ job_failed_for_now job.place ∷ []) new (cond again (Some n) None)
+  gave_up_reflects es old new n job true past it (again state is below unsettled) same known r =
+      reflects_on es (job_failed_for_now job.place) old new (with_giving_up n (past_of old)) (Some n) (Some n) refl same known (λ still. still) r
+      (gave_up_keeps s es (known_in old.known) (past_of old) n job state it is below r.keeps)
+  gave_up_reflects es old new n job false past it (no_more state is below over) same known r =
+      reflects_on es (job_failed_for_now job.place) old new (with_giving_up n (past_of old)) (Some n) None refl same known (λ still. still) r
+      (over_keeps s (es ++ job_failed_for_now job.place ∷ []) (known_in old.known) (with_giving_up n (past_of old)) (Some n) over
+      (gave_up_keeps s es (known_in old.known) (past_of old) n job state it is below r.keeps))
+  gave_up_reflects es old new n job false past it (too_often state is often) same known r =
+      let place : place_at (known_in old.known) n ≡ job.place = place_there (known_in old.known) n job it in
+      reflects_on es (job_failed_for_now job.place) old new (with_end (reported (Outcome.TemporaryFail job.place)) (past_of old)) (Some n) None refl
+      (same ∙ ap (λ (p : JobPlace). with_end (reported (Outcome.TemporaryFail p)) (past_of old)) place) known
+      (λ still. absurd (never_none old.end (reported (Outcome.TemporaryFail job.place)) still)) r
+      (too_often_keeps s es (known_in old.known) (past_of old) n job state it is often r.keeps)
+
+  -- outputs that come once the end is settled
+  pub late_reflects : (es : List Event) (old new : Course) (n : ℕ) (job : Job) (outputs : Fields) → IsJob (known_in old.known) n job → IsSome old.end →
+      past_of new ≡ past_of old → new.known ≡ old.known → Reflects s es old (Some n) → Reflects s (es ++ job_succeeded job.place outputs ∷ []) new None
+  late_reflects es old new n job outputs it over past known r =
+      let e : Event = job_succeeded job.place outputs in
+      let still : settled s (es ++ job_succeeded job.place outputs ∷ []) ≡ settled s es =
+      settled_late old.end (settled s es) (settled s (es ++ job_succeeded job.place outputs ∷ [])) r.keeps.end over
+      (λ end was. settled_stays s es (job_succeeded job.place outputs ∷ []) end was) in
+      record {
+        keeps = moved (es ++ job_succeeded job.place outputs ∷ []) (known_in old.known) (past_of old) None new (ap known_in known) past
+            (succeeded_keeps s es (known_in old.known) (past_of old) n job outputs it r.keeps (known_in old.known) (front_itself (known_in old.known)) r.keeps.books.apart
+            (front_late s es (known_in old.known) job.place outputs r.keeps.front) still);
+        measured = λ none. absurd (not_open old.end over (ap (λ (p : Past). p.end) (sym past) ∙ none));
+        knows = λ none. absurd (not_open old.end over (ap (λ (p : Past). p.end) (sym past) ∙ none));
+        collects = collects_after es (job_succeeded job.place outputs) r.collects refl;
+        undelivered = undelivered_after es (job_succeeded job.place outputs) r.undelivered refl;
+      }
+
+  -- outputs by which more is known, or an equation fails
+  module _ (laws : Laws s) (es : List Event) (old : Course) (n : ℕ) (job : Job) (outputs : Fields) (it : IsJob (known_in old.known) n job) (going : old.end ≡ None)
+      (r : Reflects s es old (Some n)) where
+    abbrev e : Event
+    e = job_succeeded job.place outputs
+
+    abbrev one : Resolved
+    one = record { place = job.place; outputs = outputs }
+
+    abbrev walks : Walker
+    walks = s.walker (measures es)
+
+    unsettled : settled s es ≡ None
+    unsettled = none_settled (settled s es) old.end r.keeps.end going
+
+    learned_is : unfolding_at s (es ++ e ∷ []) ≡ unfolded walks (resolved es ++ one ∷ [])
+    learned_is = unfolding_learns s es e one (r.measured going) refl refl
+
+    settled_then : (o : Option Fault) → (unfolded walks (resolved es ++ one ∷ [])).fault ≡ o → settled s (es ++ e ∷ []) ≡ fault_end o
+    settled_then o is = settled_more s es e unsettled ∙ ap (λ (u : Unfolded). fault_end u.fault) learned_is ∙ ap fault_end is
+
+    leads : IsFront (known_in old.known) (unfolding_at s (es ++ e ∷ [])).jobs
+    leads = front_late s es (known_in old.known) job.place outputs r.keeps.front
+
+    learns_more : (kept : Unfolding) (new : Course) → Knows walks (resolved es ++ one ∷ []) kept → new.known ≡ Some kept → past_of new ≡ past_of old →
+        Reflects s (es ++ e ∷ []) new None
+    learns_more kept new k known past =
+        let jobs : known_in new.known ≡ (unfolded walks (resolved es ++ one ∷ [])).jobs = ap known_in known ∙ k.jobs in
+        let whole : (unfolding_at s (es ++ e ∷ [])).jobs ≡ known_in new.known = ap (λ (u : Unfolded). u.jobs) learned_is ∙ sym jobs in
+        record {
+          keeps = subst (λ (p : Past). Keeps s (es ++ e ∷ []) (known_in new.known) p None) (sym past)
+              (succeeded_keeps s es (known_in old.known) (past_of old) n job outputs it r.keeps (known_in new.known)
+              (subst (λ (js : List Job). IsFront (known_in old.known) js) whole leads)
+              (subst AreApart (sym jobs) (laws.differ walks (resolved es ++ one ∷ [])))
+              (subst (λ (js : List Job). IsFront (known_in new.known) js) (sym whole) (front_itself (known_in new.known)))
+              (settled_then None k.fault ∙ sym unsettled));
+          measured = λ still. measured_still s es (e ∷ []) (r.measured going);
+          knows = λ still. subst (λ (o : Option Unfolding). IsKnown (s.walker (measures (es ++ e ∷ []))) (resolved (es ++ e ∷ [])) o) (sym known)
+              (subst (λ (m : Measures). Knows (s.walker m) (resolved (es ++ e ∷ [])) kept) (sym (measures_stay es (e ∷ []) refl))
+              (subst (λ (learned : List Resolved). Knows walks learned kept) (sym (resolved_after es (e ∷ []))) k));
+          collects = collects_after es e r.collects refl;
+          undelivered = undelivered_after es e r.undelivered refl;
+        }
+
+    learns_fault : (fault : UnfoldFault) (new : Course) → (unfolded walks (resolved es ++ one ∷ [])).fault ≡ Some (fault_of fault) → known_in new.known ≡ known_in old.known →
+        past_of new ≡ with_end (end_by fault) (past_of old) → Reflects s (es ++ e ∷ []) new None
+    learns_fault fault new is known past = record {
+      keeps = moved (es ++ e ∷ []) (known_in old.known) (with_end (report_of (end_of fault)) (past_of old)) None new known
+          (past ∙ ap (λ (end : Result Report RunFault). with_end end (past_of old)) (sym (end_reported fault)))
+          (success_fails_keeps s es (known_in old.known) (past_of old) n job outputs it r.keeps (known_in old.known) (front_itself (known_in old.known)) r.keeps.books.apart leads
+          (end_of fault) unsettled (settled_then (Some (fault_of fault)) is ∙ fault_ends fault));
+      measured = λ still. absurd (never_none old.end (end_by fault) (ap (λ (p : Past). p.end) (sym past) ∙ still));
+      knows = λ still. absurd (never_none old.end (end_by fault) (ap (λ (p : Past). p.end) (sym past) ∙ still));
+      collects = collects_after es e r.collects refl;
+      undelivered = undelivered_after es e r.undelivered refl;
+    }
+
+    learned_by : {new : Course} → IsUnfolded walks (resolved es ++ one ∷ []) old new → Reflects s (es ++ e ∷ []) new None
+    learned_by (knows kept new k known past) = learns_more kept new k known past
+    learned_by (fails fault new is known past) = learns_fault fault new is known past
+
+    pub success_reflects : (new : Course) → Learns one old new → Reflects s (es ++ e ∷ []) new None
+    success_reflects new learns = learned_by (unfolds_by old.known walks (resolved es) one old new refl (r.knows going) learns)
+
+  -- Jobs
+
+  pub known_there : (es : List Event) (course : Course) (at_work : Option ℕ) (n : ℕ) (job : Job) → IsJob (known_in course.known) n job → Reflects s es course at_work →
+      job_at s es job.place ≡ Some job
+  known_there es course at_work n job it r =
+      found_still job.place job (known_in course.known) (unfolding_at s es).jobs r.keeps.front (found_at (known_in course.known) r.keeps.books.apart n job it)
+
+  pub folder_there : (es : List Event) (course : Course) (at_work : Option ℕ) (n : ℕ) (job : Job) → IsJob (known_in course.known) n job → Reflects s es course at_work →
+      number_at es job.place ≡ (state_at course.jobs.items n).folder
+  folder_there es course at_work n job it r = r.keeps.books.number n job it
+
+  -- the job of a child in flight
+  pub record FliesThere (es : List Event) (course : Course) (ticket : ℕ) : Type 0 where
+    pub number : ℕ
+    pub job : Job
+    pub it : IsJob (known_in course.known) number job
+    pub there : Contains (in_flight es) (ticket, job.place)
+
+  pub flies_there : (es : List Event) (course : Course) (at_work : Option ℕ) (ticket : ℕ) → Contains course.tickets.items ticket → Reflects s es course at_work →
+      FliesThere es course ticket
+  flies_there es course at_work ticket there r =
+      let at : FliesAt (known_in course.known) (in_flight es) (numbers_of course.flights.items) there.0 ticket =
+      flight_of (known_in course.known) (readings es) (course_of (past_of course) at_work r.keeps.gave_up) r.keeps.books there.0 ticket there.1 there.2 in
+      record { number = at.number; job = at.job; it = at.it; there = (there.0, at.within, at.flight) }

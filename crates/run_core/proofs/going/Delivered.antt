@@ -1,0 +1,94 @@
+-- The result's files are copied to their targets: the run has ended.
+use Rattle.std.specs.Prelude.{◌≤◌, is_some}
+use Rattle.std.proofs.Common.{◌≡◌, ◌∙◌, ℕ, true, List, [], ◌∷◌, ◌++◌, length, None, refl, sym, ap, subst}
+use Rattle.plan_checker.specs.declared.plan.Mark.{Mark}
+use Rattle.proc_host.specs.declared.call.HostAnswer.{HostAnswer}
+use Rattle.proc_host.specs.declared.call.HostRequest.{HostRequest}
+use Rattle.staging.specs.Plan.{IsPlan}
+use Rattle.staging.specs.declared.plan.StagePlan.{StagePlan}
+use Rattle.job_graph.specs.Jobs.{Job}
+use Rattle.job_graph.specs.Unfold.{Unfolded}
+use Rattle.job_graph.specs.Words.{JobPlace}
+use Rattle.run_rules.specs.declared.request.Pair.{Pair}
+use Rattle.run_rules.specs.Allowed.{IsBusy, IsFree, MayDeliver}
+use Rattle.run_rules.specs.Delivered.{located, sources}
+use Rattle.run_rules.specs.End.{succeeds_with}
+use Rattle.run_rules.specs.EndsSo.{copied, succeeds}
+use Rattle.run_rules.specs.Events.{Event, Progress, nothing_due, number_at, result_delivered}
+use Rattle.run_rules.specs.Plans.{LoadsHeld}
+use Rattle.run_rules.specs.Run.{Goes}
+use Rattle.run_rules.specs.Scene.{Scene}
+use Rattle.run_rules.specs.Steps.{call, delivers, progress_with}
+use Rattle.run_rules.proofs.events.Course.{Keeps as AreKept}
+use Rattle.run_rules.proofs.events.Grows.{goes_on}
+use Rattle.run_rules.proofs.events.Known.{measured_still, unfolding_stays}
+use Rattle.run_rules.proofs.events.Planned.{jobs_in, marks_after}
+use Rattle.run_rules.proofs.events.Readings.{delivered_after, in_flight_after, number_after, started_after}
+use Rattle.run_rules.proofs.events.Settled.{settled_quietly}
+use Rattle.run_rules.proofs.events.Tally.{readings}
+use Rattle.run_rules.proofs.events.Turns.{busy_when_staged}
+use Rattle.run_core.specs.declared.state.Course.{Course}
+use Rattle.run_core.specs.declared.state.Turn.{Turn}
+use Rattle.run_core.specs.inner.Course.{known_in, past_of}
+use Rattle.run_core.specs.inner.Keeps.{Keeps, Reflects, course_of}
+use Rattle.run_core.specs.inner.Standing.{Runs, ended}
+use Rattle.run_core.specs.inner.Turn.{succeeds as succeeds_so}
+use Rattle.run_core.proofs.events.Keeping.{aside_keeps}
+use Rattle.run_core.proofs.events.Reflecting.{collects_after}
+use Rattle.run_core.proofs.going.Picking.{all_known, unsettled}
+
+module _ (s : Scene) (t : List Pair) (f : Progress) (marks : List Mark) (goes : Goes s (LoadsHeld s) t f marks) (old : Course) (plan : StagePlan)
+    (r : Reflects s f.events old None) (may : MayDeliver s f marks [] plan) (going : old.end ≡ None) (all : length (known_in old.known) ≤ length old.jobs.items) where
+  abbrev e : Event
+  e = result_delivered plan
+
+  abbrev later : Progress
+  later = progress_with f nothing_due (result_delivered plan ∷ [])
+
+  abbrev marks_then : List Mark
+  marks_then = marks_after s (progress_with f nothing_due (result_delivered plan ∷ [])) marks
+
+  keeps_then : Keeps s (f.events ++ e ∷ []) (known_in old.known) (past_of old) None
+  keeps_then =
+      aside_keeps s f.events (known_in old.known) (past_of old) None e refl refl refl (λ (place : JobPlace). started_after f.events (e ∷ []) place)
+      (settled_quietly s f.events (e ∷ []) refl) r.keeps
+
+  whole_then : known_in old.known ≡ jobs_in s later
+  whole_then = all_known s f.events old None r going ∙ ap (λ (u : Unfolded). u.jobs) (sym (unfolding_stays s f.events (e ∷ []) refl))
+
+  free_then : IsFree s later
+  free_then = record {
+    still = record {
+      idle = refl;
+      collects = collects_after s f.events e r.collects refl;
+      unsettled = settled_quietly s f.events (e ∷ []) refl ∙ unsettled s f.events old None r going;
+    };
+    measured = measured_still s f.events (e ∷ []) (r.measured going);
+  }
+
+  busy_then : IsBusy s later marks_then
+  busy_then =
+      busy_when_staged s later marks_then (course_of (past_of old) None keeps_then.gave_up)
+      (subst (λ (jobs : List Job). AreKept jobs (readings (f.events ++ e ∷ [])) (course_of (past_of old) None keeps_then.gave_up)) whole_then keeps_then.books)
+      free_then (ap is_some going) refl (subst (λ (jobs : List Job). length jobs ≤ length old.jobs.items) whole_then all)
+
+  same_numbers : number_at f.events ≡ number_at (f.events ++ e ∷ [])
+  same_numbers = λ i place. sym (number_after f.events (e ∷ []) place) i
+
+  delivered_runs : Runs s (t ++ call [] (HostRequest.Deliver plan) HostAnswer.Done ∷ []) old (succeeds_so (located plan.value))
+  delivered_runs = record {
+    happened = later;
+    marks = marks_then;
+    goes = goes_on s (call [] (HostRequest.Deliver plan) HostAnswer.Done) nothing_due (e ∷ []) goes may (delivers [] plan);
+    at = ended (succeeds_with may.outputs plan.value)
+        (succeeds may.outputs plan.value busy_then (in_flight_after f.events (e ∷ []) ∙ may.landed)
+        (ap (λ (u : Unfolded). u.result) (unfolding_stays s f.events (e ∷ []) refl) ∙ may.result)
+        (copied plan (delivered_after f.events (e ∷ []))
+        (subst (λ (number : JobPlace → ℕ). IsPlan true s.options.outdir (sources number s.options.work may.outputs) plan) same_numbers may.delivery)));
+  }
+
+  pub delivery_goes_on : (turn : Turn) (new : Course) → (turn ≡ succeeds_so (located plan.value)) × (new ≡ old) →
+      Runs s (t ++ call [] (HostRequest.Deliver plan) HostAnswer.Done ∷ []) new turn
+  delivery_goes_on turn new so =
+      subst (λ (c : Course). Runs s (t ++ call [] (HostRequest.Deliver plan) HostAnswer.Done ∷ []) c turn) (sym so.1)
+      (subst (λ (w : Turn). Runs s (t ++ call [] (HostRequest.Deliver plan) HostAnswer.Done ∷ []) old w) (sym so.0) delivered_runs)

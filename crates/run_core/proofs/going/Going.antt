@@ -1,0 +1,129 @@
+-- A run goes on with each answer to what is asked.
+use Rattle.std.specs.Prelude.{◌≤◌}
+use Rattle.std.proofs.Common.{◌≡◌, ◌+◌, ℕ, List, [], ◌∷◌, ◌++◌, Option, Some, None, length, subst}
+use Rattle.plan_checker.specs.declared.plan.Mark.{Mark}
+use Rattle.proc_host.specs.Answers.{CanAnswer, is_measured, is_staged, is_started, has_ended, is_listed, is_read, is_delivered, has_failed}
+use Rattle.proc_host.specs.declared.call.HostAnswer.{HostAnswer}
+use Rattle.proc_host.specs.declared.call.HostRequest.{HostRequest}
+use Rattle.staging.specs.declared.measure.Measure.{Measure}
+use Rattle.staging.specs.declared.plan.StagePlan.{StagePlan}
+use Rattle.job_graph.specs.Jobs.{Job}
+use Rattle.job_graph.specs.Words.{JobPlace, Name}
+use Rattle.run_rules.specs.declared.request.Answer.{Answer}
+use Rattle.run_rules.specs.declared.request.Pair.{Pair}
+use Rattle.run_rules.specs.declared.request.Request.{Request}
+use Rattle.run_rules.specs.Allowed.{MayCollect, MayDeliver}
+use Rattle.run_rules.specs.Answers.{MayAnswer, by_host}
+use Rattle.run_rules.specs.Delivered.{located}
+use Rattle.run_rules.specs.Events.{Progress}
+use Rattle.run_rules.specs.Plans.{LoadsHeld}
+use Rattle.run_rules.specs.Run.{Goes}
+use Rattle.run_rules.specs.Scene.{Scene}
+use Rattle.run_core.specs.declared.state.Course.{Course}
+use Rattle.run_core.specs.declared.state.Given.{Given}
+use Rattle.run_core.specs.declared.state.JobPhase.{JobPhase}
+use Rattle.run_core.specs.declared.state.Measuring.{Measuring}
+use Rattle.run_core.specs.declared.state.Phase.{Phase}
+use Rattle.run_core.specs.declared.state.Turn.{Turn}
+use Rattle.run_core.specs.inner.Course.{known_in, nothing_past, past_of}
+use Rattle.run_core.specs.inner.Follows.{FollowsFrom}
+use Rattle.run_core.specs.inner.Keeps.{Reflects, state_at}
+use Rattle.run_core.specs.inner.Measured.{IsMeasuring}
+use Rattle.run_core.specs.inner.Measures.{Begins}
+use Rattle.run_core.specs.inner.Standing.{IsAt, IsStaging, IsWorking, Runs, collecting, delivering, ended, measuring, staging, working}
+use Rattle.run_core.specs.inner.Turn.{collects, waits, works}
+use Rattle.run_core.proofs.events.Reflecting.{Laws, folder_there}
+use Rattle.run_core.proofs.going.Delivered.{delivery_goes_on}
+use Rattle.run_core.proofs.going.Measured.{IsOf, begins_so, may_measure, measure_fault_reflects, measure_goes_on, when_measured}
+use Rattle.run_core.proofs.going.Picking.{picked}
+use Rattle.run_core.proofs.job_steps.Calls.{IsForJob, for_job, working_allowed}
+use Rattle.run_core.proofs.job_steps.Ended.{child_goes_on}
+use Rattle.run_core.proofs.job_steps.Failed.{collect_fails, fault_goes_by, fault_goes_on}
+use Rattle.run_core.proofs.job_steps.Listed.{listing_goes_on}
+use Rattle.run_core.proofs.job_steps.Read.{bytes_go_on}
+use Rattle.run_core.proofs.job_steps.Staged.{staging_goes_on}
+use Rattle.run_core.proofs.job_steps.Started.{start_goes_on}
+use Rattle.run_core.proofs.job_steps.Turns.{PicksAt}
+
+-- a collect is for no job
+not_collect : (call : HostRequest) → IsForJob call → call ≡ HostRequest.Collect → ⊥
+not_collect call its is = subst IsForJob is its
+
+module _ (s : Scene) (given : Given) (same : given.options ≡ s.options) (its : IsOf s given) (laws : Laws s) (some : 1 ≤ s.options.slots) where
+  pub picks : PicksAt s given
+  picks t f marks goes idle old turn new r p = picked s given same {t = t} f marks goes idle laws some old r p
+
+  module _ (t : List Pair) (f : Progress) (marks : List Mark) (goes : Goes s (LoadsHeld s) t f marks) (old : Course) (turn : Turn) (new : Course) where
+    -- the run with the answer to this call
+    abbrev GoesOnWith : JobPlace → HostRequest → HostAnswer → Type 0
+    GoesOnWith place call answer = Runs s (t ++ record { request = Request.Host place call; answer = Answer.Host answer } ∷ []) new turn
+
+    measure_by : (found : List (Name × Measure)) (m : Measuring) (rest : List Name) (path : Name) → IsMeasuring s found m → m.left ≡ rest ++ path ∷ [] → f ≡ when_measured found →
+        old.known ≡ None → past_of old ≡ nothing_past → {answer : HostAnswer} → CanAnswer old.tickets.items (HostRequest.Measure path) answer →
+        FollowsFrom given old (waits (HostRequest.Measure path) (Phase.Measuring m)) (Answer.Host answer) turn new → GoesOnWith [] (HostRequest.Measure path) answer
+    measure_by found m rest path is left happened none nothing (is_measured p measure) follows =
+        measure_goes_on s given its laws picks t found marks m rest path is left (subst (λ (g : Progress). Goes s (LoadsHeld s) t g marks) happened goes) old nothing none measure turn new follows
+    measure_by found m rest path is left happened none nothing (has_failed request) follows =
+        fault_goes_by s given picks t (when_measured found) marks (subst (λ (g : Progress). Goes s (LoadsHeld s) t g marks) happened goes) old [] (HostRequest.Measure path)
+        (may_measure s given its laws picks t found marks m rest path is left) (λ same. cc) turn new follows
+        (measure_fault_reflects s given its laws picks t found marks m rest path is left old follows.settled nothing none follows.past follows.known)
+
+    stage_by : (at_work : Option ℕ) (n : ℕ) (job : Job) (plan : StagePlan) → Reflects s f.events old at_work → IsStaging s f marks old at_work n job plan →
+        {answer : HostAnswer} → CanAnswer old.tickets.items (HostRequest.Stage plan (old.folders + 1)) answer →
+        FollowsFrom given old (record { asks = Request.Host job.place (HostRequest.Stage plan (old.folders + 1)); phase = Phase.Staging n }) (Answer.Host answer) turn new →
+        GoesOnWith job.place (HostRequest.Stage plan (old.folders + 1)) answer
+    stage_by at_work n job plan r st (is_staged p number) follows =
+        staging_goes_on s given same laws picks t f marks goes old at_work n job plan r st turn new follows
+    stage_by at_work n job plan r st (has_failed request) follows =
+        fault_goes_on s given picks t f marks goes old job.place (HostRequest.Stage plan (old.folders + 1)) st.may (λ same. cc) turn new follows at_work r
+
+    work_by : (n : ℕ) (job : Job) (phase : JobPhase) {call : HostRequest} {answer : HostAnswer} → CanAnswer old.tickets.items call answer → Reflects s f.events old (Some n) →
+        IsWorking s f old n job call phase → FollowsFrom given old (works job.place n call phase) (Answer.Host answer) turn new → GoesOnWith job.place call answer
+    work_by n job phase (is_measured path measure) r w follows =
+        absurd (for_job s.options (state_at old.jobs.items n).folder [] (HostRequest.Measure path) phase w.calls.due)
+    work_by n job phase (is_staged plan number) r w follows =
+        absurd (for_job s.options (state_at old.jobs.items n).folder [] (HostRequest.Stage plan number) phase w.calls.due)
+    work_by n job phase (is_started launch ticket fresh) r w follows =
+        start_goes_on s given picks t f marks goes old n job launch ticket r fresh turn new phase w follows
+    work_by n job phase (has_ended ending there) r w follows =
+        absurd (for_job s.options (state_at old.jobs.items n).folder [] HostRequest.Collect phase w.calls.due)
+    work_by n job phase (is_listed folder found) r w follows =
+        listing_goes_on s given same laws picks t f marks goes old n job folder found r turn new phase w follows
+    work_by n job phase (is_read path limit bytes few) r w follows =
+        bytes_go_on s given same laws picks t f marks goes old n job path limit bytes r turn new phase w follows
+    work_by n job phase (is_delivered plan) r w follows =
+        absurd (for_job s.options (state_at old.jobs.items n).folder [] (HostRequest.Deliver plan) phase w.calls.due)
+    work_by n job phase (has_failed request) r w follows =
+        fault_goes_on s given picks t f marks goes old job.place request
+        (working_allowed s f marks old n job request phase (folder_there s f.events old (Some n) n job w.it r) w)
+        (not_collect request (for_job s.options (state_at old.jobs.items n).folder [] request phase w.calls.due)) turn new follows (Some n) r
+
+    collect_by : Reflects s f.events old None → MayCollect s f marks [] → {answer : HostAnswer} → CanAnswer old.tickets.items HostRequest.Collect answer →
+        FollowsFrom given old collects (Answer.Host answer) turn new → GoesOnWith [] HostRequest.Collect answer
+    collect_by r may (has_ended ending there) follows = child_goes_on s given same laws picks t f marks goes old r may ending turn new follows
+    collect_by r may (has_failed request) follows = collect_fails s given picks t f marks goes old r may new turn follows.0
+
+    deliver_by : (plan : StagePlan) → Reflects s f.events old None → MayDeliver s f marks [] plan → old.end ≡ None → length (known_in old.known) ≤ length old.jobs.items →
+        {answer : HostAnswer} → CanAnswer old.tickets.items (HostRequest.Deliver plan) answer →
+        FollowsFrom given old (waits (HostRequest.Deliver plan) (Phase.Delivering (located plan.value))) (Answer.Host answer) turn new → GoesOnWith [] (HostRequest.Deliver plan) answer
+    deliver_by plan r may going all (is_delivered p) follows = delivery_goes_on s t f marks goes old plan r may going all turn new follows
+    deliver_by plan r may going all (has_failed request) follows =
+        fault_goes_on s given picks t f marks goes old [] (HostRequest.Deliver plan) may (λ same. cc) turn new follows None r
+
+    -- each answer that may come
+    answered : {before : Turn} {answer : Answer} → IsAt s f marks old before → MayAnswer old.tickets.items before.asks answer → FollowsFrom given old before answer turn new →
+        Runs s (t ++ record { request = before.asks; answer = answer } ∷ []) new turn
+    answered (measuring found m rest path is left happened none nothing) (by_host place request answer can) follows =
+        measure_by found m rest path is left happened none nothing can follows
+    answered (staging at_work n job plan r st) (by_host place request answer can) follows = stage_by at_work n job plan r st can follows
+    answered (working n job call phase r w) (by_host place request answer can) follows = work_by n job phase can r w follows
+    answered (collecting r may) (by_host place request answer can) follows = collect_by r may can follows
+    answered (delivering plan r may going all) (by_host place request answer can) follows = deliver_by plan r may going all can follows
+    answered (ended end so) may follows = elim may [ ]
+
+  pub goes_on_with : (t : List Pair) (old : Course) (before : Turn) (answer : Answer) (turn : Turn) (new : Course) → Runs s t old before → MayAnswer old.tickets.items before.asks answer →
+      FollowsFrom given old before answer turn new → Runs s (t ++ record { request = before.asks; answer = answer } ∷ []) new turn
+  goes_on_with t old before answer turn new runs may follows = answered t runs.happened runs.marks runs.goes old turn new runs.at may follows
+
+  pub begins_with : (old : Course) → past_of old ≡ nothing_past → old.known ≡ None → (turn : Turn) (new : Course) → Begins given old turn new → Runs s [] new turn
+  begins_with = begins_so s given its laws picks

@@ -1,0 +1,304 @@
+-- Where nothing is due, what the machine turns to is what its run may ask then, or how it ends.
+use Rattle.std.specs.Prelude.{◌<◌, ◌≤◌, ◌≢◌, ◌||◌, Contains, IsSome, is_some, Result, option_map, unwrap_or}
+use Rattle.std.proofs.Common.{◌≡◌, ◌∙◌, ◌+◌, ℕ, Bool, true, false, cond, List, [], ◌∷◌, length, find, Option, Some, None, refl, sym, ap, subst, arith}
+use Rattle.plan_checker.specs.declared.plan.Mark.{Mark}
+use Rattle.staging.specs.Plan.{IsPlan}
+use Rattle.job_graph.specs.declared.unfolding.Unfolding.{Unfolding}
+use Rattle.job_graph.specs.Jobs.{Job, Walker}
+use Rattle.job_graph.specs.Made.{fields_moved, value_moved}
+use Rattle.job_graph.specs.Unfold.{Resolved, Unfolded, outputs_at, unfolded}
+use Rattle.job_graph.specs.Words.{Fields, JobPlace, is_same_place, last_by_name}
+use Rattle.run_rules.specs.declared.outcome.Outcome.{Outcome}
+use Rattle.run_rules.specs.declared.outcome.Report.{Report}
+use Rattle.run_rules.specs.declared.outcome.RunFault.{RunFault}
+use Rattle.run_rules.specs.declared.request.Pair.{Pair}
+use Rattle.run_rules.specs.declared.setting.Options.{Options}
+use Rattle.run_rules.specs.Allowed.{IsBusy, IsFree}
+use Rattle.run_rules.specs.Delivered.{any_file, located, source_place, sources}
+use Rattle.run_rules.specs.End.{End, settled, succeeds_with}
+use Rattle.run_rules.specs.EndsSo.{fails, no_file, succeeds}
+use Rattle.run_rules.specs.Events.{Event, Progress, in_flight, is_at_hand, job_succeeded, measures, nothing_due, number_at, resolved, unfolding_at}
+use Rattle.run_rules.specs.Folders.{in_folder}
+use Rattle.run_rules.specs.Plans.{LoadsHeld}
+use Rattle.run_rules.specs.Reports.{report_of, reported}
+use Rattle.run_rules.specs.Run.{Goes}
+use Rattle.run_rules.specs.Scene.{Scene}
+use Rattle.run_rules.proofs.PlacesErased.{map_by_name}
+use Rattle.run_rules.proofs.events.Asks.{may_collect, may_collect_settled, may_deliver}
+use Rattle.run_rules.proofs.events.Course.{Keeps as AreKept}
+use Rattle.run_rules.proofs.events.Flights.{Flight as Flying, is_flying}
+use Rattle.run_rules.proofs.events.Known.{unfolding_when}
+use Rattle.run_rules.proofs.events.Places.{IsJob}
+use Rattle.run_rules.proofs.events.Planned.{jobs_in}
+use Rattle.run_rules.proofs.events.Tally.{readings}
+use Rattle.run_rules.proofs.events.Turns.{again_may_stage, busy_when_staged, busy_when_taken, next_may_stage, none_flies}
+use Rattle.run_core.specs.declared.state.Course.{Course}
+use Rattle.run_core.specs.declared.state.Given.{Given}
+use Rattle.run_core.specs.declared.state.Turn.{Turn}
+use Rattle.run_core.specs.inner.Course.{known_in, number_in, past_of}
+use Rattle.run_core.specs.inner.Keeps.{Reflects, course_of}
+use Rattle.run_core.specs.inner.Knows.{IsKnown, outputs_in}
+use Rattle.run_core.specs.inner.Picks.{Delivers, DeliversFiles, NoneToStage, Picks, Stages, all_staged, delivers, drains, ends_so, has_result, slots_full, sources_in, stages, succeeds_at_once, waits_for_one}
+use Rattle.run_core.specs.inner.Standing.{IsAt, collecting, delivering, ended, staging}
+use Rattle.run_core.specs.inner.Turn.{collects, ends}
+use Rattle.run_core.proofs.events.Keeping.{none_settled}
+use Rattle.run_core.proofs.events.Numbers.{job_there, number_is_kept}
+use Rattle.run_core.proofs.events.Reflecting.{FliesThere, Laws, flies_there}
+use Rattle.run_core.proofs.going.Same.{at_same}
+
+-- What is at hand is resolved
+
+resolved_by : (test : Bool) (p place : JobPlace) (outputs : Fields) (learned : List Resolved) (later : Bool) → is_same_place p place ≡ test → (is_same_place p place || later) ≡ true →
+    (later ≡ true → is_some (outputs_at learned place) ≡ true) → is_some (outputs_at (record { place = p; outputs = outputs } ∷ learned) place) ≡ true
+resolved_by true p place outputs learned later same at rest =
+    ap (λ b. is_some (option_map (λ (r : Resolved). r.outputs) (cond b (Some (record { place = p; outputs = outputs })) (find (λ r. is_same_place r.place place) learned)))) same
+resolved_by false p place outputs learned later differs at rest =
+    ap (λ b. is_some (option_map (λ (r : Resolved). r.outputs) (cond b (Some (record { place = p; outputs = outputs })) (find (λ r. is_same_place r.place place) learned)))) differs
+    ∙ rest (ap (λ b. b || later) (sym differs) ∙ at)
+
+hand_resolved : (es : List Event) (place : JobPlace) → is_at_hand es place ≡ true → is_some (outputs_at (resolved es) place) ≡ true
+hand_resolved [] place at = let never : false ≡ true = at in absurd cc
+hand_resolved (job_succeeded p outputs ∷ es) place at =
+    resolved_by (is_same_place p place) p place outputs (resolved es) (is_at_hand es place) refl at (hand_resolved es place)
+hand_resolved (e ∷ es) place at = hand_resolved es place at
+
+nor_flies : (flying : List Flying) (place : JobPlace) (at : Bool) → flying ≡ [] → (is_flying flying place || at) ≡ true → at ≡ true
+nor_flies flying place at none held = ap (λ (fs : List Flying). is_flying fs place || at) (sym none) ∙ held
+
+-- What is known
+
+known_jobs : (o : Option Unfolding) (walks : Walker) (learned : List Resolved) → IsKnown walks learned o → known_in o ≡ (unfolded walks learned).jobs
+known_jobs None walks learned known = absurd known
+known_jobs (Some kept) walks learned known = known.jobs
+
+known_fault : (o : Option Unfolding) (walks : Walker) (learned : List Resolved) → IsKnown walks learned o → (unfolded walks learned).fault ≡ None
+known_fault None walks learned known = absurd known
+known_fault (Some kept) walks learned known = known.fault
+
+known_outputs : (o : Option Unfolding) (walks : Walker) (learned : List Resolved) (outputs : Fields) → IsKnown walks learned o → (unfolded walks learned).result ≡ Some outputs →
+    outputs_in o ≡ outputs
+known_outputs None walks learned outputs known is = absurd known
+known_outputs (Some kept) walks learned outputs known is = ap (λ (o : Option Fields). unwrap_or o []) (known.result ∙ is)
+
+-- Ends
+
+record IsSettled (s : Scene) (es : List Event) (told : Result Report RunFault) : Type 0 where
+  pub end : End
+  pub is : settled s es ≡ Some end
+  pub tells : report_of end ≡ told
+
+settled_so : (s : Scene) (es : List Event) (o : Option End) (told : Result Report RunFault) → settled s es ≡ o → option_map report_of o ≡ Some told → IsSettled s es told
+settled_so s es None told is tells = let never : None ≡ Some told = tells in absurd cc
+settled_so s es (Some end) told is tells = record { end = end; is = is; tells = let same : report_of end ≡ told = cc in same }
+
+record HasEnd (o : Option (Result Report RunFault)) : Type 0 where
+  pub told : Result Report RunFault
+  pub is : o ≡ Some told
+
+end_there : (o : Option (Result Report RunFault)) → IsSome o → HasEnd o
+end_there None some = let never : false ≡ true = some in absurd cc
+end_there (Some told) some = record { told = told; is = refl }
+
+-- Tickets
+
+record HasTicket (tickets : List ℕ) : Type 0 where
+  pub ticket : ℕ
+  pub there : Contains tickets ticket
+
+some_ticket : (tickets : List ℕ) → tickets ≢ [] → HasTicket tickets
+some_ticket [] some = absurd (some refl)
+some_ticket (n ∷ tickets) some = record { ticket = n; there = (0, omega arith, refl) }
+
+module _ (s : Scene) (es : List Event) (course : Course) (at_work : Option ℕ) (r : Reflects s es course at_work) where
+  -- unless the end is settled, all jobs of the rules are known
+  pub all_known : course.end ≡ None → known_in course.known ≡ (unfolding_at s es).jobs
+  all_known going =
+      known_jobs course.known (s.walker (measures es)) (resolved es) (r.knows going)
+      ∙ ap (λ (u : Unfolded). u.jobs) (sym (unfolding_when s es (r.measured going)))
+
+  pub all_kept : course.end ≡ None → AreKept (unfolding_at s es).jobs (readings es) (course_of (past_of course) at_work r.keeps.gave_up)
+  all_kept going = subst (λ (jobs : List Job). AreKept jobs (readings es) (course_of (past_of course) at_work r.keeps.gave_up)) (all_known going) r.keeps.books
+
+  pub unsettled : course.end ≡ None → settled s es ≡ None
+  unsettled going = none_settled (settled s es) course.end r.keeps.end going
+
+  pub numbers_same : number_at es ≡ number_in (known_in course.known) course.jobs.items
+  numbers_same = λ i place. number_is_kept (known_in course.known) (readings es) (past_of course) at_work r.keeps.gave_up r.keeps.books place i
+
+  pub none_in_flight : course.tickets.items ≡ [] → in_flight es ≡ []
+  none_in_flight none = none_flies (known_in course.known) (readings es) (course_of (past_of course) at_work r.keeps.gave_up) r.keeps.books none
+
+module _ (s : Scene) (f : Progress) (course : Course) (at_work : Option ℕ) (r : Reflects s f.events course at_work) (idle : f.work ≡ nothing_due) (going : course.end ≡ None) where
+  pub is_free : IsFree s f
+  is_free = record {
+    still = record { idle = idle; collects = r.collects; unsettled = unsettled s f.events course at_work r going };
+    measured = r.measured going;
+  }
+
+module _ (s : Scene) (given : Given) (same : given.options ≡ s.options) where
+  -- files are copied from where the jobs that made them left them
+  sources_same : (es : List Event) (course : Course) (at_work : Option ℕ) → Reflects s es course at_work → (values : Fields) →
+      fields_moved (source_place (number_at es) s.options.work) values ≡ sources_in given.options course values
+  sources_same es course at_work r values =
+      ap (λ (number : JobPlace → ℕ). fields_moved (source_place number s.options.work) values) (numbers_same s es course at_work r)
+      ∙ ap (λ (o : Options). sources_in o course values) (sym same)
+
+  plan_same : (es : List Event) (course : Course) (at_work : Option ℕ) → Reflects s es course at_work → (n : ℕ) {turn : Turn} (st : Stages given course n turn) →
+      IsPlan false (in_folder s.options.work (course.folders + 1)) (fields_moved (source_place (number_at es) s.options.work) st.job.inputs) st.plan
+  plan_same es course at_work r n st =
+      subst (λ (values : Fields). IsPlan false (in_folder s.options.work (course.folders + 1)) values st.plan) (sym (sources_same es course at_work r st.job.inputs))
+      (subst (λ (o : Options). IsPlan false (in_folder o.work (course.folders + 1)) (sources_in given.options course st.job.inputs) st.plan) same st.is_plan)
+
+  delivery_same : (es : List Event) (course : Course) (at_work : Option ℕ) → Reflects s es course at_work → (outputs : Fields) → outputs_in course.known ≡ outputs →
+      sources (number_at es) s.options.work outputs ≡ sources_in given.options course (last_by_name (outputs_in course.known))
+  delivery_same es course at_work r outputs kept =
+      sym (map_by_name (value_moved (source_place (number_at es) s.options.work)) outputs)
+      ∙ sources_same es course at_work r (last_by_name outputs)
+      ∙ ap (λ (values : Fields). sources_in given.options course (last_by_name values)) (sym kept)
+
+  module _ {t : List Pair} (f : Progress) (marks : List Mark) (goes : Goes s (LoadsHeld s) t f marks) (idle : f.work ≡ nothing_due) where
+    -- a job that failed for now is staged again
+    pub staged_again : (course : Course) (n : ℕ) (turn : Turn) → Reflects s f.events course (Some n) → course.end ≡ None → Stages given course n turn →
+        IsAt s f marks course turn
+    staged_again course n turn r going st =
+        let room : length course.tickets.items + 1 ≤ s.options.slots = r.keeps.slots in
+        let it : IsJob (known_in course.known) n st.job = job_there (known_in course.known) n st.job st.known in
+        let whole : known_in course.known ≡ jobs_in s f = all_known s f.events course (Some n) r going in
+        subst (IsAt s f marks course) (sym st.is)
+        (staging (Some n) n st.job st.plan r (record {
+          it = it;
+          may = again_may_stage s f marks (course_of (past_of course) (Some n) r.keeps.gave_up) (all_kept s f.events course (Some n) r going)
+              (is_free s f course (Some n) r idle going) n st.job st.plan goes (subst (λ (jobs : List Job). IsJob jobs n st.job) whole it) refl (omega (arith, room))
+              (plan_same f.events course (Some n) r n st);
+          next = let within : n < length course.jobs.items = r.keeps.books.worked_staged n refl in omega (arith, within);
+          alone = λ other is. cc;
+          going = going;
+        }))
+
+    -- the first that never was is staged
+    staged_next : (course : Course) (turn : Turn) → Reflects s f.events course None → course.end ≡ None → length course.tickets.items < s.options.slots →
+        Stages given course (length course.jobs.items) turn → IsAt s f marks course turn
+    staged_next course turn r going slot st =
+        let it : IsJob (known_in course.known) (length course.jobs.items) st.job = job_there (known_in course.known) (length course.jobs.items) st.job st.known in
+        let whole : known_in course.known ≡ jobs_in s f = all_known s f.events course None r going in
+        subst (IsAt s f marks course) (sym st.is)
+        (staging None (length course.jobs.items) st.job st.plan r (record {
+          it = it;
+          may = next_may_stage s f marks (course_of (past_of course) None r.keeps.gave_up) (all_kept s f.events course None r going)
+              (is_free s f course None r idle going) st.job st.plan goes (subst (λ (jobs : List Job). IsJob jobs (length course.jobs.items) st.job) whole it) slot
+              (plan_same f.events course None r (length course.jobs.items) st);
+          next = omega arith;
+          alone = λ other is. let never : None ≡ Some other = is in absurd cc;
+          going = going;
+        }))
+
+    module _ (course : Course) (r : Reflects s f.events course None) where
+      -- after a failure the children in flight are waited for
+      drained : IsSome course.end → course.tickets.items ≢ [] → IsAt s f marks course collects
+      drained over flying =
+          let first : HasTicket course.tickets.items = some_ticket course.tickets.items flying in
+          let flies : FliesThere s f.events course first.ticket = flies_there s f.events course None first.ticket first.there r in
+          let end : HasEnd course.end = end_there course.end over in
+          let so : IsSettled s f.events end.told = settled_so s f.events (settled s f.events) end.told refl (sym r.keeps.end ∙ end.is) in
+          collecting r (may_collect_settled s f marks (first.ticket, flies.job.place) so.end idle r.collects flies.there so.is)
+
+      -- and then it ends
+      ended_so : (told : Result Report RunFault) → course.end ≡ Some told → course.tickets.items ≡ [] → (new : Course) → IsAt s f marks new (ends told)
+      ended_so told is none new =
+          let so : IsSettled s f.events told = settled_so s f.events (settled s f.events) told refl (sym r.keeps.end ∙ is) in
+          subst (λ (end : Result Report RunFault). IsAt s f marks new (ends end)) so.tells
+          (ended so.end (fails so.end idle r.collects (none_in_flight s f.events course None r none) so.is))
+
+      module _ (going : course.end ≡ None) where
+        busy_if_full : s.options.slots ≤ length course.tickets.items → IsBusy s f marks
+        busy_if_full full =
+            busy_when_taken s f marks (course_of (past_of course) None r.keeps.gave_up) (all_kept s f.events course None r going) (is_free s f course None r idle going) full
+
+        pub busy_if_staged : length (known_in course.known) ≤ length course.jobs.items → IsBusy s f marks
+        busy_if_staged all =
+            busy_when_staged s f marks (course_of (past_of course) None r.keeps.gave_up) (all_kept s f.events course None r going) (is_free s f course None r idle going)
+            (ap is_some going) refl (subst (λ (jobs : List Job). length jobs ≤ length course.jobs.items) (all_known s f.events course None r going) all)
+
+        busy_if : NoneToStage given course → IsBusy s f marks
+        busy_if (slots_full full) = busy_if_full (subst (λ (o : Options). o.slots ≤ length course.tickets.items) same full)
+        busy_if (all_staged all) = busy_if_staged all
+
+        waited_for : course.tickets.items ≢ [] → NoneToStage given course → IsAt s f marks course collects
+        waited_for flying none =
+            let first : HasTicket course.tickets.items = some_ticket course.tickets.items flying in
+            let flies : FliesThere s f.events course first.ticket = flies_there s f.events course None first.ticket first.there r in
+            collecting r (may_collect s f marks (first.ticket, flies.job.place) idle r.collects flies.there (λ still. busy_if none))
+
+        -- each known job was staged, and none is in flight: all are at hand
+        module _ (laws : Laws s) (none : course.tickets.items ≡ []) (all : length (known_in course.known) ≤ length course.jobs.items) where
+          abbrev walks : Walker
+          walks = s.walker (measures f.events)
+
+          whole : known_in course.known ≡ (unfolded walks (resolved f.events)).jobs
+          whole = known_jobs course.known walks (resolved f.events) (r.knows going)
+
+          at_hand : (n : ℕ) (job : Job) → IsJob (known_in course.known) n job → is_at_hand f.events job.place ≡ true
+          at_hand n job it =
+              nor_flies (in_flight f.events) job.place (is_at_hand f.events job.place) (none_in_flight s f.events course None r none)
+              (r.keeps.books.held (ap is_some going) n job it (omega (arith, it.within, all)) (λ at_work. let never : None ≡ Some n = at_work in absurd cc))
+
+          each_resolved : (job : Job) → Contains (unfolded walks (resolved f.events)).jobs job → is_some (outputs_at (resolved f.events) job.place) ≡ true
+          each_resolved job there =
+              hand_resolved f.events job.place
+              (at_hand there.0 job (subst (λ (jobs : List Job). IsJob jobs there.0 job) (sym whole) (record { within = there.1; is = there.2 })))
+
+          pub record HasResult : Type 0 where
+            pub outputs : Fields
+            pub result : (unfolding_at s f.events).result ≡ Some outputs
+            pub kept : outputs_in course.known ≡ outputs
+
+          result_by : (o : Option Fields) → (unfolded walks (resolved f.events)).result ≡ o → IsSome o → HasResult
+          result_by None is some = let never : false ≡ true = some in absurd cc
+          result_by (Some outputs) is some = record {
+            outputs = outputs;
+            result = ap (λ (u : Unfolded). u.result) (unfolding_when s f.events (r.measured going)) ∙ is;
+            kept = known_outputs course.known walks (resolved f.events) outputs (r.knows going) is;
+          }
+
+          the_result : HasResult
+          the_result =
+              result_by (unfolded walks (resolved f.events)).result refl
+              (laws.results (measures f.events) (resolved f.events) (known_fault course.known walks (resolved f.events) (r.knows going)) each_resolved)
+
+          delivered_files : HasResult → any_file (outputs_in course.known) ≡ true → (turn : Turn) → DeliversFiles given course (last_by_name (outputs_in course.known)) turn →
+              IsAt s f marks course turn
+          delivered_files result files turn d =
+              subst (IsAt s f marks course) (sym d.is)
+              (delivering d.plan r
+              (may_deliver s f marks result.outputs d.plan (busy_if_staged all) (none_in_flight s f.events course None r none) result.result
+              (ap any_file (sym result.kept) ∙ files) r.undelivered
+              (subst (λ (values : Fields). IsPlan true s.options.outdir values d.plan) (sym (delivery_same f.events course None r result.outputs result.kept))
+              (subst (λ (o : Options). IsPlan true o.outdir (sources_in given.options course (last_by_name (outputs_in course.known))) d.plan) same d.is_plan)))
+              going all)
+
+          succeeded_at_once : HasResult → any_file (outputs_in course.known) ≡ false → IsAt s f marks course (ends (reported (Outcome.Success (located (last_by_name (outputs_in course.known))))))
+          succeeded_at_once result no_files =
+              subst (λ (outputs : Fields). IsAt s f marks course (ends (reported (Outcome.Success (located (last_by_name outputs)))))) (sym result.kept)
+              (ended (succeeds_with result.outputs (last_by_name result.outputs))
+              (succeeds result.outputs (last_by_name result.outputs) (busy_if_staged all) (none_in_flight s f.events course None r none) result.result
+              (no_file (ap any_file (sym result.kept) ∙ no_files) r.undelivered)))
+
+          delivered_by : {turn : Turn} → Delivers given course turn → IsAt s f marks course turn
+          delivered_by (delivers turn files d) = delivered_files the_result files turn d
+          delivered_by (succeeds_at_once no_files) = succeeded_at_once the_result no_files
+
+        result_there : Laws s → 1 ≤ s.options.slots → course.tickets.items ≡ [] → NoneToStage given course → {turn : Turn} → Delivers given course turn → IsAt s f marks course turn
+        result_there laws some none (slots_full full) d =
+            let so_few : length course.tickets.items ≡ 0 = ap length none in
+            let so_many : s.options.slots ≤ length course.tickets.items = subst (λ (o : Options). o.slots ≤ length course.tickets.items) same full in
+            absurd (omega (arith, some, so_few, so_many))
+        result_there laws some none (all_staged all) d = delivered_by laws none all d
+
+    module _ (laws : Laws s) (some : 1 ≤ s.options.slots) (old : Course) (r : Reflects s f.events old None) where
+      pub picked : {turn : Turn} {new : Course} → Picks given old turn new → IsAt s f marks new turn
+      picked (drains new over flying past known) = at_same s f marks old new past known (drained old r over flying)
+      picked (ends_so told new is none left known) = ended_so old r told is none new
+      picked (stages turn new going slot more st past known) =
+          at_same s f marks old new past known (staged_next old turn r going (subst (λ (o : Options). length old.tickets.items < o.slots) same slot) st)
+      picked (waits_for_one new going flying none past known) = at_same s f marks old new past known (waited_for old r going flying none)
+      picked (has_result turn new going none nothing d past known) = at_same s f marks old new past known (result_there old r going laws some none nothing d)

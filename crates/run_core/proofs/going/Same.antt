@@ -1,0 +1,74 @@
+-- Where the machine is depends on what its course has come to, and not on the room that its lists have.
+use Rattle.std.specs.Prelude.{◌≤◌}
+use Rattle.std.proofs.Common.{◌≡◌, ◌∙◌, ◌+◌, ℕ, List, length, Option, Some, None, sym, ap, subst}
+use Rattle.plan_checker.specs.declared.plan.Mark.{Mark}
+use Rattle.proc_host.specs.declared.call.HostRequest.{HostRequest}
+use Rattle.staging.specs.declared.plan.StagePlan.{StagePlan}
+use Rattle.job_graph.specs.Jobs.{Job}
+use Rattle.run_rules.specs.declared.request.Pair.{Pair}
+use Rattle.run_rules.specs.declared.request.Request.{Request}
+use Rattle.run_rules.specs.Allowed.{MayStage}
+use Rattle.run_rules.specs.Events.{Progress}
+use Rattle.run_rules.specs.Scene.{Scene}
+use Rattle.run_rules.proofs.events.Places.{IsJob}
+use Rattle.run_core.specs.declared.state.Course.{Course}
+use Rattle.run_core.specs.declared.state.JobPhase.{JobPhase}
+use Rattle.run_core.specs.declared.state.JobState.{JobState}
+use Rattle.run_core.specs.declared.state.Phase.{Phase}
+use Rattle.run_core.specs.declared.state.Turn.{Turn}
+use Rattle.run_core.specs.inner.Course.{Past, known_in, past_of}
+use Rattle.run_core.specs.inner.Due.{Calls}
+use Rattle.run_core.specs.inner.Keeps.{state_at}
+use Rattle.run_core.specs.inner.Standing.{IsAt, IsStaging, IsWorking, Runs, collecting, delivering, ended, measuring, staging, working}
+use Rattle.run_core.proofs.events.Reflecting.{reflects_same}
+
+module _ (s : Scene) (f : Progress) (marks : List Mark) (old new : Course) (past : past_of new ≡ past_of old) (known : new.known ≡ old.known) where
+  same_jobs : known_in old.known ≡ known_in new.known
+  same_jobs = ap known_in (sym known)
+
+  same_states : old.jobs.items ≡ new.jobs.items
+  same_states = ap (λ (p : Past). p.jobs) (sym past)
+
+  same_end : new.end ≡ old.end
+  same_end = ap (λ (p : Past). p.end) past
+
+  same_folders : old.folders ≡ new.folders
+  same_folders = ap (λ (p : Past). p.folders) (sym past)
+
+  staging_same : (at_work : Option ℕ) (n : ℕ) (job : Job) (plan : StagePlan) → IsStaging s f marks old at_work n job plan → IsStaging s f marks new at_work n job plan
+  staging_same at_work n job plan st = record {
+    it = subst (λ (jobs : List Job). IsJob jobs n job) same_jobs st.it;
+    may = subst (λ folders. MayStage s f marks job.place plan (folders + 1)) same_folders st.may;
+    next = subst (λ (states : List JobState). n ≤ length states) same_states st.next;
+    alone = st.alone;
+    going = same_end ∙ st.going;
+  }
+
+  pub working_same : (n : ℕ) (job : Job) (call : HostRequest) (phase : JobPhase) → IsWorking s f old n job call phase → IsWorking s f new n job call phase
+  working_same n job call phase w = record {
+    it = subst (λ (jobs : List Job). IsJob jobs n job) same_jobs w.it;
+    due = w.due;
+    calls = subst (λ (states : List JobState). Calls s.options (state_at states n).folder call phase) same_states w.calls;
+    on = w.on;
+  }
+
+  pub at_same : {turn : Turn} → IsAt s f marks old turn → IsAt s f marks new turn
+  at_same (measuring found m rest path is left happened none nothing) = measuring found m rest path is left happened (known ∙ none) (past ∙ nothing)
+  at_same (staging at_work n job plan r st) =
+      subst (λ folders. IsAt s f marks new (record { asks = Request.Host job.place (HostRequest.Stage plan (folders + 1)); phase = Phase.Staging n })) (sym same_folders)
+      (staging at_work n job plan (reflects_same s f.events old new at_work past known r) (staging_same at_work n job plan st))
+  at_same (working n job call phase r w) = working n job call phase (reflects_same s f.events old new (Some n) past known r) (working_same n job call phase w)
+  at_same (collecting r may) = collecting (reflects_same s f.events old new None past known r) may
+  at_same (delivering plan r may going all) =
+      delivering plan (reflects_same s f.events old new None past known r) may (same_end ∙ going)
+      (subst (λ (states : List JobState). length (known_in new.known) ≤ length states) same_states (subst (λ (jobs : List Job). length jobs ≤ length old.jobs.items) same_jobs all))
+  at_same (ended end so) = ended end so
+
+-- so with its run
+pub runs_same : (s : Scene) (t : List Pair) (old new : Course) (turn : Turn) → past_of new ≡ past_of old → new.known ≡ old.known → Runs s t old turn → Runs s t new turn
+runs_same s t old new turn past known runs = record {
+  happened = runs.happened;
+  marks = runs.marks;
+  goes = runs.goes;
+  at = at_same s runs.happened runs.marks old new past known runs.at;
+}

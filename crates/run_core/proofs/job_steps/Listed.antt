@@ -1,0 +1,91 @@
+-- A job's output folder is listed: first bytes of what was found are read, or its outputs are collected, or there are none.
+use Rattle.std.proofs.Common.{◌≡◌, ℕ, List, [], ◌∷◌, ◌++◌, Some, reverse, refl, subst}
+use Rattle.collected_outputs.specs.HeadsWanted.{AreHeadsWanted}
+use Rattle.collected_outputs.specs.Listing.{listing_of}
+use Rattle.cwl_process.specs.declared.tool.Tool.{Tool}
+use Rattle.plan_checker.specs.declared.plan.Mark.{Mark}
+use Rattle.proc_host.specs.declared.call.HostAnswer.{HostAnswer}
+use Rattle.proc_host.specs.declared.call.HostRequest.{HostRequest}
+use Rattle.staging.specs.declared.found.Found.{Found}
+use Rattle.job_graph.specs.Jobs.{Job}
+use Rattle.job_graph.specs.Words.{Fields, Name}
+use Rattle.run_rules.specs.declared.request.Pair.{Pair}
+use Rattle.run_rules.specs.CollectsOn.{CollectsOn}
+use Rattle.run_rules.specs.Events.{Progress, nothing_due}
+use Rattle.run_rules.specs.Plans.{LoadsHeld}
+use Rattle.run_rules.specs.Run.{Goes}
+use Rattle.run_rules.specs.Scene.{Scene}
+use Rattle.run_rules.specs.Steps.{Steps, call, progress_with, scans}
+use Rattle.run_rules.proofs.events.Grows.{goes_on}
+use Rattle.run_rules.proofs.events.Planned.{marks_after}
+use Rattle.run_core.specs.declared.state.Course.{Course}
+use Rattle.run_core.specs.declared.state.Given.{Given}
+use Rattle.run_core.specs.declared.state.JobPhase.{JobPhase}
+use Rattle.run_core.specs.declared.state.Kept.{Kept}
+use Rattle.run_core.specs.declared.state.Phase.{Phase}
+use Rattle.run_core.specs.declared.state.Turn.{Turn}
+use Rattle.run_core.specs.inner.Due.{call_for, events_next, work_next}
+use Rattle.run_core.specs.inner.Keeps.{Reflects, state_at}
+use Rattle.run_core.specs.inner.Parts.{kept_in}
+use Rattle.run_core.specs.inner.Picks.{AfterListing}
+use Rattle.run_core.specs.inner.Standing.{IsWorking, Runs}
+use Rattle.run_core.proofs.events.Reflecting.{Laws, folder_there, known_there}
+use Rattle.run_core.proofs.job_steps.Calls.{working_allowed}
+use Rattle.run_core.proofs.job_steps.Firsts.{never_input, never_output}
+use Rattle.run_core.proofs.job_steps.Sites.{Fits, site_fits, collects_at, collects_call, works_started}
+use Rattle.run_core.proofs.job_steps.Turns.{PicksAt, turns_at}
+
+module _ (s : Scene) (given : Given) (same : given.options ≡ s.options) (laws : Laws s) (picks : PicksAt s given) (t : List Pair) (f : Progress) (marks : List Mark)
+    (goes : Goes s (LoadsHeld s) t f marks) where
+  module _ (old : Course) (n : ℕ) (job : Job) (its_folder : Name) (found : List Found) (r : Reflects s f.events old (Some n)) (turn : Turn) (new : Course) where
+    abbrev folder : ℕ
+    folder = (state_at old.jobs.items n).folder
+
+    module _ (kept : Kept) (millis : ℕ) (is : IsWorking s f old n job (HostRequest.Scan its_folder) (JobPhase.Scanning kept millis))
+        (after : AfterListing given old n kept found turn new) where
+      fits : Fits s.options folder job after.site
+      fits = site_fits s.options given same old n job after.site is.it after.is_site
+
+      on : CollectsOn job.place job is.on.started found [] after.collects.wanted (work_next job.place after.next) (events_next job.place after.next)
+      on = collects_at s.options folder job after.site fits f.events kept found [] after.collects.wanted after.next is.on after.collects.on
+
+      wanted : AreHeadsWanted (listing_of found) is.on.started.inputs job.tool.outputs after.collects.wanted
+      wanted =
+          subst (λ (inputs : Fields). AreHeadsWanted (listing_of found) inputs job.tool.outputs after.collects.wanted) is.on.kept_is.inputs
+          (subst (λ (tool : Tool). AreHeadsWanted (listing_of found) kept.inputs tool.outputs after.collects.wanted) fits.tool after.collects.are)
+
+      step : Steps s f (call job.place (HostRequest.Scan its_folder) (HostAnswer.Listed found)) (work_next job.place after.next) (events_next job.place after.next)
+      step =
+          scans job.place its_folder found job is.on.started after.collects.wanted (work_next job.place after.next) (events_next job.place after.next)
+          (known_there s f.events old (Some n) n job is.it r) is.on.at wanted on
+
+      its_goes : Goes s (LoadsHeld s) (t ++ call job.place (HostRequest.Scan its_folder) (HostAnswer.Listed found) ∷ [])
+          (progress_with f (work_next job.place after.next) (events_next job.place after.next))
+          (marks_after s (progress_with f (work_next job.place after.next) (events_next job.place after.next)) marks)
+      its_goes =
+          goes_on s (call job.place (HostRequest.Scan its_folder) (HostAnswer.Listed found)) (work_next job.place after.next) (events_next job.place after.next) goes
+          (working_allowed s f marks old n job (HostRequest.Scan its_folder) (JobPhase.Scanning kept millis) (folder_there s f.events old (Some n) n job is.it r) is) step
+
+      scan_goes_on : Runs s (t ++ call job.place (HostRequest.Scan its_folder) (HostAnswer.Listed found) ∷ []) new turn
+      scan_goes_on = record {
+        happened = progress_with f (work_next job.place after.next) (events_next job.place after.next);
+        marks = marks_after s (progress_with f (work_next job.place after.next) (events_next job.place after.next)) marks;
+        goes = its_goes;
+        at = turns_at s given laws picks (t ++ call job.place (HostRequest.Scan its_folder) (HostAnswer.Listed found) ∷ [])
+            (progress_with f (work_next job.place after.next) (events_next job.place after.next))
+            (marks_after s (progress_with f (work_next job.place after.next) (events_next job.place after.next)) marks) its_goes
+            f.events old n job r is.it after.next turn new refl refl
+            (collects_call s.options folder job after.site fits kept found [] after.collects.wanted after.next after.collects.on)
+            (works_started f.events job kept is.on.started found [] after.collects.wanted after.next is.on after.collects.on.keeps on)
+            after.turns;
+      }
+
+    -- a folder is listed in no other phase
+    pub listing_goes_on : (phase : JobPhase) → IsWorking s f old n job (HostRequest.Scan its_folder) phase → AfterListing given old n (kept_in (Phase.Working n phase)) found turn new →
+        Runs s (t ++ call job.place (HostRequest.Scan its_folder) (HostAnswer.Listed found) ∷ []) new turn
+    listing_goes_on (JobPhase.Filling filling) is after =
+        absurd (never_input s.options folder filling.staged filling.heads (reverse filling.left) its_folder is.calls.due)
+    listing_goes_on (JobPhase.Starting kept) is after = let never : call_for s.options folder nothing_due ≡ Some (HostRequest.Scan its_folder) = is.calls.due in absurd cc
+    listing_goes_on (JobPhase.Scanning kept millis) is after = scan_goes_on kept millis is after
+    listing_goes_on (JobPhase.Reading kept reading) is after =
+        absurd (never_output s.options folder reading.found reading.heads (reverse reading.left) its_folder is.calls.due)

@@ -1,0 +1,134 @@
+-- What each answer leaves.
+use Rattle.std.specs.Prelude.{Contains, IsSome}
+use Rattle.std.proofs.Common.{◌≡◌, ◌∙◌, ℕ, ◌<◌, ◌≤◌, List, [], ◌∷◌, ◌++◌, length, Option, Some, None, Result, Ok, Err, refl, sym, ap, subst, arith}
+use Rattle.proc_host.specs.Answers.{fault_of, is_measured, is_staged, is_started, has_ended, is_listed, is_read, is_delivered, has_failed}
+use Rattle.proc_host.specs.declared.call.Entry.{Entry}
+use Rattle.proc_host.specs.declared.call.HostAnswer.{HostAnswer}
+use Rattle.proc_host.specs.declared.call.HostFault.{HostFault}
+use Rattle.proc_host.specs.declared.call.HostRequest.{HostRequest}
+use Rattle.proc_host.specs.declared.child.ChildEnd.{ChildEnd}
+use Rattle.cwl_process.specs.declared.tool.Tool.{Tool}
+use Rattle.job_graph.specs.declared.unfolding.Unfolding.{Unfolding}
+use Rattle.run_rules.specs.Answers.{MayAnswer, by_host}
+use Rattle.run_rules.specs.Blame.{IsToBlame, WereStarted, logged_answers}
+use Rattle.run_rules.specs.declared.outcome.Report.{Report}
+use Rattle.run_rules.specs.declared.outcome.RunFault.{RunFault}
+use Rattle.run_rules.specs.declared.request.Answer.{Answer}
+use Rattle.run_rules.specs.declared.request.Request.{Request}
+use Rattle.run_rules.specs.declared.setting.Options.{Options}
+use Rattle.job_graph.specs.Words.{JobPlace}
+use Rattle.run_core.specs.declared.state.Course.{Course}
+use Rattle.run_core.specs.declared.state.Flight.{Flight}
+use Rattle.run_core.specs.declared.state.Given.{Given}
+use Rattle.run_core.specs.declared.state.JobPhase.{JobPhase}
+use Rattle.run_core.specs.declared.state.Measuring.{Measuring}
+use Rattle.run_core.specs.declared.state.Phase.{Phase}
+use Rattle.run_core.specs.declared.state.Turn.{Turn}
+use Rattle.run_core.specs.inner.Attempts.{StaysBounded}
+use Rattle.run_core.specs.inner.Course.{Past, past_of, with_staging}
+use Rattle.run_core.specs.inner.Follows.{AsksOf, FollowsFrom}
+use Rattle.run_core.specs.inner.Knows.{IsKnown}
+use Rattle.run_core.specs.inner.Measures.{MeasuresOn, all_measured, measures}
+use Rattle.run_core.specs.inner.Picks.{AfterEnd, AfterFault, badly, for_now, well}
+use Rattle.run_core.specs.inner.Standing.{Blames}
+use Rattle.run_core.proofs.standing.Books.{Books, BooksAt, books_end, books_landed, books_staged, books_start, books_unstaged}
+use Rattle.run_core.proofs.standing.Leaving.{FewKnown, KnowsSome, Leaves, MayKnow, books_course, books_unfolded, leaves_end, leaves_temporary, picks_leave, turns_leave}
+
+abbrev pub host_answer : Answer → HostAnswer
+host_answer (Answer.Host answer) = answer
+
+-- nothing is asked at the end
+pub asks_none : (course : Course) (place : JobPlace) (call : HostRequest) (outcome : Result Report RunFault) → AsksOf course (Request.Host place call) (Phase.Ended outcome) → ⊥
+asks_none course place (HostRequest.Measure path) outcome fits = fits
+asks_none course place (HostRequest.Stage plan folder) outcome fits = fits
+asks_none course place (HostRequest.Start launch) outcome fits = fits
+asks_none course place HostRequest.Collect outcome fits = fits
+asks_none course place (HostRequest.Scan folder) outcome fits = fits
+asks_none course place (HostRequest.Head path limit) outcome fits = fits
+asks_none course place (HostRequest.Deliver plan) outcome fits = fits
+
+pub none_started : (entries : List Entry) → WereStarted entries []
+none_started entries = record { each = λ ticket there. absurd (omega (arith, there.1)) }
+
+-- what was known is known still
+pub known_still : (old new : Course) → new.end ≡ old.end → new.known ≡ old.known → (old.end ≡ None → KnowsSome old) → new.end ≡ None → KnowsSome new
+known_still old new same known knows going =
+    let some : KnowsSome old = knows (sym same ∙ going) in
+    record { walks = some.walks; learned = some.learned; is = subst (λ (k : Option Unfolding). IsKnown some.walks some.learned k) (sym known) some.is }
+
+pub after_measure : (given : Given) (old : Course) (entries : List Entry) (turn : Turn) (new : Course) → FewKnown turn new → (measuring : Measuring) →
+    Books given.options entries (past_of old) → MeasuresOn given old measuring turn new → Leaves given.options entries turn new
+after_measure given old entries turn new few measuring books (all_measured known its_turn its_new none unfolded picks) =
+    picks_leave given.options entries given refl known turn new few (books_unfolded given.options entries given refl _ [] old known unfolded books) picks
+after_measure given old entries turn new few measuring books (measures rest path its_new is same known) =
+    let now : Books given.options entries (past_of new) = books_course given.options entries new old same books in
+    record { bounded = now.bounded; blames = now.blames; not_lost = λ lost. cc; goes = λ drains. cc }
+
+module _ (given : Given) (old : Course) (entries : List Entry) (turn : Turn) (new : Course) (few : FewKnown turn new) where
+  abbrev Left : Type 0
+  Left = Leaves given.options entries turn new
+
+  after_fault : (fault : HostFault) → Contains (logged_answers entries) (HostAnswer.Failed fault) → Books given.options entries (past_of old) →
+      AfterFault given old fault turn new → Left
+  after_fault fault told books after =
+      let blame : IsToBlame entries fault [] = record { failed = told; started = none_started entries } in
+      picks_leave given.options entries given refl after.settled turn new few
+      (subst (λ (p : Past). Books given.options entries p) (sym after.past) (books_end given.options entries (past_of old) (Err (RunFault.Host fault [])) blame books))
+      after.picks
+
+  after_end : (landed : Course) (flight : Flight) (tool : Tool) (ending : ChildEnd) → (landed.end ≡ None → KnowsSome landed) →
+      Books given.options entries (past_of landed) → AfterEnd given landed flight tool ending turn new → Left
+  after_end landed flight tool ending still books (well site next class site_is scans turns) =
+      turns_leave given.options entries given refl landed flight.job next turn new few still books turns
+  after_end landed flight tool ending still books (badly class turns) =
+      turns_leave given.options entries given refl landed flight.job _ turn new few still books turns
+  after_end landed flight tool ending still books (for_now class temporary) =
+      leaves_temporary given.options entries given refl landed flight.job turn new few books temporary
+
+  pub step_leaves : (asks : Request) (phase : Phase) (answer : Answer) → MayAnswer old.tickets.items asks answer → AsksOf old asks phase → (phase ≡ Phase.Draining → ⊥) → MayKnow old phase →
+      Contains (logged_answers entries) (host_answer answer) → StaysBounded given.options (past_of old) phase → Blames entries (past_of old) phase →
+      FollowsFrom given old (record { asks = asks; phase = phase }) answer turn new → Left
+  step_leaves asks (Phase.Measuring measuring) answer (by_host place request its (is_measured path measure)) fits goes knows told bounded blames follows =
+      after_measure given old entries turn new few follows.next (record { bounded = bounded; blames = blames }) follows.on
+  step_leaves asks (Phase.Measuring measuring) answer (by_host place request its (has_failed call)) fits goes knows told bounded blames follows =
+      after_fault (fault_of call) told (record { bounded = bounded; blames = blames }) follows
+  step_leaves asks (Phase.Staging number) answer (by_host place request its (is_staged plan folder)) fits goes knows told bounded blames follows =
+      turns_leave given.options entries given refl follows.staged number follows.next turn new few
+      (known_still old follows.staged (ap (λ (p : Past). p.end) follows.past) follows.known knows)
+      (subst (λ (p : Past). Books given.options entries p) (sym follows.past)
+      (books_staged given.options entries (past_of old) number (record { bounded = bounded; blames = blames }))) follows.turns
+  step_leaves asks (Phase.Staging number) answer (by_host place request its (has_failed call)) fits goes knows told bounded blames follows =
+      after_fault (fault_of call) told (books_unstaged given.options entries (past_of old) number (record { bounded = bounded; blames = blames })) follows
+  step_leaves asks (Phase.Working number (JobPhase.Filling filling)) answer (by_host place request its (is_read path limit bytes short)) fits goes knows told bounded blames follows =
+      turns_leave given.options entries given refl old number follows.next turn new few knows (record { bounded = bounded; blames = blames }) follows.turns
+  step_leaves asks (Phase.Working number (JobPhase.Filling filling)) answer (by_host place request its (has_failed call)) fits goes knows told bounded blames follows =
+      after_fault (fault_of call) told (record { bounded = bounded; blames = blames }) follows
+  step_leaves asks (Phase.Working number (JobPhase.Starting kept)) answer (by_host place request its (is_started launch ticket fresh)) fits goes knows told bounded blames follows =
+      picks_leave given.options entries given refl follows.started turn new few
+      (subst (λ (p : Past). Books given.options entries p) (sym follows.past)
+      (books_start given.options entries (past_of old) number kept ticket told (record { bounded = bounded; blames = blames }))) follows.picks
+  step_leaves asks (Phase.Working number (JobPhase.Starting kept)) answer (by_host place request its (has_failed call)) fits goes knows told bounded blames follows =
+      after_fault (fault_of call) told (record { bounded = bounded; blames = blames }) follows
+  step_leaves asks (Phase.Working number (JobPhase.Scanning kept millis)) answer (by_host place request its (is_listed folder found)) fits goes knows told bounded blames follows =
+      turns_leave given.options entries given refl old number follows.next turn new few knows (record { bounded = bounded; blames = blames }) follows.turns
+  step_leaves asks (Phase.Working number (JobPhase.Scanning kept millis)) answer (by_host place request its (has_failed call)) fits goes knows told bounded blames follows =
+      after_fault (fault_of call) told (record { bounded = bounded; blames = blames }) follows
+  step_leaves asks (Phase.Working number (JobPhase.Reading kept reading)) answer (by_host place request its (is_read path limit bytes short)) fits goes knows told bounded blames follows =
+      turns_leave given.options entries given refl old number follows.next turn new few knows (record { bounded = bounded; blames = blames }) follows.turns
+  step_leaves asks (Phase.Working number (JobPhase.Reading kept reading)) answer (by_host place request its (has_failed call)) fits goes knows told bounded blames follows =
+      after_fault (fault_of call) told (record { bounded = bounded; blames = blames }) follows
+  step_leaves asks Phase.Collecting answer (by_host place request its (has_ended ending flies)) fits goes knows told bounded blames follows =
+      let books : Books given.options entries (past_of follows.landed) =
+      books_landed given.options entries (past_of old) ending.ticket follows.flight (past_of follows.landed) follows.taken (record { bounded = bounded; blames = blames }) in
+      after_end follows.landed follows.flight follows.job.tool ending
+      (known_still old follows.landed (ap (λ (p : Past). p.end) follows.taken.is) follows.known knows) books follows.ends
+  step_leaves asks Phase.Collecting answer (by_host place request its (has_failed call)) fits goes knows told bounded blames follows =
+      let blame : IsToBlame entries (fault_of call) old.tickets.items = record { failed = told; started = blames.flying } in
+      leaves_end given.options entries (Err (RunFault.Host (fault_of call) old.tickets.items)) turn new (ap (λ (t : Turn). t.phase) follows.0) blame
+  step_leaves asks (Phase.Delivering outputs) answer (by_host place request its (is_delivered plan)) fits goes knows told bounded blames follows =
+      leaves_end given.options entries _ turn new (ap (λ (t : Turn). t.phase) follows.0) tt
+  step_leaves asks (Phase.Delivering outputs) answer (by_host place request its (has_failed call)) fits goes knows told bounded blames follows =
+      after_fault (fault_of call) told (record { bounded = bounded; blames = blames }) follows
+  step_leaves asks Phase.Draining answer may fits goes knows told bounded blames follows = absurd (goes refl)
+  step_leaves asks (Phase.Ended outcome) answer (by_host place request its can) fits goes knows told bounded blames follows = absurd (asks_none old place request outcome fits)
+  step_leaves asks phase answer (by_host place request its can) fits goes knows told bounded blames follows = absurd fits

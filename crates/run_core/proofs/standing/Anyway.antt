@@ -1,0 +1,258 @@
+-- Where memory runs out for what follows from an answer, the answer still makes a longer run.
+use Rattle.std.specs.Prelude.{◌≢◌, Contains, MatchBool, bytes_eq, slice_get}
+use Rattle.std.specs.List.{IsDistinct}
+use Rattle.std.specs.Map.{keys_of}
+use Rattle.std.proofs.Common.{◌≡◌, ◌∙◌, ◌⊎◌, inl, inr, ℕ, Bool, true, false, List, [], ◌∷◌, ◌++◌, reverse, Option, Some, None, Result, Ok, Err, refl, sym, ap, subst, arith}
+use Rattle.std.proofs.lemmas.Option.{slice_get-get_or}
+use Rattle.command_line.specs.Launch.{IsLaunch, IsRefused}
+use Rattle.command_line.specs.declared.fault.BuildFault.{BuildFault}
+use Rattle.command_line.specs.declared.launch.Launch.{Launch}
+use Rattle.collected_outputs.specs.Collected.{Collected, IsCollected}
+use Rattle.collected_outputs.specs.Contents.{Heads}
+use Rattle.collected_outputs.specs.HeadsWanted.{AreHeadsWanted}
+use Rattle.collected_outputs.specs.Laws.{EveryFolderHasOutputsOrAFault, SomeHeadsAreWanted}
+use Rattle.collected_outputs.specs.Listing.{listing_of}
+use Rattle.command_line.specs.Laws.{LaunchOrRefusal}
+use Rattle.cwl_process.specs.declared.tool.Tool.{Tool}
+use Rattle.input_files.specs.Contents.{heads_wanted, with_contents}
+use Rattle.input_files.specs.declared.contents.TheConstants.{MOST_CONTENTS}
+use Rattle.input_files.specs.declared.fault.ContentsFault.{ContentsFault}
+use Rattle.plain_data.specs.ByName.{with_value}
+use Rattle.plan_checker.specs.declared.plan.Mark.{Mark}
+use Rattle.proc_host.specs.Answers.{CanAnswer, fault_of, is_measured, is_staged, is_started, has_ended, is_listed, is_read, is_delivered, has_failed}
+use Rattle.proc_host.specs.ExitClass.{class_of}
+use Rattle.proc_host.specs.declared.call.HostAnswer.{HostAnswer}
+use Rattle.proc_host.specs.declared.call.HostRequest.{HostRequest}
+use Rattle.proc_host.specs.declared.child.ChildEnd.{ChildEnd}
+use Rattle.proc_host.specs.declared.child.ExitClass.{ExitClass}
+use Rattle.staging.specs.declared.found.Found.{Found}
+use Rattle.job_graph.specs.Jobs.{Job}
+use Rattle.job_graph.specs.Words.{Name, Fields, JobPlace}
+use Rattle.run_rules.specs.declared.outcome.Cause.{Cause}
+use Rattle.run_rules.specs.declared.request.Answer.{Answer}
+use Rattle.run_rules.specs.declared.request.Pair.{Pair}
+use Rattle.run_rules.specs.declared.request.Request.{Request}
+use Rattle.run_rules.specs.declared.setting.Options.{Options}
+use Rattle.run_rules.specs.Allowed.{Allowed}
+use Rattle.run_rules.specs.Answers.{MayAnswer, by_host}
+use Rattle.run_rules.specs.CollectsOn.{CollectsOn, reads_on as reads_more, collects, collects_none, left_of}
+use Rattle.run_rules.specs.Events.{Event, Work, Started, Progress, file_measured, job_staged, job_started, child_exited, job_succeeded, job_failed, job_failed_for_now, result_delivered, host_failed, collect_failed, in_flight, job_at, nothing_due, input_heads_due, number_at, scan_due, output_heads_due, start_due, started_at}
+use Rattle.run_rules.specs.Folders.{runtime_of}
+use Rattle.run_rules.specs.Plans.{is_planning, LoadsHeld}
+use Rattle.run_rules.specs.Run.{Goes, asks}
+use Rattle.run_rules.specs.Scene.{Scene}
+use Rattle.run_rules.specs.StartsOn.{StartsOn, reads_on, has_launch, has_no_launch, has_no_contents}
+use Rattle.run_rules.specs.Steps.{Steps, progress_with, measures_file, stages, reads_input, starts, exits_well, exits_for_now, exits_badly, scans, reads_output, delivers, loses_collect, call_fails}
+use Rattle.run_rules.proofs.events.Places.{IsJob}
+use Rattle.run_core.specs.declared.state.Course.{Course}
+use Rattle.run_core.specs.declared.state.Filling.{Filling}
+use Rattle.run_core.specs.declared.state.JobPhase.{JobPhase}
+use Rattle.run_core.specs.declared.state.Kept.{Kept}
+use Rattle.run_core.specs.declared.state.Phase.{Phase}
+use Rattle.run_core.specs.declared.state.Reading.{Reading}
+use Rattle.run_core.specs.declared.state.Turn.{Turn}
+use Rattle.run_core.specs.inner.Anyway.{CanGoOn}
+use Rattle.run_core.specs.inner.Course.{known_in}
+use Rattle.run_core.specs.inner.Due.{call_for, work_of}
+use Rattle.run_core.specs.inner.Follows.{AsksOf}
+use Rattle.run_core.specs.inner.Keeps.{Reflects, state_at}
+use Rattle.run_core.specs.inner.Parts.{job_in}
+use Rattle.run_core.specs.inner.Standing.{HasStarted, IsAt, IsWorking, Runs, collecting, delivering, ended, measuring, staging, working}
+use Rattle.run_core.proofs.events.Reflecting.{FliesThere, flies_there, known_there}
+
+pub record GoesOn (s : Scene) (t : List Pair) : Type 0 where
+  pub happened : Progress
+  pub marks : List Mark
+  pub goes : Goes s (LoadsHeld s) t happened marks
+
+-- a job's start, whatever it is
+record SomeStart (options : Options) (place : JobPlace) (job : Job) (number : ℕ) (staged : Fields) (read : Heads) (todo : List Name) : Type 0 where
+  work : Work
+  more : List Event
+  starts : StartsOn options place job number staged read todo work more
+
+-- a job's outputs, or what is read for them, whatever they are
+record SomeEnd (place : JobPlace) (job : Job) (started : Started) (found : List Found) (read : Heads) (todo : List Name) : Type 0 where
+  work : Work
+  more : List Event
+  ends : CollectsOn place job started found read todo work more
+
+module _ (options : Options) (place : JobPlace) (job : Job) (number : ℕ) (launches : LaunchOrRefusal) (ids : IsDistinct bytes_eq (keys_of job.tool.inputs)) where
+  launched : (staged : Fields) (read : Heads) (own : Fields) → with_contents job.tool.inputs staged read ≡ Ok own →
+      ((launch : Launch) × IsLaunch job.tool own (runtime_of options number) launch) ⊎ ((fault : BuildFault) × IsRefused job.tool own (runtime_of options number) fault) →
+      SomeStart options place job number staged read []
+  launched staged read own is (inl found) = record { work = start_due place own found.0; more = []; starts = has_launch own found.0 is found.1 }
+  launched staged read own is (inr refused) =
+      record { work = nothing_due; more = job_failed place (Cause.Build refused.0) ∷ []; starts = has_no_launch own refused.0 is refused.1 }
+
+  filled : (staged : Fields) (read : Heads) (r : Result Fields ContentsFault) → with_contents job.tool.inputs staged read ≡ r → SomeStart options place job number staged read []
+  filled staged read (Ok own) is = launched staged read own is (launches job.tool own (runtime_of options number) ids)
+  filled staged read (Err fault) is = record { work = nothing_due; more = job_failed place (Cause.Contents fault) ∷ []; starts = has_no_contents fault is }
+
+  a_start : (staged : Fields) (read : Heads) (todo : List Name) → SomeStart options place job number staged read todo
+  a_start staged read [] = filled staged read (with_contents job.tool.inputs staged read) refl
+  a_start staged read (path ∷ todo) = record { work = input_heads_due place staged (path ∷ todo) read; more = []; starts = reads_on path todo }
+
+module _ (place : JobPlace) (job : Job) (started : Started) (found : List Found) (outputs : EveryFolderHasOutputsOrAFault) where
+  gathered : (read : Heads) (c : Collected) → IsCollected (left_of started found read) job.tool.outputs c → SomeEnd place job started found read []
+  gathered read (Ok its) is = record { work = nothing_due; more = job_succeeded place its ∷ []; ends = collects its is }
+  gathered read (Err fault) is = record { work = nothing_due; more = job_failed place (Cause.Collect fault) ∷ []; ends = collects_none fault is }
+
+  an_end : (read : Heads) (todo : List Name) → SomeEnd place job started found read todo
+  an_end read [] = let its = outputs (left_of started found read) job.tool.outputs in gathered read its.0 its.1
+  an_end read (name ∷ todo) = record { work = output_heads_due place found (name ∷ todo) read; more = []; ends = reads_more name todo }
+
+-- the file whose turn it is
+pub record IsNext (todo : List Name) : Type 0 where
+  pub name : Name
+  pub rest : List Name
+  pub is : todo ≡ name ∷ rest
+
+pub input_next : (options : Options) (folder : ℕ) (call : HostRequest) (staged : Fields) (read : Heads) (todo : List Name) →
+    call_for options folder (input_heads_due [] staged todo read) ≡ Some call → (next : IsNext todo) × (call ≡ HostRequest.Head next.name MOST_CONTENTS)
+input_next options folder call staged read [] is = absurd cc
+input_next options folder call staged read (name ∷ todo) is = (record { name = name; rest = todo; is = refl }, cc)
+
+pub output_next : (options : Options) (folder : ℕ) (call : HostRequest) (found : List Found) (read : Heads) (todo : List Name) →
+    call_for options folder (output_heads_due [] found todo read) ≡ Some call → IsNext todo
+output_next options folder call found read [] is = absurd cc
+output_next options folder call found read (name ∷ todo) is = record { name = name; rest = todo; is = refl }
+
+-- the call for the work on a job is no collect
+no_collect : (options : Options) (folder : ℕ) (work : Work) → call_for options folder work ≡ Some HostRequest.Collect → ⊥
+no_collect options folder nothing_due is = cc
+no_collect options folder (input_heads_due place staged [] read) is = cc
+no_collect options folder (input_heads_due place staged (path ∷ todo) read) is = cc
+no_collect options folder (start_due place inputs launch) is = cc
+no_collect options folder (scan_due place millis) is = cc
+no_collect options folder (output_heads_due place found [] read) is = cc
+no_collect options folder (output_heads_due place found (name ∷ todo) read) is = cc
+
+some_there : (jobs : List Job) (number : ℕ) (job : Job) → IsJob jobs number job → slice_get jobs number ≡ Some job
+some_there jobs number job it = slice_get-get_or jobs number job it.within ∙ ap Some it.is
+
+-- there is always a plan
+some_plan : (s : Scene) (planning : Bool) (f : Progress) (old : List Mark) → (marks : List Mark) × MatchBool planning (LoadsHeld s f marks) (marks ≡ old)
+some_plan s true f old = (_, refl)
+some_plan s false f old = (old, refl)
+
+module _ (s : Scene) (t : List Pair) (f : Progress) (marks : List Mark) (course : Course) (goes : Goes s (LoadsHeld s) t f marks) where
+  abbrev noted : Request → Answer → Pair
+  noted request answer = record { request = request; answer = answer }
+
+  goes_with : (p : Pair) (work : Work) (new : List Event) → Allowed s f marks p.request → Steps s f p work new → GoesOn s (t ++ p ∷ [])
+  goes_with p work new allowed steps =
+      let plan = some_plan s (is_planning s (progress_with f work new)) (progress_with f work new) marks in
+      record { happened = progress_with f work new; marks = plan.0; goes = asks t f marks p work new plan.0 goes allowed steps plan.1 }
+
+  fails_anyway : (place : JobPlace) (call : HostRequest) → (call ≡ HostRequest.Collect → ⊥) → Allowed s f marks (Request.Host place call) →
+      GoesOn s (t ++ noted (Request.Host place call) (Answer.Host (HostAnswer.Failed (fault_of call))) ∷ [])
+  fails_anyway place call other allowed = goes_with _ nothing_due (host_failed place (fault_of call) ∷ []) allowed (call_fails place call other)
+
+  -- The work on a job
+
+  module _ (number : ℕ) (job : Job) (at_work : Option ℕ) (reflects : Reflects s f.events course at_work) (can : CanGoOn course number)
+      (it : IsJob (known_in course.known) number job) where
+    at_place : job_at s f.events job.place ≡ Some job
+    at_place = known_there s f.events course at_work number job it reflects
+
+    abbrev its_ids : IsDistinct bytes_eq (keys_of job.tool.inputs)
+    its_ids = can.ids job (some_there (known_in course.known) number job it)
+
+    fill_anyway : (path : Name) (limit : ℕ) (bytes : List ℕ) (filling : Filling) (next : IsNext (reverse filling.left)) →
+        HostRequest.Head path limit ≡ HostRequest.Head next.name MOST_CONTENTS → f.work ≡ input_heads_due job.place filling.staged (reverse filling.left) filling.heads →
+        Allowed s f marks (Request.Host job.place (HostRequest.Head path limit)) →
+        GoesOn s (t ++ noted (Request.Host job.place (HostRequest.Head path limit)) (Answer.Host (HostAnswer.FirstBytes bytes)) ∷ [])
+    fill_anyway path limit bytes filling next same due allowed =
+        let turn : path ≡ next.name = cc in
+        let its : SomeStart s.options job.place job (number_at f.events job.place) filling.staged (with_value path bytes filling.heads) next.rest =
+        a_start s.options job.place job (number_at f.events job.place) can.launches its_ids filling.staged (with_value path bytes filling.heads) next.rest in
+        goes_with _ its.work its.more allowed
+        (reads_input job.place path limit bytes filling.staged next.rest filling.heads job its.work its.more
+        (due ∙ ap (λ (todo : List Name). input_heads_due job.place filling.staged todo filling.heads) (next.is ∙ ap (λ (n : Name). n ∷ next.rest) (sym turn)))
+        at_place its.starts)
+
+    scan_anyway : (folder : Name) (found : List Found) (kept : Kept) → HasStarted f.events job.place kept → Allowed s f marks (Request.Host job.place (HostRequest.Scan folder)) →
+        GoesOn s (t ++ noted (Request.Host job.place (HostRequest.Scan folder)) (Answer.Host (HostAnswer.Listed found)) ∷ [])
+    scan_anyway folder found kept has allowed =
+        let wants = can.heads (listing_of found) has.started.inputs job.tool.outputs in
+        let its : SomeEnd job.place job has.started found [] wants.0 = an_end job.place job has.started found can.outputs [] wants.0 in
+        goes_with _ its.work its.more allowed (scans job.place folder found job has.started wants.0 its.work its.more at_place has.at wants.1 its.ends)
+
+    read_anyway : (path : Name) (limit : ℕ) (bytes : List ℕ) (kept : Kept) (reading : Reading) → IsNext (reverse reading.left) → HasStarted f.events job.place kept →
+        f.work ≡ output_heads_due job.place reading.found (reverse reading.left) reading.heads →
+        Allowed s f marks (Request.Host job.place (HostRequest.Head path limit)) →
+        GoesOn s (t ++ noted (Request.Host job.place (HostRequest.Head path limit)) (Answer.Host (HostAnswer.FirstBytes bytes)) ∷ [])
+    read_anyway path limit bytes kept reading next has due allowed =
+        let its : SomeEnd job.place job has.started reading.found (with_value next.name bytes reading.heads) next.rest =
+        an_end job.place job has.started reading.found can.outputs (with_value next.name bytes reading.heads) next.rest in
+        goes_with _ its.work its.more allowed
+        (reads_output job.place path limit bytes reading.found next.name next.rest reading.heads job has.started its.work its.more
+        (due ∙ ap (λ (todo : List Name). output_heads_due job.place reading.found todo reading.heads) next.is) at_place has.at its.ends)
+
+    work_anyway : (call : HostRequest) (phase : JobPhase) (answer : HostAnswer) → CanAnswer course.tickets.items call answer → IsWorking s f course number job call phase →
+        AsksOf course (Request.Host job.place call) (Phase.Working number phase) → Allowed s f marks (Request.Host job.place call) →
+        GoesOn s (t ++ noted (Request.Host job.place call) (Answer.Host answer) ∷ [])
+    work_anyway call (JobPhase.Filling filling) answer (is_read path limit bytes short) w fits allowed =
+        let next = input_next s.options (state_at course.jobs.items number).folder (HostRequest.Head path limit) filling.staged filling.heads (reverse filling.left) w.calls.due in
+        fill_anyway path limit bytes filling next.0 next.1 w.due allowed
+    work_anyway call (JobPhase.Starting kept) answer (is_started launch ticket fresh) w fits allowed =
+        goes_with _ nothing_due (job_started job.place kept.inputs launch ticket ∷ []) allowed (starts job.place kept.inputs launch ticket w.due)
+    work_anyway call (JobPhase.Scanning kept millis) answer (is_listed folder found) w fits allowed = scan_anyway folder found kept w.on allowed
+    work_anyway call (JobPhase.Reading kept reading) answer (is_read path limit bytes short) w fits allowed =
+        read_anyway path limit bytes kept reading (output_next s.options (state_at course.jobs.items number).folder (HostRequest.Head path limit) reading.found reading.heads (reverse reading.left) w.calls.due)
+        w.on w.due allowed
+    work_anyway call phase answer (has_failed its) w fits allowed =
+        fails_anyway job.place call (λ collects. no_collect s.options (state_at course.jobs.items number).folder (work_of [] call phase) (w.calls.due ∙ ap Some collects)) allowed
+    work_anyway call phase answer can_answer w fits allowed = absurd fits
+
+  -- A child has ended
+
+  module _ (reflects : Reflects s f.events course None) (allowed : Allowed s f marks (Request.Host [] HostRequest.Collect)) where
+    end_by : (ending : ChildEnd) (class : ExitClass) (there : FliesThere s f.events course ending.ticket) → class_of there.job.tool.exit_codes ending.code ≡ class →
+        GoesOn s (t ++ noted (Request.Host [] HostRequest.Collect) (Answer.Host (HostAnswer.Ended ending)) ∷ [])
+    end_by ending ExitClass.Success there is =
+        goes_with _ (scan_due there.job.place ending.millis) (child_exited ending.ticket ∷ []) allowed
+        (exits_well there.job.place ending there.job there.there (known_there s f.events course None there.number there.job there.it reflects) is)
+    end_by ending ExitClass.Temporary there is =
+        goes_with _ nothing_due (child_exited ending.ticket ∷ job_failed_for_now there.job.place ∷ []) allowed
+        (exits_for_now there.job.place ending there.job there.there (known_there s f.events course None there.number there.job there.it reflects) is)
+    end_by ending ExitClass.Permanent there is =
+        goes_with _ nothing_due (child_exited ending.ticket ∷ job_failed there.job.place (Cause.Exit ending.code) ∷ []) allowed
+        (exits_badly there.job.place ending there.job there.there (known_there s f.events course None there.number there.job there.it reflects) is)
+
+    end_anyway : (ending : ChildEnd) → Contains course.tickets.items ending.ticket →
+        GoesOn s (t ++ noted (Request.Host [] HostRequest.Collect) (Answer.Host (HostAnswer.Ended ending)) ∷ [])
+    end_anyway ending flies =
+        let there : FliesThere s f.events course ending.ticket = flies_there s f.events course None ending.ticket flies reflects in
+        end_by ending (class_of there.job.tool.exit_codes ending.code) there refl
+
+  pub at_goes_on : {turn : Turn} {answer : Answer} → CanGoOn course (job_in turn.phase) → IsAt s f marks course turn → AsksOf course turn.asks turn.phase →
+      MayAnswer course.tickets.items turn.asks answer → Allowed s f marks turn.asks → GoesOn s (t ++ noted turn.asks answer ∷ [])
+  at_goes_on can (measuring found which rest path m is f_is none past) fits (by_host place request answer (is_measured its measure)) allowed =
+      goes_with _ nothing_due (file_measured path measure ∷ []) allowed (measures_file path measure)
+  at_goes_on can (measuring found which rest path m is f_is none past) fits (by_host place request answer (has_failed call)) allowed =
+      fails_anyway [] (HostRequest.Measure path) (λ other. cc) allowed
+  at_goes_on can (staging at_work number job plan reflects is_staging) fits (by_host place request answer (is_staged its folder)) allowed =
+      let start : SomeStart s.options job.place job folder plan.value [] (heads_wanted job.tool.inputs plan.value) =
+      a_start s.options job.place job folder can.launches (can.ids job (some_there (known_in course.known) number job is_staging.it)) plan.value []
+      (heads_wanted job.tool.inputs plan.value) in
+      goes_with _ start.work (job_staged job.place folder ∷ start.more) allowed
+      (stages job.place plan folder job start.work start.more (known_there s f.events course at_work number job is_staging.it reflects) start.starts)
+  at_goes_on can (staging at_work number job plan reflects is_staging) fits (by_host place request answer (has_failed call)) allowed =
+      fails_anyway job.place _ (λ other. cc) allowed
+  at_goes_on can (working number job call phase reflects w) fits (by_host place request answer can_answer) allowed =
+      work_anyway number job (Some number) reflects can w.it call phase answer can_answer w fits allowed
+  at_goes_on can (collecting reflects may) fits (by_host place request answer (has_ended ending flies)) allowed = end_anyway reflects allowed ending flies
+  at_goes_on can (collecting reflects may) fits (by_host place request answer (has_failed call)) allowed = goes_with _ nothing_due (collect_failed ∷ []) allowed loses_collect
+  at_goes_on can (delivering plan reflects may going all) fits (by_host place request answer (is_delivered its)) allowed =
+      goes_with _ nothing_due (result_delivered plan ∷ []) allowed (delivers [] plan)
+  at_goes_on can (delivering plan reflects may going all) fits (by_host place request answer (has_failed call)) allowed =
+      fails_anyway [] (HostRequest.Deliver plan) (λ other. cc) allowed
+  at_goes_on can (ended end so) fits may allowed = elim may [ ]
+
+-- the transcript goes on by the answer
+pub goes_anyway : (s : Scene) (t : List Pair) (course : Course) (turn : Turn) (answer : Answer) → CanGoOn course (job_in turn.phase) → (r : Runs s t course turn) →
+    AsksOf course turn.asks turn.phase → MayAnswer course.tickets.items turn.asks answer → Allowed s r.happened r.marks turn.asks →
+    GoesOn s (t ++ record { request = turn.asks; answer = answer } ∷ [])
+goes_anyway s t course turn answer can r fits may allowed = at_goes_on s t r.happened r.marks course r.goes can r.at fits may allowed

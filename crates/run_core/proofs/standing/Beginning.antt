@@ -1,0 +1,75 @@
+-- A new machine stands before any answer.
+use Rattle.std.proofs.Common.{◌≡◌, ◌∙◌, ℕ, ◌+◌, ◌≤◌, true, List, [], length, vec_len, vec_capacity, None, refl, sym, ap, subst, arith}
+use Rattle.proc_host.specs.declared.call.Entry.{Entry}
+use Rattle.workflow_check.specs.Checked.{fault_in}
+use Rattle.job_graph.specs.Apart.{ids_differ}
+use Rattle.run_rules.specs.Reports.{entries_of}
+use Rattle.run_rules.specs.Scene.{scene_of}
+use Rattle.run_rules.specs.declared.request.Pair.{Pair}
+use Rattle.run_rules.specs.declared.setting.Options.{Options}
+use Rattle.run_core.specs.Core.{Begins, on_run, setting_in}
+use Rattle.run_core.specs.Limits.{IsWithinLimits}
+use Rattle.run_core.specs.declared.runner.RunCore.{RunCore}
+use Rattle.run_core.specs.declared.state.Course.{Course}
+use Rattle.run_core.specs.declared.state.Phase.{Phase}
+use Rattle.run_core.specs.inner.Course.{Past, nothing_past, past_of}
+use Rattle.run_core.specs.inner.Measures.{Begins as BeginsAt}
+use Rattle.run_core.specs.inner.Standing.{HasRoom, Runs, pairs_ahead}
+use Rattle.run_core.proofs.going.Given.{begins_run, laws_of}
+use Rattle.run_core.proofs.standing.Answered.{after_measure, none_started}
+use Rattle.run_core.proofs.standing.Books.{Books}
+use Rattle.run_core.proofs.standing.Facts.{few_known}
+use Rattle.run_core.proofs.standing.Flown.{measures_fly}
+use Rattle.run_core.proofs.standing.Leaving.{Leaves}
+
+nothing_booked : (options : Options) (entries : List Entry) → Books options entries nothing_past
+nothing_booked options entries = record {
+  bounded = record { jobs = omega arith; retries = tt; folders = omega arith };
+  blames = record { flying = none_started entries; settled = λ end is. absurd cc };
+}
+
+two_at_most : (past : Past) (phase : Phase) → pairs_ahead past phase ≤ length past.tickets + 2
+two_at_most past (Phase.Ended outcome) = omega arith
+two_at_most past Phase.Draining = omega arith
+two_at_most past phase = omega arith
+
+module _ (core : RunCore) (limits : IsWithinLimits core.given.options) (accepted : fault_in core.given.process.now ≡ None) (ids : ids_differ core.given.process.now ≡ true)
+    (empty : core.pairs.items ≡ []) (fits : vec_len core.pairs + 2 ≤ vec_capacity core.pairs) (old : Course) (nothing : past_of old ≡ nothing_past) (none : old.known ≡ None)
+    (begins : BeginsAt core.given old core.turn core.course) (room : HasRoom core.course core.turn.phase) where
+  runs : Runs (scene_of (setting_in core.given)) [] core.course core.turn
+  runs = begins_run core.given (laws_of core.given accepted ids) limits.least_slots old nothing none core.turn core.course begins
+
+  leaves : Leaves core.given.options (entries_of core.pairs.items) core.turn core.course
+  leaves =
+      after_measure core.given old (entries_of core.pairs.items) core.turn core.course (few_known (scene_of (setting_in core.given)) [] core.course core.turn runs) begins.measuring
+      (subst (λ (p : Past). Books core.given.options (entries_of core.pairs.items) p) (sym nothing) (nothing_booked core.given.options (entries_of core.pairs.items))) begins.on
+
+  none_flies : core.course.tickets.items ≡ []
+  none_flies = measures_fly core.given old begins.measuring core.turn core.course begins.on ∙ ap (λ (p : Past). p.tickets) nothing
+
+  pairs_fit : vec_len core.pairs + pairs_ahead (past_of core.course) core.turn.phase ≤ vec_capacity core.pairs
+  pairs_fit =
+      let none_long : length core.course.tickets.items ≡ 0 = ap length none_flies in
+      let two : pairs_ahead (past_of core.course) core.turn.phase ≤ length core.course.tickets.items + 2 = two_at_most (past_of core.course) core.turn.phase in
+      both_fit (vec_len core.pairs) (vec_capacity core.pairs) (pairs_ahead (past_of core.course) core.turn.phase) (length core.course.tickets.items) fits none_long two
+    where
+      both_fit : (n m a k : ℕ) → n + 2 ≤ m → k ≡ 0 → a ≤ k + 2 → n + a ≤ m
+      both_fit n m a k fits none two = omega (arith, fits, none, two)
+
+  pub begins_at : Begins core.given.process.now core.given.inputs.now core.given.options core
+  begins_at = record {
+    stands = record {
+      limits = limits;
+      accepted = accepted;
+      ids = ids;
+      going = on_run (subst (λ (t : List Pair). Runs (scene_of (setting_in core.given)) t core.course core.turn) (sym empty) runs);
+      bounded = leaves.bounded;
+      blames = leaves.blames;
+      room = room;
+      pairs_room = pairs_fit;
+    };
+    setting = refl;
+    nothing_asked = empty;
+    none_in_flight = none_flies;
+    not_lost = leaves.not_lost;
+  }

@@ -1,0 +1,145 @@
+-- What bounds a run and what it blames on its host, as what has happened goes on.
+use Rattle.std.specs.Prelude.{Contains, IsSome, slice_get}
+use Rattle.std.specs.List.{remove}
+use Rattle.std.proofs.Common.{◌≡◌, ◌∙◌, ◌⊎◌, inl, inr, ℕ, ◌+◌, ◌<◌, ◌≤◌, Bool, true, List, [], ◌∷◌, ◌++◌, length, Option, Some, None, Result, refl, sym, ap, subst, arith}
+use Rattle.std.proofs.lemmas.List.Elements.{Contains-push_cases}
+use Rattle.std.proofs.lemmas.Option.{slice_get_within}
+use Rattle.plan_checker.specs.declared.graph.TheConstants.{MOST_VERTICES}
+use Rattle.proc_host.specs.declared.call.Entry.{Entry}
+use Rattle.proc_host.specs.declared.call.HostAnswer.{HostAnswer}
+use Rattle.job_graph.specs.Jobs.{Job}
+use Rattle.job_graph.specs.Unfold.{or_else}
+use Rattle.run_rules.specs.declared.outcome.Report.{Report}
+use Rattle.run_rules.specs.declared.outcome.RunFault.{RunFault}
+use Rattle.run_rules.specs.declared.setting.Options.{Options}
+use Rattle.run_rules.specs.Blame.{WereStarted, logged_answers}
+use Rattle.run_core.specs.declared.state.Flight.{Flight}
+use Rattle.run_core.specs.declared.state.JobState.{JobState}
+use Rattle.run_core.specs.declared.state.Kept.{Kept}
+use Rattle.run_core.specs.inner.Attempts.{IsBounded, tries_of}
+use Rattle.run_core.specs.inner.Course.{GivesUp, Past, TakesOut, again, given_up_in, no_more, staged_in, too_often, with_end, with_giving_up, with_staging, with_start}
+use Rattle.run_core.specs.inner.Standing.{BlamesSoFar, SettlesRightly}
+use Rattle.run_core.proofs.standing.Tickets.{left_there}
+use Rattle.run_core.proofs.standing.Tries.{gave_up_before, gave_up_once_more, gave_up_staged, length_again, length_before, length_given_up, length_new, tries_again, tries_before, tries_given_up, tries_new}
+
+pub record Books (options : Options) (entries : List Entry) (past : Past) : Type 0 where
+  pub bounded : IsBounded options past
+  pub blames : BlamesSoFar entries past
+
+-- where the job of a number is to be staged
+pub record BooksAt (options : Options) (entries : List Entry) (past : Past) (number : ℕ) : Type 0 where
+  pub bounded : IsBounded options (with_staging number past)
+  pub blames : BlamesSoFar entries past
+
+settled_with : (entries : List Entry) (first : Option (Result Report RunFault)) (end its : Result Report RunFault) →
+    ((one : Result Report RunFault) → first ≡ Some one → SettlesRightly entries one) → SettlesRightly entries end → or_else first (Some end) ≡ Some its →
+    SettlesRightly entries its
+settled_with entries None end its before now is = let same : end ≡ its = cc in subst (λ (e : Result Report RunFault). SettlesRightly entries e) same now
+settled_with entries (Some one) end its before now is = before its is
+
+module _ (options : Options) (entries : List Entry) (past : Past) where
+  pub books_end : (end : Result Report RunFault) → SettlesRightly entries end → Books options entries past → Books options entries (with_end end past)
+  books_end end now books = record {
+    bounded = record { jobs = books.bounded.jobs; retries = books.bounded.retries; folders = books.bounded.folders };
+    blames = record {
+      flying = books.blames.flying;
+      settled = λ its is. settled_with entries past.end end its books.blames.settled now is;
+    };
+  }
+
+  pub books_start : (number : ℕ) (kept : Kept) (ticket : ℕ) → Contains (logged_answers entries) (HostAnswer.Started ticket) → Books options entries past →
+      Books options entries (with_start number kept ticket past)
+  books_start number kept ticket told books = record {
+    bounded = record { jobs = books.bounded.jobs; retries = books.bounded.retries; folders = books.bounded.folders };
+    blames = record {
+      flying = record {
+        each = λ n there. elim (Contains-push_cases past.tickets ticket n there) [
+          | inl before ↦ books.blames.flying.each n before
+          | inr same ↦ subst (λ m. Contains (logged_answers entries) (HostAnswer.Started m)) same told
+        ];
+      };
+      settled = books.blames.settled;
+    };
+  }
+
+  fewer_started : (index : ℕ) → WereStarted entries past.tickets → WereStarted entries (remove past.tickets index)
+  fewer_started index began = record { each = λ n there. began.each n (left_there past.tickets index there.0 n there.1 there.2) }
+
+  pub books_landed : (ticket : ℕ) (flight : Flight) (new : Past) → TakesOut ticket flight past new → Books options entries past → Books options entries new
+  books_landed ticket flight new taken books =
+      subst (λ (p : Past). Books options entries p) (sym taken.is) (record {
+        bounded = record { jobs = books.bounded.jobs; retries = books.bounded.retries; folders = books.bounded.folders };
+        blames = record { flying = fewer_started taken.index books.blames.flying; settled = books.blames.settled };
+      })
+
+  -- A job is staged
+
+  pub books_staged : (number : ℕ) → BooksAt options entries past number → Books options entries (with_staging number past)
+  books_staged number books = record {
+    bounded = books.bounded;
+    blames = record { flying = books.blames.flying; settled = books.blames.settled };
+  }
+
+  -- it is not, since the call failed
+  pub books_unstaged : (number : ℕ) → BooksAt options entries past number → Books options entries past
+  books_unstaged number books =
+      let b : IsBounded options (with_staging number past) = books.bounded in
+      record {
+        bounded = record {
+          jobs = omega (arith, length_before past.jobs number (past.folders + 1), b.jobs);
+          retries = gave_up_before options.retries past.jobs number (past.folders + 1) b.retries;
+          folders = omega (arith, tries_before past.jobs number (past.folders + 1), b.folders);
+        };
+        blames = books.blames;
+      }
+
+  -- one that is new may be
+  pub books_at_new : (known : ℕ) → length past.jobs < known → known ≤ MOST_VERTICES → Books options entries past → BooksAt options entries past (length past.jobs)
+  books_at_new known within few books = record {
+    bounded = record {
+      jobs = omega (arith, length_new past.jobs (length past.jobs) (past.folders + 1) refl, within, few);
+      retries = gave_up_staged options.retries past.jobs (length past.jobs) (past.folders + 1) books.bounded.retries;
+      folders = omega (arith, tries_new past.jobs (length past.jobs) (past.folders + 1) refl, books.bounded.folders);
+    };
+    blames = books.blames;
+  }
+
+  -- and one that gave up, in place of that
+  bounded_given_up : (number : ℕ) (state : JobState) → slice_get past.jobs number ≡ Some state → state.gave_up < options.retries → IsBounded options past →
+      IsBounded options (with_giving_up number past)
+  bounded_given_up number state there few bounded = record {
+    jobs = omega (arith, length_given_up past.jobs number, bounded.jobs);
+    retries = gave_up_once_more options.retries past.jobs number state there few bounded.retries;
+    folders = omega (arith, tries_given_up past.jobs number (slice_get_within past.jobs number state there), bounded.folders);
+  }
+
+  tries_more : (number : ℕ) → number < length past.jobs → tries_of (staged_in number (past.folders + 1) (given_up_in number past.jobs)) ≡ tries_of past.jobs + 1
+  tries_more number within =
+      tries_again (given_up_in number past.jobs) number (past.folders + 1) (omega (arith, within, length_given_up past.jobs number))
+      ∙ tries_given_up past.jobs number within
+
+  pub books_at_again : (number : ℕ) (state : JobState) → slice_get past.jobs number ≡ Some state → state.gave_up < options.retries → Books options entries past →
+      BooksAt options entries (with_giving_up number past) number
+  books_at_again number state there few books =
+      let within : number < length past.jobs = slice_get_within past.jobs number state there in
+      record {
+        bounded = record {
+          jobs = omega (
+            arith,
+            length_again (given_up_in number past.jobs) number (past.folders + 1) (omega (arith, within, length_given_up past.jobs number)),
+            length_given_up past.jobs number,
+            books.bounded.jobs,
+          );
+          retries = gave_up_staged options.retries (given_up_in number past.jobs) number (past.folders + 1)
+              (gave_up_once_more options.retries past.jobs number state there few books.bounded.retries);
+          folders = omega (arith, tries_more number within, books.bounded.folders);
+        };
+        blames = record { flying = books.blames.flying; settled = books.blames.settled };
+      }
+
+  pub books_given_up : (number : ℕ) (state : JobState) → slice_get past.jobs number ≡ Some state → state.gave_up < options.retries → Books options entries past →
+      Books options entries (with_giving_up number past)
+  books_given_up number state there few books = record {
+    bounded = bounded_given_up number state there few books.bounded;
+    blames = record { flying = books.blames.flying; settled = books.blames.settled };
+  }

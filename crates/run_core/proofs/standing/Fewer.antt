@@ -1,0 +1,236 @@
+-- Each answer is one of so many.
+use Rattle.std.specs.Prelude.{◌*◌, IsSome}
+use Rattle.std.proofs.Common.{◌≡◌, ◌∙◌, ℕ, ◌+◌, ◌<◌, ◌≤◌, List, [], ◌∷◌, ◌++◌, length, reverse, Bool, true, false, Option, Some, None, Result, Ok, Err, refl, sym, ap, subst, arith, length-append}
+use Rattle.std.proofs.lemmas.List.{length-reverse}
+use Rattle.plain_data.specs.ByName.{with_value}
+use Rattle.proc_host.specs.Answers.{fault_of, is_measured, is_staged, is_started, has_ended, is_listed, is_read, is_delivered, has_failed}
+use Rattle.proc_host.specs.declared.call.HostFault.{HostFault}
+use Rattle.proc_host.specs.declared.child.ChildEnd.{ChildEnd}
+use Rattle.cwl_process.specs.declared.tool.Tool.{Tool}
+use Rattle.job_graph.specs.Unfold.{or_else}
+use Rattle.job_graph.specs.Words.{Name}
+use Rattle.staging.specs.declared.measure.Measure.{Measure}
+use Rattle.run_rules.specs.Answers.{MayAnswer, by_host}
+use Rattle.run_rules.specs.declared.outcome.Report.{Report}
+use Rattle.run_rules.specs.declared.outcome.RunFault.{RunFault}
+use Rattle.run_rules.specs.declared.request.Answer.{Answer}
+use Rattle.run_rules.specs.declared.request.Request.{Request}
+use Rattle.run_rules.specs.declared.setting.Options.{Options}
+use Rattle.run_core.specs.declared.state.Course.{Course}
+use Rattle.run_core.specs.declared.state.Filling.{Filling}
+use Rattle.run_core.specs.declared.state.Flight.{Flight}
+use Rattle.run_core.specs.declared.state.Given.{Given}
+use Rattle.run_core.specs.declared.state.JobNext.{JobNext}
+use Rattle.run_core.specs.declared.state.JobPhase.{JobPhase}
+use Rattle.run_core.specs.declared.state.Kept.{Kept}
+use Rattle.run_core.specs.declared.state.Measuring.{Measuring}
+use Rattle.run_core.specs.declared.state.Phase.{Phase}
+use Rattle.run_core.specs.declared.state.Reading.{Reading}
+use Rattle.run_core.specs.declared.state.Turn.{Turn}
+use Rattle.run_core.specs.inner.Attempts.{StaysBounded, answers_left, many_files, weight_of, weight_of_past}
+use Rattle.run_core.specs.inner.Course.{Past, past_of, with_end, with_staging, with_start}
+use Rattle.run_core.specs.inner.Due.{Starts}
+use Rattle.run_core.specs.inner.Follows.{AsksOf, FollowsFrom}
+use Rattle.run_core.specs.inner.Measures.{MeasuresOn, all_measured, measures}
+use Rattle.run_core.specs.inner.Picks.{AfterEnd, AfterFault, AfterInputHead, AfterOutputHead, Turns, badly, for_now, well}
+use Rattle.run_core.specs.inner.Turns.{PutsNext, its_turn, no_turn}
+use Rattle.run_core.proofs.standing.Answered.{asks_none, known_still}
+use Rattle.run_core.proofs.standing.Leaving.{KnowsSome, MayKnow}
+use Rattle.run_core.proofs.standing.Looked.{calls_at_most, collects_by_lists, collects_by_names, starts_at_most, weight_next}
+use Rattle.run_core.proofs.standing.Weights.{landing_falls, picks_few, picks_last, picks_settled, staging_falls, start_rises, temporary_few, turns_few, unfolded_same}
+
+-- a list whose last item comes next
+pub record HasLast (left : List Name) : Type 0 where
+  pub rest : List Name
+  pub name : Name
+  pub is : left ≡ rest ++ name ∷ []
+
+-- a phase looks at one file at least, and where the result is delivered no child is in flight
+abbrev pub LooksAtSome : Past → Phase → Type 0
+LooksAtSome past (Phase.Measuring measuring) = HasLast measuring.left
+LooksAtSome past (Phase.Working number (JobPhase.Filling filling)) = HasLast filling.left
+LooksAtSome past (Phase.Working number (JobPhase.Reading kept reading)) = HasLast reading.left
+LooksAtSome past (Phase.Delivering outputs) = past.tickets ≡ []
+LooksAtSome past phase = Unit {0}
+
+one_longer : (left rest : List Name) (name : Name) → left ≡ rest ++ name ∷ [] → length left ≡ length rest + 1
+one_longer left rest name is = ap length is ∙ length-append rest (name ∷ [])
+
+turned_long : (rest : List Name) → length (reverse rest) ≡ length rest
+turned_long rest = length-reverse rest
+
+-- Sums
+
+below : (a w most weight : ℕ) → a ≤ w + most → most < weight → a < w + weight
+below a w most weight few less = omega (arith, few, less)
+
+below_staging : (a one w : ℕ) → a ≤ one + (2 * many_files + 6) → one + (2 * many_files + 8) ≤ w → a < w + 2
+below_staging a one w few falls = omega (arith, few, falls)
+
+below_start : (a one w : ℕ) → a ≤ one + 2 → one ≡ w + (many_files + 3) → a < w + (many_files + 6)
+below_start a one w few rises = omega (arith, few, rises)
+
+below_end : (a one w : ℕ) → a ≤ one + (many_files + 3) → one + (many_files + 3) ≡ w → a < w + 1
+below_end a one w few falls = omega (arith, few, falls)
+
+below_soon : (a one w : ℕ) → a ≤ one + 2 → one + (many_files + 3) ≡ w → a < w + 1
+below_soon a one w few falls = omega (arith, few, falls)
+
+two_less : 2 ≤ many_files + 3
+two_less = omega arith
+
+settled_by : (first : Option (Result Report RunFault)) (end : Result Report RunFault) → IsSome (or_else first (Some end))
+settled_by None end = refl
+settled_by (Some one) end = refl
+
+ended_none : (a b weight : ℕ) → a ≡ 0 → 0 < weight → a < b + weight
+ended_none a b weight none some = omega (arith, none, some)
+
+module _ (given : Given) (old : Course) where
+  abbrev Before : ℕ
+  Before = weight_of_past given.options (past_of old)
+
+  abbrev Fewer : Turn → Course → ℕ → Type 0
+  Fewer turn new weight = answers_left given.options (past_of new) turn.phase < weight_of_past given.options (past_of old) + weight
+
+  -- at an end none comes
+  none_left : (outcome : Result Report RunFault) (turn : Turn) (new : Course) (weight : ℕ) → turn.phase ≡ Phase.Ended outcome → 0 < weight → Fewer turn new weight
+  none_left outcome turn new weight is some =
+      ended_none (answers_left given.options (past_of new) turn.phase) Before weight (ap (answers_left given.options (past_of new)) is) some
+
+  settled_same : (fault : HostFault) (settled : Course) → past_of settled ≡ with_end (Err (RunFault.Host fault [])) (past_of old) →
+      (weight_of_past given.options (past_of settled) ≡ Before) × IsSome settled.end
+  settled_same fault settled is = (
+    ap (weight_of_past given.options) is,
+    subst (λ (p : Past). IsSome p.end) (sym is) (settled_by old.end (Err (RunFault.Host fault []))),
+  )
+
+  fault_fewer : (fault : HostFault) (turn : Turn) (new : Course) (weight : ℕ) → 1 < weight → AfterFault given old fault turn new → Fewer turn new weight
+  fault_fewer fault turn new weight some after =
+      let its : (weight_of_past given.options (past_of after.settled) ≡ Before) × IsSome after.settled.end = settled_same fault after.settled after.past in
+      below (answers_left given.options (past_of new) turn.phase) Before 1 weight
+      (subst (λ w. answers_left given.options (past_of new) turn.phase ≤ w + 1) its.0 (picks_settled given.options given after.settled turn new its.1 after.picks)) some
+
+  last_fewer : (fault : HostFault) (turn : Turn) (new : Course) → old.tickets.items ≡ [] → AfterFault given old fault turn new → Fewer turn new 1
+  last_fewer fault turn new empty after =
+      let its : (weight_of_past given.options (past_of after.settled) ≡ Before) × IsSome after.settled.end = settled_same fault after.settled after.past in
+      let none : after.settled.tickets.items ≡ [] = ap (λ (p : Past). p.tickets) after.past ∙ empty in
+      let last : answers_left given.options (past_of new) turn.phase ≤ 0 = picks_last given.options given after.settled turn new its.1 none after.picks in
+      sum_last (answers_left given.options (past_of new) turn.phase) Before last
+    where
+      sum_last : (a b : ℕ) → a ≤ 0 → a < b + 1
+      sum_last a b none = omega (arith, none)
+
+  -- Measuring
+
+  rest_shorter : {T : Type 0} (left : List Name) (found : List (Name × T)) (value : T) {new_left : List Name} {new_found : List (Name × T)} → HasLast left →
+      PutsNext left found value new_left new_found → length new_left + 1 ≡ length left
+  rest_shorter left found value last (no_turn none) =
+      let long : length left ≡ length last.rest + 1 = one_longer left last.rest last.name last.is in
+      let empty : length left ≡ 0 = ap length none in
+      absurd (omega (arith, long, empty))
+  rest_shorter left found value last (its_turn rest name is) = sym (one_longer left rest name is)
+
+  measuring_fewer : (left : ℕ) (next : Measuring) (turn : Turn) (new : Course) → length next.left + 1 ≡ left → MeasuresOn given old next turn new → Fewer turn new (2 + left)
+  measuring_fewer left next turn new shorter (all_measured known its_next its_new none unfolded picks) =
+      below (answers_left given.options (past_of new) turn.phase) Before 2 (2 + left)
+      (subst (λ w. answers_left given.options (past_of new) turn.phase ≤ w + 2) (unfolded_same given.options given _ [] old known unfolded)
+      (picks_few given.options given known turn new picks)) (omega (arith, shorter))
+  measuring_fewer left next turn new shorter (measures rest path its_new is same known) =
+      subst (λ (p : Past). weight_of_past given.options p + (2 + length next.left) < weight_of_past given.options (past_of old) + (2 + left)) (sym same)
+      (one_step (weight_of_past given.options (past_of old)) (length next.left) left shorter)
+    where
+      one_step : (w a b : ℕ) → a + 1 ≡ b → w + (2 + a) < w + (2 + b)
+      one_step w a b is = omega (arith, is)
+
+  -- The work on a job
+
+  module _ (knows : old.end ≡ None → KnowsSome old) (turn : Turn) (new : Course) where
+    -- so much is left where a job goes on
+    turns_fewer : (number : ℕ) (next : JobNext) (most weight : ℕ) → 2 ≤ most → weight_next next ≤ most → most < weight → Turns given old number next turn new →
+        Fewer turn new weight
+    turns_fewer number next most weight two few less turns =
+        below (answers_left given.options (past_of new) turn.phase) Before most weight (turns_few given.options given old number next turn new most two few knows turns) less
+
+    input_fewer : (number : ℕ) (filling : Filling) (bytes : List ℕ) → HasLast filling.left → AfterInputHead given old number filling bytes turn new →
+        Fewer turn new (many_files + 6 + length filling.left)
+    input_fewer number filling bytes last after =
+        let shorter : length filling.left ≡ length last.rest + 1 = one_longer filling.left last.rest last.name last.is in
+        let turned : length (reverse last.rest) ≡ length last.rest = turned_long last.rest in
+        let starts : Starts after.site filling.staged (with_value last.name bytes filling.heads) (reverse last.rest) after.next = after.starts.each last.rest last.name last.is in
+        turns_fewer number after.next (many_files + 6 + length (reverse last.rest)) (many_files + 6 + length filling.left) (omega arith)
+        (starts_at_most after.site filling.staged _ (reverse last.rest) after.next starts) (omega (arith, shorter, turned)) after.turns
+
+    output_fewer : (number : ℕ) (kept : Kept) (reading : Reading) (bytes : List ℕ) → HasLast reading.left → AfterOutputHead given old number kept reading bytes turn new →
+        Fewer turn new (2 + length reading.left)
+    output_fewer number kept reading bytes last after =
+        let shorter : length reading.left ≡ length last.rest + 1 = one_longer reading.left last.rest last.name last.is in
+        let turned : length (reverse last.rest) ≡ length last.rest = turned_long last.rest in
+        turns_fewer number after.next (2 + length (reverse last.rest)) (2 + length reading.left) (omega arith)
+        (collects_by_names after.site kept reading.found _ (reverse last.rest) after.next (after.collects.each last.rest last.name last.is))
+        (omega (arith, shorter, turned)) after.turns
+
+    end_fewer : (landed : Course) (flight : Flight) (tool : Tool) (ending : ChildEnd) → (landed.end ≡ None → KnowsSome landed) →
+        weight_of_past given.options (past_of landed) + (many_files + 3) ≡ Before → AfterEnd given landed flight tool ending turn new → Fewer turn new 1
+    end_fewer landed flight tool ending still falls (well site next class site_is scans turns) =
+        below_end (answers_left given.options (past_of new) turn.phase) (weight_of_past given.options (past_of landed)) Before
+        (turns_few given.options given landed flight.job next turn new (many_files + 3) two_less
+        (subst (λ (n : JobNext). weight_next n ≤ many_files + 3) (sym scans.is) (omega arith)) still turns) falls
+    end_fewer landed flight tool ending still falls (badly class turns) =
+        below_soon (answers_left given.options (past_of new) turn.phase) (weight_of_past given.options (past_of landed)) Before
+        (turns_few given.options given landed flight.job _ turn new 2 (omega arith) (omega arith) still turns) falls
+    end_fewer landed flight tool ending still falls (for_now class temporary) =
+        below_soon (answers_left given.options (past_of new) turn.phase) (weight_of_past given.options (past_of landed)) Before
+        (temporary_few given.options given landed flight.job turn new temporary) falls
+
+  -- Each answer
+
+  module _ (turn : Turn) (new : Course) where
+    pub step_fewer : (asks : Request) (phase : Phase) (answer : Answer) → MayAnswer old.tickets.items asks answer → AsksOf old asks phase → (phase ≡ Phase.Draining → ⊥) → MayKnow old phase →
+        StaysBounded given.options (past_of old) phase → LooksAtSome (past_of old) phase →
+        FollowsFrom given old (record { asks = asks; phase = phase }) answer turn new → Fewer turn new (weight_of phase)
+    step_fewer asks (Phase.Measuring measuring) answer (by_host place request its (is_measured path measure)) fits goes knows bounded some follows =
+        measuring_fewer (length measuring.left) follows.next turn new (rest_shorter measuring.left measuring.measures measure some follows.puts) follows.on
+    step_fewer asks (Phase.Measuring measuring) answer (by_host place request its (has_failed call)) fits goes knows bounded some follows =
+        fault_fewer (fault_of call) turn new (2 + length measuring.left) (omega arith) follows
+    step_fewer asks (Phase.Staging number) answer (by_host place request its (is_staged plan folder)) fits goes knows bounded some follows =
+        below_staging (answers_left given.options (past_of new) turn.phase) (weight_of_past given.options (past_of follows.staged)) Before
+        (turns_few given.options given follows.staged number follows.next turn new (2 * many_files + 6) (omega arith)
+        (calls_at_most follows.site.options.now follows.site.folder follows.next follows.starts.calls)
+        (known_still old follows.staged (ap (λ (p : Past). p.end) follows.past) follows.known knows) follows.turns)
+        (subst (λ (p : Past). weight_of_past given.options p + (2 * many_files + 8) ≤ weight_of_past given.options (past_of old)) (sym follows.past)
+        (staging_falls given.options (past_of old) number bounded))
+    step_fewer asks (Phase.Staging number) answer (by_host place request its (has_failed call)) fits goes knows bounded some follows =
+        fault_fewer (fault_of call) turn new 2 (omega arith) follows
+    step_fewer asks (Phase.Working number (JobPhase.Filling filling)) answer (by_host place request its (is_read path limit bytes short)) fits goes knows bounded some follows =
+        input_fewer knows turn new number filling bytes some follows
+    step_fewer asks (Phase.Working number (JobPhase.Filling filling)) answer (by_host place request its (has_failed call)) fits goes knows bounded some follows =
+        fault_fewer (fault_of call) turn new (many_files + 6 + length filling.left) (omega arith) follows
+    step_fewer asks (Phase.Working number (JobPhase.Starting kept)) answer (by_host place request its (is_started launch ticket fresh)) fits goes knows bounded some follows =
+        below_start (answers_left given.options (past_of new) turn.phase) (weight_of_past given.options (past_of follows.started)) Before
+        (picks_few given.options given follows.started turn new follows.picks)
+        (ap (weight_of_past given.options) follows.past ∙ start_rises given.options (past_of old) number kept ticket)
+    step_fewer asks (Phase.Working number (JobPhase.Starting kept)) answer (by_host place request its (has_failed call)) fits goes knows bounded some follows =
+        fault_fewer (fault_of call) turn new (many_files + 6) (omega arith) follows
+    step_fewer asks (Phase.Working number (JobPhase.Scanning kept millis)) answer (by_host place request its (is_listed folder found)) fits goes knows bounded some follows =
+        turns_fewer knows turn new number follows.next (many_files + 2) (many_files + 3) (omega arith)
+        (collects_by_lists follows.site kept found [] follows.collects.wanted follows.next follows.collects.on) (omega arith) follows.turns
+    step_fewer asks (Phase.Working number (JobPhase.Scanning kept millis)) answer (by_host place request its (has_failed call)) fits goes knows bounded some follows =
+        fault_fewer (fault_of call) turn new (many_files + 3) (omega arith) follows
+    step_fewer asks (Phase.Working number (JobPhase.Reading kept reading)) answer (by_host place request its (is_read path limit bytes short)) fits goes knows bounded some follows =
+        output_fewer knows turn new number kept reading bytes some follows
+    step_fewer asks (Phase.Working number (JobPhase.Reading kept reading)) answer (by_host place request its (has_failed call)) fits goes knows bounded some follows =
+        fault_fewer (fault_of call) turn new (2 + length reading.left) (omega arith) follows
+    step_fewer asks Phase.Collecting answer (by_host place request its (has_ended ending flies)) fits goes knows bounded some follows =
+        end_fewer knows turn new follows.landed follows.flight follows.job.tool ending
+        (known_still old follows.landed (ap (λ (p : Past). p.end) follows.taken.is) follows.known knows)
+        (landing_falls given.options ending.ticket follows.flight (past_of old) (past_of follows.landed) follows.taken) follows.ends
+    step_fewer asks Phase.Collecting answer (by_host place request its (has_failed call)) fits goes knows bounded some follows =
+        none_left _ turn new 1 (ap (λ (t : Turn). t.phase) follows.0) (omega arith)
+    step_fewer asks (Phase.Delivering outputs) answer (by_host place request its (is_delivered plan)) fits goes knows bounded some follows =
+        none_left _ turn new 1 (ap (λ (t : Turn). t.phase) follows.0) (omega arith)
+    step_fewer asks (Phase.Delivering outputs) answer (by_host place request its (has_failed call)) fits goes knows bounded some follows =
+        last_fewer (fault_of call) turn new some follows
+    step_fewer asks Phase.Draining answer may fits goes knows bounded some follows = absurd (goes refl)
+    step_fewer asks (Phase.Ended outcome) answer (by_host place request its can) fits goes knows bounded some follows = absurd (asks_none old place request outcome fits)
+    step_fewer asks phase answer (by_host place request its can) fits goes knows bounded some follows = absurd fits

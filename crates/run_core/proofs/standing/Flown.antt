@@ -1,0 +1,148 @@
+-- The children in flight after each answer.
+use Rattle.std.specs.Prelude.{Bool, nat_eq}
+use Rattle.std.specs.List.{IsDistinct, remove}
+use Rattle.std.proofs.Common.{◌≡◌, ◌∙◌, ℕ, List, [], ◌∷◌, ◌++◌, None, refl, sym, ap}
+use Rattle.proc_host.specs.Answers.{fault_of, is_measured, is_staged, is_started, has_ended, is_listed, is_read, is_delivered, has_failed}
+use Rattle.proc_host.specs.Tickets.{without}
+use Rattle.proc_host.specs.declared.call.HostAnswer.{HostAnswer}
+use Rattle.proc_host.specs.declared.call.HostFault.{HostFault}
+use Rattle.proc_host.specs.declared.call.HostRequest.{HostRequest}
+use Rattle.proc_host.specs.declared.child.ChildEnd.{ChildEnd}
+use Rattle.cwl_process.specs.declared.tool.Tool.{Tool}
+use Rattle.job_graph.specs.Jobs.{Job, Walker}
+use Rattle.job_graph.specs.Unfold.{Resolved}
+use Rattle.job_graph.specs.Words.{JobPlace}
+use Rattle.run_rules.specs.Answers.{MayAnswer, by_host, flying_after}
+use Rattle.run_rules.specs.declared.request.Answer.{Answer}
+use Rattle.run_rules.specs.declared.request.Request.{Request}
+use Rattle.run_core.specs.declared.state.Course.{Course}
+use Rattle.run_core.specs.declared.state.Flight.{Flight}
+use Rattle.run_core.specs.declared.state.Given.{Given}
+use Rattle.run_core.specs.declared.state.JobNext.{JobNext}
+use Rattle.run_core.specs.declared.state.JobPhase.{JobPhase}
+use Rattle.run_core.specs.declared.state.Measuring.{Measuring}
+use Rattle.run_core.specs.declared.state.Phase.{Phase}
+use Rattle.run_core.specs.declared.state.Turn.{Turn}
+use Rattle.run_core.specs.inner.Course.{GivesUp, Past, TakesOut, again, known_in, no_more, past_of, too_often}
+use Rattle.run_core.specs.inner.Follows.{AsksOf, FollowsFrom, IsLeftAfter, IsOneLess}
+use Rattle.run_core.specs.inner.Knows.{IsUnfolded, fails as unfold_fails, knows as unfold_knows}
+use Rattle.run_core.specs.inner.Measures.{MeasuresOn, all_measured, measures}
+use Rattle.run_core.specs.inner.Picks.{AfterEnd, AfterFault, AfterTemporary, Picks, Turns, again as stages_again, asks, badly, drains, ends_so, fails, for_now, gives, gives_late, has_result, no_more as tries_no_more, stages, waits_for_one, well}
+use Rattle.run_core.proofs.standing.Answered.{asks_none, known_still}
+use Rattle.run_core.proofs.standing.Leaving.{KnowsSome, MayKnow, learns_by}
+use Rattle.run_core.proofs.standing.Tickets.{one_less}
+
+-- those that fly once this is asked next: after a failed collect none, and nothing is asked
+pub data FliesAfter (old : List ℕ) (next : Request) : Answer → List ℕ → Type 0 where
+  flies_on : (answer : Answer) (new : List ℕ) → new ≡ flying_after old answer → FliesAfter old next answer new
+  none_waited_for : (new : List ℕ) → new ≡ [] → next ≡ Request.Finished → FliesAfter old next (Answer.Host (HostAnswer.Failed HostFault.Collect)) new
+
+same_tickets : (one other : Past) → one ≡ other → one.tickets ≡ other.tickets
+same_tickets one other same = ap (λ (p : Past). p.tickets) same
+
+lost_collect : (old new : Course) (next : Request) (place : JobPlace) (call : HostRequest) → AsksOf old (Request.Host place call) Phase.Collecting → new.tickets.items ≡ [] →
+    next ≡ Request.Finished → FliesAfter old.tickets.items next (Answer.Host (HostAnswer.Failed (fault_of call))) new.tickets.items
+lost_collect old new next place HostRequest.Collect fits none ends = none_waited_for _ none ends
+lost_collect old new next place call fits none ends = absurd fits
+
+module _ (given : Given) where
+  picks_fly : (old : Course) (turn : Turn) (new : Course) → Picks given old turn new → new.tickets.items ≡ old.tickets.items
+  picks_fly old turn new (drains its_new settled flying same known) = same_tickets (past_of new) (past_of old) same
+  picks_fly old turn new (ends_so end its_new is none cleared known) = cleared ∙ sym none
+  picks_fly old turn new (stages its_turn its_new going slot within staging same known) = same_tickets (past_of new) (past_of old) same
+  picks_fly old turn new (waits_for_one its_new going flying none same known) = same_tickets (past_of new) (past_of old) same
+  picks_fly old turn new (has_result its_turn its_new going none to_stage result same known) = same_tickets (past_of new) (past_of old) same
+
+  unfolded_fly : (walks : Walker) (learned : List Resolved) (old new : Course) → IsUnfolded walks learned old new → new.tickets.items ≡ old.tickets.items
+  unfolded_fly walks learned old new (unfold_knows kept its_new knows known same) = same_tickets (past_of new) (past_of old) same
+  unfolded_fly walks learned old new (unfold_fails fault its_new is known same) = ap (λ (p : Past). p.tickets) same
+
+  turns_fly : (old : Course) (number : ℕ) (next : JobNext) (turn : Turn) (new : Course) → (old.end ≡ None → KnowsSome old) → Turns given old number next turn new →
+      new.tickets.items ≡ old.tickets.items
+  turns_fly old number next turn new knows (asks call phase its_new same known) = same_tickets (past_of new) (past_of old) same
+  turns_fly old number next turn new knows (fails cause failed its_turn its_new is known picks) = picks_fly failed turn new picks ∙ ap (λ (p : Past). p.tickets) is
+  turns_fly old number next turn new knows (gives_late outputs late its_turn its_new settled same known picks) =
+      picks_fly late turn new picks ∙ same_tickets (past_of late) (past_of old) same
+  turns_fly old number next turn new knows (gives outputs learned its_turn its_new going learns picks) =
+      let some : KnowsSome old = knows going in
+      picks_fly learned turn new picks
+      ∙ unfolded_fly some.walks _ old learned (learns_by some.walks some.learned _ old learned old.known refl some.is learns)
+
+  gave_up_fly : (past : Past) (jobs : List Job) (number retries : ℕ) {may : Bool} {new : Past} → GivesUp jobs number retries past may new → new.tickets ≡ past.tickets
+  gave_up_fly past jobs number retries (again state there few going) = refl
+  gave_up_fly past jobs number retries (no_more state there few settled) = refl
+  gave_up_fly past jobs number retries (too_often state there many) = refl
+
+  temporary_fly : (old : Course) (number : ℕ) (turn : Turn) (new : Course) → AfterTemporary given old number turn new → new.tickets.items ≡ old.tickets.items
+  temporary_fly old number turn new (stages_again gave_up so known staging same still) =
+      same_tickets (past_of new) (past_of gave_up) same ∙ gave_up_fly (past_of old) (known_in old.known) number given.options.retries so
+  temporary_fly old number turn new (tries_no_more gave_up so known picks) =
+      picks_fly gave_up turn new picks ∙ gave_up_fly (past_of old) (known_in old.known) number given.options.retries so
+
+  fault_fly : (old : Course) (fault : HostFault) (turn : Turn) (new : Course) → AfterFault given old fault turn new → new.tickets.items ≡ old.tickets.items
+  fault_fly old fault turn new after = picks_fly after.settled turn new after.picks ∙ ap (λ (p : Past). p.tickets) after.past
+
+  pub measures_fly : (old : Course) (measuring : Measuring) (turn : Turn) (new : Course) → MeasuresOn given old measuring turn new → new.tickets.items ≡ old.tickets.items
+  measures_fly old measuring turn new (all_measured known its_turn its_new none unfolded picks) = picks_fly known turn new picks ∙ unfolded_fly _ [] old known unfolded
+  measures_fly old measuring turn new (measures rest path its_new is same known) = same_tickets (past_of new) (past_of old) same
+
+  end_fly : (landed : Course) (flight : Flight) (tool : Tool) (ending : ChildEnd) (turn : Turn) (new : Course) → (landed.end ≡ None → KnowsSome landed) →
+      AfterEnd given landed flight tool ending turn new → new.tickets.items ≡ landed.tickets.items
+  end_fly landed flight tool ending turn new knows (well site next class site_is scans turns) = turns_fly landed flight.job next turn new knows turns
+  end_fly landed flight tool ending turn new knows (badly class turns) = turns_fly landed flight.job _ turn new knows turns
+  end_fly landed flight tool ending turn new knows (for_now class temporary) = temporary_fly landed flight.job turn new temporary
+
+  pub taken_out : (ticket : ℕ) (flight : Flight) (old new : Past) → IsDistinct nat_eq old.tickets → TakesOut ticket flight old new → new.tickets ≡ without ticket old.tickets
+  taken_out ticket flight old new apart taken = same_tickets new _ taken.is ∙ one_less old.tickets taken.index ticket apart taken.ticket_there
+
+  module _ (old : Course) (turn : Turn) (new : Course) (apart : IsDistinct nat_eq old.tickets.items) where
+    -- an answer of a call that starts no child and waits for none leaves those that fly
+    abbrev After : Answer → Type 0
+    After answer = FliesAfter old.tickets.items turn.asks answer new.tickets.items
+
+    pub step_flies : (request_asks : Request) (phase : Phase) (answer : Answer) → MayAnswer old.tickets.items request_asks answer → AsksOf old request_asks phase →
+        (phase ≡ Phase.Draining → ⊥) → MayKnow old phase → FollowsFrom given old (record { asks = request_asks; phase = phase }) answer turn new → After answer
+    step_flies it (Phase.Measuring measuring) answer (by_host place request its (is_measured path measure)) fits goes knows follows =
+        flies_on _ _ (measures_fly old follows.next turn new follows.on)
+    step_flies it (Phase.Measuring measuring) answer (by_host place request its (has_failed call)) fits goes knows follows = flies_on _ _ (fault_fly old _ turn new follows)
+    step_flies it (Phase.Staging number) answer (by_host place request its (is_staged plan folder)) fits goes knows follows =
+        flies_on _ _ (turns_fly follows.staged number follows.next turn new (known_still old follows.staged (ap (λ (p : Past). p.end) follows.past) follows.known knows) follows.turns
+        ∙ ap (λ (p : Past). p.tickets) follows.past)
+    step_flies it (Phase.Staging number) answer (by_host place request its (has_failed call)) fits goes knows follows = flies_on _ _ (fault_fly old _ turn new follows)
+    step_flies it (Phase.Working number (JobPhase.Filling filling)) answer (by_host place request its (is_read path limit bytes short)) fits goes knows follows =
+        flies_on _ _ (turns_fly old number follows.next turn new knows follows.turns)
+    step_flies it (Phase.Working number (JobPhase.Filling filling)) answer (by_host place request its (has_failed call)) fits goes knows follows =
+        flies_on _ _ (fault_fly old _ turn new follows)
+    step_flies it (Phase.Working number (JobPhase.Starting kept)) answer (by_host place request its (is_started launch ticket fresh)) fits goes knows follows =
+        flies_on _ _ (picks_fly follows.started turn new follows.picks ∙ ap (λ (p : Past). p.tickets) follows.past)
+    step_flies it (Phase.Working number (JobPhase.Starting kept)) answer (by_host place request its (has_failed call)) fits goes knows follows =
+        flies_on _ _ (fault_fly old _ turn new follows)
+    step_flies it (Phase.Working number (JobPhase.Scanning kept millis)) answer (by_host place request its (is_listed folder found)) fits goes knows follows =
+        flies_on _ _ (turns_fly old number follows.next turn new knows follows.turns)
+    step_flies it (Phase.Working number (JobPhase.Scanning kept millis)) answer (by_host place request its (has_failed call)) fits goes knows follows =
+        flies_on _ _ (fault_fly old _ turn new follows)
+    step_flies it (Phase.Working number (JobPhase.Reading kept reading)) answer (by_host place request its (is_read path limit bytes short)) fits goes knows follows =
+        flies_on _ _ (turns_fly old number follows.next turn new knows follows.turns)
+    step_flies it (Phase.Working number (JobPhase.Reading kept reading)) answer (by_host place request its (has_failed call)) fits goes knows follows =
+        flies_on _ _ (fault_fly old _ turn new follows)
+    step_flies it Phase.Collecting answer (by_host place request its (has_ended ending flies)) fits goes knows follows =
+        flies_on _ _ (end_fly follows.landed follows.flight follows.job.tool ending turn new
+        (known_still old follows.landed (ap (λ (p : Past). p.end) follows.taken.is) follows.known knows) follows.ends
+        ∙ taken_out ending.ticket follows.flight (past_of old) (past_of follows.landed) apart follows.taken)
+    step_flies it Phase.Collecting answer (by_host place request its (has_failed call)) fits goes knows follows = lost_collect old new turn.asks place call fits follows.2 (ap (λ (t : Turn). t.asks) follows.0)
+    step_flies it (Phase.Delivering outputs) answer (by_host place request its (is_delivered plan)) fits goes knows follows =
+        flies_on _ _ (ap (λ (c : Course). c.tickets.items) follows.1)
+    step_flies it (Phase.Delivering outputs) answer (by_host place request its (has_failed call)) fits goes knows follows = flies_on _ _ (fault_fly old _ turn new follows)
+    step_flies it Phase.Draining answer may fits goes knows follows = absurd (goes refl)
+    step_flies it (Phase.Ended outcome) answer (by_host place request its can) fits goes knows follows = absurd (asks_none old place request outcome fits)
+    step_flies it phase answer (by_host place request its can) fits goes knows follows = absurd fits
+
+  -- where memory ran out
+  pub left_flies : (old new : List ℕ) (answer : Answer) → IsDistinct nat_eq old → IsLeftAfter old answer new → new ≡ flying_after old answer
+  left_flies old new (Answer.Host (HostAnswer.Ended ending)) apart left = left.is ∙ one_less old left.index ending.ticket apart left.there
+  left_flies old new (Answer.Host HostAnswer.Done) apart left = left
+  left_flies old new (Answer.Host (HostAnswer.Measured measure)) apart left = left
+  left_flies old new (Answer.Host (HostAnswer.Started ticket)) apart left = left
+  left_flies old new (Answer.Host (HostAnswer.Listed found)) apart left = left
+  left_flies old new (Answer.Host (HostAnswer.FirstBytes bytes)) apart left = left
+  left_flies old new (Answer.Host (HostAnswer.Failed fault)) apart left = left

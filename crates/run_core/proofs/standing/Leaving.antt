@@ -1,0 +1,160 @@
+-- What each step leaves: the run stays bounded, what it blames on the host is so, and memory is not what it ends by.
+use Rattle.std.specs.Prelude.{Contains, IfErr, IsSome}
+use Rattle.std.proofs.Common.{◌≡◌, ◌∙◌, ℕ, ◌<◌, ◌≤◌, List, [], ◌∷◌, ◌++◌, length, Bool, true, false, Option, Some, None, Result, Ok, Err, refl, sym, ap, subst, arith}
+use Rattle.plan_checker.specs.declared.graph.TheConstants.{MOST_VERTICES}
+use Rattle.proc_host.specs.declared.call.Entry.{Entry}
+use Rattle.job_graph.specs.declared.unfolding.Unfolding.{Unfolding}
+use Rattle.job_graph.specs.declared.fault.UnfoldFault.{UnfoldFault}
+use Rattle.job_graph.specs.Jobs.{Job, Walker}
+use Rattle.job_graph.specs.Unfold.{Resolved}
+use Rattle.run_rules.specs.declared.outcome.Report.{Report}
+use Rattle.run_rules.specs.declared.outcome.RunFault.{RunFault}
+use Rattle.run_rules.specs.declared.setting.Options.{Options}
+use Rattle.run_rules.specs.Blame.{BlamesRightly}
+use Rattle.run_core.specs.declared.state.Course.{Course}
+use Rattle.run_core.specs.declared.state.Given.{Given}
+use Rattle.run_core.specs.declared.state.JobNext.{JobNext}
+use Rattle.run_core.specs.declared.state.Phase.{Phase}
+use Rattle.run_core.specs.declared.state.Turn.{Turn}
+use Rattle.run_core.specs.inner.Attempts.{StaysBounded}
+use Rattle.run_core.specs.inner.Course.{GivesUp, Past, again, known_in, no_more, past_of, too_often, with_giving_up}
+use Rattle.run_core.specs.inner.Knows.{IsKnown, IsUnfolded, Knows, Learns, end_by, fails as unfold_fails, knows as unfold_knows}
+use Rattle.run_core.specs.inner.Picks.{AfterTemporary, Delivers, Picks, Stages, Turns, again as stages_again, asks, delivers, drains, ends_so, fails, gives, gives_late, has_result, no_more as tries_no_more, stages, succeeds_at_once, waits_for_one}
+use Rattle.run_core.specs.inner.Standing.{Blames, SettlesRightly}
+use Rattle.run_core.proofs.standing.Books.{Books, BooksAt, books_at_again, books_at_new, books_end, books_given_up}
+
+-- with this turn and this course
+pub record Leaves (options : Options) (entries : List Entry) (turn : Turn) (new : Course) : Type 0 where
+  pub bounded : StaysBounded options (past_of new) turn.phase
+  pub blames : Blames entries (past_of new) turn.phase
+  pub not_lost : turn.phase ≡ Phase.Ended (Err RunFault.OutOfMemory) → ⊥
+  pub goes : turn.phase ≡ Phase.Draining → ⊥
+
+-- where a job is to be staged, no more jobs are known than a graph may have
+abbrev pub FewKnown : Turn → Course → Type 0
+FewKnown turn new = (number : ℕ) → turn.phase ≡ Phase.Staging number → length (known_in new.known) ≤ MOST_VERTICES
+
+-- what is known is what some places unfold
+pub record KnowsSome (course : Course) : Type 0 where
+  pub walks : Walker
+  pub learned : List Resolved
+  pub is : IsKnown walks learned course.known
+
+-- once each input file is measured, and while the end is open
+abbrev pub MayKnow : Course → Phase → Type 0
+MayKnow course (Phase.Measuring measuring) = Unit {0}
+MayKnow course phase = course.end ≡ None → KnowsSome course
+
+rightly : (entries : List Entry) (end : Result Report RunFault) → SettlesRightly entries end → IfErr end (BlamesRightly entries)
+rightly entries (Ok report) settles = tt
+rightly entries (Err (RunFault.Host fault running)) settles = settles
+rightly entries (Err RunFault.TooManyJobs) settles = tt
+rightly entries (Err RunFault.OutOfMemory) settles = absurd settles
+
+settles_by : (entries : List Entry) (fault : UnfoldFault) → SettlesRightly entries (end_by fault)
+settles_by entries UnfoldFault.TooManyJobs = tt
+settles_by entries (UnfoldFault.Fault place cause) = tt
+
+-- what is learned where something is known
+pub learns_by : (walks : Walker) (learned : List Resolved) (one : Resolved) (old new : Course) (known : Option Unfolding) → old.known ≡ known → IsKnown walks learned known →
+    Learns one old new → IsUnfolded walks (learned ++ one ∷ []) old new
+learns_by walks learned one old new None is knows learns = absurd knows
+learns_by walks learned one old new (Some kept) is knows learns = learns walks learned kept is knows
+
+module _ (options : Options) (entries : List Entry) where
+  pub leaves_end : (end : Result Report RunFault) (turn : Turn) (new : Course) → turn.phase ≡ Phase.Ended end → SettlesRightly entries end → Leaves options entries turn new
+  leaves_end end turn new is settles = record {
+    bounded = subst (λ (p : Phase). StaysBounded options (past_of new) p) (sym is) tt;
+    blames = subst (λ (p : Phase). Blames entries (past_of new) p) (sym is) (rightly entries end settles);
+    not_lost = λ lost.
+        let same : Phase.Ended end ≡ Phase.Ended (Err RunFault.OutOfMemory) = sym is ∙ lost in
+        let it : end ≡ Err RunFault.OutOfMemory = cc in
+        subst (λ (e : Result Report RunFault). SettlesRightly entries e) it settles;
+    goes = λ drains. let same : Phase.Ended end ≡ Phase.Draining = sym is ∙ drains in cc;
+  }
+
+  books_at : (one other : Past) → one ≡ other → Books options entries other → Books options entries one
+  books_at one other same books = subst (λ (p : Past). Books options entries p) (sym same) books
+
+  pub books_course : (new old : Course) → past_of new ≡ past_of old → Books options entries (past_of old) → Books options entries (past_of new)
+  books_course new old same books = books_at (past_of new) (past_of old) same books
+
+  -- What comes next
+
+  module _ (given : Given) (its : given.options ≡ options) where
+    leaves_staging : (number : ℕ) (course new : Course) (turn : Turn) → Stages given course number turn → past_of new ≡ past_of course →
+        BooksAt options entries (past_of course) number → Leaves options entries turn new
+    leaves_staging number course new turn staging same books =
+        let at : BooksAt options entries (past_of new) number = subst (λ (p : Past). BooksAt options entries p number) (sym same) books in
+        subst (λ (t : Turn). Leaves options entries t new) (sym staging.is)
+        (record { bounded = at.bounded; blames = at.blames; not_lost = λ lost. cc; goes = λ drains. cc })
+
+    leaves_delivery : (old new : Course) (turn : Turn) → Delivers given old turn → Books options entries (past_of new) → Leaves options entries turn new
+    leaves_delivery old new turn (delivers its_turn files copies) books =
+        subst (λ (t : Turn). Leaves options entries t new) (sym copies.is)
+        (record { bounded = books.bounded; blames = books.blames; not_lost = λ lost. cc; goes = λ drains. cc })
+    leaves_delivery old new turn (succeeds_at_once none) books = record { bounded = tt; blames = tt; not_lost = λ lost. cc; goes = λ drains. cc }
+
+    pub picks_leave : (old : Course) (turn : Turn) (new : Course) → FewKnown turn new → Books options entries (past_of old) → Picks given old turn new → Leaves options entries turn new
+    picks_leave old turn new few books (drains its_new settled flying same known) =
+        let now : Books options entries (past_of new) = books_course new old same books in
+        record { bounded = now.bounded; blames = now.blames; not_lost = λ lost. cc; goes = λ drains. cc }
+    picks_leave old turn new few books (ends_so end its_new is none cleared known) = leaves_end end turn new refl (books.blames.settled end is)
+    picks_leave old turn new few books (stages its_turn its_new going slot within staging same known) =
+        let phase : turn.phase ≡ Phase.Staging (length old.jobs.items) = ap (λ (t : Turn). t.phase) staging.is in
+        let most : length (known_in old.known) ≤ MOST_VERTICES =
+        subst (λ (k : Option Unfolding). length (known_in k) ≤ MOST_VERTICES) known (few (length old.jobs.items) phase) in
+        leaves_staging (length old.jobs.items) old new turn staging same (books_at_new options entries (past_of old) (length (known_in old.known)) within most books)
+    picks_leave old turn new few books (waits_for_one its_new going flying none same known) =
+        let now : Books options entries (past_of new) = books_course new old same books in
+        record { bounded = now.bounded; blames = now.blames; not_lost = λ lost. cc; goes = λ drains. cc }
+    picks_leave old turn new few books (has_result its_turn its_new going none to_stage result same known) =
+        leaves_delivery old new turn result (books_course new old same books)
+
+    -- A job gave up
+
+    books_again : (past : Past) (jobs : List Job) (number retries : ℕ) {may : Bool} {new : Past} → retries ≡ options.retries → GivesUp jobs number retries past may new →
+        may ≡ true → Books options entries past → BooksAt options entries new number
+    books_again past jobs number retries limit (again state there few going) is books =
+        books_at_again options entries past number state there (omega (arith, few, limit)) books
+    books_again past jobs number retries limit (no_more state there few settled) is books = absurd cc
+    books_again past jobs number retries limit (too_often state there many) is books = absurd cc
+
+    books_gave_up : (past : Past) (jobs : List Job) (number retries : ℕ) {may : Bool} {new : Past} → retries ≡ options.retries → GivesUp jobs number retries past may new →
+        Books options entries past → Books options entries new
+    books_gave_up past jobs number retries limit (again state there few going) books = books_given_up options entries past number state there (omega (arith, few, limit)) books
+    books_gave_up past jobs number retries limit (no_more state there few settled) books = books_given_up options entries past number state there (omega (arith, few, limit)) books
+    books_gave_up past jobs number retries limit (too_often state there many) books = books_end options entries past _ tt books
+
+    limit_is : given.options.retries ≡ options.retries
+    limit_is = ap (λ (o : Options). o.retries) its
+
+    pub leaves_temporary : (old : Course) (number : ℕ) (turn : Turn) (new : Course) → FewKnown turn new → Books options entries (past_of old) →
+        AfterTemporary given old number turn new → Leaves options entries turn new
+    leaves_temporary old number turn new few books (stages_again gave_up so known staging same still) =
+        leaves_staging number gave_up new turn staging same
+        (books_again (past_of old) (known_in old.known) number given.options.retries limit_is so refl books)
+    leaves_temporary old number turn new few books (tries_no_more gave_up so known picks) =
+        picks_leave gave_up turn new few (books_gave_up (past_of old) (known_in old.known) number given.options.retries limit_is so books) picks
+
+    -- A job goes on
+
+    pub books_unfolded : (walks : Walker) (learned : List Resolved) (old new : Course) → IsUnfolded walks learned old new → Books options entries (past_of old) →
+        Books options entries (past_of new)
+    books_unfolded walks learned old new (unfold_knows kept its_new knows known same) books = books_course new old same books
+    books_unfolded walks learned old new (unfold_fails fault its_new is known same) books =
+        books_at (past_of new) _ same (books_end options entries (past_of old) (end_by fault) (settles_by entries fault) books)
+
+    pub turns_leave : (old : Course) (number : ℕ) (next : JobNext) (turn : Turn) (new : Course) → FewKnown turn new → (old.end ≡ None → KnowsSome old) →
+        Books options entries (past_of old) → Turns given old number next turn new → Leaves options entries turn new
+    turns_leave old number next turn new few knows books (asks call phase its_new same known) =
+        let now : Books options entries (past_of new) = books_course new old same books in
+        record { bounded = now.bounded; blames = now.blames; not_lost = λ lost. cc; goes = λ drains. cc }
+    turns_leave old number next turn new few knows books (fails cause failed its_turn its_new is known picks) =
+        picks_leave failed turn new few (books_at (past_of failed) _ is (books_end options entries (past_of old) _ tt books)) picks
+    turns_leave old number next turn new few knows books (gives_late outputs late its_turn its_new settled same known picks) =
+        picks_leave late turn new few (books_course late old same books) picks
+    turns_leave old number next turn new few knows books (gives outputs learned its_turn its_new going learns picks) =
+        let some : KnowsSome old = knows going in
+        picks_leave learned turn new few
+        (books_unfolded some.walks _ old learned (learns_by some.walks some.learned _ old learned old.known refl some.is learns) books) picks

@@ -1,0 +1,217 @@
+-- One answer taken: what the machine is in then.
+use Rattle.std.specs.Prelude.{◌≢◌, ◌*◌, Contains, IfErr}
+use Rattle.std.specs.List.{IsDistinct}
+use Rattle.std.proofs.Common.{◌≡◌, ◌∙◌, ◌⊎◌, inl, inr, ℕ, ◌+◌, ◌<◌, ◌≤◌, List, [], ◌∷◌, ◌++◌, length, Option, None, Result, Ok, Err, refl, sym, ap, subst, arith, length-append}
+use Rattle.std.proofs.lemmas.List.{map-append}
+use Rattle.std.proofs.lemmas.List.Elements.{Contains-append_left, Contains-push, filter_map-append}
+use Rattle.plan_checker.specs.declared.plan.Mark.{Mark}
+use Rattle.proc_host.specs.Answers.{is_measured, is_staged, is_started, has_ended, is_listed, is_read, is_delivered, has_failed}
+use Rattle.proc_host.specs.declared.call.Entry.{Entry}
+use Rattle.proc_host.specs.Tickets.{without}
+use Rattle.proc_host.specs.declared.call.HostFault.{HostFault}
+use Rattle.proc_host.specs.declared.call.HostAnswer.{HostAnswer}
+use Rattle.proc_host.specs.declared.call.HostRequest.{HostRequest}
+use Rattle.job_graph.specs.declared.unfolding.Unfolding.{Unfolding}
+use Rattle.job_graph.specs.Words.{JobPlace}
+use Rattle.run_rules.specs.Allowed.{Allowed}
+use Rattle.run_rules.specs.Answers.{MayAnswer, by_host, flying_after}
+use Rattle.run_rules.specs.Blame.{BlamesRightly, IsToBlame, WereStarted, logged_answers}
+use Rattle.run_rules.specs.Events.{Progress}
+use Rattle.run_rules.specs.Reports.{entries_of, entry_of}
+use Rattle.run_rules.specs.Scene.{Scene, scene_of}
+use Rattle.run_rules.specs.declared.outcome.Report.{Report}
+use Rattle.run_rules.specs.declared.outcome.RunFault.{RunFault}
+use Rattle.run_rules.specs.declared.request.Answer.{Answer}
+use Rattle.run_rules.specs.declared.request.Pair.{Pair}
+use Rattle.run_rules.specs.declared.request.Request.{Request}
+use Rattle.run_rules.specs.declared.setting.Options.{Options}
+use Rattle.run_core.specs.declared.state.Course.{Course}
+use Rattle.run_core.specs.declared.state.Given.{Given}
+use Rattle.run_core.specs.declared.state.JobPhase.{JobPhase}
+use Rattle.run_core.specs.declared.state.Phase.{Phase}
+use Rattle.run_core.specs.declared.state.Turn.{Turn}
+use Rattle.run_core.specs.Core.{IsLanded, setting_in}
+use Rattle.run_core.specs.inner.Anyway.{CanGoOn}
+use Rattle.run_core.specs.inner.Attempts.{StaysBounded, answers_left, many_files, most_stagings, weight_of, weight_of_job, weight_of_past}
+use Rattle.run_core.specs.inner.Course.{Past, known_in, past_of}
+use Rattle.run_core.specs.inner.Follows.{AsksIn, AsksOf, FollowsFrom, MakesRoom, Moves, gives_up, has_room, moves, no_room}
+use Rattle.run_core.specs.inner.Parts.{job_in}
+use Rattle.run_core.specs.inner.Standing.{Blames, IsLostAt, RanOut, Runs, SettlesRightly, draining, lost, pairs_ahead}
+use Rattle.run_core.specs.inner.Turn.{lost_after, lost_with}
+use Rattle.run_core.proofs.standing.Answered.{asks_none, host_answer, step_leaves}
+use Rattle.run_core.proofs.standing.Anyway.{GoesOn, goes_anyway}
+use Rattle.run_core.proofs.standing.Facts.{few_known, knows_some, looks_at_some, tickets_apart}
+use Rattle.run_core.proofs.standing.Fewer.{step_fewer}
+use Rattle.run_core.proofs.standing.Flown.{FliesAfter, flies_on, left_flies, none_waited_for, step_flies}
+use Rattle.run_core.proofs.standing.Leaving.{Leaves}
+use Rattle.run_core.proofs.standing.Lost.{Drained, flies_lost, landed_when_none, lost_at, lost_blames, lost_bounded, lost_few, lost_more, lost_now, none_when_lost, step_drains}
+use Rattle.run_core.proofs.standing.Tickets.{at_most}
+
+-- how the run of a machine goes on while memory is there
+pub record RunsOn (given : Given) : Type 0 where
+  pub follows_on : (t : List Pair) (old : Course) (before : Turn) (answer : Answer) (turn : Turn) (new : Course) → Runs (scene_of (setting_in given)) t old before →
+      MayAnswer old.tickets.items before.asks answer → FollowsFrom given old before answer turn new →
+      Runs (scene_of (setting_in given)) (t ++ record { request = before.asks; answer = answer } ∷ []) new turn
+  pub stays : (t : List Pair) (old new : Course) (turn : Turn) → past_of new ≡ past_of old → new.known ≡ old.known → Runs (scene_of (setting_in given)) t old turn →
+      Runs (scene_of (setting_in given)) t new turn
+  pub allows : (t : List Pair) (course : Course) (turn : Turn) (r : Runs (scene_of (setting_in given)) t course turn) → turn.asks ≢ Request.Finished →
+      Allowed (scene_of (setting_in given)) r.happened r.marks turn.asks
+  pub asks_in : (t : List Pair) (course : Course) (turn : Turn) → Runs (scene_of (setting_in given)) t course turn → AsksIn course turn
+
+-- on its run, or off it
+pub data IsGoing (s : Scene) (t : List Pair) (course : Course) (turn : Turn) : Type 0 where
+  on : Runs s t course turn → IsGoing s t course turn
+  off : RanOut s t (past_of course) turn → IsGoing s t course turn
+
+going_same : (s : Scene) (t : List Pair) (turn : Turn) (new last : Course) → past_of last ≡ past_of new → (Runs s t new turn → Runs s t last turn) →
+    IsGoing s t new turn → IsGoing s t last turn
+going_same s t turn new last same stays (on runs) = on (stays runs)
+going_same s t turn new last same stays (off out) = off (subst (λ (p : Past). RanOut s t p turn) (sym same) out)
+
+-- where the machine is after an answer
+pub record Taken (given : Given) (t : List Pair) (old : Course) (before : Turn) (answer : Answer) (turn : Turn) (new : Course) : Type 0 where
+  pub going : IsGoing (scene_of (setting_in given)) (t ++ record { request = before.asks; answer = answer } ∷ []) new turn
+  pub bounded : StaysBounded given.options (past_of new) turn.phase
+  pub blames : Blames (entries_of (t ++ record { request = before.asks; answer = answer } ∷ [])) (past_of new) turn.phase
+  pub fewer : answers_left given.options (past_of new) turn.phase < answers_left given.options (past_of old) before.phase
+  pub landed : turn.phase ≡ Phase.Ended (Err RunFault.OutOfMemory) → IsLanded old.tickets.items answer
+  pub finished : turn.phase ≡ Phase.Ended (Err RunFault.OutOfMemory) → turn.asks ≡ Request.Finished
+  pub flying : turn.asks ≢ Request.Finished → new.tickets.items ≡ flying_after old.tickets.items answer
+
+-- What the host's log gains
+
+one_answer : {flying : List ℕ} {asks : Request} {answer : Answer} → MayAnswer flying asks answer →
+    logged_answers (entries_of (record { request = asks; answer = answer } ∷ [])) ≡ host_answer answer ∷ []
+one_answer (by_host place request answer can) = refl
+
+pub answers_more : (t : List Pair) {flying : List ℕ} {asks : Request} {answer : Answer} → MayAnswer flying asks answer →
+    logged_answers (entries_of (t ++ record { request = asks; answer = answer } ∷ [])) ≡ logged_answers (entries_of t) ++ host_answer answer ∷ []
+answers_more t {asks = asks} {answer = answer} may =
+    ap logged_answers (filter_map-append entry_of t (record { request = asks; answer = answer } ∷ []))
+    ∙ map-append (λ (entry : Entry). entry.answer) (entries_of t) (entries_of (record { request = asks; answer = answer } ∷ []))
+    ∙ ap (λ (more : List HostAnswer). logged_answers (entries_of t) ++ more) (one_answer may)
+
+-- What was blamed is so still
+
+module _ (entries more : List Entry) (told : (answer : HostAnswer) → Contains (logged_answers entries) answer → Contains (logged_answers more) answer) where
+  started_more : (tickets : List ℕ) → WereStarted entries tickets → WereStarted more tickets
+  started_more tickets began = record { each = λ ticket there. told (HostAnswer.Started ticket) (began.each ticket there) }
+
+  blame_more : (fault : HostFault) (running : List ℕ) → IsToBlame entries fault running → IsToBlame more fault running
+  blame_more fault running blame = record { failed = told (HostAnswer.Failed fault) blame.failed; started = started_more running blame.started }
+
+  settles_more : (end : Result Report RunFault) → SettlesRightly entries end → SettlesRightly more end
+  settles_more (Ok report) settles = tt
+  settles_more (Err (RunFault.Host fault running)) settles = blame_more fault running settles
+  settles_more (Err RunFault.TooManyJobs) settles = tt
+  settles_more (Err RunFault.OutOfMemory) settles = absurd settles
+
+  ends_more : (outcome : Result Report RunFault) → IfErr outcome (BlamesRightly entries) → IfErr outcome (BlamesRightly more)
+  ends_more (Ok report) blames = tt
+  ends_more (Err (RunFault.Host fault running)) blames = blame_more fault running blames
+  ends_more (Err RunFault.TooManyJobs) blames = tt
+  ends_more (Err RunFault.OutOfMemory) blames = tt
+
+  pub blames_more : (past : Past) (phase : Phase) → Blames entries past phase → Blames more past phase
+  blames_more past (Phase.Ended outcome) blames = ends_more outcome blames
+  blames_more past Phase.Draining blames = tt
+  blames_more past phase blames =
+      record { flying = started_more past.tickets blames.flying; settled = λ end is. settles_more end (blames.settled end is) }
+
+-- How many fly
+
+pub rise : Answer → ℕ
+rise (Answer.Host (HostAnswer.Started ticket)) = 1
+rise answer = 0
+
+after_few : (old : List ℕ) (answer : Answer) → length (flying_after old answer) ≤ length old + rise answer
+unfolding rise
+after_few old (Answer.Host (HostAnswer.Started ticket)) = let longer : length (old ++ ticket ∷ []) ≡ length old + 1 = length-append old (ticket ∷ []) in omega (arith, longer)
+after_few old (Answer.Host (HostAnswer.Ended ending)) = let left : length (without ending.ticket old) ≤ length old = at_most ending.ticket old in omega (arith, left)
+after_few old (Answer.Host HostAnswer.Done) = omega arith
+after_few old (Answer.Host (HostAnswer.Measured measure)) = omega arith
+after_few old (Answer.Host (HostAnswer.Listed found)) = omega arith
+after_few old (Answer.Host (HostAnswer.FirstBytes bytes)) = omega arith
+after_few old (Answer.Host (HostAnswer.Failed fault)) = omega arith
+
+pub flown_few : (old : List ℕ) (next : Request) (answer : Answer) (new : List ℕ) → FliesAfter old next answer new → length new ≤ length old + rise answer
+flown_few old next answer new (flies_on its_answer its_new is) = subst (λ (ns : List ℕ). length ns ≤ length old + rise answer) (sym is) (after_few old answer)
+flown_few old next answer new (none_waited_for its_new is ends) = subst (λ (ns : List ℕ). length ns ≤ length old + rise answer) (sym is) (omega arith)
+
+pub rise_at_most : (answer : Answer) → rise answer ≤ 1
+unfolding rise
+rise_at_most (Answer.Host (HostAnswer.Started ticket)) = omega arith
+rise_at_most (Answer.Host (HostAnswer.Ended ending)) = omega arith
+rise_at_most (Answer.Host HostAnswer.Done) = omega arith
+rise_at_most (Answer.Host (HostAnswer.Measured measure)) = omega arith
+rise_at_most (Answer.Host (HostAnswer.Listed found)) = omega arith
+rise_at_most (Answer.Host (HostAnswer.FirstBytes bytes)) = omega arith
+rise_at_most (Answer.Host (HostAnswer.Failed fault)) = omega arith
+
+some_weight_of_job : (phase : JobPhase) → 0 < weight_of_job phase
+some_weight_of_job (JobPhase.Filling filling) = omega arith
+some_weight_of_job (JobPhase.Starting kept) = omega arith
+some_weight_of_job (JobPhase.Scanning kept millis) = omega arith
+some_weight_of_job (JobPhase.Reading kept reading) = omega arith
+
+some_weight : (phase : Phase) → 0 < weight_of phase
+some_weight (Phase.Measuring measuring) = omega arith
+some_weight (Phase.Staging number) = omega arith
+some_weight (Phase.Working number phase) = some_weight_of_job phase
+some_weight Phase.Collecting = omega arith
+some_weight (Phase.Delivering outputs) = omega arith
+some_weight Phase.Draining = omega arith
+some_weight (Phase.Ended outcome) = omega arith
+
+pub rise_below : (course : Course) (tickets : List ℕ) (asks : Request) (phase : Phase) (answer : Answer) → MayAnswer tickets asks answer → AsksOf course asks phase →
+    rise answer < weight_of phase
+unfolding rise
+rise_below course tickets asks (Phase.Working number (JobPhase.Starting kept)) answer (by_host place request its (is_started launch ticket fresh)) fits = omega arith
+rise_below course tickets asks phase answer (by_host place request its (is_started launch ticket fresh)) fits = absurd fits
+rise_below course tickets asks phase answer (by_host place request its can) fits = some_weight phase
+
+-- What is asked while an answer comes
+
+pub asks_some : {tickets : List ℕ} {asks : Request} {answer : Answer} → MayAnswer tickets asks answer → asks ≢ Request.Finished
+asks_some (by_host place request answer can) = λ none. cc
+
+pub not_ended : (course : Course) {tickets : List ℕ} {asks : Request} {answer : Answer} (phase : Phase) → MayAnswer tickets asks answer → AsksOf course asks phase →
+    (outcome : Result Report RunFault) → phase ≡ Phase.Ended outcome → ⊥
+not_ended course phase (by_host place request answer can) fits outcome is =
+    asks_none course place request outcome (subst (λ (p : Phase). AsksOf course (Request.Host place request) p) is fits)
+
+pub left_now : (options : Options) (past : Past) (phase : Phase) → (phase ≡ Phase.Draining → ⊥) → ((outcome : Result Report RunFault) → phase ≡ Phase.Ended outcome → ⊥) →
+    answers_left options past phase ≡ weight_of_past options past + weight_of phase
+left_now options past Phase.Draining goes asks = absurd (goes refl)
+left_now options past (Phase.Ended outcome) goes asks = absurd (asks outcome refl)
+left_now options past phase goes asks = refl
+
+pub ahead_now : (past : Past) (phase : Phase) → (phase ≡ Phase.Draining → ⊥) → ((outcome : Result Report RunFault) → phase ≡ Phase.Ended outcome → ⊥) →
+    pairs_ahead past phase ≡ length past.tickets + 2
+ahead_now past Phase.Draining goes asks = absurd (goes refl)
+ahead_now past (Phase.Ended outcome) goes asks = absurd (asks outcome refl)
+ahead_now past phase goes asks = refl
+
+pub lost_below : (a new flown rises stagings weight : ℕ) → a ≤ new → new ≤ flown + rises → rises < weight → a < stagings + flown * (many_files + 3) + weight
+lost_below a new flown rises stagings weight few risen below = omega (arith, few, risen, below)
+
+pub flies_if : (old : List ℕ) (next : Request) (answer : Answer) (new : List ℕ) → FliesAfter old next answer new → next ≢ Request.Finished → new ≡ flying_after old answer
+flies_if old next answer new (flies_on its_answer its_new is) asks = is
+flies_if old next answer new (none_waited_for its_new is ends) asks = absurd (asks ends)
+
+pub lost_ends : (past : Past) → (lost_after past).phase ≡ Phase.Ended (Err RunFault.OutOfMemory) → (lost_after past).asks ≡ Request.Finished
+lost_ends past ended = ap (λ (ns : List ℕ). (lost_with ns).asks) (none_when_lost past ended)
+
+-- the same course, in other memory
+pub taken_same : (given : Given) → RunsOn given → (t : List Pair) (old : Course) (before : Turn) (answer : Answer) (turn : Turn) (new last : Course) →
+    past_of last ≡ past_of new → last.known ≡ new.known → Taken given t old before answer turn new → Taken given t old before answer turn last
+taken_same given runs_on t old before answer turn new last same known taken = record {
+  going = going_same (scene_of (setting_in given)) (t ++ record { request = before.asks; answer = answer } ∷ []) turn new last same
+      (runs_on.stays (t ++ record { request = before.asks; answer = answer } ∷ []) new last turn same known) taken.going;
+  bounded = subst (λ (p : Past). StaysBounded given.options p turn.phase) (sym same) taken.bounded;
+  blames = subst (λ (p : Past). Blames (entries_of (t ++ record { request = before.asks; answer = answer } ∷ [])) p turn.phase) (sym same) taken.blames;
+  fewer = subst (λ (p : Past). answers_left given.options p turn.phase < answers_left given.options (past_of old) before.phase) (sym same) taken.fewer;
+  landed = taken.landed;
+  finished = taken.finished;
+  flying = λ asks. ap (λ (p : Past). p.tickets) same ∙ taken.flying asks;
+}

@@ -1,0 +1,146 @@
+-- What the machine's callers learn of an answer taken.
+use Rattle.std.specs.Prelude.{◌≢◌, OnErr, OnOk, IfErr}
+use Rattle.std.proofs.Common.{◌≡◌, ◌∙◌, ℕ, ◌+◌, ◌<◌, ◌≤◌, List, [], ◌∷◌, ◌++◌, Vec, Global, length, vec_len, vec_capacity, Result, Ok, Err, refl, sym, ap, subst, arith}
+use Rattle.std.proofs.lemmas.List.Elements.{filter_map-append}
+use Rattle.run_rules.specs.Answers.{MayAnswer}
+use Rattle.run_rules.specs.Reports.{entries_of, entry_of}
+use Rattle.run_rules.specs.Scene.{scene_of}
+use Rattle.run_rules.specs.declared.outcome.Report.{Report}
+use Rattle.run_rules.specs.declared.outcome.RunFault.{RunFault}
+use Rattle.run_rules.specs.declared.request.Answer.{Answer}
+use Rattle.run_rules.specs.declared.request.Pair.{Pair}
+use Rattle.run_rules.specs.declared.request.Request.{Request}
+use Rattle.run_core.specs.declared.runner.RunCore.{RunCore}
+use Rattle.run_core.specs.declared.state.Course.{Course}
+use Rattle.run_core.specs.declared.state.Given.{Given}
+use Rattle.run_core.specs.declared.state.Phase.{Phase}
+use Rattle.run_core.specs.declared.state.Turn.{Turn}
+use Rattle.run_core.specs.Core.{Goes, Stands, Took, off_run, on_run, setting_in}
+use Rattle.run_core.specs.inner.Anyway.{CanGoOn}
+use Rattle.run_core.specs.inner.Course.{Past, past_of}
+use Rattle.run_core.specs.inner.Follows.{AsksIn, HasPairs, IsReady, IsReadyFor, MakesRoom, Moves, has_room, no_room, told_of}
+use Rattle.run_core.specs.inner.Parts.{job_in}
+use Rattle.run_core.specs.inner.Standing.{Blames, HasRoom, RanOut, Runs, draining, lost, pairs_ahead}
+use Rattle.run_core.specs.inner.Turn.{lost_after}
+use Rattle.run_core.proofs.standing.Lost.{lost_room}
+use Rattle.run_core.proofs.standing.Stepped.{LeavesRoom, leaves_room, taken}
+use Rattle.run_core.proofs.standing.Taken.{IsGoing, RunsOn, Taken, off, on, taken_same}
+
+-- What `take` answers
+
+data Tells (phase : Phase) : Type 0 where
+  tells_ok : told_of phase ≡ Ok tt → (phase ≡ Phase.Ended (Err RunFault.OutOfMemory) → ⊥) → Tells phase
+  tells_lost : phase ≡ Phase.Ended (Err RunFault.OutOfMemory) → Tells phase
+
+tells : (phase : Phase) → Tells phase
+tells (Phase.Ended (Err RunFault.OutOfMemory)) = tells_lost refl
+tells (Phase.Ended (Err RunFault.TooManyJobs)) = tells_ok refl (λ lost. cc)
+tells (Phase.Ended (Err (RunFault.Host fault running))) = tells_ok refl (λ lost. cc)
+tells (Phase.Ended (Ok report)) = tells_ok refl (λ lost. cc)
+tells (Phase.Measuring measuring) = tells_ok refl (λ lost. cc)
+tells (Phase.Staging number) = tells_ok refl (λ lost. cc)
+tells (Phase.Working number phase) = tells_ok refl (λ lost. cc)
+tells Phase.Collecting = tells_ok refl (λ lost. cc)
+tells (Phase.Delivering outputs) = tells_ok refl (λ lost. cc)
+tells Phase.Draining = tells_ok refl (λ lost. cc)
+
+-- The machine as a whole
+
+abbrev pub noted : Request → Answer → Pair
+noted request answer = record { request = request; answer = answer }
+
+abbrev pub core_with : RunCore → Vec Pair Global → Course → Turn → RunCore
+core_with core pairs course turn = record { alloc = core.alloc; given = core.given; pairs = pairs; course = course; turn = turn }
+
+pub going_of : (core : RunCore) → Goes core → IsGoing (scene_of (setting_in core.given)) core.pairs.items core.course core.turn
+going_of core (on_run r) = on r
+going_of core (off_run out) = off out
+
+goes_so : (core : RunCore) (t : List Pair) → core.pairs.items ≡ t → IsGoing (scene_of (setting_in core.given)) t core.course core.turn → Goes core
+goes_so core t same (on r) = on_run (subst (λ (all : List Pair). Runs (scene_of (setting_in core.given)) all core.course core.turn) (sym same) r)
+goes_so core t same (off out) = off_run (subst (λ (all : List Pair). RanOut (scene_of (setting_in core.given)) all (past_of core.course) core.turn) (sym same) out)
+
+pairs_fit : (pairs room : ℕ) (past last : Past) (old new : Turn) → last ≡ past → MakesRoom pairs room past old new → pairs + pairs_ahead last new.phase ≤ room
+pairs_fit pairs room past last old new same (has_room fits) = subst (λ (p : Past). pairs + pairs_ahead p new.phase ≤ room) (sym same) fits
+pairs_fit pairs room past last old new same (no_room fits) =
+    subst (λ (p : Past). pairs + pairs_ahead p new.phase ≤ room) (sym same) (smaller pairs room (pairs_ahead past (lost_after past).phase) (length past.tickets) fits (lost_room past))
+  where
+    smaller : (n m a b : ℕ) → n + b ≤ m → a ≤ b → n + a ≤ m
+    smaller n m a b fits less = omega (arith, fits, less)
+
+module _ (core : RunCore) (answer : Answer) (pairs : Vec Pair Global) (course : Course) (turn : Turn) (stands : Stands core)
+    (longer : pairs.items ≡ core.pairs.items ++ noted core.turn.asks answer ∷ []) (room : HasRoom course turn.phase)
+    (fits : vec_len pairs + pairs_ahead (past_of course) turn.phase ≤ vec_capacity pairs)
+    (it : Taken core.given core.pairs.items core.course core.turn answer turn course) where
+  stands_then : Stands (core_with core pairs course turn)
+  stands_then = record {
+    limits = stands.limits;
+    accepted = stands.accepted;
+    ids = stands.ids;
+    going = goes_so (core_with core pairs course turn) (core.pairs.items ++ noted core.turn.asks answer ∷ []) longer it.going;
+    bounded = it.bounded;
+    blames = subst (λ (t : List Pair). Blames (entries_of t) (past_of course) turn.phase) (sym longer) it.blames;
+    room = room;
+    pairs_room = fits;
+  }
+
+  more_entries : entries_of pairs.items ≡ entries_of core.pairs.items ++ entries_of (noted core.turn.asks answer ∷ [])
+  more_entries = ap entries_of longer ∙ filter_map-append entry_of core.pairs.items (noted core.turn.asks answer ∷ [])
+
+  took_by : Tells turn.phase → Took core answer (told_of turn.phase) (core_with core pairs course turn)
+  took_by (tells_ok is not_lost) =
+      subst (λ (r : Result (Unit {0}) RunFault). Took core answer r (core_with core pairs course turn)) (sym is) (record {
+        stands = stands_then;
+        setting = refl;
+        pair = longer;
+        entries = more_entries;
+        landed = tt;
+        flying = it.flying;
+        steps = it.fewer;
+        ok = not_lost;
+        err = tt;
+        lost = tt;
+        finished = tt;
+      })
+  took_by (tells_lost is) =
+      subst (λ (r : Result (Unit {0}) RunFault). Took core answer r (core_with core pairs course turn)) (sym (ap told_of is)) (record {
+        stands = stands_then;
+        setting = refl;
+        pair = longer;
+        entries = more_entries;
+        landed = it.landed is;
+        flying = tt;
+        steps = it.fewer;
+        ok = tt;
+        err = refl;
+        lost = is;
+        finished = it.finished is;
+      })
+
+  took_told : (result : Result (Unit {0}) RunFault) → result ≡ told_of turn.phase → Took core answer result (core_with core pairs course turn)
+  took_told result is = subst (λ (r : Result (Unit {0}) RunFault). Took core answer r (core_with core pairs course turn)) (sym is) (took_by (tells turn.phase))
+
+module _ (core : RunCore) (answer : Answer) (runs_on : RunsOn core.given) (stands : Stands core) (may : MayAnswer core.course.tickets.items core.turn.asks answer) where
+  pub took : (pairs : Vec Pair Global) (new course : Course) (next turn : Turn) (result : Result (Unit {0}) RunFault) → CanGoOn core.course (job_in core.turn.phase) →
+      pairs.items ≡ core.pairs.items ++ noted core.turn.asks answer ∷ [] → Moves core.given core.course core.turn answer next new →
+      MakesRoom (vec_len pairs) (vec_capacity pairs) (past_of new) next turn → past_of course ≡ past_of new → course.known ≡ new.known → HasRoom course turn.phase →
+      result ≡ told_of turn.phase → Took core answer result (core_with core pairs course turn)
+  took pairs new course next turn result can longer moved made same known room is =
+      took_told core answer pairs course turn stands longer room (pairs_fit (vec_len pairs) (vec_capacity pairs) (past_of new) (past_of course) next turn same made)
+      (taken_same core.given runs_on core.pairs.items core.course core.turn answer turn new course same known
+      (taken core.given runs_on core.pairs.items core.course core.turn answer next turn new (vec_len pairs) (vec_capacity pairs) (going_of core stands.going) may can
+      stands.bounded stands.blames moved made)) result is
+
+  -- the end of each child in flight has room once the pair is noted
+  pub keeps_pairs : (new : Course) (next : Turn) (pairs room : ℕ) → Moves core.given core.course core.turn answer next new → pairs ≡ vec_len core.pairs + 1 →
+      vec_capacity core.pairs ≤ room → HasPairs pairs room (past_of new) next
+  keeps_pairs new next pairs room moved one wider =
+      let left : length new.tickets.items + 1 ≤ pairs_ahead (past_of core.course) core.turn.phase =
+      leaves_room core.given runs_on core.pairs.items core.course core.turn answer next new (going_of core stands.going) may moved in
+      still_fit pairs room (vec_len core.pairs) (vec_capacity core.pairs) (length new.tickets.items) (pairs_ahead (past_of core.course) core.turn.phase) left one wider stands.pairs_room
+    where
+      still_fit : (pairs room n m a b : ℕ) → a + 1 ≤ b → pairs ≡ n + 1 → m ≤ room → n + b ≤ m → pairs + a ≤ room
+      still_fit pairs room n m a b left one wider fits = omega (arith, left, one, wider, fits)
+
+pub one_fits : (pairs room ahead : ℕ) → 0 < ahead → pairs + ahead ≤ room → pairs < room
+one_fits pairs room ahead some fits = omega (arith, some, fits)

@@ -1,0 +1,176 @@
+-- Each choice of what comes next leaves few answers.
+use Rattle.std.specs.Prelude.{◌≢◌, ◌-◌, ◌*◌, IsSome}
+use Rattle.std.specs.List.{remove}
+use Rattle.std.proofs.Common.{◌≡◌, ◌∙◌, ℕ, ◌+◌, ◌<◌, ◌≤◌, List, [], ◌∷◌, ◌++◌, length, Bool, true, false, Option, Some, None, Result, refl, sym, ap, subst, arith, length-append}
+use Rattle.std.proofs.lemmas.List.Edits.{length-remove}
+use Rattle.std.proofs.lemmas.Nat.{mul-le}
+use Rattle.std.proofs.lemmas.Option.{slice_get_within}
+use Rattle.plan_checker.specs.declared.graph.TheConstants.{MOST_VERTICES}
+use Rattle.job_graph.specs.Jobs.{Job, Walker}
+use Rattle.job_graph.specs.Unfold.{Resolved, or_else}
+use Rattle.run_rules.specs.declared.outcome.Report.{Report}
+use Rattle.run_rules.specs.declared.outcome.RunFault.{RunFault}
+use Rattle.run_rules.specs.declared.setting.Options.{Options}
+use Rattle.run_core.specs.declared.state.Course.{Course}
+use Rattle.run_core.specs.declared.state.Flight.{Flight}
+use Rattle.run_core.specs.declared.state.Given.{Given}
+use Rattle.run_core.specs.declared.state.JobNext.{JobNext}
+use Rattle.run_core.specs.declared.state.Kept.{Kept}
+use Rattle.run_core.specs.declared.state.Phase.{Phase}
+use Rattle.run_core.specs.declared.state.Turn.{Turn}
+use Rattle.run_core.specs.inner.Attempts.{IsBounded, answers_left, many_files, most_stagings, tries_of, weight_of_past}
+use Rattle.run_core.specs.inner.Course.{GivesUp, Past, TakesOut, again, known_in, no_more, past_of, too_often, with_end, with_staging, with_start}
+use Rattle.run_core.specs.inner.Knows.{IsUnfolded, end_by, fails as unfold_fails, knows as unfold_knows}
+use Rattle.run_core.specs.inner.Picks.{AfterTemporary, Delivers, Picks, Stages, Turns, again as stages_again, asks, delivers, drains, ends_so, fails, gives, gives_late, has_result, no_more as tries_no_more, stages, succeeds_at_once, waits_for_one}
+use Rattle.run_core.proofs.standing.Leaving.{KnowsSome, learns_by}
+use Rattle.run_core.proofs.standing.Looked.{weight_next}
+use Rattle.run_core.proofs.standing.Tries.{tries_at_most}
+
+least : (w : ℕ) → 0 ≤ w
+least w = omega arith
+
+one_more : (w : ℕ) → w + 1 ≤ w + 2
+one_more w = omega arith
+
+same_at_most : (w : ℕ) → w ≤ w
+same_at_most w = omega arith
+
+-- no more folders are made than there can be stagings
+pub folders_at_most : (options : Options) (past : Past) → IsBounded options past → past.folders ≤ most_stagings options
+folders_at_most options past bounded =
+    let tries : tries_of past.jobs ≤ length past.jobs * (options.retries + 1) = tries_at_most options.retries past.jobs bounded.retries in
+    let most : length past.jobs * (options.retries + 1) ≤ MOST_VERTICES * (options.retries + 1) =
+    mul-le (length past.jobs) (options.retries + 1) MOST_VERTICES (options.retries + 1) bounded.jobs (same_at_most (options.retries + 1)) in
+    steps past.folders (tries_of past.jobs) (length past.jobs * (options.retries + 1)) (MOST_VERTICES * (options.retries + 1)) bounded.folders tries most
+  where
+    steps : (a b c d : ℕ) → a ≤ b → b ≤ c → c ≤ d → a ≤ d
+    steps a b c d one two three = omega (arith, one, two, three)
+
+falls_by_one : (most folders flown : ℕ) → folders + 1 ≤ most →
+    (most - (folders + 1)) * (2 * many_files + 8) + flown + (2 * many_files + 8) ≤ (most - folders) * (2 * many_files + 8) + flown
+falls_by_one most folders flown within = omega (arith, within)
+
+-- a staging is one of those
+pub staging_falls : (options : Options) (past : Past) (number : ℕ) → IsBounded options (with_staging number past) →
+    weight_of_past options (with_staging number past) + (2 * many_files + 8) ≤ weight_of_past options past
+staging_falls options past number bounded =
+    falls_by_one (most_stagings options) past.folders (length past.tickets * (many_files + 3)) (folders_at_most options (with_staging number past) bounded)
+
+-- one child more
+
+more_by_one : (stagings flown more : ℕ) → more ≡ flown + 1 → stagings + more * (many_files + 3) ≡ stagings + flown * (many_files + 3) + (many_files + 3)
+more_by_one stagings flown more is = omega (arith, is)
+
+pub start_rises : (options : Options) (past : Past) (number : ℕ) (kept : Kept) (ticket : ℕ) →
+    weight_of_past options (with_start number kept ticket past) ≡ weight_of_past options past + (many_files + 3)
+start_rises options past number kept ticket =
+    more_by_one ((most_stagings options - past.folders) * (2 * many_files + 8)) (length past.tickets) (length (past.tickets ++ ticket ∷ []))
+    (length-append past.tickets (ticket ∷ []))
+
+-- and one less
+pub landing_falls : (options : Options) (ticket : ℕ) (flight : Flight) (old new : Past) → TakesOut ticket flight old new →
+    weight_of_past options new + (many_files + 3) ≡ weight_of_past options old
+landing_falls options ticket flight old new taken =
+    let left : length (remove old.tickets taken.index) + 1 ≡ length old.tickets =
+    length-remove old.tickets taken.index (slice_get_within old.tickets taken.index ticket taken.ticket_there) in
+    subst (λ (p : Past). weight_of_past options p + (many_files + 3) ≡ weight_of_past options old) (sym taken.is)
+    (sym (more_by_one ((most_stagings options - old.folders) * (2 * many_files + 8)) (length (remove old.tickets taken.index)) (length old.tickets) (sym left)))
+
+-- What comes next
+
+none_some : {X : Type 0} (o : Option X) → IsSome o → o ≡ None → ⊥
+none_some None some none = let never : false ≡ true = some in cc
+none_some (Some x) some none = cc
+
+module _ (options : Options) (given : Given) where
+  abbrev Before : Course → ℕ
+  Before course = weight_of_past options (past_of course)
+
+  at_collect : (old new : Course) → past_of new ≡ past_of old → answers_left options (past_of new) Phase.Collecting ≤ Before old + 1
+  at_collect old new same =
+      subst (λ (p : Past). weight_of_past options p + 1 ≤ weight_of_past options (past_of old) + 1) (sym same) (same_at_most (weight_of_past options (past_of old) + 1))
+
+  at_staging : (number : ℕ) (course new : Course) (turn : Turn) → Stages given course number turn → past_of new ≡ past_of course →
+      answers_left options (past_of new) turn.phase ≤ Before course + 2
+  at_staging number course new turn staging same =
+      subst (λ (t : Turn). answers_left options (past_of new) t.phase ≤ Before course + 2) (sym staging.is)
+      (subst (λ (p : Past). weight_of_past options p + 2 ≤ weight_of_past options (past_of course) + 2) (sym same) (same_at_most (weight_of_past options (past_of course) + 2)))
+
+  at_delivery : (old new : Course) (turn : Turn) → Delivers given old turn → past_of new ≡ past_of old → answers_left options (past_of new) turn.phase ≤ Before old + 2
+  at_delivery old new turn (delivers its_turn files copies) same =
+      subst (λ (t : Turn). answers_left options (past_of new) t.phase ≤ Before old + 2) (sym copies.is)
+      (subst (λ (p : Past). weight_of_past options p + 1 ≤ weight_of_past options (past_of old) + 2) (sym same) (one_more (weight_of_past options (past_of old))))
+  at_delivery old new turn (succeeds_at_once none) same = least (Before old + 2)
+
+  raised : (a b : ℕ) → a ≤ b + 1 → a ≤ b + 2
+  raised a b few = omega (arith, few)
+
+  pub picks_few : (old : Course) (turn : Turn) (new : Course) → Picks given old turn new → answers_left options (past_of new) turn.phase ≤ Before old + 2
+  picks_few old turn new (drains its_new settled flying same known) = raised (answers_left options (past_of new) Phase.Collecting) (Before old) (at_collect old new same)
+  picks_few old turn new (ends_so end its_new is none cleared known) = least (Before old + 2)
+  picks_few old turn new (stages its_turn its_new going slot within staging same known) = at_staging (length old.jobs.items) old new turn staging same
+  picks_few old turn new (waits_for_one its_new going flying none same known) = raised (answers_left options (past_of new) Phase.Collecting) (Before old) (at_collect old new same)
+  picks_few old turn new (has_result its_turn its_new going none to_stage result same known) = at_delivery old new turn result same
+
+  -- once the end is settled
+  pub picks_settled : (old : Course) (turn : Turn) (new : Course) → IsSome old.end → Picks given old turn new → answers_left options (past_of new) turn.phase ≤ Before old + 1
+  picks_settled old turn new over (drains its_new settled flying same known) = at_collect old new same
+  picks_settled old turn new over (ends_so end its_new is none cleared known) = least (Before old + 1)
+  picks_settled old turn new over (stages its_turn its_new going slot within staging same known) = absurd (none_some old.end over going)
+  picks_settled old turn new over (waits_for_one its_new going flying none same known) = absurd (none_some old.end over going)
+  picks_settled old turn new over (has_result its_turn its_new going none to_stage result same known) = absurd (none_some old.end over going)
+
+  -- and no child is in flight
+  pub picks_last : (old : Course) (turn : Turn) (new : Course) → IsSome old.end → old.tickets.items ≡ [] → Picks given old turn new →
+      answers_left options (past_of new) turn.phase ≤ 0
+  picks_last old turn new over empty (drains its_new settled flying same known) = absurd (flying empty)
+  picks_last old turn new over empty (ends_so end its_new is none cleared known) = least 0
+  picks_last old turn new over empty (stages its_turn its_new going slot within staging same known) = absurd (none_some old.end over going)
+  picks_last old turn new over empty (waits_for_one its_new going flying none same known) = absurd (none_some old.end over going)
+  picks_last old turn new over empty (has_result its_turn its_new going none to_stage result same known) = absurd (none_some old.end over going)
+
+  -- A job goes on
+
+  pub unfolded_same : (walks : Walker) (learned : List Resolved) (old new : Course) → IsUnfolded walks learned old new → Before new ≡ Before old
+  unfolded_same walks learned old new (unfold_knows kept its_new knows known same) = ap (weight_of_past options) same
+  unfolded_same walks learned old new (unfold_fails fault its_new is known same) = ap (weight_of_past options) same
+
+  two_of : (a b most : ℕ) → 2 ≤ most → a ≤ b + 2 → a ≤ b + most
+  two_of a b most two few = omega (arith, two, few)
+
+  picks_from : (one old : Course) (turn : Turn) (new : Course) (most : ℕ) → Before one ≡ Before old → 2 ≤ most → Picks given one turn new →
+      answers_left options (past_of new) turn.phase ≤ Before old + most
+  picks_from one old turn new most same two picks =
+      subst (λ w. answers_left options (past_of new) turn.phase ≤ w + most) same
+      (two_of (answers_left options (past_of new) turn.phase) (Before one) most two (picks_few one turn new picks))
+
+  pub turns_few : (old : Course) (number : ℕ) (next : JobNext) (turn : Turn) (new : Course) (most : ℕ) → 2 ≤ most → weight_next next ≤ most →
+      (old.end ≡ None → KnowsSome old) → Turns given old number next turn new → answers_left options (past_of new) turn.phase ≤ Before old + most
+  turns_few old number next turn new most two few knows (asks call phase its_new same known) =
+      subst (λ (p : Past). weight_of_past options p + weight_next (JobNext.Asks call phase) ≤ Before old + most) (sym same)
+      (added (Before old) (weight_next (JobNext.Asks call phase)) most few)
+    where
+      added : (w a b : ℕ) → a ≤ b → w + a ≤ w + b
+      added w a b less = omega (arith, less)
+  turns_few old number next turn new most two few knows (fails cause failed its_turn its_new is known picks) =
+      picks_from failed old turn new most (ap (weight_of_past options) is) two picks
+  turns_few old number next turn new most two few knows (gives_late outputs late its_turn its_new settled same known picks) =
+      picks_from late old turn new most (ap (weight_of_past options) same) two picks
+  turns_few old number next turn new most two few knows (gives outputs learned its_turn its_new going learns picks) =
+      let some : KnowsSome old = knows going in
+      picks_from learned old turn new most
+      (unfolded_same some.walks _ old learned (learns_by some.walks some.learned _ old learned old.known refl some.is learns)) two picks
+
+  gave_up_same : (past : Past) (jobs : List Job) (number retries : ℕ) {may : Bool} {new : Past} → GivesUp jobs number retries past may new →
+      weight_of_past options new ≡ weight_of_past options past
+  gave_up_same past jobs number retries (again state there few going) = refl
+  gave_up_same past jobs number retries (no_more state there few settled) = refl
+  gave_up_same past jobs number retries (too_often state there many) = refl
+
+  pub temporary_few : (old : Course) (number : ℕ) (turn : Turn) (new : Course) → AfterTemporary given old number turn new →
+      answers_left options (past_of new) turn.phase ≤ Before old + 2
+  temporary_few old number turn new (stages_again gave_up so known staging same still) =
+      subst (λ w. answers_left options (past_of new) turn.phase ≤ w + 2) (gave_up_same (past_of old) (known_in old.known) number given.options.retries so)
+      (at_staging number gave_up new turn staging same)
+  temporary_few old number turn new (tries_no_more gave_up so known picks) =
+      picks_from gave_up old turn new 2 (gave_up_same (past_of old) (known_in old.known) number given.options.retries so) (same_at_most 2) picks

@@ -1,0 +1,16 @@
+-- What a run goes on by where memory runs out for what follows from an answer: that there is something that follows.
+use Rattle.std.specs.Prelude.{◌≡◌, ℕ, Some, bytes_eq, slice_get}
+use Rattle.std.specs.List.{IsDistinct}
+use Rattle.std.specs.Map.{keys_of}
+use Rattle.collected_outputs.specs.Laws.{EveryFolderHasOutputsOrAFault, SomeHeadsAreWanted}
+use Rattle.command_line.specs.Laws.{LaunchOrRefusal}
+use Rattle.job_graph.specs.Jobs.{Job}
+use Rattle.run_core.specs.declared.state.Course.{Course}
+use Rattle.run_core.specs.inner.Course.{known_in}
+
+-- no two inputs of the tool of the job of this number have one id, so it has a launch or is refused
+pub record CanGoOn (course : Course) (number : ℕ) : Type 0 where
+  pub ids : (job : Job) → slice_get (known_in course.known) number ≡ Some job → IsDistinct bytes_eq (keys_of job.tool.inputs)
+  pub launches : LaunchOrRefusal
+  pub outputs : EveryFolderHasOutputsOrAFault
+  pub heads : SomeHeadsAreWanted

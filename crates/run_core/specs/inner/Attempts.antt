@@ -1,0 +1,58 @@
+-- How many answers a run takes at most: each staging is one of so many, and each phase and each child in flight takes so many at most.
+use Rattle.std.specs.Prelude.{ℕ, ◌+◌, ◌*◌, ◌-◌, ◌^◌, ◌≤◌, List, [], ◌∷◌, length}
+use Rattle.std.specs.List.{AllByRecursion}
+use Rattle.plan_checker.specs.declared.graph.TheConstants.{MOST_VERTICES}
+use Rattle.run_rules.specs.declared.setting.Options.{Options}
+use Rattle.run_core.specs.declared.state.JobPhase.{JobPhase}
+use Rattle.run_core.specs.declared.state.JobState.{JobState}
+use Rattle.run_core.specs.declared.state.Phase.{Phase}
+use Rattle.run_core.specs.inner.Course.{Past, with_staging}
+
+-- how many times jobs can be staged
+abbrev pub most_stagings : Options → ℕ
+most_stagings options = MOST_VERTICES * (options.retries + 1)
+
+-- how often these jobs were to be staged: each once, and once more after each time that it gave up
+abbrev pub tries_of : List JobState → ℕ
+tries_of [] = 0
+tries_of (job ∷ jobs) = job.gave_up + 1 + tries_of jobs
+
+-- the jobs that were staged are jobs of a graph, and each was staged no oftener than it may be
+pub record IsBounded (options : Options) (past : Past) : Type 0 where
+  pub jobs : length past.jobs ≤ MOST_VERTICES
+  pub retries : AllByRecursion (λ (job : JobState). job.gave_up ≤ options.retries) past.jobs
+  pub folders : past.folders ≤ tries_of past.jobs
+
+-- while it goes on; where a job is to be staged, with that job
+abbrev pub StaysBounded : Options → Past → Phase → Type 0
+StaysBounded options past (Phase.Ended outcome) = Unit {0}
+StaysBounded options past Phase.Draining = Unit {0}
+StaysBounded options past (Phase.Staging number) = IsBounded options (with_staging number past)
+StaysBounded options past phase = IsBounded options past
+
+-- a phase looks at fewer files than a list can have
+abbrev pub many_files : ℕ
+many_files = 2 ^ 64
+
+abbrev pub weight_of_job : JobPhase → ℕ
+weight_of_job (JobPhase.Filling filling) = many_files + 6 + length filling.left
+weight_of_job (JobPhase.Starting kept) = many_files + 6
+weight_of_job (JobPhase.Scanning kept millis) = many_files + 3
+weight_of_job (JobPhase.Reading kept reading) = 2 + length reading.left
+
+abbrev pub weight_of : Phase → ℕ
+weight_of (Phase.Measuring measuring) = 2 + length measuring.left
+weight_of (Phase.Staging job) = 2
+weight_of (Phase.Working job phase) = weight_of_job phase
+weight_of phase = 1
+
+-- each child in flight ends, is scanned and read
+abbrev pub weight_of_past : Options → Past → ℕ
+weight_of_past options past =
+    (most_stagings options - past.folders) * (2 * many_files + 8) + length past.tickets * (many_files + 3)
+
+-- how many answers come at most; after memory ran out, the end of each child in flight
+abbrev pub answers_left : Options → Past → Phase → ℕ
+answers_left options past (Phase.Ended outcome) = 0
+answers_left options past Phase.Draining = length past.tickets
+answers_left options past phase = weight_of_past options past + weight_of phase

@@ -1,0 +1,100 @@
+-- What a run has come to, and what each event makes of it.
+use Rattle.std.specs.Prelude.{◌≡◌, ◌<◌, ◌≤◌, ℕ, zero, suc, ◌+◌, Bool, true, false, cond, IsSome, List, [], ◌∷◌, ◌++◌, Option, Some, None, Result, map, option_map, slice_get, unwrap_or}
+use Rattle.std.specs.List.{remove, zip}
+use Rattle.job_graph.specs.declared.unfolding.Unfolding.{Unfolding}
+use Rattle.job_graph.specs.inner.Views.{job_of}
+use Rattle.run_rules.specs.declared.outcome.Outcome.{Outcome}
+use Rattle.run_rules.specs.declared.outcome.Report.{Report}
+use Rattle.run_rules.specs.declared.outcome.RunFault.{RunFault}
+use Rattle.job_graph.specs.Jobs.{Job}
+use Rattle.run_rules.specs.Reports.{reported}
+use Rattle.job_graph.specs.Unfold.{or_else}
+use Rattle.job_graph.specs.Words.{JobPlace, is_same_place}
+use Rattle.run_core.specs.declared.state.Course.{Course}
+use Rattle.run_core.specs.declared.state.Flight.{Flight}
+use Rattle.run_core.specs.declared.state.JobState.{JobState}
+use Rattle.run_core.specs.declared.state.Kept.{Kept}
+
+-- the known jobs, by number
+abbrev pub known_in : Option Unfolding → List Job
+known_in None = []
+known_in (Some kept) = map (λ known. job_of known.job) kept.known.items
+
+-- what is kept of the events, but for what is known
+pub record Past : Type 0 where
+  pub tickets : List ℕ
+  pub flights : List Flight
+  pub jobs : List JobState
+  pub folders : ℕ
+  pub end : Option (Result Report RunFault)
+
+abbrev pub past_of : Course → Past
+past_of course = record {
+  tickets = course.tickets.items;
+  flights = course.flights.items;
+  jobs = course.jobs.items;
+  folders = course.folders;
+  end = course.end;
+}
+
+abbrev pub nothing_past : Past
+nothing_past = record { tickets = []; flights = []; jobs = []; folders = 0; end = None }
+
+-- the place of the job of a number
+abbrev pub place_at : List Job → ℕ → JobPlace
+place_at jobs number = unwrap_or (option_map (λ job. job.place) (slice_get jobs number)) []
+
+-- the children in flight: ticket and place
+abbrev pub flying_in : List Job → Past → List (ℕ × JobPlace)
+flying_in jobs past = zip past.tickets (map (λ flight. place_at jobs flight.job) past.flights)
+
+-- the number of the folders of the job at a place; 0 where it was never staged
+abbrev pub number_in : List Job → List JobState → JobPlace → ℕ
+number_in [] states place = 0
+number_in (job ∷ jobs) [] place = 0
+number_in (job ∷ jobs) (state ∷ states) place = cond (is_same_place job.place place) state.folder (number_in jobs states place)
+
+-- the first failure settles the end
+abbrev pub with_end : Result Report RunFault → Past → Past
+with_end end past = record past { end = or_else past.end (Some end) }
+
+-- the job of a number has these folders
+abbrev pub staged_in : ℕ → ℕ → List JobState → List JobState
+staged_in zero folder [] = record { folder = folder; gave_up = 0 } ∷ []
+staged_in zero folder (job ∷ jobs) = record job { folder = folder } ∷ jobs
+staged_in (suc number) folder [] = []
+staged_in (suc number) folder (job ∷ jobs) = job ∷ staged_in number folder jobs
+
+abbrev pub with_staging : ℕ → Past → Past
+with_staging number past = record past { folders = past.folders + 1; jobs = staged_in number (past.folders + 1) past.jobs }
+
+abbrev pub with_start : ℕ → Kept → ℕ → Past → Past
+with_start number kept ticket past = record past {
+  tickets = past.tickets ++ ticket ∷ [];
+  flights = past.flights ++ record { job = number; kept = kept } ∷ [];
+}
+
+-- the job of a number failed temporarily once more
+abbrev pub given_up_in : ℕ → List JobState → List JobState
+given_up_in number [] = []
+given_up_in zero (job ∷ jobs) = record job { gave_up = job.gave_up + 1 } ∷ jobs
+given_up_in (suc number) (job ∷ jobs) = job ∷ given_up_in number jobs
+
+abbrev pub with_giving_up : ℕ → Past → Past
+with_giving_up number past = record past { jobs = given_up_in number past.jobs }
+
+-- the child of a ticket is taken out of those in flight
+pub record TakesOut (ticket : ℕ) (flight : Flight) (old new : Past) : Type 0 where
+  pub index : ℕ
+  pub ticket_there : slice_get old.tickets index ≡ Some ticket
+  pub flight_there : slice_get old.flights index ≡ Some flight
+  pub is : new ≡ record old { tickets = remove old.tickets index; flights = remove old.flights index }
+
+-- what a job's temporary failure comes to: it may be started again, or not, since its retries are used up or the end is settled
+pub data GivesUp (jobs : List Job) (number retries : ℕ) (old : Past) : Bool → Past → Type 0 where
+  again : (state : JobState) → slice_get old.jobs number ≡ Some state → state.gave_up < retries → old.end ≡ None →
+      GivesUp jobs number retries old true (with_giving_up number old)
+  no_more : (state : JobState) → slice_get old.jobs number ≡ Some state → state.gave_up < retries → IsSome old.end →
+      GivesUp jobs number retries old false (with_giving_up number old)
+  too_often : (state : JobState) → slice_get old.jobs number ≡ Some state → retries ≤ state.gave_up →
+      GivesUp jobs number retries old false (with_end (reported (Outcome.TemporaryFail (place_at jobs number))) old)

@@ -1,0 +1,124 @@
+-- What the machine turns to after each answer.
+use Rattle.std.specs.Prelude.{◌≡◌, ◌≤◌, ◌<◌, ◌+◌, ◌^◌, ℕ, List, [], Result, Some, Ok, Err, Contains, length, slice_get}
+use Rattle.std.specs.List.{remove}
+use Rattle.proc_host.specs.Tickets.{without}
+use Rattle.proc_host.specs.declared.call.HostAnswer.{HostAnswer}
+use Rattle.proc_host.specs.declared.call.HostFault.{HostFault}
+use Rattle.proc_host.specs.declared.call.HostRequest.{HostRequest}
+use Rattle.proc_host.specs.declared.child.ChildEnd.{ChildEnd}
+use Rattle.run_rules.specs.declared.outcome.RunFault.{RunFault}
+use Rattle.run_rules.specs.declared.request.Answer.{Answer}
+use Rattle.run_rules.specs.declared.request.Request.{Request}
+use Rattle.run_rules.specs.Answers.{flying_after}
+use Rattle.run_core.specs.declared.state.Course.{Course}
+use Rattle.run_core.specs.declared.state.Flight.{Flight}
+use Rattle.run_core.specs.declared.state.Given.{Given}
+use Rattle.run_core.specs.declared.state.JobPhase.{JobPhase}
+use Rattle.run_core.specs.declared.state.Phase.{Phase}
+use Rattle.run_core.specs.declared.state.Turn.{Turn}
+use Rattle.run_core.specs.inner.Course.{Past, known_in, past_of}
+use Rattle.run_core.specs.inner.Measures.{TakesMeasure}
+use Rattle.run_core.specs.inner.Parts.{job_in, kept_in, measuring_in, reading_in}
+use Rattle.run_core.specs.inner.Picks.{AfterChild, AfterFault, AfterInputHead, AfterListing, AfterOutputHead, AfterStaging, AfterStart, delivered_in}
+use Rattle.run_core.specs.inner.Standing.{pairs_ahead}
+use Rattle.run_core.specs.inner.Turn.{ends, lost_after, succeeds}
+
+-- what each step needs of the course: its lists fit one another, and folders have numbers
+pub record IsReady (course : Course) : Type 0 where
+  pub as_many : length course.flights.items ≡ length course.tickets.items
+  pub flights : (flight : Flight) → Contains course.flights.items flight → flight.job < length course.jobs.items
+  pub staged : length course.jobs.items ≤ length (known_in course.known)
+  pub folders : course.folders + 2 < 2 ^ 64
+
+-- what comes after memory ran out needs nothing of it
+abbrev pub IsReadyFor : Course → Phase → Type 0
+IsReadyFor course Phase.Draining = Unit {0}
+IsReadyFor course phase = IsReady course
+
+-- the job of a number may be staged: it is known, and it was staged before or comes next
+pub record CanStage (course : Course) (job : ℕ) : Type 0 where
+  pub next : job ≤ length course.jobs.items
+  pub known : job < length (known_in course.known)
+
+-- the phase fits what is asked
+abbrev pub AsksOf : Course → Request → Phase → Type 0
+AsksOf course (Request.Host place (HostRequest.Measure path)) (Phase.Measuring measuring) = Unit {0}
+AsksOf course (Request.Host place (HostRequest.Stage plan folder)) (Phase.Staging job) = CanStage course job
+AsksOf course (Request.Host place (HostRequest.Head path limit)) (Phase.Working job (JobPhase.Filling filling)) = job < length course.jobs.items
+AsksOf course (Request.Host place (HostRequest.Start launch)) (Phase.Working job (JobPhase.Starting kept)) = job < length course.jobs.items
+AsksOf course (Request.Host place (HostRequest.Scan folder)) (Phase.Working job (JobPhase.Scanning kept millis)) = job < length course.jobs.items
+AsksOf course (Request.Host place (HostRequest.Head path limit)) (Phase.Working job (JobPhase.Reading kept reading)) = job < length course.jobs.items
+AsksOf course (Request.Host place HostRequest.Collect) Phase.Collecting = Unit {0}
+AsksOf course (Request.Host place HostRequest.Collect) Phase.Draining = Unit {0}
+AsksOf course (Request.Host place (HostRequest.Deliver plan)) (Phase.Delivering outputs) = Unit {0}
+AsksOf course Request.Finished (Phase.Ended outcome) = Unit {0}
+AsksOf course asks phase = ⊥
+
+abbrev pub AsksIn : Course → Turn → Type 0
+AsksIn course turn = AsksOf course turn.asks turn.phase
+
+-- a child has ended after memory ran out
+pub record Drains (old : Course) (ending : ChildEnd) (turn : Turn) (new : Course) : Type 0 where
+  pub tickets : new.tickets.items ≡ without ending.ticket old.tickets.items
+  pub is : turn ≡ lost_after (past_of new)
+
+abbrev pub AfterDone : Given → Course → Request → Phase → Turn → Course → Type 0
+AfterDone given old (Request.Host place (HostRequest.Stage plan folder)) phase turn new = AfterStaging given old (job_in phase) plan.value turn new
+AfterDone given old asks phase turn new = (turn ≡ succeeds (delivered_in phase)) × (new ≡ old)
+
+-- the first bytes of an input file, or of a file of the output folder
+abbrev pub AfterBytes : Given → Course → Phase → List ℕ → Turn → Course → Type 0
+AfterBytes given old (Phase.Working job (JobPhase.Filling filling)) bytes turn new = AfterInputHead given old job filling bytes turn new
+AfterBytes given old phase bytes turn new = AfterOutputHead given old (job_in phase) (kept_in phase) (reading_in phase) bytes turn new
+
+abbrev pub AfterEnding : Given → Course → Phase → ChildEnd → Turn → Course → Type 0
+AfterEnding given old Phase.Draining ending turn new = Drains old ending turn new
+AfterEnding given old phase ending turn new = AfterChild given old ending turn new
+
+-- a call failed; after a failed collect nobody waits for the children in flight any more
+abbrev pub AfterFailureIn : Given → Course → Phase → HostFault → Turn → Course → Type 0
+AfterFailureIn given old Phase.Collecting fault turn new = (turn ≡ ends (Err (RunFault.Host fault old.tickets.items))) × (new.known ≡ old.known) × (new.tickets.items ≡ [])
+AfterFailureIn given old Phase.Draining fault turn new = (turn ≡ ends (Err RunFault.OutOfMemory)) × (new.tickets.items ≡ [])
+AfterFailureIn given old phase fault turn new = AfterFault given old fault turn new
+
+abbrev pub AfterFailure : Given → Course → Turn → HostFault → Turn → Course → Type 0
+AfterFailure given old before fault turn new = AfterFailureIn given old before.phase fault turn new
+
+abbrev pub FollowsFrom : Given → Course → Turn → Answer → Turn → Course → Type 0
+FollowsFrom given old before (Answer.Host HostAnswer.Done) turn new = AfterDone given old before.asks before.phase turn new
+FollowsFrom given old before (Answer.Host (HostAnswer.Measured measure)) turn new = TakesMeasure given old (measuring_in before.phase) measure turn new
+FollowsFrom given old before (Answer.Host (HostAnswer.Started ticket)) turn new = AfterStart given old (job_in before.phase) (kept_in before.phase) ticket turn new
+FollowsFrom given old before (Answer.Host (HostAnswer.Ended ending)) turn new = AfterEnding given old before.phase ending turn new
+FollowsFrom given old before (Answer.Host (HostAnswer.Listed found)) turn new = AfterListing given old (job_in before.phase) (kept_in before.phase) found turn new
+FollowsFrom given old before (Answer.Host (HostAnswer.FirstBytes bytes)) turn new = AfterBytes given old before.phase bytes turn new
+FollowsFrom given old before (Answer.Host (HostAnswer.Failed fault)) turn new = AfterFailure given old before fault turn new
+
+-- one child is taken out of those in flight
+pub record IsOneLess (ticket : ℕ) (old new : List ℕ) : Type 0 where
+  pub index : ℕ
+  pub there : slice_get old index ≡ Some ticket
+  pub is : new ≡ remove old index
+
+-- the children in flight after an answer, where memory ran out for what comes next
+abbrev pub IsLeftAfter : List ℕ → Answer → List ℕ → Type 0
+IsLeftAfter old (Answer.Host (HostAnswer.Ended ending)) new = IsOneLess ending.ticket old new
+IsLeftAfter old answer new = new ≡ flying_after old answer
+
+-- what an answer makes of the machine: what follows from it, or nothing more but the ends of the children in flight where memory ran out
+pub data Moves (given : Given) (old : Course) (before : Turn) (answer : Answer) : Turn → Course → Type 0 where
+  moves : (turn : Turn) (new : Course) → FollowsFrom given old before answer turn new → Moves given old before answer turn new
+  gives_up : (new : Course) → (before.phase ≡ Phase.Draining → ⊥) → IsLeftAfter old.tickets.items answer new.tickets.items → Moves given old before answer (lost_after (past_of new)) new
+
+-- with so many pairs and room for so many: the end of each child in flight has room
+abbrev pub HasPairs : ℕ → ℕ → Past → Turn → Type 0
+HasPairs pairs room past turn = pairs + length past.tickets ≤ room
+
+-- there is room for what comes next, or nothing more is asked but for the children in flight
+pub data MakesRoom (pairs room : ℕ) (past : Past) (old : Turn) : Turn → Type 0 where
+  has_room : pairs + pairs_ahead past old.phase ≤ room → MakesRoom pairs room past old old
+  no_room : pairs + length past.tickets ≤ room → MakesRoom pairs room past old (lost_after past)
+
+-- what `take` answers: an error where memory ran out and no child is in flight
+abbrev pub told_of : Phase → Result (Unit {0}) RunFault
+told_of (Phase.Ended (Err RunFault.OutOfMemory)) = Err RunFault.OutOfMemory
+told_of phase = Ok tt

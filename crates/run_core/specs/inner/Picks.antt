@@ -1,0 +1,188 @@
+-- What the machine turns to where nothing is due, and after each answer. That all this makes a run are laws above it.
+use Rattle.std.specs.Prelude.{◌≡◌, ◌≢◌, ◌≤◌, ◌<◌, ◌+◌, ℕ, true, false, List, [], Some, None, Result, Err, IsSome, length, slice_get}
+use Rattle.cwl_value.specs.declared.value.Value.{Value}
+use Rattle.cwl_value.specs.declared.value.Value as value
+use Rattle.cwl_process.specs.declared.tool.Tool.{Tool}
+use Rattle.input_files.specs.Contents.{heads_wanted}
+use Rattle.proc_host.specs.declared.call.HostFault.{HostFault}
+use Rattle.proc_host.specs.declared.call.HostRequest.{HostRequest}
+use Rattle.proc_host.specs.declared.child.ChildEnd.{ChildEnd}
+use Rattle.proc_host.specs.declared.child.ExitClass.{ExitClass}
+use Rattle.proc_host.specs.ExitClass.{class_of}
+use Rattle.staging.specs.declared.found.Found.{Found}
+use Rattle.staging.specs.declared.plan.StagePlan.{StagePlan}
+use Rattle.staging.specs.Plan.{IsPlan}
+use Rattle.run_rules.specs.declared.outcome.Cause.{Cause}
+use Rattle.run_rules.specs.declared.outcome.Report.{Report}
+use Rattle.run_rules.specs.declared.outcome.RunFault.{RunFault}
+use Rattle.run_rules.specs.declared.request.Request.{Request}
+use Rattle.run_rules.specs.declared.setting.Options.{Options}
+use Rattle.run_rules.specs.Delivered.{any_file, located, source_place}
+use Rattle.run_rules.specs.Folders.{in_folder}
+use Rattle.job_graph.specs.Jobs.{Job}
+use Rattle.job_graph.specs.Made.{fields_moved}
+use Rattle.job_graph.specs.Words.{Fields, last_by_name}
+use Rattle.run_core.specs.declared.site.Site.{Site}
+use Rattle.run_core.specs.declared.state.Course.{Course}
+use Rattle.run_core.specs.declared.state.Filling.{Filling}
+use Rattle.run_core.specs.declared.state.Flight.{Flight}
+use Rattle.run_core.specs.declared.state.Given.{Given}
+use Rattle.run_core.specs.declared.state.JobNext.{JobNext}
+use Rattle.run_core.specs.declared.state.JobPhase.{JobPhase}
+use Rattle.run_core.specs.declared.state.JobState.{JobState}
+use Rattle.run_core.specs.declared.state.Kept.{Kept}
+use Rattle.run_core.specs.declared.state.Phase.{Phase}
+use Rattle.run_core.specs.declared.state.Reading.{Reading}
+use Rattle.run_core.specs.declared.state.Turn.{Turn}
+use Rattle.run_core.specs.inner.Course.{GivesUp, TakesOut, known_in, number_in, past_of, place_at, with_end, with_staging, with_start}
+use Rattle.run_core.specs.inner.Due.{CollectsFirst, CollectsPast, Scans, Starts, StartsPast}
+use Rattle.run_core.specs.inner.Knows.{Learns, outputs_in}
+use Rattle.run_core.specs.inner.Turn.{collects, ends, permanent, root_asks, succeeds, works}
+
+-- the values, where files that jobs made are at their paths
+abbrev pub sources_in : Options → Course → Fields → Fields
+sources_in options course values =
+    fields_moved (source_place (number_in (known_in course.known) course.jobs.items) options.work) values
+
+-- the job of a number is to be staged
+pub record Stages (given : Given) (course : Course) (number : ℕ) (turn : Turn) : Type 0 where
+  pub job : Job
+  pub known : slice_get (known_in course.known) number ≡ Some job
+  pub plan : StagePlan
+  pub is_plan : IsPlan false (in_folder given.options.work (course.folders + 1)) (sources_in given.options course job.inputs) plan
+  pub is : turn ≡ record { asks = Request.Host job.place (HostRequest.Stage plan (course.folders + 1)); phase = Phase.Staging number }
+
+-- the files of the result are copied to their targets
+pub record DeliversFiles (given : Given) (course : Course) (values : Fields) (turn : Turn) : Type 0 where
+  pub plan : StagePlan
+  pub is_plan : IsPlan true given.options.outdir (sources_in given.options course values) plan
+  pub is : turn ≡ record { asks = root_asks (HostRequest.Deliver plan); phase = Phase.Delivering (located plan.value) }
+
+-- the result is delivered where it has files, and else the run has ended
+pub data Delivers (given : Given) (course : Course) : Turn → Type 0 where
+  delivers : (turn : Turn) → any_file (outputs_in course.known) ≡ true → DeliversFiles given course (last_by_name (outputs_in course.known)) turn → Delivers given course turn
+  succeeds_at_once : any_file (outputs_in course.known) ≡ false → Delivers given course (succeeds (located (last_by_name (outputs_in course.known))))
+
+-- the output object that is delivered
+abbrev pub delivered_in : Phase → Value
+delivered_in (Phase.Delivering outputs) = outputs
+delivered_in phase = value.Null
+
+-- no slot is free, or each known job was staged
+pub data NoneToStage (given : Given) (course : Course) : Type 0 where
+  slots_full : given.options.slots ≤ length course.tickets.items → NoneToStage given course
+  all_staged : length (known_in course.known) ≤ length course.jobs.items → NoneToStage given course
+
+-- where nothing is due
+pub data Picks (given : Given) (old : Course) : Turn → Course → Type 0 where
+  drains : (new : Course) → IsSome old.end → old.tickets.items ≢ [] → past_of new ≡ past_of old → new.known ≡ old.known → Picks given old collects new
+  ends_so : (end : Result Report RunFault) (new : Course) → old.end ≡ Some end → old.tickets.items ≡ [] → new.tickets.items ≡ [] → new.known ≡ old.known →
+      Picks given old (ends end) new
+  stages : (turn : Turn) (new : Course) → old.end ≡ None → length old.tickets.items < given.options.slots → length old.jobs.items < length (known_in old.known) →
+      Stages given old (length old.jobs.items) turn → past_of new ≡ past_of old → new.known ≡ old.known → Picks given old turn new
+  waits_for_one : (new : Course) → old.end ≡ None → old.tickets.items ≢ [] → NoneToStage given old → past_of new ≡ past_of old → new.known ≡ old.known →
+      Picks given old collects new
+  has_result : (turn : Turn) (new : Course) → old.end ≡ None → old.tickets.items ≡ [] → NoneToStage given old → Delivers given old turn →
+      past_of new ≡ past_of old → new.known ≡ old.known → Picks given old turn new
+
+-- a job goes on, or it has failed, or its outputs are there
+pub data Turns (given : Given) (old : Course) (number : ℕ) : JobNext → Turn → Course → Type 0 where
+  asks : (call : HostRequest) (phase : JobPhase) (new : Course) → past_of new ≡ past_of old → new.known ≡ old.known →
+      Turns given old number (JobNext.Asks call phase) (works (place_at (known_in old.known) number) number call phase) new
+  fails : (cause : Cause) (failed : Course) (turn : Turn) (new : Course) →
+      past_of failed ≡ with_end (permanent (place_at (known_in old.known) number) cause) (past_of old) → failed.known ≡ old.known →
+      Picks given failed turn new → Turns given old number (JobNext.Fails cause) turn new
+  -- an end that is settled stays, and nothing more is learned
+  gives_late : (outputs : Fields) (same : Course) (turn : Turn) (new : Course) → IsSome old.end → past_of same ≡ past_of old → same.known ≡ old.known →
+      Picks given same turn new → Turns given old number (JobNext.Gives outputs) turn new
+  gives : (outputs : Fields) (learned : Course) (turn : Turn) (new : Course) → old.end ≡ None →
+      Learns (record { place = place_at (known_in old.known) number; outputs = outputs }) old learned →
+      Picks given learned turn new → Turns given old number (JobNext.Gives outputs) turn new
+
+-- a job in the folders that it was staged in last
+pub record IsSite (given : Given) (course : Course) (number : ℕ) (site : Site) : Type 0 where
+  pub job : Job
+  pub known : slice_get (known_in course.known) number ≡ Some job
+  pub tool : site.tool.now ≡ job.tool
+  pub state : JobState
+  pub staged : slice_get course.jobs.items number ≡ Some state
+  pub folder : site.folder ≡ state.folder
+  pub options : site.options.now ≡ given.options
+
+-- after an answer: a rule for each kind
+
+pub record AfterStaging (given : Given) (old : Course) (number : ℕ) (inputs : Fields) (turn : Turn) (new : Course) : Type 0 where
+  pub staged : Course
+  pub past : past_of staged ≡ with_staging number (past_of old)
+  pub known : staged.known ≡ old.known
+  pub site : Site
+  pub is_site : IsSite given staged number site
+  pub next : JobNext
+  pub starts : Starts site inputs [] (heads_wanted site.tool.now.inputs inputs) next
+  pub turns : Turns given staged number next turn new
+
+pub record AfterInputHead (given : Given) (old : Course) (number : ℕ) (filling : Filling) (bytes : List ℕ) (turn : Turn) (new : Course) : Type 0 where
+  pub site : Site
+  pub is_site : IsSite given old number site
+  pub next : JobNext
+  pub starts : StartsPast site filling bytes next
+  pub turns : Turns given old number next turn new
+
+pub record AfterStart (given : Given) (old : Course) (number : ℕ) (kept : Kept) (ticket : ℕ) (turn : Turn) (new : Course) : Type 0 where
+  pub started : Course
+  pub past : past_of started ≡ with_start number kept ticket (past_of old)
+  pub known : started.known ≡ old.known
+  pub picks : Picks given started turn new
+
+-- a job's child failed temporarily: the job is staged again while retries are left
+pub data AfterTemporary (given : Given) (old : Course) (number : ℕ) (turn : Turn) (new : Course) : Type 0 where
+  again : (gave_up : Course) → GivesUp (known_in old.known) number given.options.retries (past_of old) true (past_of gave_up) → gave_up.known ≡ old.known →
+      Stages given gave_up number turn → past_of new ≡ past_of gave_up → new.known ≡ gave_up.known → AfterTemporary given old number turn new
+  no_more : (gave_up : Course) → GivesUp (known_in old.known) number given.options.retries (past_of old) false (past_of gave_up) → gave_up.known ≡ old.known →
+      Picks given gave_up turn new → AfterTemporary given old number turn new
+
+-- the child of a flight has ended well: its folder is listed
+pub record IsScanned (given : Given) (landed : Course) (flight : Flight) (millis : ℕ) (turn : Turn) (new : Course) : Type 0 where
+  pub site : Site
+  pub is_site : IsSite given landed flight.job site
+  pub next : JobNext
+  pub scans : Scans site flight.kept millis next
+  pub turns : Turns given landed flight.job next turn new
+
+-- the child of a flight has ended, and is taken out
+pub data AfterEnd (given : Given) (landed : Course) (flight : Flight) (tool : Tool) (ending : ChildEnd) (turn : Turn) (new : Course) : Type 0 where
+  well : (site : Site) (next : JobNext) → class_of tool.exit_codes ending.code ≡ ExitClass.Success → IsSite given landed flight.job site →
+      Scans site flight.kept ending.millis next → Turns given landed flight.job next turn new → AfterEnd given landed flight tool ending turn new
+  badly : class_of tool.exit_codes ending.code ≡ ExitClass.Permanent →
+      Turns given landed flight.job (JobNext.Fails (Cause.Exit ending.code)) turn new → AfterEnd given landed flight tool ending turn new
+  for_now : class_of tool.exit_codes ending.code ≡ ExitClass.Temporary → AfterTemporary given landed flight.job turn new → AfterEnd given landed flight tool ending turn new
+
+pub record AfterChild (given : Given) (old : Course) (ending : ChildEnd) (turn : Turn) (new : Course) : Type 0 where
+  pub flight : Flight
+  pub landed : Course
+  pub taken : TakesOut ending.ticket flight (past_of old) (past_of landed)
+  pub known : landed.known ≡ old.known
+  pub job : Job
+  pub is_job : slice_get (known_in landed.known) flight.job ≡ Some job
+  pub ends : AfterEnd given landed flight job.tool ending turn new
+
+pub record AfterListing (given : Given) (old : Course) (number : ℕ) (kept : Kept) (found : List Found) (turn : Turn) (new : Course) : Type 0 where
+  pub site : Site
+  pub is_site : IsSite given old number site
+  pub next : JobNext
+  pub collects : CollectsFirst site kept found next
+  pub turns : Turns given old number next turn new
+
+pub record AfterOutputHead (given : Given) (old : Course) (number : ℕ) (kept : Kept) (reading : Reading) (bytes : List ℕ) (turn : Turn) (new : Course) : Type 0 where
+  pub site : Site
+  pub is_site : IsSite given old number site
+  pub next : JobNext
+  pub collects : CollectsPast site kept reading bytes next
+  pub turns : Turns given old number next turn new
+
+-- a call other than a collect failed
+pub record AfterFault (given : Given) (old : Course) (fault : HostFault) (turn : Turn) (new : Course) : Type 0 where
+  pub settled : Course
+  pub past : past_of settled ≡ with_end (Err (RunFault.Host fault [])) (past_of old)
+  pub known : settled.known ≡ old.known
+  pub picks : Picks given settled turn new

@@ -1,0 +1,223 @@
+//! What the events of a run bring about.
+ghost use Rattle.std.specs.Prelude.{◌≡◌, ◌<◌, ◌≤◌, ◌+◌, ◌^◌, ◌∷◌, [], None, Some, Contains, IsSome, IfOk, OnErr, OnOk, length, map, slice_get, vec_len, vec_capacity};
+ghost use Rattle.job_graph.specs.declared.unfolding.Unfolding.{Unfolding as Held};
+ghost use Rattle.job_graph.specs.inner.Views.{job_of as job_seen};
+ghost use Rattle.run_core.specs.inner.Course.{GivesUp, TakesOut, known_in, nothing_past, past_of, place_at, with_end, with_staging, with_start};
+ghost use Rattle.run_core.specs.inner.Knows.{IsTold, Learns, end_by};
+ghost use Rattle.run_core.specs.inner.Turn.{permanent};
+
+use crate::state::{Course, Flight, JobState, Kept};
+use crate::turn::{permanent, reported};
+use crate::{Cause, Outcome, Report, RunFault};
+use cwl_value::{Value, copy_job};
+use job_graph::{Job, KnownJob, UnfoldError, UnfoldFault, Unfolding};
+use plain_data::Keyed;
+use std::alloc::{AllocError, Global};
+use std::mem;
+
+/// Before any answer.
+pub(crate) fn at_first<'a>(alloc: Global) -> Course<'a>
+    ensures past { past_of result ≡ nothing_past }
+    ensures known { result.known ≡ None }
+{
+    Course {
+        tickets: Vec::new(alloc),
+        flights: Vec::new(alloc),
+        jobs: Vec::new(alloc),
+        folders: 0,
+        known: None,
+        end: None,
+    }
+}
+
+/// The jobs that are known, by number.
+pub(crate) fn known_in<'s, 'a>(known: &'s Option<Unfolding<'a>>) -> &'s [KnownJob<'a>]
+    ensures { map (λ one. job_seen one.job) result.now ≡ known_in known.now }
+{
+    match known {
+        None => &[],
+        Some(unfolding) => unfolding.known(),
+    }
+}
+
+/// The job of a number.
+pub(crate) fn job_of<'s, 'a>(course: &'s Course<'a>, number: usize) -> &'s Job<'a>
+    requires { number < length (known_in course.now.known) }
+    ensures { slice_get (known_in course.now.known) number ≡ Some (job_seen result.now) }
+{
+    &known_in(&course.known)[number].job
+}
+
+/// Settles the end by a failure, where nothing has settled it before.
+pub(crate) fn settle(course: &mut Course<'_>, end: Result<Report, RunFault>)
+    ensures past { past_of course.new ≡ with_end end (past_of course.old) }
+    ensures known { course.new.known ≡ course.old.known }
+{
+    if course.end.is_none() {
+        mem::drop(mem::replace(&mut course.end, Some(end)));
+    } else {
+        mem::drop(end);
+    }
+}
+
+/// The end by a fault of what is known.
+pub(crate) fn end_by(alloc: Global, fault: UnfoldFault) -> Result<Report, RunFault>
+    ensures { result ≡ end_by fault }
+{
+    match fault {
+        UnfoldFault::TooManyJobs => Err(RunFault::TooManyJobs),
+        UnfoldFault::Fault(place, cause) => permanent(alloc, place, Cause::Equation(cause)),
+    }
+}
+
+/// Makes room for one more job and one more child.
+pub(crate) fn reserve_one(course: &mut Course<'_>) -> Result<(), AllocError>
+    ensures past { past_of course.new ≡ past_of course.old }
+    ensures known { course.new.known ≡ course.old.known }
+    ensures tickets { OnOk result (vec_len course.new.tickets < vec_capacity course.new.tickets) }
+    ensures flights { OnOk result (vec_len course.new.flights < vec_capacity course.new.flights) }
+    ensures jobs { OnOk result (vec_len course.new.jobs < vec_capacity course.new.jobs) }
+{
+    course.jobs.reserve(1)?;
+    course.tickets.reserve(1)?;
+    course.flights.reserve(1)?;
+    Ok(())
+}
+
+/// The job has new folders.
+pub(crate) fn note_staging(course: &mut Course<'_>, number: usize)
+    requires folders { course.old.folders + 1 < 2 ^ 64 }
+    requires next { number ≤ length course.old.jobs.items }
+    requires room { vec_len course.old.jobs < vec_capacity course.old.jobs }
+    ensures past { past_of course.new ≡ with_staging number (past_of course.old) }
+    ensures known { course.new.known ≡ course.old.known }
+    ensures tickets { course.new.tickets ≡ course.old.tickets }
+    ensures flights { course.new.flights ≡ course.old.flights }
+{
+    course.folders += 1;
+    if number < course.jobs.len() {
+        course.jobs[number].folder = course.folders;
+    } else {
+        let job = JobState {
+            folder: course.folders,
+            gave_up: 0,
+        };
+        course.jobs.push(job).unwrap();
+    }
+}
+
+/// The job's child runs.
+pub(crate) fn note_start(course: &mut Course<'_>, number: usize, kept: Kept, ticket: u64)
+    requires tickets { vec_len course.old.tickets < vec_capacity course.old.tickets }
+    requires flights { vec_len course.old.flights < vec_capacity course.old.flights }
+    ensures past { past_of course.new ≡ with_start number kept ticket (past_of course.old) }
+    ensures known { course.new.known ≡ course.old.known }
+{
+    course.tickets.push(ticket).unwrap();
+    course.flights.push(Flight { job: number, kept }).unwrap();
+}
+
+/// Takes the child of a ticket out of those in flight.
+pub(crate) fn note_end(course: &mut Course<'_>, ticket: u64) -> Flight
+    requires flies { Contains course.old.tickets.items ticket }
+    requires as_many { length course.old.flights.items ≡ length course.old.tickets.items }
+    ensures taken { TakesOut ticket result (past_of course.old) (past_of course.new) }
+    ensures known { course.new.known ≡ course.old.known }
+{
+    match course.tickets.iter().position(|one| *one == ticket) {
+        Some(index) => {
+            course.tickets.remove(index);
+            course.flights.remove(index)
+        }
+        None => unreachable!(),
+    }
+}
+
+/// The job gives no outputs.
+pub(crate) fn note_failure(
+    alloc: Global,
+    course: &mut Course<'_>,
+    number: usize,
+    cause: Cause,
+) -> Result<(), AllocError>
+    requires { number < length (known_in course.old.known) }
+    ensures ok { OnOk result (past_of course.new ≡ with_end (permanent (place_at (known_in course.old.known) number) cause) (past_of course.old)) }
+    ensures err { OnErr result (past_of course.new ≡ past_of course.old) }
+    ensures known { course.new.known ≡ course.old.known }
+{
+    let place = copy_job(alloc, &job_of(course, number).place)?;
+    settle(course, permanent(alloc, place, cause));
+    Ok(())
+}
+
+/// The job gives no outputs, and might if it were started again: says whether it may be.
+pub(crate) fn note_giving_up(
+    alloc: Global,
+    course: &mut Course<'_>,
+    number: usize,
+    retries: u64,
+) -> Result<bool, AllocError>
+    requires number { number < length course.old.jobs.items }
+    requires known { number < length (known_in course.old.known) }
+    ensures ok { IfOk result (λ again. GivesUp (known_in course.old.known) number retries (past_of course.old) again (past_of course.new)) }
+    ensures tickets { course.new.tickets.items ≡ course.old.tickets.items }
+    ensures folders { course.new.folders ≡ course.old.folders }
+    ensures known { course.new.known ≡ course.old.known }
+{
+    let gave_up = course.jobs[number].gave_up;
+    if gave_up < retries {
+        course.jobs[number].gave_up = gave_up + 1;
+        return Ok(course.end.is_none());
+    }
+    let place = copy_job(alloc, &job_of(course, number).place)?;
+    settle(course, reported(alloc, Outcome::TemporaryFail(place)));
+    Ok(false)
+}
+
+/// The job gives these outputs: more is known, unless the end is settled.
+pub(crate) fn note_success(
+    alloc: Global,
+    course: &mut Course<'_>,
+    number: usize,
+    outputs: Keyed<Value>,
+) -> Result<(), AllocError>
+    requires { number < length (known_in course.old.known) }
+    ensures settled { OnOk result (IsSome course.old.end → past_of course.new ≡ past_of course.old) }
+    ensures unlearned { OnOk result (IsSome course.old.end → course.new.known ≡ course.old.known) }
+    ensures learned { OnOk result (course.old.end ≡ None → Learns (record { place = place_at (known_in course.old.known) number; outputs = outputs }) course.old course.new) }
+    ensures err { OnErr result (past_of course.new ≡ past_of course.old) }
+    ensures tickets { course.new.tickets.items ≡ course.old.tickets.items }
+    ensures folders { course.new.folders ≡ course.old.folders }
+{
+    if course.end.is_some() {
+        mem::drop(outputs);
+        return Ok(());
+    }
+    match learn(alloc, course, number, outputs) {
+        Ok(()) => Ok(()),
+        Err(UnfoldError::Refused(fault)) => {
+            settle(course, end_by(alloc, fault));
+            Ok(())
+        }
+        Err(UnfoldError::OutOfMemory) => Err(AllocError),
+    }
+}
+
+/// Tells what is known of the job's outputs.
+fn learn(
+    alloc: Global,
+    course: &mut Course<'_>,
+    number: usize,
+    outputs: Keyed<Value>,
+) -> Result<(), UnfoldError>
+    requires { number < length (known_in course.old.known) }
+    ensures told { (kept : Held) → course.old.known ≡ Some kept →
+        IsTold (record { place = place_at (known_in course.old.known) number; outputs = outputs }) kept course.new.known result }
+    ensures past { past_of course.new ≡ past_of course.old }
+{
+    let place = copy_job(alloc, &job_of(course, number).place)?;
+    match &mut course.known {
+        Some(unfolding) => unfolding.learn(place, outputs),
+        None => Ok(()),
+    }
+}

@@ -1,0 +1,103 @@
+//! What the machine may wait for.
+ghost use Rattle.std.specs.Prelude.{◌≡◌, IfOk};
+ghost use Rattle.run_core.specs.declared.state.JobNext.{JobNext as Next};
+ghost use Rattle.run_core.specs.inner.Course.{past_of};
+ghost use Rattle.run_core.specs.inner.Turn.{collects, ends, lost_after, permanent, root_asks, succeeds, waits, works};
+ghost use Rattle.run_rules.specs.Reports.{reported};
+
+use crate::state::{Course, JobNext, JobPhase, Phase, Turn};
+use crate::{Cause, Outcome, Report, Request, RunFault};
+use cwl_value::{JobPlace, Value, copy_job};
+use plain_data::Items;
+use proc_host::HostRequest;
+use std::alloc::{AllocError, Global};
+
+pub(crate) fn reported(alloc: Global, outcome: Outcome) -> Result<Report, RunFault>
+    ensures { result ≡ reported outcome }
+{
+    Ok(Report {
+        outcome,
+        plans: Items::new(alloc),
+        notes: Items::new(alloc),
+    })
+}
+
+/// The run has ended so.
+pub(crate) fn ended(outcome: Result<Report, RunFault>) -> Turn
+    ensures { result ≡ ends outcome }
+{
+    Turn {
+        asks: Request::Finished,
+        phase: Phase::Ended(outcome),
+    }
+}
+
+pub(crate) fn succeeded(alloc: Global, outputs: Value) -> Turn
+    ensures { result ≡ succeeds outputs }
+{
+    ended(reported(alloc, Outcome::Success(outputs)))
+}
+
+fn root_asks(alloc: Global, request: HostRequest) -> Request
+    ensures { result ≡ root_asks request }
+{
+    Request::Host(Items::new(alloc), request)
+}
+
+/// The whole run asks this.
+pub(crate) fn waiting(alloc: Global, request: HostRequest, phase: Phase) -> Turn
+    ensures { result ≡ waits request phase }
+{
+    Turn {
+        asks: root_asks(alloc, request),
+        phase,
+    }
+}
+
+/// A child in flight is waited for.
+pub(crate) fn collecting(alloc: Global) -> Turn
+    ensures { result ≡ collects }
+{
+    waiting(alloc, HostRequest::Collect, Phase::Collecting)
+}
+
+/// Memory ran out: the children in flight are waited for, and nothing else.
+pub(crate) fn lost(alloc: Global, course: &Course<'_>) -> Turn
+    ensures { result ≡ lost_after (past_of course.now) }
+{
+    if course.tickets.is_empty() {
+        return ended(Err(RunFault::OutOfMemory));
+    }
+    waiting(alloc, HostRequest::Collect, Phase::Draining)
+}
+
+/// This is asked for a job.
+pub(crate) fn working(
+    alloc: Global,
+    place: &JobPlace,
+    number: usize,
+    request: HostRequest,
+    phase: JobPhase,
+) -> Result<Turn, AllocError>
+    ensures { IfOk result (λ turn. turn ≡ works place.now number request phase) }
+{
+    let place = copy_job(alloc, place)?;
+    Ok(Turn {
+        asks: Request::Host(place, request),
+        phase: Phase::Working(number, phase),
+    })
+}
+
+/// The job gives no outputs.
+pub(crate) fn failing(cause: Cause) -> JobNext
+    ensures { result ≡ Next.Fails cause }
+{
+    JobNext::Fails(cause)
+}
+
+/// The job at a place gives no outputs, and would give none if it were started again.
+pub(crate) fn permanent(alloc: Global, place: JobPlace, cause: Cause) -> Result<Report, RunFault>
+    ensures { result ≡ permanent place cause }
+{
+    reported(alloc, Outcome::PermanentFail(place, cause))
+}

@@ -1,0 +1,91 @@
+-- What is known stays known: a job that is known at a place is known there from then on.
+use Rattle.std.proofs.Common.{◌≡◌, ◌∙◌, Bool, true, false, cond, List, [], ◌∷◌, ◌++◌, append-nil, filter_map, find, fold, reverse, Option, Some, None, refl, sym, ap, subst}
+use Rattle.std.specs.Option.{option_or}
+use Rattle.std.proofs.lemmas.List.{append_assoc, reverse-append}
+use Rattle.std.proofs.lemmas.List.Folds.{find-append}
+use Rattle.input_files.specs.Measured.{Measures}
+use Rattle.job_graph.specs.Jobs.{Job, Walker}
+use Rattle.job_graph.specs.Unfold.{Resolved, Unfolded, is_at, is_known, job_met, jobs_after, met_after, nothing_known, unfolded, with_job}
+use Rattle.job_graph.specs.Words.{Fields, JobPlace}
+use Rattle.run_rules.specs.Scene.{Scene}
+use Rattle.run_rules.specs.Events.{Event, file_measured, job_staged, job_started, child_exited, job_succeeded, job_failed, job_failed_for_now, result_delivered, host_failed, collect_failed, measures, are_measured, resolved, unfolding_at, job_at}
+use Rattle.run_rules.proofs.Measuring.{FitsAt, Fits, known_as_before, all_same, measures_more, resolved_success}
+
+abbrev known_if : Bool → Unfolded → Unfolded
+known_if measured known = cond measured known nothing_known
+
+is_measured : (measured : Bool) (known : Unfolded) (place : JobPlace) (job : Job) → find (is_at place) (known_if measured known).jobs ≡ Some job → measured ≡ true
+is_measured true known place job is = refl
+is_measured false known place job is = absurd cc
+
+pub has_result : (measured : Bool) (known : Unfolded) (outputs : Fields) → (known_if measured known).result ≡ Some outputs → measured ≡ true
+has_result true known outputs is = refl
+has_result false known outputs is = absurd cc
+
+-- a job that is found is found still where more are met
+module _ (p : Job → Bool) (job : Job) where
+  found_if : (jobs : List Job) (other : Job) (is_there : Bool) → find p jobs ≡ Some job → find p (cond is_there jobs (jobs ++ other ∷ [])) ≡ Some job
+  found_if jobs other true is = is
+  found_if jobs other false is = find-append p jobs (other ∷ []) ∙ ap (λ (o : Option Job). option_or o (find p (other ∷ []))) is
+
+  found_still : (jobs others : List Job) → find p jobs ≡ Some job → find p (fold with_job jobs others) ≡ Some job
+  found_still jobs [] is = is
+  found_still jobs (other ∷ others) is = found_still (with_job jobs other) others (found_if jobs other (is_known jobs other) is)
+
+module _ (s : Scene) where
+  -- all is measured where a job is known
+  pub measured_if_known : (es : List Event) (place : JobPlace) (job : Job) → job_at s es place ≡ Some job → are_measured s es ≡ true
+  measured_if_known es place job is = is_measured (are_measured s es) (unfolded (s.walker (measures es)) (resolved es)) place job is
+
+  -- then what is known is the unfolding
+  pub unfolding_if : (es : List Event) → are_measured s es ≡ true → unfolding_at s es ≡ unfolded (s.walker (measures es)) (resolved es)
+  unfolding_if es all = ap (λ (b : Bool). known_if b (unfolded (s.walker (measures es)) (resolved es))) all
+
+  quietly : (es : List Event) (place : JobPlace) (job : Job) (e : Event) → unfolding_at s (es ++ e ∷ []) ≡ unfolding_at s es →
+      job_at s es place ≡ Some job → job_at s (es ++ e ∷ []) place ≡ Some job
+  quietly es place job e same is = ap (λ (u : Unfolded). find (is_at place) u.jobs) same ∙ is
+
+  -- after a success
+  pub after_success : (es : List Event) (at : JobPlace) (outputs : Fields) → are_measured s es ≡ true →
+      unfolding_at s (es ++ job_succeeded at outputs ∷ []) ≡ unfolded (s.walker (measures es)) (resolved es ++ record { place = at; outputs = outputs } ∷ [])
+  after_success es at outputs all =
+      let e : Event = job_succeeded at outputs in
+      let still : are_measured s (es ++ e ∷ []) ≡ true = all_same s.paths es e (λ p. refl) ∙ all in
+      unfolding_if (es ++ e ∷ []) still
+      ∙ ap (λ (m : Measures). unfolded (s.walker m) (resolved (es ++ e ∷ []))) (measures_more es e)
+      ∙ ap (λ (known : List Resolved). unfolded (s.walker (measures es)) known) (resolved_success es at outputs)
+
+  by_success : (es : List Event) (place : JobPlace) (job : Job) (at : JobPlace) (outputs : Fields) → job_at s es place ≡ Some job →
+      job_at s (es ++ job_succeeded at outputs ∷ []) place ≡ Some job
+  by_success es place job at outputs is =
+      let all : are_measured s es ≡ true = measured_if_known es place job is in
+      let walks : Walker = s.walker (measures es) in
+      let r : Resolved = record { place = at; outputs = outputs } in
+      ap (λ (u : Unfolded). find (is_at place) u.jobs) (after_success es at outputs all)
+      ∙ ap (λ (known : List Resolved). find (is_at place) (jobs_after walks known)) (reverse-append (resolved es) (r ∷ []))
+      ∙ found_still (is_at place) job (unfolded walks (resolved es)).jobs (filter_map job_met (met_after walks (r ∷ reverse (resolved es))))
+      (sym (ap (λ (u : Unfolded). find (is_at place) u.jobs) (unfolding_if es all)) ∙ is)
+
+  pub stays_one : (es : List Event) (place : JobPlace) (job : Job) (e : Event) → FitsAt s es e → job_at s es place ≡ Some job → job_at s (es ++ e ∷ []) place ≡ Some job
+  stays_one es place job (file_measured path measure) fits is = absurd (fits (measured_if_known es place job is))
+  stays_one es place job (job_succeeded at outputs) fits is = by_success es place job at outputs is
+  stays_one es place job (job_staged at number) fits is = quietly es place job _ (known_as_before s es (job_staged at number) (λ p. refl) refl refl) is
+  stays_one es place job (job_started at inputs launch ticket) fits is = quietly es place job _ (known_as_before s es (job_started at inputs launch ticket) (λ p. refl) refl refl) is
+  stays_one es place job (child_exited ticket) fits is = quietly es place job _ (known_as_before s es (child_exited ticket) (λ p. refl) refl refl) is
+  stays_one es place job (job_failed at cause) fits is = quietly es place job _ (known_as_before s es (job_failed at cause) (λ p. refl) refl refl) is
+  stays_one es place job (job_failed_for_now at) fits is = quietly es place job _ (known_as_before s es (job_failed_for_now at) (λ p. refl) refl refl) is
+  stays_one es place job (result_delivered plan) fits is = quietly es place job _ (known_as_before s es (result_delivered plan) (λ p. refl) refl refl) is
+  stays_one es place job (host_failed at fault) fits is = quietly es place job _ (known_as_before s es (host_failed at fault) (λ p. refl) refl refl) is
+  stays_one es place job collect_failed fits is = quietly es place job _ (known_as_before s es collect_failed (λ p. refl) refl refl) is
+
+  pub stays_known : (es later : List Event) (place : JobPlace) (job : Job) → Fits s es later → job_at s es place ≡ Some job → job_at s (es ++ later) place ≡ Some job
+  stays_known es [] place job fits is = subst (λ (x : List Event). job_at s x place ≡ Some job) (sym (append-nil es)) is
+  stays_known es (e ∷ later) place job fits is =
+      subst (λ (x : List Event). job_at s x place ≡ Some job) (append_assoc es (e ∷ []) later)
+      (stays_known (es ++ e ∷ []) later place job fits.1 (stays_one es place job e fits.0 is))
+
+  -- the rest of what fits
+  pub fits_after : (es these later : List Event) → Fits s es (these ++ later) → Fits s (es ++ these) later
+  fits_after es [] later fits = subst (λ (x : List Event). Fits s x later) (sym (append-nil es)) fits
+  fits_after es (e ∷ these) later fits =
+      subst (λ (x : List Event). Fits s x later) (append_assoc es (e ∷ []) these) (fits_after (es ++ e ∷ []) these later fits.1)
