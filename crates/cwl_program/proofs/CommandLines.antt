@@ -1,7 +1,8 @@
 -- What `clap`'s contracts say of the program's command and of its words.
 use Rattle.std.proofs.Common.{◌≡◌, ◌∙◌, ap, ap₂, refl, subst, sym, true, false, ℕ, List, [], Option, Some, None, Bor, codes, option_map, option_and_then}
 use Rattle.std.specs.Prelude.{unwrap_or}
-use Rattle.clap.specs.Words.{App, Row, Rule, Text, app_of, fault_of, first_of, first_value, found_of, is_simple, is_simple_and_free, rows_of, subcommand_name_of, subcommand_of, subcommand_rows, subcommand_rows_of}
+use Rattle.clap.specs.declared.error.Error.{Error}
+use Rattle.clap.specs.Words.{App, HasKind, Row, Rule, Text, app_of, fault_of, first_of, first_value, found_of, is_simple, is_simple_and_free, rows_of, subcommand_name_of, subcommand_of, subcommand_rows, subcommand_rows_of}
 use Rattle.clap.specs.Simple.{app_of_fields}
 use Rattle.clap.specs.declared.builder.command.Command.{Command}
 use Rattle.clap.specs.declared.parser.matches.ArgMatches.{ArgMatches}
@@ -33,6 +34,12 @@ asked a words wish rows is_it matches kinds chosen =
     let taken : fault_of command_line words ≡ [] =
     subst (λ (b : App). is_simple_and_free b ≡ true → fault_of b words ≡ []) is_it kinds simple_and_free in
     subst (λ (w : Wish). Asks words w) (sym (chosen ∙ ap wished rows_are)) (asks taken)
+
+-- words that are refused have a kind of this command's
+pub refused_by : (a : App) (words : List Text) (error : Error)
+    → a ≡ command_line → (is_simple_and_free a ≡ true → HasKind (fault_of a words) error) → HasKind (fault_of command_line words) error
+refused_by a words error is_it kinds =
+    subst (λ (b : App). is_simple_and_free b ≡ true → HasKind (fault_of b words) error) is_it kinds simple_and_free
 
 abbrev got : {A : Type 0} → A → Option A → A
 got other None = other

@@ -1,10 +1,12 @@
 -- The words of `run`, in the terms of `clap`, and what they name.
-use Rattle.std.specs.Prelude.{◌≡◌, List, Option, Some, None, Bool, true, false, codes, unwrap_or, option_map}
+use Rattle.std.specs.Prelude.{◌≡◌, ◌≤◌, ℕ, List, Option, Some, None, Bool, true, false, codes, unwrap_or, option_map}
+use Rattle.std.specs.Str.Parse.{IsNumeral, digits_value, without_leading_plus}
 use Rattle.clap.specs.Words.{App, Row, Rule, Text, first_of, new_app, new_rule, with_rule}
 use Rattle.clap.specs.declared.builder.command.Command.{Command}
 use Rattle.clap.specs.declared.builder.command.Command.TheViews.{out-Command}
 use Rattle.cwl_program.specs.declared.run_words.RunWords.{RunWords}
 use Rattle.clap.specs.declared.builder.ArgAction.TheVariants.{Set}
+use Rattle.clap.specs.declared.builder.value_parser.ValueParser.TheVariants.{Unsigned}
 
 -- an argument by its place, and one by its name, as `--work DIR`
 abbrev pub placed_rule : Text → Bool → Rule
@@ -13,12 +15,22 @@ placed_rule id is_required = record (new_rule id) { required = is_required; acti
 abbrev pub named_rule : Text → Rule
 named_rule id = record (new_rule id) { long = Some id; action = Some Set; value_names = 1 }
 
--- `run` with its two folders alone, with its document, and with the input object too
+-- an option with a number within limits, as `--slots N`
+abbrev pub numbered_rule : Text → ℕ → ℕ → Rule
+numbered_rule id least most = record (named_rule id) { parser = Some (Unsigned least most) }
+
+-- `run` with its two folders alone, with its two numbers, with its document, and with the input object too
 abbrev pub with_folders : App
 with_folders = with_rule (with_rule (new_app (codes "run")) (named_rule (codes "work"))) (named_rule (codes "outdir"))
 
+abbrev pub with_slots : App
+with_slots = with_rule with_folders (numbered_rule (codes "slots") 1 64)
+
+abbrev pub with_numbers : App
+with_numbers = with_rule with_slots (numbered_rule (codes "retries") 0 10)
+
 abbrev pub with_document : App
-with_document = with_rule with_folders (placed_rule (codes "DOCUMENT") true)
+with_document = with_rule with_numbers (placed_rule (codes "DOCUMENT") true)
 
 abbrev pub run_command : App
 run_command = with_rule with_document (placed_rule (codes "INPUTS") false)
@@ -27,12 +39,14 @@ run_command = with_rule with_document (placed_rule (codes "INPUTS") false)
 abbrev pub IsLocal : Command → Type 0
 IsLocal command = (out-Command command).has_globals ≡ false
 
--- the document, the input object's file where one is named, and the two folders
+-- the document, the input object's file where one is named, the two folders, and the texts of the two numbers that are given
 pub record RunWish : Type 0 where
   pub document : Text
   pub inputs : Option Text
   pub work : Text
   pub outdir : Text
+  pub slots : Option Text
+  pub retries : Option Text
 
 -- what the words of `run` name
 abbrev pub run_wish : List Row → RunWish
@@ -41,6 +55,8 @@ run_wish rows = record {
   inputs = first_of (codes "INPUTS") rows;
   work = unwrap_or (first_of (codes "work") rows) (codes "cwl-work");
   outdir = unwrap_or (first_of (codes "outdir") rows) (codes ".");
+  slots = first_of (codes "slots") rows;
+  retries = first_of (codes "retries") rows;
 }
 
 abbrev pub wish_of_run : RunWords → RunWish
@@ -49,4 +65,24 @@ wish_of_run words = record {
   inputs = option_map (λ s. s.now) words.inputs;
   work = words.work.now;
   outdir = words.outdir.now;
+  slots = option_map (λ s. s.now) words.slots;
+  retries = option_map (λ s. s.now) words.retries;
 }
+
+-- ---- the numbers
+
+-- the text is a decimal of this number, which is within the limits
+pub record IsDecimal (least most : ℕ) (text : Text) (number : ℕ) : Type 0 where
+  pub numeral : IsNumeral 10 (without_leading_plus text)
+  pub value : number ≡ digits_value 10 (without_leading_plus text)
+  pub is_enough : least ≤ number
+  pub is_within : number ≤ most
+
+-- the number that an option gives
+pub data IsChosen (least most other : ℕ) : Option Text → ℕ → Type 0 where
+  -- its text's
+  written : (text : Text) (number : ℕ) → IsDecimal least most text number → IsChosen least most other (Some text) number
+  -- another, where it has no text
+  absent : IsChosen least most other None other
+  -- or none that is such a decimal, which `clap` refuses
+  unread : (text : Text) → ((number : ℕ) → IsDecimal least most text number → ⊥) → IsChosen least most other (Some text) other

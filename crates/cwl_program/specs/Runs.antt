@@ -37,6 +37,8 @@ use Rattle.cwl_program.specs.declared.exit.Exit.TheVariants as exits
 use Rattle.cwl_program.specs.declared.exit.Fault.{Fault}
 use Rattle.cwl_program.specs.declared.exit.Fault.TheVariants as faults
 use Rattle.cwl_program.specs.declared.exit.Refusal.TheVariants as refusals
+use Rattle.cwl_program.specs.RunWords.{IsChosen}
+use Rattle.clap.specs.Words.{Text}
 use Rattle.cwl_program.specs.declared.run.Given.{Given}
 use Rattle.cwl_program.specs.declared.stop.Stop.{Stop}
 use Rattle.cwl_program.specs.declared.stop.Stop.TheVariants.{Early, OutOfMemory}
@@ -94,38 +96,51 @@ abbrev pub IsOfDocuments : LinkFault → Type 0
 IsOfDocuments (link_faults.NotLoaded url) = ⊥
 IsOfDocuments fault = ⊤
 
--- how a run of a document on inputs ends the program
-pub data IsRunExit : Exit → Type 0 where
-  -- a host's log gained a run of an accepted process, and the program ends as that run
-  ran : (before after : List Entry) (process : Process) (inputs : Fields) (options : Options) (result : Result Report RunFault) →
-      IsAccepted process → IsInputs inputs → RunsOn before after process inputs options result → IsRunExit (run_exit result)
+-- there is nothing to run, and the program ends so
+pub data IsStopExit : Exit → Type 0 where
   -- a document has a fault
   bad_document : (base : Parts) (docs : Documents) (fault : LinkFault) → IsWrong base docs fault → IsOfDocuments fault →
-      IsRunExit (exits.Refused (refusals.Document fault))
+      IsStopExit (exits.Refused (refusals.Document fault))
   -- a document is not there, since as many were read as may be
   too_many : (base : Parts) (docs : Documents) (url : List ℕ) → IsWrong base docs (link_faults.NotLoaded url) →
-      MOST_PROCESSES ≤ length docs → IsRunExit (exits.Refused (refusals.Document link_faults.TooMany))
+      MOST_PROCESSES ≤ length docs → IsStopExit (exits.Refused (refusals.Document link_faults.TooMany))
   -- a document is not there, since its URL is no file's
   no_file : (base : Parts) (docs : Documents) (url : List ℕ) (fault : FileFault) → IsWrong base docs (link_faults.NotLoaded url) →
       location.Refuses (location.located base url) (location.is_long base url) (file_errors.Refused fault) →
-      IsRunExit (exits.Refused (refusals.Location fault))
+      IsStopExit (exits.Refused (refusals.Location fault))
   -- a link of the process is wrong, and this one first
   bad_links : (process : Process) (fault : LinkCheckFault) → IsDocument process → fault_in process ≡ Some fault →
-      IsRunExit (exits.Refused (refusals.Links fault))
+      IsStopExit (exits.Refused (refusals.Links fault))
   -- the text of the inputs has no value
-  bad_inputs : (bytes : List ℕ) (refusal : ValueRefusal) → ReadsAs bytes (Err refusal) → IsRunExit (exits.Refused (refusals.Inputs refusal))
+  bad_inputs : (bytes : List ℕ) (refusal : ValueRefusal) → ReadsAs bytes (Err refusal) → IsStopExit (exits.Refused (refusals.Inputs refusal))
   -- a file of the inputs has no path
   no_path : (bytes : List ℕ) (base : Parts) (value : Value) (fault : FileFault) → ReadsAs bytes (Ok value) →
       location.Refuses (files.resolved base value) (files.has_long base value) (file_errors.Refused fault) →
-      IsRunExit (exits.Refused (refusals.Location fault))
+      IsStopExit (exits.Refused (refusals.Location fault))
   -- the name of a file has no URL
-  no_url : IsRunExit (exits.Refused (refusals.Location NotAFileUrl))
+  no_url : IsStopExit (exits.Refused (refusals.Location NotAFileUrl))
   -- a file can't be read, or the inputs are no object
-  no_input : IsRunExit (exits.Fault faults.Input)
+  no_input : IsStopExit (exits.Fault faults.Input)
   -- the work folder can't be made
-  no_work : IsRunExit (exits.Fault faults.Work)
+  no_work : IsStopExit (exits.Fault faults.Work)
 
--- there is nothing to run; of out of memory nothing is said
+-- why there is nothing to run; of out of memory nothing is said
 abbrev pub IsStop : Stop → Type 0
-IsStop (Early exit) = IsRunExit exit
+IsStop (Early exit) = IsStopExit exit
 IsStop OutOfMemory = ⊤
+
+-- ---- how a run of a document on inputs ends the program
+
+-- a host's log gained a run of an accepted process with these options, and the program ends as that run
+pub data IsRan (options : Options) : Exit → Type 0 where
+  ran : (before after : List Entry) (process : Process) (inputs : Fields) (result : Result Report RunFault) →
+      IsAccepted process → IsInputs inputs → RunsOn before after process inputs options result → IsRan options (run_exit result)
+
+-- the slots and the retries are those that these texts give, else 1 and 0
+pub record HasNumbers (slots retries : Option Text) (options : Options) : Type 0 where
+  pub side_by_side : IsChosen 1 64 1 slots options.slots
+  pub started_again : IsChosen 0 10 0 retries options.retries
+
+pub data IsRunExit (slots retries : Option Text) : Exit → Type 0 where
+  runs : {exit : Exit} (options : Options) → HasNumbers slots retries options → IsRan options exit → IsRunExit slots retries exit
+  stops : {exit : Exit} → IsStopExit exit → IsRunExit slots retries exit

@@ -1,5 +1,5 @@
 -- What the program writes to its two writers for these words, and the status that it then answers.
-use Rattle.std.specs.Prelude.{◌≡◌, ◌≢◌, ℕ, List, ◌++◌, Option, codes}
+use Rattle.std.specs.Prelude.{◌≡◌, ◌≢◌, ℕ, List, ◌++◌, Option, None, codes, option_map}
 use Rattle.std.specs.Io.KnownBytes.{Appends}
 use Rattle.clap.specs.Words.{IsAmong, Text, fault_of}
 use Rattle.clap.specs.declared.error.ErrorKind.{ErrorKind}
@@ -41,9 +41,9 @@ pub data IsRecordExit : Exit → Type 0 where
 
 -- what the choice comes to
 abbrev pub IsEndOf : Choice → Exit → Type 0
-IsEndOf Demo exit = IsRunExit exit
+IsEndOf Demo exit = IsRunExit None None exit
 IsEndOf (Check file) exit = IsCheck exit
-IsEndOf (Run words) exit = IsRunExit exit
+IsEndOf (Run words) exit = IsRunExit (option_map (λ s. s.now) words.slots) (option_map (λ s. s.now) words.retries) exit
 IsEndOf (Record words) exit = IsRecordExit exit
 
 -- the end that these words lead to

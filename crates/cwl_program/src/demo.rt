@@ -1,7 +1,7 @@
 //! The worked example.
-ghost use Rattle.std.specs.Prelude.{IfOk, IfErr};
+ghost use Rattle.std.specs.Prelude.{IfOk, IfErr, None};
 ghost use Rattle.run_core.specs.Limits.{IsWithinLimits};
-ghost use Rattle.cwl_program.specs.Runs.{IsAccepted, IsInputs, IsReady, IsRunExit, IsStop};
+ghost use Rattle.cwl_program.specs.Runs.{HasNumbers, IsAccepted, IsInputs, IsRan, IsReady, IsRunExit, IsStop};
 
 use crate::documents::accepted_of;
 use crate::exit::Exit;
@@ -33,8 +33,9 @@ const INPUTS: &str = "{\"t\":\"abc\"}";
 const SUM: &str = "a9993e364706816aba3e25717850c26c9cd0d89d";
 
 /// Runs the worked example over a host that answers from a script.
+#[tactic(auto, using(crate::proofs::Stops::stops_so))]
 pub fn exit_of_demo(alloc: Global, path: &str) -> Result<Exit, AllocError>
-    ensures { IfOk result IsRunExit }
+    ensures { IfOk result (IsRunExit None None) }
 {
     match process_of(alloc) {
         Ok(process) => on_process(alloc, process, path),
@@ -50,9 +51,10 @@ fn process_of(alloc: Global) -> Result<Process, Stop>
     accepted_of(alloc, DOCUMENT.as_bytes(), &base, &Docs::new(alloc))
 }
 
+#[tactic(auto, using(crate::proofs::Stops::stops_so))]
 fn on_process(alloc: Global, process: Process, path: &str) -> Result<Exit, AllocError>
     requires { IsAccepted process }
-    ensures { IfOk result IsRunExit }
+    ensures { IfOk result (IsRunExit None None) }
 {
     match inputs_of(alloc) {
         Ok(inputs) => {
@@ -78,7 +80,7 @@ fn inputs_of(alloc: Global) -> Result<Keyed<Value>, Stop>
 
 fn in_world(alloc: Global, given: &Given, path: &str) -> Result<Exit, AllocError>
     requires { IsReady given.now }
-    ensures { IfOk result IsRunExit }
+    ensures { IfOk result (IsRunExit None None) }
 {
     let world = world_of(alloc, path)?;
     ended(alloc, given, world)
@@ -87,7 +89,7 @@ fn in_world(alloc: Global, given: &Given, path: &str) -> Result<Exit, AllocError
 fn ended(alloc: Global, given: &Given, world: World) -> Result<Exit, AllocError>
     requires ready { IsReady given.now }
     requires limits { IsWithinLimits world.options }
-    ensures { IfOk result IsRunExit }
+    ensures { IfOk result (IsRan world.options) }
 {
     let World { options, script } = world;
     let mut host = Scripted::new(alloc, script, 0);
@@ -106,7 +108,8 @@ struct World {
 }
 
 fn world_of(alloc: Global, path: &str) -> Result<World, AllocError>
-    ensures { IfOk result (λ world. IsWithinLimits world.options) }
+    ensures limits { IfOk result (λ world. IsWithinLimits world.options) }
+    ensures numbers { IfOk result (λ world. HasNumbers None None world.options) }
 {
     let options = options(alloc, path)?;
     let script = script(alloc)?;
@@ -136,7 +139,8 @@ fn script(alloc: Global) -> Result<Items<Reply>, AllocError> {
 }
 
 fn options(alloc: Global, path: &str) -> Result<Options, AllocError>
-    ensures { IfOk result IsWithinLimits }
+    ensures limits { IfOk result IsWithinLimits }
+    ensures numbers { IfOk result (HasNumbers None None) }
 {
     Ok(Options {
         work: Text::from_text(alloc, "cwl-work")?,

@@ -1,14 +1,14 @@
 //! A run of the user's own process, over real processes and files.
-ghost use Rattle.std.specs.Prelude.{◌≡◌, [], IfOk, IfErr};
+ghost use Rattle.std.specs.Prelude.{◌≡◌, [], IfOk, IfErr, option_map};
 ghost use Rattle.run_core.specs.Limits.{IsWithinLimits};
-ghost use Rattle.cwl_program.specs.Runs.{IsAccepted, IsInputs, IsReady, IsRunExit, IsStop};
+ghost use Rattle.cwl_program.specs.Runs.{HasNumbers, IsAccepted, IsInputs, IsRan, IsReady, IsRunExit, IsStop};
 
 use crate::documents::accepted_of;
 use crate::exit::{Exit, Fault};
 use crate::inputs::inputs_at;
 use crate::paths::{base_of, from_root};
 use crate::report::exit_of_run;
-use crate::run_words::RunWords;
+use crate::run_words::{RunWords, retries_of, slots_of};
 use crate::search::docs_of;
 use crate::stop::{Stop, stopped, unread};
 use cwl_value::Value;
@@ -57,6 +57,7 @@ impl Places {
 }
 
 /// Runs the process of a document on an input object, in a work folder that is made for it and removed again.
+#[tactic(auto, using(crate::proofs::Stops::stops_so))]
 pub fn exit_of_process<R: World + Env>(
     rt: &R,
     words: &RunWords,
@@ -64,7 +65,7 @@ pub fn exit_of_process<R: World + Env>(
 ) -> Result<Exit, AllocError>
 where
     R::File: Into<Stdio>,
-    ensures { IfOk result IsRunExit }
+    ensures { IfOk result (IsRunExit (option_map (λ s. s.now) words.now.slots) (option_map (λ s. s.now) words.now.retries)) }
 {
     match here_of(rt) {
         Ok(here) => {
@@ -86,10 +87,11 @@ fn here_of<R: World + Env>(rt: &R) -> io::Result<String> {
     Ok(String::from_str(rt.alloc(), here.as_path().as_str())?)
 }
 
+#[tactic(auto, using(crate::proofs::Stops::stops_so))]
 fn exit_of_call<R: World>(rt: &R, call: &Call<'_>) -> Result<Exit, AllocError>
 where
     R::File: Into<Stdio>,
-    ensures { IfOk result IsRunExit }
+    ensures { IfOk result (IsRunExit (option_map (λ s. s.now) call.now.words.now.slots) (option_map (λ s. s.now) call.now.words.now.retries)) }
 {
     match process_of(rt, call) {
         Ok(process) => on_process(rt, process, call),
@@ -126,11 +128,12 @@ fn file_bytes<R: World>(rt: &R, file: &str) -> Result<Vec<u8>, Stop>
     }
 }
 
+#[tactic(auto, using(crate::proofs::Stops::stops_so))]
 fn on_process<R: World>(rt: &R, process: Process, call: &Call<'_>) -> Result<Exit, AllocError>
 where
     R::File: Into<Stdio>,
     requires { IsAccepted process }
-    ensures { IfOk result IsRunExit }
+    ensures { IfOk result (IsRunExit (option_map (λ s. s.now) call.now.words.now.slots) (option_map (λ s. s.now) call.now.words.now.retries)) }
 {
     match inputs_of(rt, call) {
         Ok(inputs) => {
@@ -167,16 +170,16 @@ fn inputs_bytes<R: World>(rt: &R, words: &RunWords) -> Result<Vec<u8>, Stop>
 }
 
 /// Makes the work folder, runs, and removes the folder where that is possible.
-#[tactic(auto, using(crate::specs::Runs::no_work))]
+#[tactic(auto, using(crate::specs::Runs::no_work, crate::specs::Runs::stops))]
 fn in_places<R: World>(rt: &R, given: &Given, call: &Call<'_>) -> Result<Exit, AllocError>
 where
     R::File: Into<Stdio>,
     requires { IsReady given.now }
-    ensures { IfOk result IsRunExit }
+    ensures { IfOk result (IsRunExit (option_map (λ s. s.now) call.now.words.now.slots) (option_map (λ s. s.now) call.now.words.now.retries)) }
 {
     match places_of(rt, call) {
         Ok(places) => {
-            let exit = in_work(rt, given, &places, call.path);
+            let exit = in_work(rt, given, &places, call);
             let _removed = fs::remove_dir_all(rt, places.work.as_str());
             mem::drop(places);
             exit
@@ -198,25 +201,31 @@ fn places_from(alloc: Global, call: &Call<'_>) -> Result<Places, AllocError> {
     Ok(Places { work, outdir })
 }
 
-fn in_work<R: World>(rt: &R, given: &Given, places: &Places, path: &str) -> Result<Exit, AllocError>
+fn in_work<R: World>(
+    rt: &R,
+    given: &Given,
+    places: &Places,
+    call: &Call<'_>,
+) -> Result<Exit, AllocError>
 where
     R::File: Into<Stdio>,
     requires { IsReady given.now }
-    ensures { IfOk result IsRunExit }
+    ensures { IfOk result (IsRunExit (option_map (λ s. s.now) call.now.words.now.slots) (option_map (λ s. s.now) call.now.words.now.retries)) }
 {
-    let options = options_of(rt.alloc(), places, path)?;
+    let options = options_of(rt.alloc(), places, call)?;
     with_options(rt, given, options, places)
 }
 
-fn options_of(alloc: Global, places: &Places, path: &str) -> Result<Options, AllocError>
-    ensures { IfOk result IsWithinLimits }
+fn options_of(alloc: Global, places: &Places, call: &Call<'_>) -> Result<Options, AllocError>
+    ensures limits { IfOk result IsWithinLimits }
+    ensures numbers { IfOk result (HasNumbers (option_map (λ s. s.now) call.now.words.now.slots) (option_map (λ s. s.now) call.now.words.now.retries)) }
 {
     Ok(Options {
         work: places.work.copied(alloc)?,
         outdir: places.outdir.copied(alloc)?,
-        path_env: Text::from_text(alloc, path)?,
-        slots: 1,
-        retries: 0,
+        path_env: Text::from_text(alloc, call.path)?,
+        slots: slots_of(call.words),
+        retries: retries_of(call.words),
         base: 1,
         rate: 100_000,
         keep: false,
@@ -233,7 +242,7 @@ where
     R::File: Into<Stdio>,
     requires ready { IsReady given.now }
     requires limits { IsWithinLimits options }
-    ensures { IfOk result IsRunExit }
+    ensures { IfOk result (IsRan options) }
 {
     match machine_of(rt, places) {
         Ok(host) => ended(rt.alloc(), host, given, options),
@@ -269,7 +278,7 @@ where
     requires idle { host.running ≡ [] }
     requires ready { IsReady given.now }
     requires limits { IsWithinLimits options }
-    ensures { IfOk result IsRunExit }
+    ensures { IfOk result (IsRan options) }
 {
     let report = run(alloc, &mut host, &given.process, &given.inputs, options);
     let exit = exit_of_run(alloc, &report);

@@ -1,24 +1,38 @@
-ghost use Rattle.std.specs.Prelude.{◌≡◌, IfOk, IfErr, false};
+ghost use Rattle.std.specs.Prelude.{◌≡◌, ◌≤◌, IfOk, IfErr, Some, false, option_map};
 ghost use Rattle.clap.specs.Words.{app_of, found_of, kind_of, rows_of, rule_of};
-ghost use Rattle.cwl_program.specs.RunWords.{IsLocal, named_rule, placed_rule, run_command, run_wish, wish_of_run, with_document, with_folders};
+ghost use Rattle.cwl_program.specs.RunWords.{IsChosen, IsLocal, named_rule, numbered_rule, placed_rule, run_command, run_wish, wish_of_run, with_document, with_folders, with_numbers, with_slots};
 
+use clap::builder::ValueParser;
 use clap::error::ErrorKind;
 use clap::{Arg, ArgAction, ArgMatches, Command, Error};
 use std::alloc::Global;
+
+const LEAST_SLOTS: u64 = 1;
+
+const MOST_SLOTS: u64 = 64;
+
+const MOST_RETRIES: u64 = 10;
 
 const WORK_HELP: &str = "The folder for the jobs, made and removed by the run [cwl-work]";
 
 const OUTDIR_HELP: &str = "The folder for the output files, made where it is absent [.]";
 
+const SLOTS_HELP: &str = "How many jobs may run side by side, from 1 to 64 [1]";
+
+const RETRIES_HELP: &str =
+    "How often a job that fails temporarily is started again, from 0 to 10 [0]";
+
 const INPUTS_HELP: &str = "The input object's file, in JSON; without it the object is empty";
 
-/// The files and folders that the words of a run name.
+/// The files and folders that the words of a run name, and the texts of its numbers.
 #[derive(Drop)]
 pub struct RunWords<'a> {
     pub document: &'a str,
     pub inputs: Option<&'a str>,
     pub work: &'a str,
     pub outdir: &'a str,
+    pub slots: Option<&'a str>,
+    pub retries: Option<&'a str>,
 }
 
 /// An argument by its place.
@@ -44,6 +58,19 @@ pub fn named<'a>(alloc: Global, id: &'a str, value: &'a str, help: &'a str) -> A
         .help(help)
 }
 
+/// An option with a number within limits, as `--slots N`.
+fn numbered<'a>(alloc: Global, id: &'a str, least: u64, most: u64, help: &'a str) -> Arg<'a>
+    ensures rule { rule_of result ≡ numbered_rule id.now least most }
+    ensures local { result.global ≡ false }
+{
+    Arg::new(alloc, id)
+        .long(id)
+        .value_name("N")
+        .action(ArgAction::Set)
+        .value_parser(ValueParser::Unsigned(least, most))
+        .help(help)
+}
+
 // The subcommand `run` with its two folders alone.
 fn folders_command<'a>(alloc: Global) -> Result<Command<'a>, Error>
     ensures ok { IfOk result (λ command. app_of command ≡ with_folders) }
@@ -59,6 +86,28 @@ fn folders_command<'a>(alloc: Global) -> Result<Command<'a>, Error>
     Ok(command)
 }
 
+// And with its slots.
+fn slots_command<'a>(alloc: Global) -> Result<Command<'a>, Error>
+    ensures ok { IfOk result (λ command. app_of command ≡ with_slots) }
+    ensures local { IfOk result IsLocal }
+    ensures err { IfErr result (λ e. kind_of e ≡ ErrorKind.OutOfMemory) }
+{
+    let slots = numbered(alloc, "slots", LEAST_SLOTS, MOST_SLOTS, SLOTS_HELP);
+    let command = folders_command(alloc)?.arg(slots)?;
+    Ok(command)
+}
+
+// And with its retries.
+fn numbers_command<'a>(alloc: Global) -> Result<Command<'a>, Error>
+    ensures ok { IfOk result (λ command. app_of command ≡ with_numbers) }
+    ensures local { IfOk result IsLocal }
+    ensures err { IfErr result (λ e. kind_of e ≡ ErrorKind.OutOfMemory) }
+{
+    let retries = numbered(alloc, "retries", 0, MOST_RETRIES, RETRIES_HELP);
+    let command = slots_command(alloc)?.arg(retries)?;
+    Ok(command)
+}
+
 // And with its document.
 fn document_command<'a>(alloc: Global) -> Result<Command<'a>, Error>
     ensures ok { IfOk result (λ command. app_of command ≡ with_document) }
@@ -71,7 +120,7 @@ fn document_command<'a>(alloc: Global) -> Result<Command<'a>, Error>
         true,
         "The document of the process, in JSON",
     );
-    let command = folders_command(alloc)?.arg(document)?;
+    let command = numbers_command(alloc)?.arg(document)?;
     Ok(command)
 }
 
@@ -95,5 +144,49 @@ pub fn run_words<'a>(words: &ArgMatches<'a>) -> RunWords<'a>
         inputs: words.get_str("INPUTS"),
         work: words.get_str("work").unwrap_or("cwl-work"),
         outdir: words.get_str("outdir").unwrap_or("."),
+        slots: words.get_str("slots"),
+        retries: words.get_str("retries"),
+    }
+}
+
+/// How many children may run side by side: one where the words don't say.
+pub fn slots_of(words: &RunWords) -> u64
+    ensures chosen { IsChosen 1 64 1 (option_map (λ s. s.now) words.now.slots) result }
+    ensures least { 1 ≤ result }
+    ensures most { result ≤ 64 }
+{
+    match words.slots {
+        None => LEAST_SLOTS,
+        Some(text) => read_or(text, LEAST_SLOTS, MOST_SLOTS, LEAST_SLOTS),
+    }
+}
+
+/// How often a job that fails temporarily is started again: never where the words don't say.
+pub fn retries_of(words: &RunWords) -> u64
+    ensures chosen { IsChosen 0 10 0 (option_map (λ s. s.now) words.now.retries) result }
+    ensures most { result ≤ 10 }
+{
+    match words.retries {
+        None => 0,
+        Some(text) => read_or(text, 0, MOST_RETRIES, 0),
+    }
+}
+
+// The number of a text that `clap` has let through.
+fn read_or(text: &str, least: u64, most: u64, other: u64) -> u64
+    requires enough { least ≤ other }
+    requires within { other ≤ most }
+    ensures chosen { IsChosen least most other (Some text.now) result }
+    ensures least { least ≤ result }
+    ensures most { result ≤ most }
+{
+    match text.parse::<u64>() {
+        Ok(number) => {
+            if number < least || number > most {
+                return other;
+            }
+            number
+        }
+        Err(_) => other,
     }
 }

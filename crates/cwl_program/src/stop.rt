@@ -1,6 +1,6 @@
 //! What ends the program before anything is run.
 ghost use Rattle.std.specs.Prelude.{◌≡◌, IfOk};
-ghost use Rattle.cwl_program.specs.Runs.{IsRunExit, IsStop};
+ghost use Rattle.cwl_program.specs.Runs.{IsStop, IsStopExit};
 ghost use Rattle.cwl_program.specs.declared.stop.Stop.TheVariants.{OutOfMemory};
 
 use crate::exit::{Exit, Fault};
@@ -26,7 +26,7 @@ impl From<AllocError> for Stop {
 /// The end of a program that has nothing to run.
 pub fn stopped(stop: Stop) -> Result<Exit, AllocError>
     requires { IsStop stop }
-    ensures { IfOk result IsRunExit }
+    ensures { IfOk result IsStopExit }
 {
     match stop {
         Stop::Early(exit) => Ok(exit),

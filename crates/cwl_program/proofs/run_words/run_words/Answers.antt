@@ -16,4 +16,8 @@ returns c =
     or_other _ _ _ _ (codes "cwl-work") (c.get_str-3.ensures ∙ first_value-rows found (codes "work")) c.unwrap_or-2.ensures refl in
     let outdir : c.unwrap_or-3.result.now ≡ unwrap_or (first_of (codes "outdir") (rows_of found)) (codes ".") =
     or_other _ _ _ _ (codes ".") (c.get_str-4.ensures ∙ first_value-rows found (codes "outdir")) c.unwrap_or-3.ensures refl in
-    rw (document, inputs, work, outdir) refl
+    let slots : option_map (λ s. s.now) c.get_str-5.result ≡ first_of (codes "slots") (rows_of found) =
+    c.get_str-5.ensures ∙ first_value-rows found (codes "slots") in
+    let retries : option_map (λ s. s.now) c.get_str-6.result ≡ first_of (codes "retries") (rows_of found) =
+    c.get_str-6.ensures ∙ first_value-rows found (codes "retries") in
+    rw (document, inputs, work, outdir, slots, retries) refl
