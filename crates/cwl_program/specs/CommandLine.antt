@@ -1,5 +1,5 @@
 -- The words that the program takes, in the terms of `clap`, and what they ask for.
-use Rattle.std.specs.Prelude.{◌≡◌, ℕ, List, [], Option, Some, None, Bool, true, codes, unwrap_or, if◌then◌else◌}
+use Rattle.std.specs.Prelude.{◌≡◌, List, [], Option, Some, None, true, codes, unwrap_or, if◌then◌else◌}
 use Rattle.std.specs.Str.{bytes_eq}
 use Rattle.clap.specs.Words.{App, Row, Rule, Text, fault_of, first_of, new_app, new_rule, subcommand_of, with_rule, with_subcommand}
 use Rattle.clap.specs.declared.builder.ArgAction.TheVariants.{Set}

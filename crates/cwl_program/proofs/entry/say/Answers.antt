@@ -1,5 +1,4 @@
-use Rattle.std.proofs.Common.{ℕ, subst, sym}
-use Rattle.cwl_program.specs.Tells.{Says, says, fails}
+use Rattle.cwl_program.specs.Tells.{says, fails}
 use Rattle.cwl_program.proofs.entry.say.Goals as goal
 
 pub returns-in-Ok : goal.returns-in-Ok

@@ -1,4 +1,4 @@
-use Rattle.std.proofs.Common.{◌≡◌, ◌∙◌, ◌<◌, ◌^◌, ℕ, sym, arith}
+use Rattle.std.proofs.Common.{◌≡◌, ◌∙◌, ℕ, sym, arith}
 use Rattle.cwl_program.specs.RunWords.{IsDecimal, unread, written}
 use Rattle.cwl_program.proofs.run_words.read_or.Goals as goal
 use Rattle.cwl_program.proofs.run_words.read_or.Goals.{then-number-least-via-then-number-least, then-number-least-via-else-number-least+then-number-most}
