@@ -1,4 +1,4 @@
--- A child has ended: well, so that its output folder is listed, or for good, or for now, so that its job may be started again.
+-- A child has ended: well, so that its output folder is listed, or permanently, or temporarily, so that its job may be started again.
 use Rattle.std.proofs.Common.{◌≡◌, ◌∙◌, ℕ, Bool, true, false, cond, List, [], ◌∷◌, ◌++◌, Option, Some, None, refl, sym, ap, subst, append_assoc, append-nil}
 use Rattle.plan_checker.specs.declared.plan.Mark.{Mark}
 use Rattle.proc_host.specs.declared.call.HostAnswer.{HostAnswer}
