@@ -1,6 +1,9 @@
 -- What is added to the known jobs, by the code's own words.
 use Rattle.std.proofs.Common.{◌≡◌, ◌∙◌, ℕ, ◌+◌, ◌<◌, ◌≤◌, ◌⊎◌, inl, inr, List, [], ◌∷◌, ◌++◌, length, Bool, true, false, cond, Option, Some, None, Result, Ok, Err, refl, sym, ap, subst, take, drop, append_assoc, arith, get_or, add-one}
 use Rattle.std.proofs.Math.Seq.{drop-cons, take-append_seam, take-length}
+use Rattle.std.specs.Prelude.{◌||◌}
+use Rattle.std.specs.List.{list_any}
+use Rattle.std.proofs.lemmas.List.Folds.{list_any-append}
 use Rattle.std.proofs.lemmas.List.{length-map, map-append, take-append-drop}
 use Rattle.plan_checker.specs.declared.graph.TheConstants.{MOST_VERTICES, MOST_ENTRIES}
 use Rattle.job_graph.specs.declared.cause.Cause.{Cause}
@@ -11,7 +14,7 @@ use Rattle.job_graph.specs.declared.growth.KnownJob.{KnownJob}
 use Rattle.job_graph.specs.Made.{any_made}
 use Rattle.job_graph.specs.Words.{Fields, JobPlace}
 use Rattle.job_graph.specs.Jobs.{Job, Met, met_job, met_fault}
-use Rattle.job_graph.specs.Unfold.{Known, Fault, too_many_jobs, is_known, is_within_limits, with_met, first_fault, known_from, entries_from, parents_from}
+use Rattle.job_graph.specs.Unfold.{Known, Fault, too_many_jobs, is_at, is_known, is_within_limits, with_met, first_fault, known_from, entries_from, parents_from}
 use Rattle.job_graph.specs.Unfolding.{fault_of, jobs_in, known_of}
 use Rattle.job_graph.specs.inner.Growth.{AreCounted, Grows, GrowsTo}
 use Rattle.job_graph.specs.inner.Views.{job_of}
@@ -137,3 +140,12 @@ pub parents_at : (known : List KnownJob) (n : ℕ) (one : KnownJob) (inputs : Fi
     parents_from n (jobs_in (drop n known)) inputs
     ≡ cond (any_made one.job.place inputs) (n ∷ parents_from (n + 1) (jobs_in (drop (n + 1) known)) inputs) (parents_from (n + 1) (jobs_in (drop (n + 1) known)) inputs)
 parents_at known n one inputs below is = rw (drop-cons known n one, ← is) (simp add-one)
+
+-- ---- whether a job is known
+
+-- it is in one of two parts
+pub known_apart : (known : List KnownJob) (job : Job) (n : ℕ) → (is_known (jobs_in (take n known)) job || is_known (jobs_in (drop n known)) job) ≡ is_known (jobs_in known) job
+known_apart known job n =
+    sym (list_any-append (is_at job.place) (jobs_in (take n known)) (jobs_in (drop n known)))
+    ∙ ap (list_any (is_at job.place)) (sym (map-append (λ (k : KnownJob). job_of k.job) (take n known) (drop n known)))
+    ∙ ap (λ (ks : List KnownJob). is_known (jobs_in ks) job) (take-append-drop n known)

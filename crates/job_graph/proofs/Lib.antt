@@ -2,6 +2,7 @@ mod Grows
 mod Loops
 mod MetMore
 mod Outs
+mod Settling
 mod Tuples
 mod Unfolds
 mod Walks

@@ -10,7 +10,7 @@ use Rattle.job_graph.specs.declared.walk.Walk.{Walk as KeptWalk}
 use Rattle.job_graph.specs.Words.{Name, Fields, JobPlace}
 use Rattle.job_graph.specs.Jobs.{Met, Outs}
 use Rattle.job_graph.specs.Links.{Env, given, output_value}
-use Rattle.job_graph.specs.Equations.{StepsOf, env_after, fault_at, step_walk, workflow_walk}
+use Rattle.job_graph.specs.Equations.{StepsOf, fault_at, step_walk, workflow_walk}
 use Rattle.job_graph.specs.inner.Levels.{steps_walk}
 use Rattle.job_graph.specs.inner.Views.{met_of, walk_of}
 
@@ -32,7 +32,7 @@ met_push f g met now more xs i x is before last below at =
     ∙ sym (flat_map-append f (map g (take i xs)) (g x ∷ [])) ∙ ap (flat_map f) (sym (map-append g (take i xs) (x ∷ []))) ∙ ap (λ front. flat_map f (map g front)) (sym (front_more xs i x below at))
 
 pub whole_walk : {E : Type 0} (outputs : List (Name × WorkflowOutput)) (steps : StepsOf) (place : JobPlace) (inputs : Fields) (env : Env) (met : List KeptMet) (result : Result KeptWalk E) →
-    env ≡ env_after (length steps) steps place inputs → map met_of met ≡ flat_map (λ s. (step_walk place inputs env s).met) steps →
+    workflow_walk (record { inputs = []; outputs = outputs; steps = steps }) place inputs env ≡ steps_walk outputs steps place inputs → map met_of met ≡ flat_map (λ s. (step_walk place inputs env s).met) steps →
     IfOk result (λ walk. map met_of walk.met ≡ map met_of met ++ flat_map (λ o. fault_at place (output_value inputs env o.1.links)) outputs) →
     IfOk result (λ walk. walk.outs ≡ map (λ o. (o.0, given (output_value inputs env o.1.links))) outputs) →
     IfOk result (λ walk. walk_of walk ≡ steps_walk outputs steps place inputs)
@@ -41,4 +41,4 @@ whole_walk outputs steps place inputs env met (Ok walk) rounds seen all outs =
     let parts : walk_of walk ≡ workflow_walk (record { inputs = []; outputs = outputs; steps = steps }) place inputs env =
     ap₂ (λ (m : List Met) (o : Outs). record { met = m; outs = o })
     (all ∙ ap (λ (front : List Met). front ++ flat_map (λ (o : Name × WorkflowOutput). fault_at place (output_value inputs env o.1.links)) outputs) seen) outs in
-    parts ∙ ap (workflow_walk (record { inputs = []; outputs = outputs; steps = steps }) place inputs) rounds
+    parts ∙ rounds

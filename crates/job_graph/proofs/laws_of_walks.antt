@@ -8,6 +8,7 @@ pub mod Places
 pub mod Processes
 pub mod Rounds
 pub mod Same
+pub mod Settled
 pub mod Steps
 pub mod Waits
 pub mod Whole

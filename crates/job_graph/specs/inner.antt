@@ -1,5 +1,6 @@
 pub mod Entered
 pub mod Growth
 pub mod Levels
+pub mod Rounds
 pub mod Told
 pub mod Views

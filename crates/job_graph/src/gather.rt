@@ -78,17 +78,17 @@ fn all_met<'a>(alloc: Global, walks: Vec<Walk<'a>>) -> Result<Items<Met<'a>>, Al
 {
     let mut met = Items::new(alloc);
     for walk in walks {
-        push_met(&mut met, walk)?;
+        let Walk { met: more, outs } = walk;
+        drop(outs);
+        push_met(&mut met, more)?;
     }
     Ok(met)
 }
 
-/// Adds what a walk met.
-pub(crate) fn push_met<'a>(met: &mut Items<Met<'a>>, walk: Walk<'a>) -> Result<(), AllocError>
-    ensures { OnOk result (met.new ≡ met.old ++ walk.entry.met) }
+/// Adds what was met.
+pub(crate) fn push_met<'a>(met: &mut Items<Met<'a>>, more: Items<Met<'a>>) -> Result<(), AllocError>
+    ensures { OnOk result (met.new ≡ met.old ++ more.entry) }
 {
-    let Walk { met: more, outs } = walk;
-    drop(outs);
     for one in more.into_vec() {
         met.push(one)?;
     }

@@ -1,5 +1,5 @@
 //! How the known jobs grow by what a walk meets.
-ghost use Rattle.std.specs.Prelude.{◌≡◌, ◌∷◌, [], IfOk, false, map};
+ghost use Rattle.std.specs.Prelude.{◌≡◌, ◌∷◌, [], IfOk, false, is_some, map};
 ghost use Rattle.job_graph.specs.Jobs.{met_job};
 ghost use Rattle.job_graph.specs.Unfold.{is_known, parents_from};
 ghost use Rattle.job_graph.specs.Unfolding.{jobs_in};
@@ -33,8 +33,9 @@ pub(crate) fn grow<'a>(
     ensures { Grows known.old.items entries (map met_of met.entry) known.new.items result }
 {
     let mut entries = entries;
+    let mut next = 0;
     for one in met.into_vec() {
-        match add(alloc, known, entries, one) {
+        match add(alloc, known, entries, one, &mut next) {
             Ok(more) => entries = more,
             Err(error) => return Err(error),
         }
@@ -48,13 +49,14 @@ fn add<'a>(
     known: &mut Vec<KnownJob<'a>>,
     entries: usize,
     met: Met<'a>,
+    next: &mut usize,
 ) -> Result<usize, UnfoldError>
     ensures { Grows known.old.items entries (met_of met.entry ∷ []) known.new.items result }
 {
     match met {
         Met::Fault(place, cause) => Err(UnfoldError::Refused(UnfoldFault::Fault(place, cause))),
         Met::Job(job) => {
-            if is_known(known.as_slice(), &job) {
+            if is_known(known.as_slice(), &job, next) {
                 return Ok(entries);
             }
             add_job(alloc, known, entries, job)
@@ -62,15 +64,36 @@ fn add<'a>(
     }
 }
 
-fn is_known(known: &[KnownJob<'_>], job: &Job<'_>) -> bool
+/// Whether the job is known. The search starts at `next` and leaves it after what it found: a walk meets the jobs in
+/// nearly the order in which they became known.
+#[tactic(auto, using(crate::proofs::Grows::known_apart))]
+fn is_known(known: &[KnownJob<'_>], job: &Job<'_>, next: &mut usize) -> bool
     ensures { result ≡ is_known (jobs_in known.now) (job_of job.now) }
 {
-    for one in known {
-        if is_same_place(one.job.place.as_slice(), job.place.as_slice()) {
-            return true;
+    let (front, back) = known.split_at((*next).min(known.len()));
+    if let Some(at) = number_among(back, job) {
+        *next = front.len().saturating_add(at).saturating_add(1);
+        return true;
+    }
+    match number_among(front, job) {
+        None => false,
+        Some(at) => {
+            *next = at.saturating_add(1);
+            true
         }
     }
-    false
+}
+
+/// The number of the job among these, where it is there.
+fn number_among(known: &[KnownJob<'_>], job: &Job<'_>) -> Option<usize>
+    ensures { is_some result ≡ is_known (jobs_in known.now) (job_of job.now) }
+{
+    for number in 0..known.len() {
+        if is_same_place(known[number].job.place.as_slice(), job.place.as_slice()) {
+            return Some(number);
+        }
+    }
+    None
 }
 
 /// Adds a job with its parents, within the limits. Returns how many parents all have.

@@ -22,6 +22,7 @@ mod parents;
 mod partly;
 mod paths;
 mod place;
+mod rounds;
 mod scatter;
 mod step;
 mod unfolding;

@@ -61,7 +61,7 @@ fn value_under(alloc: Global, fields: &Keyed<Value>, name: &str) -> Result<Value
 }
 
 /// The value of a step's output, where it is known.
-fn step_value<'a>(env: &'a Env, step: &str, name: &str) -> Option<&'a Value>
+pub(crate) fn step_value<'a>(env: &'a Env, step: &str, name: &str) -> Option<&'a Value>
     ensures { option_copied result ≡ out_under name.now (value_at step.now env.now) }
 {
     match env.get(step) {
@@ -99,7 +99,7 @@ fn linked_values(
     Ok(Some(values))
 }
 
-fn sources_of(links: &Links) -> &[Source]
+pub(crate) fn sources_of(links: &Links) -> &[Source]
     ensures { result.now ≡ unwrap_or links.now.sources [] }
 {
     match &links.sources {

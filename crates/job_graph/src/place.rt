@@ -28,7 +28,7 @@ pub fn is_same_place(one: &[Segment], other: &[Segment]) -> bool
 fn is_same_segment(one: &Segment, other: &Segment) -> bool
     ensures { result ≡ segment_eq one.now other.now }
 {
-    one.step.as_str() == other.step.as_str() && one.index.as_slice() == other.index.as_slice()
+    one.index.as_slice() == other.index.as_slice() && one.step.as_str() == other.step.as_str()
 }
 
 /// The place of a step, at a tuple where it is scattered.

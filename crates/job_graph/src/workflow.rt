@@ -1,9 +1,10 @@
 //! Workflows: steps that read one another's outputs.
-ghost use Rattle.std.specs.Prelude.{◌≡◌, ◌++◌, ◌∷◌, [], length, map, IfOk, OnOk};
+ghost use Rattle.std.specs.Prelude.{◌≡◌, ◌++◌, ◌∷◌, [], map, IfOk, OnOk};
 ghost use Rattle.std.specs.List.{flat_map};
-ghost use Rattle.job_graph.specs.Equations.{env_after, fault_at, next_env, step_meaning_of, step_walk, workflow_meaning_of};
+ghost use Rattle.job_graph.specs.Equations.{fault_at, step_walk, workflow_meaning_of};
 ghost use Rattle.job_graph.specs.Links.{given, output_value};
 ghost use Rattle.job_graph.specs.inner.Levels.{steps_of, steps_walk};
+ghost use Rattle.job_graph.specs.inner.Rounds.{AllMeet, walk_at};
 ghost use Rattle.job_graph.specs.inner.Views.{made_from, met_of, walk_of};
 
 use crate::gather::push_met;
@@ -11,8 +12,9 @@ use crate::inputs::workflow_inputs;
 use crate::links::{Env, output_value};
 use crate::made::Facts;
 use crate::partly::Partly;
+use crate::rounds::{Settled, settle_steps};
 use crate::step::walk_step;
-use crate::walk::{Met, Out, Walk, failed_process, push_fault};
+use crate::walk::{Met, Walk, failed_process, push_fault};
 use cwl_process::{Entries, WorkflowOutput};
 use cwl_value::{JobPlace, Value};
 use document_links::{Step, Workflow};
@@ -53,8 +55,8 @@ fn walk_steps<'a>(
 ) -> Result<Walk<'a>, AllocError>
     ensures { IfOk result (λ walk. walk_of walk ≡ steps_walk outputs.now (steps_of facts.now steps.now) place.now inputs.now) }
 {
-    let env = env_after(alloc, facts, steps, place, inputs)?;
-    let met = steps_met(alloc, facts, steps, place, inputs, &env);
+    let Settled { outs: env, met } = settle_steps(alloc, facts, steps, place, inputs)?;
+    let met = steps_met(alloc, facts, steps, place, inputs, &env, met);
     match met {
         Ok(met) => {
             let walk = with_outputs(alloc, met, outputs, place, inputs, &env);
@@ -65,65 +67,7 @@ fn walk_steps<'a>(
     }
 }
 
-/// What the steps give, as many times one after another as there are steps: then all is known that can be.
-#[cycle(walk)]
-#[tactic(auto, using(crate::proofs::Loops::steps_length))]
-fn env_after(
-    alloc: Global,
-    facts: &Facts,
-    steps: &Entries<Step>,
-    place: &JobPlace,
-    inputs: &Keyed<Value>,
-) -> Result<Env, AllocError>
-    ensures { IfOk result (λ env. env ≡ env_after (length (steps_of facts.now steps.now)) (steps_of facts.now steps.now) place.now inputs.now) }
-{
-    let mut env = Keyed::new(alloc);
-    for round in 0..steps.len() {
-        let next = next_env(alloc, facts, steps, place, inputs, &env)?;
-        drop(mem::replace(&mut env, next));
-    }
-    Ok(env)
-}
-
-/// What each step gives, where its steps have these outputs.
-#[cycle(walk)]
-fn next_env(
-    alloc: Global,
-    facts: &Facts,
-    steps: &Entries<Step>,
-    place: &JobPlace,
-    inputs: &Keyed<Value>,
-    env: &Env,
-) -> Result<Env, AllocError>
-    ensures { IfOk result (λ next. next ≡ next_env (steps_of facts.now steps.now) place.now inputs.now env.now) }
-{
-    let mut next = Keyed::new(alloc);
-    for step in steps.as_slice() {
-        let name = step.0.copied(alloc)?;
-        let outs = step_outs(alloc, facts, &step.0, &step.1, place, inputs, env)?;
-        drop(next.insert(name, outs)?);
-    }
-    Ok(next)
-}
-
-#[cycle(walk)]
-fn step_outs(
-    alloc: Global,
-    facts: &Facts,
-    id: &Text,
-    step: &Step,
-    place: &JobPlace,
-    inputs: &Keyed<Value>,
-    env: &Env,
-) -> Result<Items<Out>, AllocError>
-    ensures { IfOk result (λ outs. outs ≡ (step_meaning_of facts.now.measures (made_from facts.now) step.now id.now place.now inputs.now env.now).outs) }
-{
-    let Walk { met, outs } = walk_step(alloc, facts, id, step, place, inputs, env)?;
-    drop(met);
-    Ok(outs)
-}
-
-/// What the steps meet, in the order of the document.
+/// What the steps meet, in the order of the document. It is known of those that were walked.
 #[cycle(walk)]
 fn steps_met<'a>(
     alloc: Global,
@@ -132,16 +76,39 @@ fn steps_met<'a>(
     place: &JobPlace,
     inputs: &Keyed<Value>,
     env: &Env,
+    known: Vec<Option<Items<Met<'a>>>>,
 ) -> Result<Items<Met<'a>>, AllocError>
+    requires { AllMeet facts.now place.now inputs.now env.now steps.now known.items }
     ensures { IfOk result (λ met. map met_of met ≡ flat_map (λ s. (step_walk place.now inputs.now env.now s).met) (steps_of facts.now steps.now)) }
 {
+    let mut known = known;
+    let entries = steps.as_slice();
     let mut met = Items::new(alloc);
-    for step in steps.as_slice() {
-        push_met(
-            &mut met,
-            walk_step(alloc, facts, &step.0, &step.1, place, inputs, env)?,
-        )?;
+    for number in 0..entries.len() {
+        let step = &entries[number];
+        let more = match mem::replace(&mut known[number], None) {
+            Some(more) => more,
+            None => step_met(alloc, facts, &step.0, &step.1, place, inputs, env)?,
+        };
+        push_met(&mut met, more)?;
     }
+    Ok(met)
+}
+
+#[cycle(walk)]
+fn step_met<'a>(
+    alloc: Global,
+    facts: &Facts,
+    id: &Text,
+    step: &'a Step,
+    place: &JobPlace,
+    inputs: &Keyed<Value>,
+    env: &Env,
+) -> Result<Items<Met<'a>>, AllocError>
+    ensures { IfOk result (λ met. map met_of met ≡ (walk_at facts.now place.now inputs.now env.now (id.now, step.now)).met) }
+{
+    let Walk { met, outs } = walk_step(alloc, facts, id, step, place, inputs, env)?;
+    drop(outs);
     Ok(met)
 }
 

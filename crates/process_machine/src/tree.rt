@@ -36,6 +36,9 @@ pub(crate) fn tree_below<R: World>(rt: &R, folder: &str) -> Result<Vec<Below>, T
 fn add_all<R: World>(rt: &R, folder: &str, tree: &mut Vec<Below>) -> Result<(), Trouble> {
     add_entries(rt, folder, "", tree)?;
     for index in 0..MOST_ENTRIES {
+        if index >= tree.len() {
+            return Ok(());
+        }
         add_entries_of(rt, folder, index, tree)?;
     }
     Ok(())

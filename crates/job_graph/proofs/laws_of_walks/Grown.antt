@@ -75,6 +75,10 @@ step_rises measures made s = λ id place inputs env later grows.
     (λ s go id place inputs env later grows. go id place inputs env later grows (all_any (step_meaning_of measures made s id place inputs env).met))
     s id place inputs env later grows (all_any (step_meaning_of measures made s id place inputs env).met)
 
+pub steps_rise : (measures : Measures) (made : Made) (steps : List (Name × Step)) → AllByRecursion (λ (e : Name × Step). StepRises (step_meaning_of measures made e.1)) steps
+steps_rise measures made [] = tt
+steps_rise measures made (e ∷ es) = (step_rises measures made e.1, steps_rise measures made es)
+
 -- ---- with more
 
 pub goes : (measures : Measures) (made more : Made) (G : Job → Type 0) → ((job : Job) → G job → Stays (made job) (more job)) → (p : Process) → Goes G (meaning_of measures made p) (meaning_of measures more p)

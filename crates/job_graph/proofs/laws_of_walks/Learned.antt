@@ -20,7 +20,7 @@ use Rattle.job_graph.specs.Unfold.{Resolved, Fault, fault_at, too_many_jobs, out
 use Rattle.job_graph.specs.Eval.{Key, World, made_in, eval}
 use Rattle.job_graph.specs.Agrees.{Agrees}
 use Rattle.job_graph.specs.More.{Stays, IsPart, nothing, kept, left_out, StaysOn, IsGrown}
-use Rattle.job_graph.proofs.laws_of_walks.Part.{and_left, and_right, each_part, stays_map, weaker}
+use Rattle.job_graph.proofs.laws_of_walks.Part.{and_left, and_right, each_part, is_there, stays_map, stays_on, weaker}
 use Rattle.job_graph.proofs.laws_of_walks.Part.{AllIn}
 use Rattle.job_graph.proofs.laws_of_walks.Grown.{goes}
 use Rattle.job_graph.proofs.laws_of_walks.Same.{agrees}
@@ -42,10 +42,6 @@ Later made more job = Stays (made job) (more job)
 
 abbrev pub Alike : Made → Made → Job → Type 0
 Alike made more job = made job ≡ more job
-
-is_there : {T : Type 0} (a b : Option T) → is_some a ≡ true → Stays a b → (a ≡ b) × (is_some b ≡ true)
-is_there None b there stays = absurd cc
-is_there (Some v) b there stays = (sym stays, ap is_some stays)
 
 pub all_well : (made more : Made) (met : List Met) → list_all (is_well made) met ≡ true → AllIn (Later made more) met → AllIn (Alike made more) met × (list_all (is_well more) met ≡ true)
 all_well made more [] well stay = (tt, refl)
@@ -168,10 +164,6 @@ or_cases (Some f) b fault is = inl is
 or_cases None b fault is = inr is
 
 -- ---- in a world
-
-stays_on : {T : Type 0} (a b c : Option T) → Stays a b → Stays b c → Stays a c
-stays_on None b c one other = tt
-stays_on {T} (Some v) b c one other = subst (λ (o : Option T). Stays o c) one other
 
 -- one more place learned, the one learned last first
 made_more : (r : Resolved) (earlier : List Resolved) (job : Job) → Stays (made_by (reverse earlier) job) (made_by (reverse (r ∷ earlier)) job)

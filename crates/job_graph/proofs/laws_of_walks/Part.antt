@@ -1,6 +1,6 @@
 -- Lists with some elements left out, and optional values that stay.
-use Rattle.std.proofs.Common.{◌≡◌, List, [], ◌∷◌, ◌++◌, map, Bool, true, false, cond, Option, Some, None, option_map, unwrap_or, bytes_eq, refl, ap, ap₂}
-use Rattle.std.specs.Prelude.{◌&&◌, ◌||◌}
+use Rattle.std.proofs.Common.{◌≡◌, List, [], ◌∷◌, ◌++◌, map, Bool, true, false, cond, Option, Some, None, option_map, unwrap_or, bytes_eq, refl, sym, subst, ap, ap₂}
+use Rattle.std.specs.Prelude.{◌&&◌, ◌||◌, is_some}
 use Rattle.std.specs.List.{AllByRecursion}
 use Rattle.cwl_value.specs.declared.value.Value.{Value}
 use Rattle.plain_data.specs.ByName.{value_at}
@@ -83,6 +83,19 @@ module _ {X : Type 0} where
 pub stays_itself : {T : Type 0} (o : Option T) → Stays o o
 stays_itself None = tt
 stays_itself (Some v) = refl
+
+pub stays_on : {T : Type 0} (a b c : Option T) → Stays a b → Stays b c → Stays a c
+stays_on None b c one other = tt
+stays_on {T} (Some v) b c one other = subst (λ (o : Option T). Stays o c) one other
+
+pub is_there : {T : Type 0} (a b : Option T) → is_some a ≡ true → Stays a b → (a ≡ b) × (is_some b ≡ true)
+is_there None b there stays = absurd cc
+is_there (Some v) b there stays = (sym stays, ap is_some stays)
+
+pub stays_both : {T : Type 0} (a b : Option T) → Stays a b → Stays b a → a ≡ b
+stays_both None None one other = refl
+stays_both None (Some v) one other = absurd cc
+stays_both (Some v) b one other = sym one
 
 pub stays_map : {S T : Type 0} (f : S → T) (a b : Option S) → Stays a b → Stays (option_map f a) (option_map f b)
 stays_map f None b stays = tt

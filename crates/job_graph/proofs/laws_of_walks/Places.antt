@@ -290,12 +290,12 @@ no_other : (name : Name) (names : List Name) → AllByRecursion (λ other. bytes
 no_other name [] all = refl
 no_other name (n ∷ ns) all = ap₂ (λ (a b : Bool). a || b) all.0 (no_other name ns all.1)
 
-names_differ : (names : List Name) → IsDistinct bytes_eq names → differ names ≡ true
+pub names_differ : (names : List Name) → IsDistinct bytes_eq names → differ names ≡ true
 unfolding IsDistinct
 names_differ [] distinct = refl
 names_differ (n ∷ ns) distinct = ap₂ (λ (a b : Bool). not a && b) (no_other n ns distinct.0) (names_differ ns distinct.1)
 
-same_ids : (steps : List (Name × Step)) → keys_of steps ≡ ids_of steps
+pub same_ids : (steps : List (Name × Step)) → keys_of steps ≡ ids_of steps
 same_ids [] = refl
 same_ids (e ∷ es) = ap (λ (ids : List Name). e.0 ∷ ids) (same_ids es)
 

@@ -12,9 +12,10 @@ use Rattle.job_graph.specs.Jobs.{Job, Met, Outs, failed}
 use Rattle.job_graph.specs.Links.{Env, out_under, output_value, given}
 use Rattle.job_graph.specs.Equations.{StepMeaning, fault_at, step_walk, env_after, workflow_walk, workflow_at}
 use Rattle.job_graph.specs.More.{Stays, IsPart, nothing, IsGrown}
+use Rattle.job_graph.specs.inner.Rounds.{EnvGrows}
 use Rattle.job_graph.proofs.laws_of_walks.Processes.{WorkflowLevel, workflow_of}
 use Rattle.job_graph.proofs.laws_of_walks.Part.{AllIn, each_left, each_right, each_part, part_append, stays_under, grown_itself}
-use Rattle.job_graph.proofs.laws_of_walks.Steps.{EnvGrows, StepGoes, outputs_settle, given_stays, faults_along}
+use Rattle.job_graph.proofs.laws_of_walks.Steps.{StepGoes, outputs_settle, given_stays, faults_along}
 
 -- ---- outputs put beside those of other steps
 

@@ -19,7 +19,7 @@ use Rattle.job_graph.proofs.laws_of_walks.Processes.{StepLevel, WorkflowLevel, s
 use Rattle.job_graph.proofs.laws_of_walks.Part.{AllIn, each_left, each_right}
 use Rattle.job_graph.proofs.laws_of_walks.Steps.{entries_of, faults_in}
 use Rattle.job_graph.proofs.laws_of_walks.Rounds.{StepRises, met_before, met_in, outs_in, round, length_values}
-use Rattle.job_graph.proofs.laws_of_walks.Grown.{step_rises}
+use Rattle.job_graph.proofs.laws_of_walks.Grown.{steps_rise}
 
 module _ (G : Job → Type 0) where
   abbrev Agree : Meaning → Meaning → Type 0
@@ -153,10 +153,6 @@ module _ (measures : Measures) (made other : Made) (G : Job → Type 0) (same : 
   abbrev W : Workflow → Type 0
   W w = Agree G (workflow_meaning_of measures made w) (workflow_meaning_of measures other w)
 
-  all_rise : (steps : List (Name × Step)) → AllByRecursion (λ (e : Name × Step). StepRises (step_meaning_of measures made e.1)) steps
-  all_rise [] = tt
-  all_rise (e ∷ es) = (step_rises measures made e.1, all_rise es)
-
   cases : Cases P S W
   cases = record {
     tool = λ tool. subst₂ (Agree G) (sym (tool_level measures made tool)) (sym (tool_level measures other tool)) (λ place fields. tool_agrees tool place (tool_inputs_for measures tool.inputs fields));
@@ -164,7 +160,7 @@ module _ (measures : Measures) (made other : Made) (G : Job → Type 0) (same : 
     a_step = λ step agree. subst₂ (StepAgrees G) (sym (step_level measures made step)) (sym (step_level measures other step))
         (step_agrees G step (meaning_of measures made step.process) (meaning_of measures other step.process) agree measures);
     a_workflow = λ w agree. subst₂ (Agree G) (sym (workflow_level measures made w)) (sym (workflow_level measures other w))
-        (λ place fields. workflow_agrees G (step_meaning_of measures made) (step_meaning_of measures other) w (all_rise w.steps) agree place (workflow_inputs_for measures w.inputs fields));
+        (λ place fields. workflow_agrees G (step_meaning_of measures made) (step_meaning_of measures other) w (steps_rise measures made w.steps) agree place (workflow_inputs_for measures w.inputs fields));
   }
 
   -- where both give the same outputs of the jobs that are met, the walks are one

@@ -18,6 +18,7 @@ use Rattle.job_graph.specs.Links.{Env, by_link, out_under, value_from, source_va
 use Rattle.job_graph.specs.Scatter.{lengths_under, tuples_for, method_of, at_tuple}
 use Rattle.job_graph.specs.Equations.{Meaning, StepMeaning, StepOf, fault_at, skipped, goes_on, run_where, instance_from, instance, step_place, out_gathered, over_tuples, over_lengths, scattered, entered, step_meaning}
 use Rattle.job_graph.specs.More.{Stays, IsPart, nothing, IsGrown}
+use Rattle.job_graph.specs.inner.Rounds.{EnvGrows}
 use Rattle.job_graph.proofs.laws_of_walks.Processes.{StepLevel, step_of}
 use Rattle.job_graph.proofs.laws_of_walks.Part.{AllIn, each_left, each_right, part_itself, part_none, part_append, part_of_none, stays_itself, stays_map, stays_first, stays_all, stays_under, grown_itself}
 
@@ -34,7 +35,7 @@ settles_itself Waits = tt
 settles_itself (Gives value) = refl
 settles_itself (Fails cause) = refl
 
-settles_once : (made : List Value → Result Value Cause) (o later : Option (List Value)) → Stays o later → Settles (once_known made o) (once_known made later)
+pub settles_once : (made : List Value → Result Value Cause) (o later : Option (List Value)) → Stays o later → Settles (once_known made o) (once_known made later)
 settles_once made None later stays = tt
 settles_once made (Some values) later stays = subst (λ (o : Option (List Value)). Settles (partly (made values)) (once_known made o)) (sym stays) (settles_itself (partly (made values)))
 
@@ -68,15 +69,12 @@ faults_part place named f g settles (x ∷ xs) =
 
 -- ---- the outputs of other steps, where more is known
 
-abbrev pub EnvGrows : Env → Env → Type 0
-EnvGrows env later = (step name : Name) → Stays (out_under name (value_at step env)) (out_under name (value_at step later))
-
 module _ (inputs : Fields) (env later : Env) (grows : EnvGrows env later) where
   from_stays : (step : Option Name) (name : Name) → Stays (value_from step name inputs env) (value_from step name inputs later)
   from_stays None name = refl
   from_stays (Some step) name = grows step name
 
-  linked_stays : (sources : List Source) → Stays (linked_values inputs env sources) (linked_values inputs later sources)
+  pub linked_stays : (sources : List Source) → Stays (linked_values inputs env sources) (linked_values inputs later sources)
   linked_stays sources = stays_all (source_value inputs env) (source_value inputs later) (λ source. from_stays source.step source.name) sources
 
   entry_settles : (measures : Measures) (input : StepInput) → Settles (entry_value measures inputs env input) (entry_value measures inputs later input)
@@ -103,7 +101,7 @@ all_stay named f g settles o later stays [] = stays
 all_stay named f g settles o later stays (x ∷ xs) =
     all_stay named f g settles (with_entry o (named x, f x)) (with_entry later (named x, g x)) (with_stays o later (named x) (f x) (g x) stays (settles x)) xs
 
-none_given : (entries : List (Name × Partly)) → fold with_entry None entries ≡ None
+pub none_given : (entries : List (Name × Partly)) → fold with_entry None entries ≡ None
 none_given [] = refl
 none_given (e ∷ es) = none_given es
 
@@ -120,7 +118,7 @@ cond_none : (b : Bool) (rest : Option (Option Value)) → unwrap_or rest None �
 cond_none true rest none = refl
 cond_none false rest none = none
 
-unknown_under : (name : Name) (names : List Name) → out_under name (Some (unknown names)) ≡ None
+pub unknown_under : (name : Name) (names : List Name) → out_under name (Some (unknown names)) ≡ None
 unknown_under name [] = refl
 unknown_under name (n ∷ ns) = cond_none (bytes_eq name n) (value_at name (unknown ns)) (unknown_under name ns)
 

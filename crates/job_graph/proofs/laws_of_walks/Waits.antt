@@ -25,10 +25,11 @@ use Rattle.job_graph.specs.Jobs.{Job, Met, Made, Outs, is_well}
 use Rattle.job_graph.specs.Links.{Env, out_under, value_from, source_value, linked_values, partly, once_known, output_from, output_value, given}
 use Rattle.job_graph.specs.Equations.{StepMeaning, fault_at, step_walk, env_after, workflow_at}
 use Rattle.job_graph.specs.More.{Stays, IsPart, nothing, kept, left_out}
+use Rattle.job_graph.specs.inner.Rounds.{EnvGrows}
 use Rattle.job_graph.proofs.laws_of_walks.Processes.{StepLevel, WorkflowLevel, workflow_of}
 use Rattle.job_graph.proofs.laws_of_walks.Part.{and_left, and_right, neither_one, neither_other}
 use Rattle.job_graph.proofs.laws_of_walks.Places.{IsAmong, ids_of}
-use Rattle.job_graph.proofs.laws_of_walks.Steps.{EnvGrows, entries_of}
+use Rattle.job_graph.proofs.laws_of_walks.Steps.{entries_of}
 use Rattle.job_graph.proofs.laws_of_walks.Rounds.{StepRises, round_rises, met_rises, length_values}
 use Rattle.job_graph.proofs.laws_of_walks.Gives.{Settled, AllSettled, AreGiven, AllWell, first_some, well_left, well_right}
 
@@ -50,7 +51,7 @@ passes p x [] is at = at
 passes p x (y ∷ ys) is (inl here) = subst (λ (b : Bool). IsIn x (cond b (y ∷ filter p ys) (filter p ys))) (sym (ap p (sym here) ∙ is)) (inl here)
 passes p x (y ∷ ys) is (inr later) = elim (p y) as (λ b. IsIn x (cond b (y ∷ filter p ys) (filter p ys))) [ true ↦ inr (passes p x ys is later) | false ↦ passes p x ys is later ]
 
-not_true : (b : Bool) → not b ≡ true → b ≡ false
+pub not_true : (b : Bool) → not b ≡ true → b ≡ false
 not_true true is = absurd cc
 not_true false is = refl
 
@@ -208,7 +209,7 @@ module _ (made : Made) (measures : Measures) (F : Step → StepMeaning) (workflo
   same_ids env [] = refl
   same_ids env (e ∷ es) = ap (λ (ids : List Name). e.0 ∷ ids) (same_ids env es)
 
-  put_at : (env now : Env) (some : List (Name × Step)) → differ (ids_of some) ≡ true → (e : Name × Step) → IsIn e some → value_at e.0 (put_from now (outs_of env some)) ≡ Some (F e.1 e.0 place inputs env).outs
+  pub put_at : (env now : Env) (some : List (Name × Step)) → differ (ids_of some) ≡ true → (e : Name × Step) → IsIn e some → value_at e.0 (put_from now (outs_of env some)) ≡ Some (F e.1 e.0 place inputs env).outs
   put_at env now [] apart e at = absurd at
   put_at env now (x ∷ xs) apart e (inl here) =
       let outs : Outs = (F x.1 x.0 place inputs env).outs in

@@ -38,8 +38,7 @@ use Rattle.job_graph.proofs.laws_of_walks.Processes.{StepLevel, WorkflowLevel, w
 use Rattle.job_graph.proofs.laws_of_walks.Part.{and_left, and_right}
 use Rattle.job_graph.proofs.laws_of_walks.Places.{IsAmong, ids_of, workflow_differs, steps_differ, step_is}
 use Rattle.job_graph.proofs.laws_of_walks.Steps.{entries_of}
-use Rattle.job_graph.proofs.laws_of_walks.Rounds.{StepRises}
-use Rattle.job_graph.proofs.laws_of_walks.Grown.{step_rises}
+use Rattle.job_graph.proofs.laws_of_walks.Grown.{steps_rise}
 use Rattle.job_graph.proofs.laws_of_walks.Gives.{AreGiven, AllWell, first_some, some_map, given_under, by_names, enter_gives}
 use Rattle.job_graph.proofs.laws_of_walks.Waits.{StepGives, workflow_gives, last_env}
 
@@ -154,10 +153,6 @@ module _ (measures : Measures) (made : Made) where
     all_give level es sound.1 (and_right (step_ids_differ e.1) (list_all (λ x. x.1) (map_values step_ids_differ es)) apart) all.1,
   )
 
-  all_rise : (steps : List (Name × Step)) → AllByRecursion (λ (e : Name × Step). StepRises (F e.1)) steps
-  all_rise [] = tt
-  all_rise (e ∷ es) = (step_rises measures made e.1, all_rise es)
-
   -- one level of a workflow, whose steps give what they list
   module _ (level : WorkflowLevel) (sound : IsSound level) (none : is_cyclic level.steps ≡ false) (apart : workflow_ids_differ (roll-Workflow level) ≡ true) (all : AllByRecursion (λ (e : Name × Step). S e.1) level.steps) where
     both : (differ (ids_of level.steps) && list_all (λ e. e.1) (map_values step_ids_differ level.steps)) ≡ true
@@ -169,9 +164,9 @@ module _ (measures : Measures) (made : Made) where
     level_gives place (Ok inputs) well =
         let ids : differ (ids_of level.steps) ≡ true = and_left (differ (ids_of level.steps)) (list_all (λ e. e.1) (map_values step_ids_differ level.steps)) both in
         let inside : list_all (λ e. e.1) (map_values step_ids_differ level.steps) ≡ true = and_right (differ (ids_of level.steps)) (list_all (λ e. e.1) (map_values step_ids_differ level.steps)) both in
-        let env : Env = last_env made measures F level sound none ids (all_rise level.steps) (all_give level level.steps sound.steps inside all) place inputs in
+        let env : Env = last_env made measures F level sound none ids (steps_rise measures made level.steps) (all_give level level.steps sound.steps inside all) place inputs in
         let values : AllByRecursion (λ (o : Name × WorkflowOutput). is_some (given (output_value inputs env o.1.links)) ≡ true) level.outputs =
-        workflow_gives made measures F level sound none ids (all_rise level.steps) (all_give level level.steps sound.steps inside all) place inputs well in (
+        workflow_gives made measures F level sound none ids (steps_rise measures made level.steps) (all_give level level.steps sound.steps inside all) place inputs well in (
           each_some (λ (o : Name × WorkflowOutput). o.0) (λ o. given (output_value inputs env o.1.links)) level.outputs values,
           given_under (λ (o : Name × WorkflowOutput). o.0) (λ o. given (output_value inputs env o.1.links)) level.outputs values,
         )
