@@ -28,7 +28,7 @@ use Rattle.job_graph.specs.Links.{Env, entry_value, given, linked_values, out_un
 use Rattle.job_graph.specs.Equations.{StepMeaning, StepOf, entered, env_after, fault_at, meaning_of, step_at, step_meaning_of, step_place, step_walk, workflow_walk}
 use Rattle.job_graph.specs.More.{Stays}
 use Rattle.job_graph.specs.inner.Levels.{steps_of}
-use Rattle.job_graph.specs.inner.Rounds.{AllMeet, EnvGrows, Holds, MeetsBy, SaysSame, StandsBy, are_known, count, is_known, is_ready, is_stuck, is_there, walk_at}
+use Rattle.job_graph.specs.inner.Rounds.{AllMeet, EnvGrows, Holds, MeetsBy, SaysSame, StandsBy, are_known, count, is_known, is_ready, is_stuck, is_there, one_if, walk_at}
 use Rattle.job_graph.specs.declared.walk.Met.{Met as KeptMet}
 use Rattle.job_graph.specs.inner.Views.{made_from, met_of}
 use Rattle.job_graph.proofs.laws_of_walks.Processes.{step_of, step_level}
@@ -78,10 +78,6 @@ each_of p (y ∷ ys) all x (inl here) = ap p here ∙ and_left (p y) (list_all p
 each_of p (y ∷ ys) all x (inr later) = each_of p ys (and_right (p y) (list_all p ys) all) x later
 
 -- ---- how many have their outputs there
-
-abbrev one_if : Option Outs → ℕ
-one_if None = zero
-one_if (Some outs) = suc zero
 
 pub count_within : (env : Env) (steps : List (Name × Step)) → count env steps ≤ length steps
 count_within env [] = omega arith

@@ -42,7 +42,7 @@ is_ready env step = list_all (λ i. are_known env (unwrap_or i.1.links.sources [
 abbrev pub is_stuck : Env → Name × Step → Bool
 is_stuck env s = is_some (value_at s.0 env) || not (is_ready env s.1)
 
-abbrev one_if : Option Outs → ℕ
+abbrev pub one_if : Option Outs → ℕ
 one_if None = zero
 one_if (Some outs) = suc zero
 
