@@ -27,7 +27,7 @@ pub(crate) struct Settled<'a> {
     pub met: Vec<Option<Items<Met<'a>>>>,
 }
 
-/// Walks the steps of which no input waits, until none is left.
+/// Walks each step once none of its inputs waits, until no other step can be walked.
 #[cycle(walk)]
 pub(crate) fn settle_steps<'a>(
     alloc: Global,
@@ -48,7 +48,7 @@ pub(crate) fn settle_steps<'a>(
     Ok(settled)
 }
 
-/// Nothing met, so many times.
+/// A place for what each step meets, with nothing there yet.
 fn none_met<'a>(alloc: Global, count: usize) -> Result<Vec<Option<Items<Met<'a>>>>, AllocError>
     ensures { IfOk result (λ met. met.items ≡ replicate count None) }
 {
@@ -59,7 +59,7 @@ fn none_met<'a>(alloc: Global, count: usize) -> Result<Vec<Option<Items<Met<'a>>
     Ok(met)
 }
 
-/// Looks once at each step, and says whether one was walked. Those of the document's order need only be looked at once.
+/// Looks once at each step, and says whether one was walked. One look is enough where each step stands after those that it reads.
 #[cycle(walk)]
 fn settle_more<'a>(
     alloc: Global,
