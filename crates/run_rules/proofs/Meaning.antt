@@ -7,7 +7,7 @@ use Rattle.job_graph.specs.Eval.{World, eval_by}
 use Rattle.job_graph.specs.Jobs.{tool_walk, all_named, outs_of, output_names}
 use Rattle.job_graph.specs.Made.{fields_made}
 use Rattle.job_graph.specs.Words.{Fields}
-use Rattle.run_rules.specs.Key.{key}
+use Rattle.job_key.specs.Key.{key}
 
 module _ (tool : Tool) (inputs : Fields) (world : World) where
   pub fails : world (key tool inputs) ≡ None → eval_by key world (tool_walk tool [] (Ok inputs)) ≡ None

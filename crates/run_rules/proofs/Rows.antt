@@ -68,7 +68,7 @@ use Rattle.run_rules.specs.EndsSo.{EndsSo, IsDelivered, no_file, copied as was_c
 use Rattle.plan_checker.specs.declared.plan.Mark.{Mark}
 use Rattle.plan_checker.specs.declared.plan.Mark.TheVariants.{Load, Compute}
 use Rattle.run_rules.specs.Allowed.{MayStage}
-use Rattle.run_rules.specs.Key.{key}
+use Rattle.job_key.specs.Key.{key}
 use Rattle.run_rules.specs.Reports.{report_of, reported}
 use Rattle.run_rules.specs.Scene.{Scene, scene_of}
 use Rattle.run_rules.proofs.Leads.{Leads, stays, follows}

@@ -5,7 +5,7 @@ use Rattle.input_files.specs.Measured.{Measures}
 use Rattle.run_rules.specs.declared.setting.Setting.{Setting}
 use Rattle.job_graph.specs.Eval.{World, eval}
 use Rattle.job_graph.specs.Jobs.{Job}
-use Rattle.run_rules.specs.Key.{key}
+use Rattle.job_key.specs.Key.{key}
 use Rattle.run_rules.specs.Events.{Event, job_succeeded, job_failed, job_at}
 use Rattle.run_rules.specs.End.{End, succeeds_with, fails_permanently}
 use Rattle.run_rules.specs.Scene.{Scene, scene_of}

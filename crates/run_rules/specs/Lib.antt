@@ -1,4 +1,3 @@
-pub mod Key
 pub mod Folders
 pub mod Delivered
 pub mod Scene

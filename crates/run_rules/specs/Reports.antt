@@ -21,7 +21,7 @@ use Rattle.run_rules.specs.End.{End, succeeds_with, fails_permanently, fails_tem
 use Rattle.plan_checker.specs.declared.plan.Mark.{Mark}
 use Rattle.run_rules.specs.Run.{IsRunSoFar, IsRun}
 use Rattle.run_rules.specs.Honest.{IsHonest}
-use Rattle.run_rules.specs.Key.{key}
+use Rattle.job_key.specs.Key.{key}
 
 -- a call as the host's log has it, without the place of its job
 abbrev pub call_entry : Request → Answer → Option Entry
