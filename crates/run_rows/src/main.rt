@@ -1,4 +1,4 @@
-//! Rows of hosts, runs and the program: each line of `stdin` is a call, and `stdout` has its answer.
+//! Rows of hosts, runs, real children and files, and the program: each line of `stdin` is a call, and `stdout` has its answer.
 //!
 //! A host's script is a list of the answers that it gives: `{"measured":MEASURE}` (null, `[SIZE,SUM]` or
 //! `{"folder":[..]}`), `{"head":TEXT}`, `{"staged":true}`, `{"started":true}`,
@@ -10,6 +10,7 @@ mod copies;
 mod end;
 mod hosts;
 mod list;
+mod machine;
 mod requests;
 mod run;
 mod script;
@@ -34,7 +35,7 @@ impl Answers for Calls<'_> {
             "run" => run::answer(alloc, row),
             "main_run" => words::program(self.0, row),
             "main_run_out_of_room" => words::program_out_of_room(self.0, row),
-            _ => Err(RowFault::UnknownCall),
+            _ => machine::answer(self.0, row),
         }
     }
 }

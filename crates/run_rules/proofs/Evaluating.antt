@@ -15,7 +15,7 @@ use Rattle.job_graph.specs.Eval.{Key, World, eval}
 use Rattle.job_graph.specs.Jobs.{Job, Walker}
 use Rattle.job_graph.specs.Unfold.{Resolved, fault_at, is_at, outputs_at, unfolded}
 use Rattle.job_graph.specs.Words.{Fields, JobPlace, is_same_place}
-use Rattle.run_rules.specs.Key.{key}
+use Rattle.job_key.specs.Key.{key}
 use Rattle.run_rules.proofs.Places.{same_itself}
 use Rattle.run_rules.proofs.RightEnds.{Evaluates}
 use Rattle.run_rules.proofs.SuccessCollects.{Finishes}

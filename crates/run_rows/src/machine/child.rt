@@ -1,5 +1,5 @@
-use crate::listing::{put_code, put_fault, put_listing};
-use crate::place::{below, empty_plan, machine, prepared};
+use super::listing::{put_code, put_fault, put_listing};
+use super::place::{below, empty_plan, machine, prepared};
 use command_line::{Launch, Variable};
 use plain_data::{Items, Text};
 use proc_host::{ChildEnd, Host};

@@ -1,5 +1,5 @@
-use crate::listing::{put_fault, put_listing, put_measure};
-use crate::place::{below, machine, prepared};
+use super::listing::{put_fault, put_listing, put_measure};
+use super::place::{below, machine, prepared};
 use plain_data::Text;
 use proc_host::Host;
 use row_io::{AnswerText, Row, RowFault};

@@ -1,6 +1,6 @@
-use crate::child::{launch_with, words_in};
-use crate::listing::{put_code, put_fault};
-use crate::place::{empty_plan, machine};
+use super::child::{launch_with, words_in};
+use super::listing::{put_code, put_fault};
+use super::place::{empty_plan, machine};
 use proc_host::{ChildEnd, Host, Ticket};
 use process_machine::{Machine, World};
 use row_io::{AnswerText, Row, RowFault};

@@ -1,0 +1,32 @@
+//! Rows over real children and real files. Each works in a folder `row-work` of its own, which is made in the folder that
+//! the program runs in and removed again.
+
+mod child;
+mod children;
+mod copies;
+mod listing;
+mod paths;
+mod place;
+mod program;
+
+use place::{made, removed};
+use row_io::{Row, RowFault};
+
+/// What a row's call answers in a folder of its own.
+pub fn answer(rt: &HostRuntime, row: &Row) -> Result<String, RowFault> {
+    let place = made(rt)?;
+    let told = told_in(rt, row, place.as_str());
+    removed(rt, place.as_str())?;
+    told
+}
+
+fn told_in(rt: &HostRuntime, row: &Row, place: &str) -> Result<String, RowFault> {
+    match row.call() {
+        "child" => child::told_of(rt, row, place),
+        "children" => children::told_of(rt, row, place),
+        "stage" | "deliver" => copies::told_of(rt, row, place),
+        "measure" | "scan" | "head" => paths::told_of(rt, row, place),
+        "main_run_on_files" => program::told_of(rt, row, place),
+        _ => Err(RowFault::UnknownCall),
+    }
+}
