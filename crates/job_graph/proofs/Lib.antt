@@ -1,5 +1,6 @@
 mod Grows
 mod Loops
+mod Marks
 mod MetMore
 mod Outs
 mod Settling

@@ -1,6 +1,7 @@
 pub mod Entered
 pub mod Growth
 pub mod Levels
+pub mod Marks
 pub mod Rounds
 pub mod Told
 pub mod Views

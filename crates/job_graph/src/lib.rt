@@ -17,6 +17,7 @@ mod inputs;
 mod laws;
 mod links;
 mod made;
+mod mark;
 mod outcome;
 mod parents;
 mod partly;

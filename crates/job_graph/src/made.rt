@@ -8,7 +8,7 @@ ghost use Rattle.job_graph.specs.Unfold.{outputs_at};
 ghost use Rattle.job_graph.specs.inner.Views.{resolved_of};
 ghost use Rattle.job_graph.specs.Made.{dir_value_moved, fields_made, file_value_moved, made_place, value_moved};
 
-use crate::place::is_same_place;
+use crate::mark::{Marked, mark_of};
 use crate::walk::Out;
 use cwl_process::{Entries, ToolOutput};
 use cwl_value::{DirVal, FileVal, JobPlace, Place, Value, copy_job};
@@ -19,8 +19,17 @@ use std::alloc::{AllocError, Global};
 /// A place whose job has ended, with its outputs: their files are named relative to the job's output folder.
 #[derive(Drop)]
 pub(crate) struct Resolved {
-    pub place: JobPlace,
+    pub at: Marked,
     pub outputs: Keyed<Value>,
+}
+
+impl Resolved {
+    pub(crate) fn new(place: JobPlace, outputs: Keyed<Value>) -> Resolved
+        ensures { resolved_of result ≡ record { place = place; outputs = outputs } }
+    {
+        let at = Marked::new(place);
+        Resolved { at, outputs }
+    }
 }
 
 /// What is known of the world outside the process.
@@ -36,8 +45,9 @@ pub(crate) struct Facts {
 pub(crate) fn outputs_at<'a>(learned: &'a [Resolved], place: &JobPlace) -> Option<&'a Keyed<Value>>
     ensures { option_copied result ≡ outputs_at (map resolved_of learned.now) place.now }
 {
+    let mark = mark_of(place.as_slice());
     for resolved in learned {
-        if is_same_place(resolved.place.as_slice(), place.as_slice()) {
+        if resolved.at.is(place.as_slice(), mark) {
             return Some(&resolved.outputs);
         }
     }

@@ -77,7 +77,7 @@ impl<'a> Unfolding<'a> {
         if let Some(fault) = &self.fault {
             return Err(UnfoldError::Refused(fault.clone_in(self.alloc)?));
         }
-        match self.resolve(Resolved { place, outputs }) {
+        match self.resolve(Resolved::new(place, outputs)) {
             Ok(()) => Ok(()),
             Err(error) => Err(self.keep(error)),
         }

@@ -20,7 +20,7 @@ abbrev pub walk_of : KeptWalk → Walk
 walk_of walk = record { met = map met_of walk.met; outs = walk.outs }
 
 abbrev pub resolved_of : KeptResolved → Resolved
-resolved_of kept = record { place = kept.place; outputs = kept.outputs }
+resolved_of kept = record { place = kept.at.place; outputs = kept.outputs }
 
 -- the outputs of the jobs that have ended
 abbrev pub made_from : Facts → Made
