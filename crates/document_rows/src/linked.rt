@@ -1,6 +1,6 @@
 //! Reads processes with the documents that they name, and writes their tools by their places.
+use crate::documents::told;
 use crate::process::{put_asked, put_key, put_texts};
-use crate::told;
 use crate::values::put_default;
 use cwl_process::Tool;
 use document_links::{
@@ -15,13 +15,26 @@ use url::Url;
 
 /// The process of the row's document at its base, with the documents under `docs`, or its fault.
 pub(crate) fn read(alloc: Global, row: &Row) -> Result<String, RowFault> {
+    let base = row.text("base")?;
     let docs = docs(alloc, row)?;
-    let found = found(alloc, row, &docs);
+    let found = found(alloc, row, base, &docs);
     mem::drop(docs);
     let process = found?;
     let answer = answer(alloc, &process);
     mem::drop(process);
     answer
+}
+
+/// The process of the row's document, which names no other: a row whose document is refused has no answer.
+pub(crate) fn process_of(alloc: Global, row: &Row) -> Result<Process, RowFault> {
+    let docs: Docs = Keyed::<Items<u8>>::new(alloc);
+    let found = found(alloc, row, "file:///d/w.json", &docs);
+    mem::drop(docs);
+    match found? {
+        Ok(process) => Ok(process),
+        Err(LinkError::Refused(_)) => Err(RowFault::BadArgument),
+        Err(LinkError::OutOfMemory) => Err(RowFault::OutOfMemory),
+    }
 }
 
 /// The URLs that the row's document names at its base, or its fault.
@@ -36,7 +49,7 @@ type Urls = Result<Items<Text>, LinkError>;
 
 fn urls(alloc: Global, row: &Row) -> Result<Urls, RowFault> {
     let text = json_text(alloc, row.json("document")?)?;
-    let base = base(alloc, row.text("base")?)?;
+    let base = base_url(alloc, row.text("base")?)?;
     Ok(needed_docs(alloc, text.as_bytes(), &base))
 }
 
@@ -56,9 +69,9 @@ fn urls_text(alloc: Global, urls: &[Text]) -> Result<String, RowFault> {
 
 type Found = Result<Process, LinkError>;
 
-fn found(alloc: Global, row: &Row, docs: &Docs) -> Result<Found, RowFault> {
+fn found(alloc: Global, row: &Row, base: &str, docs: &Docs) -> Result<Found, RowFault> {
     let text = json_text(alloc, row.json("document")?)?;
-    let base = base(alloc, row.text("base")?)?;
+    let base = base_url(alloc, base)?;
     Ok(read_process(alloc, text.as_bytes(), &base, docs))
 }
 
@@ -76,7 +89,7 @@ fn process_text(alloc: Global, process: &Process) -> Result<String, RowFault> {
     Ok(out)
 }
 
-fn base(alloc: Global, text: &str) -> Result<Url, RowFault> {
+fn base_url(alloc: Global, text: &str) -> Result<Url, RowFault> {
     Url::parse(alloc, text).map_err(|_refusal| RowFault::OutOfMemory)
 }
 

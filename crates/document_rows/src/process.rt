@@ -1,6 +1,6 @@
 //! Reads the processes of rows, and writes them as JSON: what is absent is left out.
+use crate::documents::told;
 use crate::template::{put_parts, put_template};
-use crate::told;
 use crate::tool::{put_members, put_secondaries, put_tool};
 use cwl_process::{
     Asked, Entries, Links, Merge, Pick, Process, Run, Source, Step, StepInput, Workflow,
@@ -14,11 +14,11 @@ use scatter_shape::Method;
 use std::alloc::Global;
 use std::mem;
 
-type Found = Result<Process, DocumentError>;
+pub(crate) type Found = Result<Process, DocumentError>;
 
 /// The process of the row's document, or its fault.
 pub(crate) fn read(alloc: Global, row: &Row) -> Result<String, RowFault> {
-    let process = found(alloc, row)?;
+    let process = unlinked(alloc, row)?;
     let answer = answer(alloc, &process);
     mem::drop(process);
     answer
@@ -26,13 +26,14 @@ pub(crate) fn read(alloc: Global, row: &Row) -> Result<String, RowFault> {
 
 /// What the row's tool says.
 pub(crate) fn read_written(alloc: Global, row: &Row) -> Result<String, RowFault> {
-    let process = found(alloc, row)?;
+    let process = unlinked(alloc, row)?;
     let answer = written(alloc, &process);
     mem::drop(process);
     answer
 }
 
-fn found(alloc: Global, row: &Row) -> Result<Found, RowFault> {
+/// What is read of the row's document.
+pub(crate) fn unlinked(alloc: Global, row: &Row) -> Result<Found, RowFault> {
     let text = json_text(alloc, row.json("document")?)?;
     Ok(read_unlinked(alloc, text.as_bytes()))
 }

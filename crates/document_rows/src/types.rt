@@ -1,5 +1,5 @@
 //! Reads the types of rows, and writes them as lists of members.
-use crate::told;
+use crate::documents::told;
 use cwl_types::{ArrayType, ItemBinding, MemberType, PlainType, read_type};
 use document_table::{Form, fault_in};
 use plain_data::Text;

@@ -1,21 +1,30 @@
-//! Builds the commands of rows.
-use crate::writing::{close_list, code, coded, put_text_or_null, put_texts};
+//! Builds the commands of rows, and writes their launches as JSON.
+use crate::arguments::fields_of;
+use crate::process::unlinked;
 use command_line::{BuildError, BuildFault, Launch, Runtime, Variable, build};
-use cwl_process::Tool;
-use cwl_value::{Value, read_value};
+use cwl_process::{Process, Tool};
+use cwl_value::Value;
+use document_table::DocumentError;
 use plain_data::{Keyed, Text};
-use row_io::{AnswerText, Row, RowFault, json_text};
+use row_io::{AnswerText, Row, RowFault};
 use std::alloc::{AllocError, Global};
 use std::mem;
 
-/// The launch of a tool with the row's `inputs`, or a copy of it.
-pub(crate) fn launch_of(
-    alloc: Global,
-    tool: &Tool,
-    row: &Row,
-    copy: bool,
-) -> Result<String, RowFault> {
-    let inputs = inputs_of(alloc, row)?;
+/// The launch of the tool that the row's document describes, with the row's `inputs`, or a copy of it.
+pub(crate) fn answer(alloc: Global, row: &Row, copy: bool) -> Result<String, RowFault> {
+    let process = unlinked(alloc, row)?;
+    let answer = match &process {
+        Ok(Process::Tool(tool)) => launch_of(alloc, tool, row, copy),
+        Ok(Process::Workflow(_)) => Err(RowFault::BadArgument),
+        Err(DocumentError::Refused(fault)) => code(alloc, fault.code()),
+        Err(DocumentError::OutOfMemory) => Err(RowFault::OutOfMemory),
+    };
+    mem::drop(process);
+    answer
+}
+
+fn launch_of(alloc: Global, tool: &Tool, row: &Row, copy: bool) -> Result<String, RowFault> {
+    let inputs = fields_of(alloc, row.json("inputs")?)?;
     let outcome = launched(alloc, tool, &inputs, row)?;
     outcome_text(alloc, &outcome, copy)
 }
@@ -29,22 +38,6 @@ fn outcome_text(
         Ok(launch) if copy => copy_text(alloc, launch),
         Ok(launch) => launch_text(alloc, launch),
         Err(error) => not_built(alloc, error),
-    }
-}
-
-fn inputs_of(alloc: Global, row: &Row) -> Result<Keyed<Value>, RowFault> {
-    let text = json_text(alloc, row.json("inputs")?)?;
-    fields_in(alloc, text.as_str())
-}
-
-fn fields_in(alloc: Global, text: &str) -> Result<Keyed<Value>, RowFault> {
-    let read = read_value(alloc, text.as_bytes());
-    match read {
-        Ok(Value::Fields(fields)) => Ok(fields),
-        other => {
-            mem::drop(other);
-            Err(RowFault::BadArgument)
-        }
     }
 }
 
@@ -110,13 +103,12 @@ fn put_streams(out: &mut AnswerText, launch: &Launch) {
 }
 
 fn put_variables(out: &mut AnswerText, env: &[Variable]) {
-    let mut before = "[";
+    out.put("[");
     for variable in env {
-        out.put(before);
+        out.put_comma();
         put_variable(out, variable);
-        before = ",";
     }
-    close_list(out, before)
+    out.put("]");
 }
 
 fn put_variable(out: &mut AnswerText, variable: &Variable) {
@@ -125,4 +117,32 @@ fn put_variable(out: &mut AnswerText, variable: &Variable) {
     out.put(",");
     out.put_quoted(variable.text.as_str());
     out.put("]");
+}
+
+/// A text in its quotes, or `null`.
+fn put_text_or_null(out: &mut AnswerText, text: &Option<Text>) {
+    match text {
+        Some(text) => out.put_quoted(text.as_str()),
+        None => out.put("null"),
+    }
+}
+
+/// A list of texts.
+fn put_texts(out: &mut AnswerText, texts: &[Text]) {
+    out.put("[");
+    for text in texts {
+        out.put_comma();
+        out.put_quoted(text.as_str());
+    }
+    out.put("]");
+}
+
+/// A code with what it names in brackets.
+fn coded(alloc: Global, code: &str, named: &str) -> Result<String, RowFault> {
+    Ok(format!(in alloc; "{code}({named})")?)
+}
+
+/// A code alone.
+fn code(alloc: Global, code: &str) -> Result<String, RowFault> {
+    Ok(String::from_str(alloc, code)?)
 }

@@ -1,9 +1,10 @@
 //! The values of steps' inputs.
+use crate::arguments::{fields_of, value_of};
 use cwl_process::{Links, Pick, StepInput};
-use cwl_value::{Value, canonical_text, from_json};
+use cwl_value::{Value, canonical_text};
 use link_values::{LinkError, step_input, value_froms, when_value};
 use param_refs::Template;
-use plain_data::{Items, Keyed, Text};
+use plain_data::{Items, Text};
 use row_io::{Row, RowFault};
 use serde_json::Value as Json;
 use std::alloc::Global;
@@ -16,10 +17,6 @@ pub(crate) fn answer(alloc: Global, row: &Row) -> Result<String, RowFault> {
         "value_froms" => of_value_froms(alloc, row),
         _ => of_when(alloc, row),
     }
-}
-
-fn value_of(alloc: Global, json: &Json) -> Result<Value, RowFault> {
-    from_json(alloc, json).map_err(|_refusal| RowFault::BadArgument)
 }
 
 fn of_input(alloc: Global, row: &Row) -> Result<String, RowFault> {
@@ -63,13 +60,6 @@ fn coded(alloc: Global, error: &LinkError) -> Result<String, RowFault> {
     match error {
         LinkError::Refused(fault) => Ok(String::from_str(alloc, fault.code())?),
         LinkError::OutOfMemory => Err(RowFault::OutOfMemory),
-    }
-}
-
-fn fields_of(alloc: Global, json: &Json) -> Result<Keyed<Value>, RowFault> {
-    match value_of(alloc, json)? {
-        Value::Fields(fields) => Ok(fields),
-        _ => Err(RowFault::BadArgument),
     }
 }
 

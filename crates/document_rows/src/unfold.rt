@@ -1,17 +1,17 @@
 //! Unfolds a process as its jobs end.
-use cwl_value::{JobPlace, Value, canonical_text, copy_fields, copy_job, from_json, place_text};
-use document_links::{Process, read_process};
+use crate::arguments::fields_of;
+use crate::linked::process_of;
+use cwl_value::{JobPlace, Value, canonical_text, copy_fields, copy_job, place_text};
 use job_graph::{Cause, KnownJob, UnfoldError, UnfoldFault, Unfolding};
 use plain_data::{Items, Keyed, Text};
-use row_io::{AnswerText, Row, RowFault, json_text};
+use row_io::{AnswerText, Row, RowFault};
 use serde_json::Value as Json;
 use std::alloc::Global;
-use url::Url;
 
 /// The jobs that are known at once, those that each end adds, and then the result, or null; after a fault, its code with the
 /// place and the cause.
 pub(crate) fn answer(alloc: Global, row: &Row) -> Result<String, RowFault> {
-    let process = process(alloc, row)?;
+    let process = process_of(alloc, row)?;
     let inputs = inputs(alloc, row)?;
     let mut out = AnswerText::new(alloc);
     out.put("[");
@@ -21,14 +21,6 @@ pub(crate) fn answer(alloc: Global, row: &Row) -> Result<String, RowFault> {
     }
     out.put("]");
     out.finish()
-}
-
-fn process(alloc: Global, row: &Row) -> Result<Process, RowFault> {
-    let text = json_text(alloc, row.json("document")?)?;
-    let base = Url::parse(alloc, "file:///d/w.json").map_err(|_refusal| RowFault::OutOfMemory)?;
-    read_process(alloc, text.as_bytes(), &base, &Keyed::new(alloc)).map_err(
-        |_error| RowFault::BadArgument,
-    )
 }
 
 /// The row's `inputs`; those under `lists` are lists of so many whole numbers from 0 on.
@@ -52,13 +44,6 @@ fn list_of(alloc: Global, length: u64) -> Result<Value, RowFault> {
         number = number.saturating_add(1);
     }
     Ok(Value::List(items))
-}
-
-fn fields_of(alloc: Global, json: &Json) -> Result<Keyed<Value>, RowFault> {
-    match from_json(alloc, json) {
-        Ok(Value::Fields(fields)) => Ok(fields),
-        _ => Err(RowFault::BadArgument),
-    }
 }
 
 /// Learns the outputs of the row's `ends`, each a job's place and its outputs; a place that ends with `*` stands for all jobs

@@ -1,0 +1,43 @@
+//! Reads the documents of rows, and answers `ok` or what is wrong with them first.
+use document_table::{DocumentError, DocumentFault, read_document};
+use row_io::{Row, RowFault, json_text};
+use std::alloc::{AllocError, Global};
+
+/// What is read of the row's `document`, which is JSON, or of its `text`, which has any bytes.
+pub(crate) fn read(alloc: Global, row: &Row) -> Result<String, RowFault> {
+    let text = match row.find("document") {
+        Some(json) => json_text(alloc, json)?,
+        None => String::from_str(alloc, row.text("text")?)?,
+    };
+    answer(alloc, text.as_str())
+}
+
+/// What is read of `levels` lists inside one another.
+pub(crate) fn read_nested_list(alloc: Global, row: &Row) -> Result<String, RowFault> {
+    let text = nested_list(alloc, row.natural("levels")?)?;
+    answer(alloc, text.as_str())
+}
+
+fn nested_list(alloc: Global, levels: u64) -> Result<String, AllocError> {
+    let mut text = String::new(alloc);
+    for _ in 0..levels {
+        text.push('[')?;
+    }
+    for _ in 0..levels {
+        text.push(']')?;
+    }
+    Ok(text)
+}
+
+fn answer(alloc: Global, text: &str) -> Result<String, RowFault> {
+    match read_document(alloc, text.as_bytes()) {
+        Ok(_) => Ok(String::from_str(alloc, "ok")?),
+        Err(DocumentError::Refused(fault)) => Ok(told(alloc, &fault)?),
+        Err(DocumentError::OutOfMemory) => Err(RowFault::OutOfMemory),
+    }
+}
+
+/// The code of a fault, and its place and cause in words.
+pub(crate) fn told(alloc: Global, fault: &DocumentFault) -> Result<String, AllocError> {
+    format!(in alloc; "{} {fault}", fault.code())
+}
