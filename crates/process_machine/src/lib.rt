@@ -4,7 +4,7 @@
 //! the first bytes of files and delivers outputs.
 //! It meets every clause of `Host`, as its contracts say. A child gets exactly the words, the environment and the
 //! folder of its launch (`command_of`). What the calls do to files and processes no contract can say: the rows of
-//! `machine_rows` show it.
+//! `run_rows` show it.
 #![tactic(auto)]
 
 mod calls;

@@ -1,6 +1,3 @@
-//! Rows over real children and real files. Each works in a folder `row-work` of its own, which is made in the folder that
-//! the program runs in and removed again.
-
 mod child;
 mod children;
 mod copies;
@@ -9,11 +6,12 @@ mod paths;
 mod place;
 mod program;
 
-use place::{made, removed};
+use crate::machine::place::{made, removed};
 use row_io::{Row, RowFault};
 
-/// What a row's call answers in a folder of its own.
-pub fn answer(rt: &HostRuntime, row: &Row) -> Result<String, RowFault> {
+/// What a call answers over real children and real files. It has a folder `row-work` of its own, which is made in the
+/// folder that the program runs in and removed again.
+pub fn told_of(rt: &HostRuntime, row: &Row) -> Result<String, RowFault> {
     let place = made(rt)?;
     let told = told_in(rt, row, place.as_str());
     removed(rt, place.as_str())?;

@@ -1,4 +1,5 @@
-//! Rows of hosts, runs, real children and files, and the program: each line of `stdin` is a call, and `stdout` has its answer.
+//! Rows of hosts, runs and the program: each line of `stdin` is a call, and `stdout` has its answer. Some are over a
+//! scripted host, and others over real children and real files.
 //!
 //! A host's script is a list of the answers that it gives: `{"measured":MEASURE}` (null, `[SIZE,SUM]` or
 //! `{"folder":[..]}`), `{"head":TEXT}`, `{"staged":true}`, `{"started":true}`,
@@ -35,7 +36,10 @@ impl Answers for Calls<'_> {
             "run" => run::answer(alloc, row),
             "main_run" => words::program(self.0, row),
             "main_run_out_of_room" => words::program_out_of_room(self.0, row),
-            _ => machine::answer(self.0, row),
+            "child" | "children" | "stage" | "deliver" => machine::told_of(self.0, row),
+            "measure" | "scan" | "head" => machine::told_of(self.0, row),
+            "main_run_on_files" => machine::told_of(self.0, row),
+            _ => Err(RowFault::UnknownCall),
         }
     }
 }

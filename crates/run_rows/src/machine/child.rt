@@ -1,5 +1,5 @@
-use super::listing::{put_code, put_fault, put_listing};
-use super::place::{below, empty_plan, machine, prepared};
+use crate::machine::listing::{put_code, put_fault, put_listing};
+use crate::machine::place::{below, empty_plan, machine, prepared};
 use command_line::{Launch, Variable};
 use plain_data::{Items, Text};
 use proc_host::{ChildEnd, Host};

@@ -1,6 +1,6 @@
-use super::child::{launch_with, words_in};
-use super::listing::{put_code, put_fault};
-use super::place::{empty_plan, machine};
+use crate::machine::child::{launch_with, words_in};
+use crate::machine::listing::{put_code, put_fault};
+use crate::machine::place::{empty_plan, machine};
 use proc_host::{ChildEnd, Host, Ticket};
 use process_machine::{Machine, World};
 use row_io::{AnswerText, Row, RowFault};

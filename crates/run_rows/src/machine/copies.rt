@@ -1,6 +1,6 @@
-use super::child::put_folder;
-use super::listing::put_fault;
-use super::place::{below, machine, prepared};
+use crate::machine::child::put_folder;
+use crate::machine::listing::put_fault;
+use crate::machine::place::{below, machine, prepared};
 use plain_data::{Items, Keyed, Text};
 use proc_host::{Host, HostError};
 use row_io::{AnswerText, Row, RowFault};

@@ -1,5 +1,5 @@
-use super::listing::{put_fault, put_listing, put_measure};
-use super::place::{below, machine, prepared};
+use crate::machine::listing::{put_fault, put_listing, put_measure};
+use crate::machine::place::{below, machine, prepared};
 use plain_data::Text;
 use proc_host::Host;
 use row_io::{AnswerText, Row, RowFault};

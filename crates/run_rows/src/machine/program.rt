@@ -1,5 +1,5 @@
-use super::child::put_folder;
-use super::place::{below, done, machine, prepared};
+use crate::machine::child::put_folder;
+use crate::machine::place::{below, done, machine, prepared};
 use cwl_program::main_run;
 use plain_data::Text;
 use row_io::{AnswerText, Row, RowFault, json_text};
