@@ -7,6 +7,7 @@ pub mod Facts
 pub mod Few
 pub mod Fewer
 pub mod Flown
+pub mod GivenUp
 pub mod Leaving
 pub mod Looked
 pub mod Lost

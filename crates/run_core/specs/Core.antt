@@ -58,6 +58,11 @@ IsEnded phase = ⊥
 abbrev pub IsLost : RunCore → Type 0
 IsLost core = core.turn.phase ≡ Phase.Ended (Err RunFault.OutOfMemory)
 
+-- memory ran out, and it waits for the ends of the children in flight alone
+pub record IsDraining (core : RunCore) : Type 0 where
+  pub phase : core.turn.phase ≡ Phase.Draining
+  pub asks : asked core ≡ Request.Host [] HostRequest.Collect
+
 -- it is on its run: its transcript is a run so far, and it asks what that run may ask, or has ended as that run does
 abbrev pub IsOnRun : RunCore → Type 0
 IsOnRun core = Runs (scene_of (setting_of core)) core.pairs.items core.course core.turn
@@ -102,7 +107,8 @@ pub data IsLanded (flying : List ℕ) : Answer → Type 0 where
   collect_lost : IsLanded flying (Answer.Host (HostAnswer.Failed HostFault.Collect))
 
 -- one answer taken: the pair is noted, the machine stands in the longer run, and it is one of at most so many. An error
--- is that memory ran out, and the machine then asks nothing more; it comes once no child is waited for any more
+-- is that memory ran out, and the machine then asks nothing more; it comes once no child is waited for any more. Where only the ends of children were
+-- asked for, nothing else is
 pub record Took (old : RunCore) (answer : Answer) (result : Result (Unit {0}) RunFault) (new : RunCore) : Type 0 where
   pub stands : Stands new
   pub setting : setting_of new ≡ setting_of old
@@ -110,6 +116,33 @@ pub record Took (old : RunCore) (answer : Answer) (result : Result (Unit {0}) Ru
   pub entries : entries_of (transcript new) ≡ entries_of (transcript old) ++ entries_of (record { request = asked old; answer = answer } ∷ [])
   pub landed : OnErr result (IsLanded (flying old) answer)
   pub flying : OnOk result (asked new ≢ Request.Finished → flying new ≡ flying_after (flying old) answer)
+  pub drains : IsDraining old → asked new ≢ Request.Finished → IsDraining new
+  pub steps : steps_left new < steps_left old
+  pub ok : OnOk result (IsLost new → ⊥)
+  pub err : IfErr result (λ fault. fault ≡ RunFault.OutOfMemory)
+  pub lost : OnErr result (IsLost new)
+  pub finished : OnErr result (asked new ≡ Request.Finished)
+
+-- the children in flight are waited for alone, which they were not before
+pub record OnlyWaits (old new : RunCore) : Type 0 where
+  pub before : IsDraining old → ⊥
+  pub draining : IsDraining new
+  pub some : flying old ≢ []
+  pub flying : flying new ≡ flying old
+
+-- there is no child to wait for, or their ends alone were waited for already
+pub data MayEnd (core : RunCore) : Type 0 where
+  nobody_flies : flying core ≡ [] → MayEnd core
+  drained_before : IsDraining core → MayEnd core
+
+-- what it asked is left unanswered, since memory ran out outside of it: the transcript stays, and the machine is closer to its end. While children
+-- are in flight it waits for them; an error is that it asks nothing more, and comes where there is none to wait for or they were waited for already
+pub record GaveUp (old : RunCore) (result : Result (Unit {0}) RunFault) (new : RunCore) : Type 0 where
+  pub stands : Stands new
+  pub setting : setting_of new ≡ setting_of old
+  pub same : transcript new ≡ transcript old
+  pub waits : OnOk result (OnlyWaits old new)
+  pub ends : OnErr result (MayEnd old)
   pub steps : steps_left new < steps_left old
   pub ok : OnOk result (IsLost new → ⊥)
   pub err : IfErr result (λ fault. fault ≡ RunFault.OutOfMemory)

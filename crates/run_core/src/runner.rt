@@ -7,7 +7,7 @@ ghost use Rattle.run_rules.specs.Blame.{BlamesRightly};
 ghost use Rattle.run_rules.specs.Reports.{entries_of, Concludes};
 ghost use Rattle.job_graph.specs.Words.{JobPlace};
 ghost use Rattle.run_core.specs.declared.state.Phase.{Phase};
-ghost use Rattle.run_core.specs.Core.{setting_of, transcript, asked, flying, IsLost, IsEnded, Stands, MayAsk, Begins, Took};
+ghost use Rattle.run_core.specs.Core.{setting_of, transcript, asked, flying, IsLost, IsEnded, Stands, MayAsk, Begins, Took, GaveUp};
 ghost use Rattle.run_core.specs.Limits.{IsWithinLimits};
 ghost use Rattle.run_core.specs.inner.Course.{past_of};
 ghost use Rattle.run_core.specs.inner.Follows.{AsksIn, HasPairs, IsReadyFor, MakesRoom, Moves, told_of};
@@ -21,7 +21,7 @@ use crate::measuring::begun;
 use crate::parts::job_in;
 use crate::state::{Course, Given, Phase, Turn};
 use crate::steps::follows;
-use crate::turn::{ended, lost};
+use crate::turn::{ended, given_up, lost};
 use crate::{Answer, Options, Pair, Report, Request, RunFault};
 use cwl_value::Value;
 use document_links::Process;
@@ -126,6 +126,19 @@ impl<'a> RunCore<'a> {
         told_of(&self.turn.phase)
     }
 
+    /// Leaves what it asks unanswered, since memory ran out outside of it. From then on the children in flight are waited
+    /// for, and nothing else is asked. It answers out of memory where none is in flight, or where their ends alone were
+    /// waited for already.
+    pub fn give_up(&mut self) -> Result<(), RunFault>
+        requires stands { Stands self.old }
+        requires asks { asked self.old ≢ Request.Finished }
+        ensures { GaveUp self.old result self.new }
+    {
+        let next = given_up(self.alloc, &self.course, &self.turn.phase);
+        mem::drop(mem::replace(&mut self.turn, next));
+        told_of(&self.turn.phase)
+    }
+
     /// What came of the run, where it has ended.
     pub fn finish(self) -> Result<Report, RunFault>
         requires stands { Stands self }
@@ -139,16 +152,6 @@ impl<'a> RunCore<'a> {
         let phase = mem::replace(&mut core.turn.phase, Phase::Collecting);
         mem::drop(core);
         outcome_of(phase)
-    }
-
-    /// Leaves the run as it is, since memory ran out somewhere else.
-    pub fn abandon(self) -> Result<Report, RunFault>
-        requires { Stands self }
-        ensures concluded { Concludes (setting_of self.entry) (transcript self.entry) result }
-        ensures memory { result ≡ Err RunFault.OutOfMemory }
-    {
-        mem::drop(self);
-        Err(RunFault::OutOfMemory)
     }
 }
 

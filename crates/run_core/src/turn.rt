@@ -2,7 +2,7 @@
 ghost use Rattle.std.specs.Prelude.{◌≡◌, IfOk};
 ghost use Rattle.run_core.specs.declared.state.JobNext.{JobNext as Next};
 ghost use Rattle.run_core.specs.inner.Course.{past_of};
-ghost use Rattle.run_core.specs.inner.Turn.{collects, ends, lost_after, permanent, root_asks, succeeds, waits, works};
+ghost use Rattle.run_core.specs.inner.Turn.{collects, ends, given_up, lost_after, permanent, root_asks, succeeds, waits, works};
 ghost use Rattle.run_rules.specs.Reports.{reported};
 
 use crate::state::{Course, JobNext, JobPhase, Phase, Turn};
@@ -69,6 +69,17 @@ pub(crate) fn lost(alloc: Global, course: &Course<'_>) -> Turn
         return ended(Err(RunFault::OutOfMemory));
     }
     waiting(alloc, HostRequest::Collect, Phase::Draining)
+}
+
+/// Memory ran out outside of the machine: the children in flight are waited for. Where their ends alone were waited for
+/// already, the machine gives up on them too.
+pub(crate) fn given_up(alloc: Global, course: &Course<'_>, phase: &Phase) -> Turn
+    ensures { result ≡ given_up (past_of course.now) phase.now }
+{
+    match phase {
+        Phase::Draining => ended(Err(RunFault::OutOfMemory)),
+        _ => lost(alloc, course),
+    }
 }
 
 /// This is asked for a job.

@@ -27,7 +27,7 @@ use Rattle.run_core.specs.inner.Attempts.{StaysBounded, answers_left}
 use Rattle.run_core.specs.inner.Course.{Past, past_of}
 use Rattle.run_core.specs.inner.Follows.{AsksOf, FollowsFrom}
 use Rattle.run_core.specs.inner.Standing.{AreCollects, Blames, IsLostAt, RanOut, draining, lost, pairs_ahead}
-use Rattle.run_core.specs.inner.Turn.{lost_after, lost_with}
+use Rattle.run_core.specs.inner.Turn.{lost_after, lost_with, waits}
 use Rattle.run_core.specs.Core.{IsLanded, collect_lost, none_flies}
 use Rattle.run_core.proofs.standing.Flown.{FliesAfter, flies_on, none_waited_for}
 use Rattle.run_core.proofs.standing.Tickets.{fewer_without}
@@ -69,6 +69,14 @@ ahead_by past (ticket ∷ tickets) is = omega arith
 -- there is room for the children that are in flight alone
 pub lost_room : (past : Past) → pairs_ahead past (lost_after past).phase ≤ length past.tickets
 lost_room past = ahead_by past past.tickets refl
+
+drains_by : (tickets : List ℕ) → (lost_with tickets).asks ≢ Request.Finished → lost_with tickets ≡ waits HostRequest.Collect Phase.Draining
+drains_by [] asks = absurd (asks refl)
+drains_by (ticket ∷ tickets) asks = refl
+
+-- while it asks something, it asks for their ends
+pub lost_drains : (past : Past) → (lost_after past).asks ≢ Request.Finished → lost_after past ≡ waits HostRequest.Collect Phase.Draining
+lost_drains past asks = drains_by past.tickets asks
 
 -- The transcript
 

@@ -32,7 +32,7 @@ use Rattle.run_core.proofs.standing.Facts.{few_known, knows_some, looks_at_some,
 use Rattle.run_core.proofs.standing.Fewer.{step_fewer}
 use Rattle.run_core.proofs.standing.Flown.{FliesAfter, flies_on, left_flies, step_flies}
 use Rattle.run_core.proofs.standing.Leaving.{FewKnown, Leaves, MayKnow}
-use Rattle.run_core.proofs.standing.Lost.{Drained, flies_lost, landed_when_none, lost_at, lost_blames, lost_bounded, lost_few, lost_more, lost_now, none_when_lost, step_drains}
+use Rattle.run_core.proofs.standing.Lost.{Drained, flies_lost, landed_when_none, lost_at, lost_blames, lost_bounded, lost_drains, lost_few, lost_more, lost_now, none_when_lost, step_drains}
 use Rattle.run_core.proofs.standing.Taken.{IsGoing, RunsOn, Taken, ahead_now, answers_more, asks_some, blames_more, flies_if, flown_few, left_now, lost_below, lost_ends, not_ended, off, on, rise, rise_at_most, rise_below}
 
 -- what each step leaves of room for the pairs that come next
@@ -99,6 +99,7 @@ module _ (given : Given) (runs_on : RunsOn given) (t : List Pair) (old : Course)
             landed = λ ended. absurd (leaves.not_lost ended);
             finished = λ ended. absurd (leaves.not_lost ended);
             flying = flies_if old.tickets.items turn.asks answer new.tickets.items (next_flies turn new follows);
+            drains = λ drains asks. absurd (goes drains);
           }
 
     -- memory ran out
@@ -115,6 +116,7 @@ module _ (given : Given) (runs_on : RunsOn given) (t : List Pair) (old : Course)
       landed = λ ended. landed_when_none old.tickets.items next answer new.tickets.items (none_when_lost (past_of new) ended) flies;
       finished = lost_ends (past_of new);
       flying = flies_if old.tickets.items (lost_after (past_of new)).asks answer new.tickets.items (flies_lost old.tickets.items next answer (past_of new) flies);
+      drains = λ drains asks. absurd (goes drains);
     }
 
   still_goes : (turn : Turn) (new : Course) → FollowsFrom given old before answer turn new → GoesOn s longer
@@ -176,6 +178,7 @@ module _ (given : Given) (t : List Pair) (old : Course) (answer : Answer) where
     landed = λ ended. landed_when_none old.tickets.items turn.asks answer new.tickets.items (none_when_lost (past_of new) (sym (ap (λ (its : Turn). its.phase) d.is) ∙ ended)) d.flies;
     finished = λ ended. ap (λ (its : Turn). its.asks) d.is ∙ lost_ends (past_of new) (sym (ap (λ (its : Turn). its.phase) d.is) ∙ ended);
     flying = flies_if old.tickets.items turn.asks answer new.tickets.items d.flies;
+    drains = λ was asks. d.is ∙ lost_drains (past_of new) (λ none. asks (ap (λ (its : Turn). its.asks) d.is ∙ none));
   }
 
 same_turn : (old : Course) (answer : Answer) (one other : Turn) (new : Course) → one ≡ other → Drained old answer other new → Drained old answer one new

@@ -37,7 +37,7 @@ use Rattle.run_core.specs.inner.Course.{Past, known_in, past_of}
 use Rattle.run_core.specs.inner.Follows.{AsksIn, AsksOf, FollowsFrom, MakesRoom, Moves, gives_up, has_room, moves, no_room}
 use Rattle.run_core.specs.inner.Parts.{job_in}
 use Rattle.run_core.specs.inner.Standing.{Blames, IsLostAt, RanOut, Runs, SettlesRightly, draining, lost, pairs_ahead}
-use Rattle.run_core.specs.inner.Turn.{lost_after, lost_with}
+use Rattle.run_core.specs.inner.Turn.{lost_after, lost_with, waits}
 use Rattle.run_core.proofs.standing.Answered.{asks_none, host_answer, step_leaves}
 use Rattle.run_core.proofs.standing.Anyway.{GoesOn, goes_anyway}
 use Rattle.run_core.proofs.standing.Facts.{few_known, knows_some, looks_at_some, tickets_apart}
@@ -77,6 +77,7 @@ pub record Taken (given : Given) (t : List Pair) (old : Course) (before : Turn) 
   pub landed : turn.phase ≡ Phase.Ended (Err RunFault.OutOfMemory) → IsLanded old.tickets.items answer
   pub finished : turn.phase ≡ Phase.Ended (Err RunFault.OutOfMemory) → turn.asks ≡ Request.Finished
   pub flying : turn.asks ≢ Request.Finished → new.tickets.items ≡ flying_after old.tickets.items answer
+  pub drains : before.phase ≡ Phase.Draining → turn.asks ≢ Request.Finished → turn ≡ waits HostRequest.Collect Phase.Draining
 
 -- What the host's log gains
 
@@ -154,7 +155,7 @@ some_weight_of_job (JobPhase.Starting kept) = omega arith
 some_weight_of_job (JobPhase.Scanning kept millis) = omega arith
 some_weight_of_job (JobPhase.Reading kept reading) = omega arith
 
-some_weight : (phase : Phase) → 0 < weight_of phase
+pub some_weight : (phase : Phase) → 0 < weight_of phase
 some_weight (Phase.Measuring measuring) = omega arith
 some_weight (Phase.Staging number) = omega arith
 some_weight (Phase.Working number phase) = some_weight_of_job phase
@@ -214,4 +215,5 @@ taken_same given runs_on t old before answer turn new last same known taken = re
   landed = taken.landed;
   finished = taken.finished;
   flying = λ asks. ap (λ (p : Past). p.tickets) same ∙ taken.flying asks;
+  drains = taken.drains;
 }

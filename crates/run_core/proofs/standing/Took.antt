@@ -2,6 +2,7 @@
 use Rattle.std.specs.Prelude.{◌≢◌, OnErr, OnOk, IfErr}
 use Rattle.std.proofs.Common.{◌≡◌, ◌∙◌, ℕ, ◌+◌, ◌<◌, ◌≤◌, List, [], ◌∷◌, ◌++◌, Vec, Global, length, vec_len, vec_capacity, Result, Ok, Err, refl, sym, ap, subst, arith}
 use Rattle.std.proofs.lemmas.List.Elements.{filter_map-append}
+use Rattle.proc_host.specs.declared.call.HostRequest.{HostRequest}
 use Rattle.run_rules.specs.Answers.{MayAnswer}
 use Rattle.run_rules.specs.Reports.{entries_of, entry_of}
 use Rattle.run_rules.specs.Scene.{scene_of}
@@ -15,13 +16,13 @@ use Rattle.run_core.specs.declared.state.Course.{Course}
 use Rattle.run_core.specs.declared.state.Given.{Given}
 use Rattle.run_core.specs.declared.state.Phase.{Phase}
 use Rattle.run_core.specs.declared.state.Turn.{Turn}
-use Rattle.run_core.specs.Core.{Goes, Stands, Took, off_run, on_run, setting_in}
+use Rattle.run_core.specs.Core.{Goes, IsDraining, Stands, Took, off_run, on_run, setting_in}
 use Rattle.run_core.specs.inner.Anyway.{CanGoOn}
 use Rattle.run_core.specs.inner.Course.{Past, past_of}
 use Rattle.run_core.specs.inner.Follows.{AsksIn, HasPairs, IsReady, IsReadyFor, MakesRoom, Moves, has_room, no_room, told_of}
 use Rattle.run_core.specs.inner.Parts.{job_in}
 use Rattle.run_core.specs.inner.Standing.{Blames, HasRoom, RanOut, Runs, draining, lost, pairs_ahead}
-use Rattle.run_core.specs.inner.Turn.{lost_after}
+use Rattle.run_core.specs.inner.Turn.{lost_after, waits}
 use Rattle.run_core.proofs.standing.Lost.{lost_room}
 use Rattle.run_core.proofs.standing.Stepped.{LeavesRoom, leaves_room, taken}
 use Rattle.run_core.proofs.standing.Taken.{IsGoing, RunsOn, Taken, off, on, taken_same}
@@ -87,6 +88,11 @@ module _ (core : RunCore) (answer : Answer) (pairs : Vec Pair Global) (course : 
   more_entries : entries_of pairs.items ≡ entries_of core.pairs.items ++ entries_of (noted core.turn.asks answer ∷ [])
   more_entries = ap entries_of longer ∙ filter_map-append entry_of core.pairs.items (noted core.turn.asks answer ∷ [])
 
+  drains_then : IsDraining core → turn.asks ≢ Request.Finished → IsDraining (core_with core pairs course turn)
+  drains_then was asks =
+      let is : turn ≡ waits HostRequest.Collect Phase.Draining = it.drains was.phase asks in
+      record { phase = ap (λ (t : Turn). t.phase) is; asks = ap (λ (t : Turn). t.asks) is }
+
   took_by : Tells turn.phase → Took core answer (told_of turn.phase) (core_with core pairs course turn)
   took_by (tells_ok is not_lost) =
       subst (λ (r : Result (Unit {0}) RunFault). Took core answer r (core_with core pairs course turn)) (sym is) (record {
@@ -96,6 +102,7 @@ module _ (core : RunCore) (answer : Answer) (pairs : Vec Pair Global) (course : 
         entries = more_entries;
         landed = tt;
         flying = it.flying;
+        drains = drains_then;
         steps = it.fewer;
         ok = not_lost;
         err = tt;
@@ -110,6 +117,7 @@ module _ (core : RunCore) (answer : Answer) (pairs : Vec Pair Global) (course : 
         entries = more_entries;
         landed = it.landed is;
         flying = tt;
+        drains = drains_then;
         steps = it.fewer;
         ok = tt;
         err = refl;

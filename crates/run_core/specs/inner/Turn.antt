@@ -42,3 +42,8 @@ lost_with (ticket ∷ tickets) = waits HostRequest.Collect Phase.Draining
 
 abbrev pub lost_after : Past → Turn
 lost_after past = lost_with past.tickets
+
+-- it ran out outside of the machine: where children were waited for alone already, nothing more is asked
+abbrev pub given_up : Past → Phase → Turn
+given_up past Phase.Draining = ends (Err RunFault.OutOfMemory)
+given_up past phase = lost_after past
