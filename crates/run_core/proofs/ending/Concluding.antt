@@ -1,4 +1,4 @@
--- What is reported of the machine's run: where it has ended, and where it is left as it is.
+-- What is reported of the machine's run where it has ended.
 use Rattle.std.proofs.Common.{◌≡◌, true, List, [], ◌∷◌, Result, Err, sym, subst, append-nil}
 use Rattle.plan_checker.specs.declared.plan.Mark.{Mark}
 use Rattle.job_graph.specs.Apart.{ids_differ}
@@ -83,10 +83,6 @@ module _ (core : RunCore) where
   lost_so : Goes core → Concludes (setting_of core) core.pairs.items (Err RunFault.OutOfMemory)
   lost_so (on_run runs) = reports.lost core.pairs.items [] runs.happened runs.marks runs.goes tt (sym (append-nil core.pairs.items))
   lost_so (off_run out) = reports.lost out.front out.tail out.happened out.marks out.goes (are_waits out.tail out.collects) out.pairs
-
-  -- where it is left as it is
-  pub left_so : Stands core → Concludes (setting_of core) core.pairs.items (Err RunFault.OutOfMemory)
-  left_so stands = lost_so stands.going
 
   concludes_so : (law : ReportsRightly) (result : Result Report RunFault) → ids_differ core.given.process.now ≡ true → Goes core → core.turn.phase ≡ Phase.Ended result →
       Concludes (setting_of core) core.pairs.items result
