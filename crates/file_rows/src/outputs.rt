@@ -1,11 +1,12 @@
 //! What is collected from an output folder.
+use crate::arguments::{fields_of, found_of, heads_of};
 use collected_outputs::{CollectError, OutputFault, StreamNames, collect_outputs, heads_wanted};
 use cwl_process::{Process, Tool, read_unlinked};
-use cwl_value::{Value, canonical_text, from_json};
+use cwl_value::{Value, canonical_text};
 use plain_data::{Items, Keyed, Text};
 use row_io::{Row, RowFault, json_text};
 use staging::Found;
-use std::alloc::{AllocError, Global};
+use std::alloc::Global;
 
 /// The output object of the row's tool, as canonical text, or the code of the fault and the output that it is met at.
 /// `found` lists the names below the output folder, each with whether it is a folder, its size and its sum; `heads` has
@@ -121,92 +122,4 @@ fn fault_text(alloc: Global, code: &str, output: &str) -> Result<String, RowFaul
         return Ok(String::from_str(alloc, code)?);
     }
     Ok(format!(in alloc; "{code} {output}")?)
-}
-
-fn value_of(alloc: Global, row: &Row, argument: &str) -> Result<Value, RowFault> {
-    match row.json(argument) {
-        Err(_) => Ok(Value::Fields(Keyed::new(alloc))),
-        Ok(json) => from_json(alloc, json).map_err(|_refusal| RowFault::BadArgument),
-    }
-}
-
-fn fields_of(alloc: Global, row: &Row, argument: &str) -> Result<Keyed<Value>, RowFault> {
-    match value_of(alloc, row, argument)? {
-        Value::Fields(fields) => Ok(fields),
-        _ => Err(RowFault::BadArgument),
-    }
-}
-
-fn found_of(alloc: Global, row: &Row) -> Result<Items<Found>, RowFault> {
-    let value = value_of(alloc, row, "found")?;
-    let found = match &value {
-        Value::List(entries) => all_found(alloc, entries),
-        _ => Ok(Items::new(alloc)),
-    };
-    drop(value);
-    found
-}
-
-fn all_found(alloc: Global, entries: &Items<Value>) -> Result<Items<Found>, RowFault> {
-    let mut found = Items::new(alloc);
-    for entry in entries.as_slice() {
-        found.push(found_in(alloc, entry)?)?;
-    }
-    Ok(found)
-}
-
-fn found_in(alloc: Global, entry: &Value) -> Result<Found, RowFault> {
-    let Value::List(parts) = entry else {
-        return Err(RowFault::BadArgument);
-    };
-    match parts.as_slice() {
-        [
-            Value::Text(name),
-            Value::Bool(is_dir),
-            Value::Whole(size),
-            Value::Text(sum),
-        ] => {
-            Ok(Found {
-                name: name.copied(alloc)?,
-                is_dir: *is_dir,
-                size: u64::try_from(*size).unwrap_or(0),
-                sum: sum.copied(alloc)?,
-            })
-        }
-        _ => Err(RowFault::BadArgument),
-    }
-}
-
-fn heads_of(alloc: Global, row: &Row) -> Result<Keyed<Items<u8>>, RowFault> {
-    let mut heads = Keyed::new(alloc);
-    let fields = fields_of(alloc, row, "heads")?;
-    for field in fields.as_slice() {
-        let name = field.0.copied(alloc)?;
-        drop(heads.insert(name, bytes_of(alloc, &field.1)?)?);
-    }
-    drop(fields);
-    Ok(heads)
-}
-
-fn bytes_of(alloc: Global, value: &Value) -> Result<Items<u8>, RowFault> {
-    let mut bytes = Items::new(alloc);
-    match value {
-        Value::Text(text) => push_bytes(text, &mut bytes)?,
-        Value::List(numbers) => {
-            for number in numbers.as_slice() {
-                if let Value::Whole(number) = number {
-                    bytes.push(u8::try_from(*number).unwrap_or(0))?;
-                }
-            }
-        }
-        _ => return Err(RowFault::BadArgument),
-    }
-    Ok(bytes)
-}
-
-fn push_bytes(text: &Text, bytes: &mut Items<u8>) -> Result<(), AllocError> {
-    for byte in text.as_str().as_bytes() {
-        bytes.push(*byte)?;
-    }
-    Ok(())
 }

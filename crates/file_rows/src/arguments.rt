@@ -20,6 +20,20 @@ pub(crate) fn fields_of(
     }
 }
 
+/// The files and folders that the row has found; none where it tells of none.
+pub(crate) fn found_of(alloc: Global, row: &Row) -> Result<Items<Found>, RowFault> {
+    let Ok(json) = row.json("found") else {
+        return Ok(Items::new(alloc));
+    };
+    let value = from_json(alloc, json).map_err(|_refusal| RowFault::BadArgument)?;
+    let found = match &value {
+        Value::List(entries) => listing_in(alloc, entries.as_slice()),
+        _ => Ok(Items::new(alloc)),
+    };
+    drop(value);
+    found
+}
+
 /// What stands at each path.
 pub(crate) fn measures_of(alloc: Global, row: &Row) -> Result<Keyed<Measure>, RowFault> {
     let mut measures = Keyed::new(alloc);
@@ -87,7 +101,7 @@ fn found_in(alloc: Global, entry: &Value) -> Result<Found, RowFault> {
     }
 }
 
-/// First bytes by path, each a text or a list of numbers.
+/// First bytes by path or name, each a text or a list of numbers.
 pub(crate) fn heads_of(alloc: Global, row: &Row) -> Result<Keyed<Items<u8>>, RowFault> {
     let mut heads = Keyed::new(alloc);
     let fields = fields_of(alloc, row, "heads")?;

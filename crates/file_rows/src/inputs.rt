@@ -29,7 +29,7 @@ fn answer_for(alloc: Global, row: &Row, inputs: &[(Text, ToolInput)]) -> Result<
             let paths = input_paths(alloc, inputs, &given)?;
             paths_text(alloc, paths.as_slice())
         }
-        "heads_wanted" => {
+        "input_heads_wanted" => {
             let paths = heads_wanted(alloc, inputs, &given)?;
             paths_text(alloc, paths.as_slice())
         }
