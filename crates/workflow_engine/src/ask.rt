@@ -1,5 +1,5 @@
 //! One question to the host.
-ghost use Rattle.std.specs.Prelude.{◌≡◌, ◌≢◌, ◌++◌, [], IfOk};
+ghost use Rattle.std.specs.Prelude.{◌≡◌, ◌≢◌, ◌++◌, [], IfOk, OnErr};
 ghost use Rattle.proc_host.specs.Answers.{CanAnswer, flying_with};
 ghost use Rattle.proc_host.specs.Log.{answer_behind, answer_behind_error};
 ghost use Rattle.workflow_engine.specs.inner.Held.{Covers};
@@ -24,6 +24,7 @@ pub(crate) fn ask<H: Host>(
     ensures logged { H.log host.new ≡ H.log host.old ++ gained_by request.now result }
     ensures answers { IfOk result (CanAnswer (H.running host.old) request.now) }
     ensures running { IfOk result (λ answer. H.running host.new ≡ flying_with (H.running host.old) answer) }
+    ensures kept { OnErr result (H.running host.new ≡ H.running host.old) }
     ensures covered { Covers held.new.items (H.running host.new) }
 {
     match request {
@@ -47,6 +48,7 @@ fn start<H: Host>(
     ensures logged { H.log host.new ≡ H.log host.old ++ gained_by (HostRequest.Start launch.now) result }
     ensures answers { IfOk result (CanAnswer (H.running host.old) (HostRequest.Start launch.now)) }
     ensures running { IfOk result (λ answer. H.running host.new ≡ flying_with (H.running host.old) answer) }
+    ensures kept { OnErr result (H.running host.new ≡ H.running host.old) }
     ensures covered { Covers held.new.items (H.running host.new) }
 {
     held.reserve(1)?;
@@ -66,6 +68,7 @@ fn collect<H: Host>(host: &mut H, held: &mut Vec<Ticket>) -> Result<HostAnswer, 
     ensures logged { H.log host.new ≡ H.log host.old ++ gained_by HostRequest.Collect result }
     ensures answers { IfOk result (CanAnswer (H.running host.old) HostRequest.Collect) }
     ensures running { IfOk result (λ answer. H.running host.new ≡ flying_with (H.running host.old) answer) }
+    ensures kept { OnErr result (H.running host.new ≡ H.running host.old) }
     ensures covered { Covers held.new.items (H.running host.new) }
 {
     match host.collect() {

@@ -1,5 +1,5 @@
 //! A whole run on a host.
-ghost use Rattle.std.specs.Prelude.{◌≡◌, ◌++◌, [], None, OnOk, IfErr};
+ghost use Rattle.std.specs.Prelude.{◌≡◌, ◌++◌, [], None, IfErr};
 ghost use Rattle.run_core.specs.Core.{setting_of, transcript, asked, flying, Stands};
 ghost use Rattle.run_core.specs.Limits.{IsWithinLimits};
 ghost use Rattle.run_rules.specs.Reports.{entries_of};
@@ -15,7 +15,7 @@ use document_links::Process;
 use plain_data::Keyed;
 use proc_host::{Host, Ticket};
 use run_core::{Answer, Options, Report, Request, RunCore, RunFault};
-use std::alloc::Global;
+use std::alloc::{AllocError, Global};
 
 /// Runs an accepted process on an input object.
 ///
@@ -40,20 +40,14 @@ pub fn run<H: Host>(
 {
     let mut core = RunCore::new(alloc, process, inputs, options)?;
     let mut held = Vec::new(alloc);
-    let driven = drive(host, &mut core, &mut held);
+    drive(host, &mut core, &mut held);
     close_all(host, held);
-    match driven {
-        Ok(()) => core.finish(),
-        Err(_) => core.abandon(),
-    }
+    core.finish()
 }
 
-/// Asks the host what the machine asks, until it asks nothing more or runs out of memory.
-fn drive<H: Host>(
-    host: &mut H,
-    core: &mut RunCore<'_>,
-    held: &mut Vec<Ticket>,
-) -> Result<(), RunFault>
+/// Asks the host what the machine asks, until it asks nothing more. Where the host runs out of memory, the machine is told
+/// so, and asks for the ends of the children in flight alone.
+fn drive<H: Host>(host: &mut H, core: &mut RunCore<'_>, held: &mut Vec<Ticket>)
     requires stands { Stands core.old }
     requires first { transcript core.old ≡ [] }
     requires flying { flying core.old ≡ H.running host.old }
@@ -61,12 +55,14 @@ fn drive<H: Host>(
     ensures stands { Stands core.new }
     ensures setting { setting_of core.new ≡ setting_of core.old }
     ensures logged { H.log host.new ≡ H.log host.old ++ entries_of (transcript core.new) }
-    ensures finished { OnOk result (asked core.new ≡ Request.Finished) }
+    ensures finished { asked core.new ≡ Request.Finished }
     ensures covered { Covers held.new.items (H.running host.new) }
 {
     while let Request::Host(_, request) = core.next() {
-        let answer = ask(host, request, held)?;
-        core.take(Answer::Host(answer))?;
+        // An error is that the machine asks nothing more: `finish` says so too.
+        let _told = match ask(host, request, held) {
+            Ok(answer) => core.take(Answer::Host(answer)),
+            Err(AllocError) => core.give_up(),
+        };
     }
-    Ok(())
 }

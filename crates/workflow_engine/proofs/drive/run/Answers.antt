@@ -3,7 +3,6 @@ use Rattle.run_rules.specs.declared.outcome.RunFault.{RunFault}
 use Rattle.workflow_engine.proofs.Nothing.{nothing_asked, err_is}
 use Rattle.workflow_engine.proofs.Blamed.{hosts_fault}
 use Rattle.workflow_engine.proofs.drive.run.Goals as goal
-use Rattle.workflow_engine.proofs.drive.run.Goals.{in-Ok, in-Err}
 
 pub returns-in_err-core-clause-run : goal.returns-in_err-core-clause-run
 returns-in_err-core-clause-run g c =
@@ -20,8 +19,4 @@ returns-in_err-core-clause-fault g c =
     rw none tt
 
 pub returns-clause-fault : goal.returns-clause-fault
-returns-clause-fault g c = elim c.match-driven.branch [
-  | in-Ok w ↦
-      rw w.result-is (hosts_fault _ _ _ _ (c.close_all.ensures.logged ∙ c.drive-driven.ensures.logged) w.finish.ensures.faults)
-  | in-Err w ↦ rw (w.result-is, w.abandon.ensures.memory) tt
-]
+returns-clause-fault g c = hosts_fault _ _ _ _ (c.close_all.ensures.logged ∙ c.drive.ensures.logged) c.finish.ensures.faults
