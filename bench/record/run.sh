@@ -4,18 +4,23 @@
 # medians of five, each program once in turn, in microseconds, and the ratios. And what opening takes for each 1,000 rows.
 set -euo pipefail
 here=$(cd "$(dirname "$0")" && pwd)
-cd "$here/../../crates/record_bench"
-rt run >/dev/null 2>&1 || true
-program=$PWD/out/record_bench
-[ -x "$program" ] || { rt run; exit 1; }
+cd "$here/../../crates/record_rows"
+rt run </dev/null >/dev/null 2>&1 || { rt run </dev/null; exit 1; }
+program=$PWD/out/record_rows
 folder=$(mktemp -d -p "${BENCH_FOLDER:-$here}")
 trap 'rm -rf "$folder"' EXIT
+
+# Asks for the times of ours.db, which has so many rows, and prints each as a line: ours, what it is of, and its microseconds.
+ours() {
+    printf '{"row":"ours","call":"measured","file":"ours.db","rows":%d,"times":1000}\n' "$1" |
+        (cd "$folder" && "$program") | sed 's/[{"}]//g; s/,/\nours /g; s/:/ /g'
+}
 
 for rows in 1000 100000; do
     python3 "$here/beside.py" make "$folder/$rows.db" "$rows"
     for _ in 1 2 3 4 5; do
         cp "$folder/$rows.db" "$folder/ours.db"
-        "$program" "$folder/ours.db" "$rows" 1000 | sed 's/^/ours /'
+        ours "$rows" || { echo "the program has no times for $rows rows" >&2; exit 1; }
         cp "$folder/$rows.db" "$folder/theirs.db"
         python3 "$here/beside.py" run "$folder/theirs.db" "$rows" 1000 | sed 's/^/theirs /'
         rm -f "$folder"/ours.db* "$folder"/theirs.db*

@@ -76,6 +76,14 @@ pub(crate) fn put(alloc: Global, store: &mut Store, json: &Json, out: &mut Answe
     mem::drop(row);
 }
 
+/// Writes the rows of the record in the files.
+pub(crate) fn put_held(alloc: Global, disks: Disks, out: &mut AnswerText) {
+    match disks.open(alloc) {
+        Ok(mut store) => store.ask(alloc, Ask::List, out),
+        Err((_fault, _disks)) => out.put("?"),
+    }
+}
+
 // The command that an object or a word stands for, but `put`.
 fn ask_in(command: &Json) -> Option<Ask<'_>> {
     match command.as_str() {

@@ -1,15 +1,19 @@
 //! A record with many rows.
 
-use crate::asks::Ask;
-use crate::commands::{put, run};
+use crate::commands::{put, put_held, run};
 use crate::rows::put_comma;
 use crate::store::{Disks, Store};
 use row_io::{AnswerText, Row, RowFault};
 use serde_json::Value as Json;
 use std::alloc::Global;
 
-// Rows are put in the order of multiples of this number, which no count below has as a factor.
+// Numbers go in the order of multiples of this one, so that they lie far apart. No count here has it as a factor.
 const STRIDE: u64 = 7_919;
+
+/// The number below a count that has this place in the order.
+pub(crate) fn number_at(place: u64, count: u64) -> u64 {
+    place.wrapping_mul(STRIDE) % count.max(1)
+}
 
 /// Puts so many rows, forgets each third, opens the record again, and says how many rows it then should hold and whether
 /// it lists just these.
@@ -27,23 +31,16 @@ pub(crate) fn filled(alloc: Global, row: &Row) -> Result<String, RowFault> {
 fn listed(alloc: Global, count: u64, answers: &mut AnswerText) -> Result<String, RowFault> {
     let mut found = AnswerText::new(alloc);
     match Disks::fresh(alloc).open(alloc) {
-        Ok(store) => put_listed(alloc, changed(alloc, store, count, answers), &mut found),
+        Ok(store) => put_held(alloc, changed(alloc, store, count, answers), &mut found),
         Err((_fault, _disks)) => found.put("?"),
     }
     found.finish()
 }
 
-fn put_listed(alloc: Global, disks: Disks, found: &mut AnswerText) {
-    match disks.open(alloc) {
-        Ok(mut store) => store.ask(alloc, Ask::List, found),
-        Err((_fault, _disks)) => found.put("?"),
-    }
-}
-
 fn changed(alloc: Global, store: Store, count: u64, answers: &mut AnswerText) -> Disks {
     let mut store = store;
     for at in 0..count {
-        put_at(alloc, &mut store, at.wrapping_mul(STRIDE) % count, answers);
+        put_at(alloc, &mut store, number_at(at, count), answers);
     }
     for at in 0..count {
         if at % 3 == 0 {

@@ -4,6 +4,7 @@
 #![tactic(auto)]
 
 mod asks;
+mod bench;
 mod commands;
 mod file;
 mod fill;
@@ -31,6 +32,7 @@ impl Answers for Calls<'_> {
             "stops" => stops::stops(alloc, row),
             "fill" => fill::filled(alloc, row),
             "record" => file::shown(self.0, row),
+            "measured" => bench::measured(self.0, row),
             _ => Err(RowFault::UnknownCall),
         }
     }

@@ -1,7 +1,6 @@
 //! A stop at each call of a file, while a command runs.
 
-use crate::asks::Ask;
-use crate::commands::{run, run_all};
+use crate::commands::{put_held, run, run_all};
 use crate::store::{Disks, NEVER, Stop, Store};
 use row_io::{AnswerText, Row, RowFault};
 use serde_json::Value as Json;
@@ -122,14 +121,6 @@ fn run_once(alloc: Global, store: Store, command: Option<&Json>) -> Disks {
         mem::drop(answer);
     }
     store.stop()
-}
-
-// Writes the rows of the record in the files.
-fn put_held(alloc: Global, disks: Disks, held: &mut AnswerText) {
-    match disks.open(alloc) {
-        Ok(mut store) => store.ask(alloc, Ask::List, held),
-        Err((_fault, _disks)) => held.put("?"),
-    }
 }
 
 fn seen_by(trial: &Trial<'_>) -> Seen {

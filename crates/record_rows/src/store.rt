@@ -1,5 +1,5 @@
-//! Records over two files in memory, each behind a fuse that stops it at a call. Only here are `sqlite` and `job_record`
-//! called at a store that is named, since each such call takes the check long.
+//! Records over two files in memory, each behind a fuse that stops it at a call. Only here, and where `bench.rt` opens a
+//! file, are `sqlite` and `job_record` called at a store that is named, since each such call takes the check long.
 
 use crate::asks::{Ask, asked, opened, ran};
 use job_record::{JobRecord, RecordFault};
