@@ -1,12 +1,15 @@
+mod After
 mod Compiled
 mod Edits
 mod Files
 mod KeyOrder
 mod KeyTest
 mod KeyedRows
+mod Looked
 mod Made
 mod MapSteps
 mod OneKey
+mod OpenSafe
 mod OpenedMap
 mod Opens
 mod Putting
@@ -14,6 +17,8 @@ mod Reading
 mod Refused
 mod RowMap
 mod RowsRead
+mod Safe
+mod SafeCalls
 mod Shapes
 mod Shown
 mod Unmade

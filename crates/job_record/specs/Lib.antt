@@ -7,4 +7,5 @@ pub mod RecordMap
 pub mod Log
 pub mod Opening
 pub mod OpenMap
+pub mod Crash
 pub mod inner

@@ -7,6 +7,7 @@ ghost use Rattle.sqlite.specs.Held.{state};
 ghost use Rattle.job_record.specs.Statements.{find_text, list_text, put_text, key_params, put_params};
 ghost use Rattle.job_record.specs.Columns.{IsRowOf, IsUnread, AreRowsOf, Misreads};
 ghost use Rattle.job_record.specs.RecordMap.{Finds, Puts, Lists, changed};
+ghost use Rattle.job_record.specs.inner.Crash.{RunsOpen, ChangesOpen};
 
 use crate::fault::RecordFault;
 use crate::log::Entry;
@@ -35,6 +36,7 @@ pub fn look_up<S: Alter>(
 ) -> Result<Option<Row>, RecordFault>
     ensures finds { HasCleanDisk (state S.Store conn.new) → Finds S.Store conn.old conn.new key.now result }
     ensures survives { Survives (state S.Store conn.old) (state S.Store conn.new) (CommitsShowing find_text (key_params key.now) (state S.Store conn.old)) }
+    ensures open { HasCleanDisk (state S.Store conn.new) → RunsOpen (state S.Store conn.old) (state S.Store conn.new) }
 {
     match tables::find(conn, key) {
         Ok(Some(columns)) => match read_row(alloc, &columns) {
@@ -50,6 +52,7 @@ pub fn look_up<S: Alter>(
 pub fn set<S: Alter>(alloc: Global, conn: &mut Connection<S>, row: &Row) -> Result<(), RecordFault>
     ensures puts { HasCleanDisk (state S.Store conn.new) → Puts S.Store conn.old conn.new row.now result }
     ensures survives { Survives (state S.Store conn.old) (state S.Store conn.new) (CommitsBy put_text (put_params row.now) (state S.Store conn.old)) }
+    ensures open { HasCleanDisk (state S.Store conn.new) → ChangesOpen (state S.Store conn.old) (state S.Store conn.new) result }
 {
     let Ok(stored) = stored_of(alloc, row) else {
         return Err(RecordFault::OutOfMemory);
@@ -78,6 +81,7 @@ pub fn read_all<S: Alter>(
 ) -> Result<Items<Row>, RecordFault>
     ensures lists { HasCleanDisk (state S.Store conn.new) → Lists S.Store conn.old conn.new result }
     ensures survives { Survives (state S.Store conn.old) (state S.Store conn.new) (CommitsShowing list_text [] (state S.Store conn.old)) }
+    ensures open { HasCleanDisk (state S.Store conn.new) → RunsOpen (state S.Store conn.old) (state S.Store conn.new) }
 {
     match tables::list(conn) {
         Ok(columns) => read_rows(alloc, columns.as_slice()),

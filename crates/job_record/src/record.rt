@@ -8,6 +8,7 @@ ghost use Rattle.job_record.specs.Map.{IsRecord, FindsIn, PutsIn, DropsIn, Forge
 ghost use Rattle.job_record.specs.Log.{Logs};
 ghost use Rattle.job_record.specs.Opening.{Opens};
 ghost use Rattle.job_record.specs.OpenMap.{OpensAs, RefusesAs, CrashesAs};
+ghost use Rattle.job_record.specs.Crash.{sets, unarchives, forgets, ChangesSafely, ReadsSafely, OpensSafely, RefusesSafely};
 
 use crate::commands::{change_of, look_up, read_all, room, set};
 use crate::fault::RecordFault;
@@ -56,6 +57,8 @@ impl<S: Alter + Drop> JobRecord<S> {
         ensures stays { IfErr result (λ left. HasCleanDisk (state S.Store left.1) → RefusesAs (state S.Store conn) (state S.Store left.1)) }
         ensures crash { IfOk result (λ opened. CrashesAs (state S.Store conn) (state S.Store opened.conn)) }
         ensures crash_refused { IfErr result (λ left. CrashesAs (state S.Store conn) (state S.Store left.1)) }
+        ensures safe { IfOk result (λ opened. HasCleanDisk (state S.Store opened.conn) → OpensSafely (state S.Store conn) (state S.Store opened.conn)) }
+        ensures safe_refused { IfErr result (λ left. HasCleanDisk (state S.Store left.1) → RefusesSafely (state S.Store conn) (state S.Store left.1)) }
         ensures log { IfOk result (λ opened. opened.log.items ≡ []) }
     {
         match open_tables(alloc, &mut conn) {
@@ -99,6 +102,7 @@ impl<S: Alter> JobRecord<S> {
         ensures finds { HasCleanDisk (state S.Store self.new.conn) → Finds S.Store self.old.conn self.new.conn key.now result }
         ensures map { HasCleanDisk (state S.Store self.new.conn) → IsRecord (state S.Store self.old.conn) → FindsIn (state S.Store self.old.conn) (state S.Store self.new.conn) key.now result }
         ensures survives { Survives (state S.Store self.old.conn) (state S.Store self.new.conn) (CommitsShowing find_text (key_params key.now) (state S.Store self.old.conn)) }
+        ensures safe { HasCleanDisk (state S.Store self.new.conn) → ReadsSafely (state S.Store self.old.conn) (state S.Store self.new.conn) }
         ensures log { Logs Command.Find key.now result self.old.log.items self.new.log.items }
     {
         let noted = room(self.alloc, &mut self.log, key)?;
@@ -126,6 +130,7 @@ impl<S: Alter> JobRecord<S> {
         ensures kept { HasCleanDisk (state S.Store self.new.conn) → IfErr result (λ _. KeepsCommit (state S.Store self.old.conn) (state S.Store self.new.conn)) }
         ensures map { HasCleanDisk (state S.Store self.new.conn) → IsRecord (state S.Store self.old.conn) → PutsIn (state S.Store self.old.conn) (state S.Store self.new.conn) row.now result }
         ensures survives { Survives (state S.Store self.old.conn) (state S.Store self.new.conn) (CommitsBy put_text (put_params row.now) (state S.Store self.old.conn)) }
+        ensures safe { HasCleanDisk (state S.Store self.new.conn) → ChangesSafely (state S.Store self.old.conn) (state S.Store self.new.conn) (sets row.now.key (put_params row.now)) result }
         ensures log { Logs Command.Put row.now.key result self.old.log.items self.new.log.items }
     {
         let noted = room(self.alloc, &mut self.log, row.key.as_str())?;
@@ -149,6 +154,7 @@ impl<S: Alter> JobRecord<S> {
         ensures kept { HasCleanDisk (state S.Store self.new.conn) → IfErr result (λ fault. fault ≢ NoRow → KeepsCommit (state S.Store self.old.conn) (state S.Store self.new.conn)) }
         ensures map { HasCleanDisk (state S.Store self.new.conn) → IsRecord (state S.Store self.old.conn) → DropsIn (state S.Store self.old.conn) (state S.Store self.new.conn) key.now result }
         ensures survives { Survives (state S.Store self.old.conn) (state S.Store self.new.conn) (CommitsBy drop_archive_text (key_params key.now) (state S.Store self.old.conn)) }
+        ensures safe { HasCleanDisk (state S.Store self.new.conn) → ChangesSafely (state S.Store self.old.conn) (state S.Store self.new.conn) (unarchives key.now) result }
         ensures log { Logs Command.DropArchive key.now result self.old.log.items self.new.log.items }
     {
         let noted = room(self.alloc, &mut self.log, key)?;
@@ -172,6 +178,7 @@ impl<S: Alter> JobRecord<S> {
         ensures kept { HasCleanDisk (state S.Store self.new.conn) → IfErr result (λ fault. fault ≢ NoRow → KeepsCommit (state S.Store self.old.conn) (state S.Store self.new.conn)) }
         ensures map { HasCleanDisk (state S.Store self.new.conn) → IsRecord (state S.Store self.old.conn) → ForgetsIn (state S.Store self.old.conn) (state S.Store self.new.conn) key.now result }
         ensures survives { Survives (state S.Store self.old.conn) (state S.Store self.new.conn) (CommitsBy forget_text (key_params key.now) (state S.Store self.old.conn)) }
+        ensures safe { HasCleanDisk (state S.Store self.new.conn) → ChangesSafely (state S.Store self.old.conn) (state S.Store self.new.conn) (forgets key.now) result }
         ensures log { Logs Command.Forget key.now result self.old.log.items self.new.log.items }
     {
         let noted = room(self.alloc, &mut self.log, key)?;
@@ -194,6 +201,7 @@ impl<S: Alter> JobRecord<S> {
         ensures lists { HasCleanDisk (state S.Store self.new.conn) → Lists S.Store self.old.conn self.new.conn result }
         ensures map { HasCleanDisk (state S.Store self.new.conn) → IsRecord (state S.Store self.old.conn) → ListsIn (state S.Store self.old.conn) (state S.Store self.new.conn) result }
         ensures survives { Survives (state S.Store self.old.conn) (state S.Store self.new.conn) (CommitsShowing list_text [] (state S.Store self.old.conn)) }
+        ensures safe { HasCleanDisk (state S.Store self.new.conn) → ReadsSafely (state S.Store self.old.conn) (state S.Store self.new.conn) }
         ensures log { self.new.log ≡ self.old.log }
     {
         read_all(self.alloc, &mut self.conn)

@@ -1,4 +1,4 @@
-//! The statements of the record. Each function here makes one call of `sqlite`, which keeps a plan for each text.
+//! The statements of the record. Each function here runs one statement of `sqlite`, which keeps a plan for each text.
 
 ghost use Rattle.std.specs.Prelude.{◌≡◌, ◌≢◌, ◌<◌, ◌-◌, ◌^◌, ℕ, ℤ, pos, min, not, length, [], IfOk, IfErr, MatchOption};
 ghost use Rattle.std.specs.Ordering.{int_eq};
@@ -7,12 +7,15 @@ ghost use Rattle.sqlite.specs.declared.types.Value.TheVariants.{Int};
 ghost use Rattle.sqlite.specs.declared.error.Error.TheVariants.{QueryReturnedNoRows};
 ghost use Rattle.sqlite.specs.State.{HasCleanDisk, Survives, Executes, QueriesRow, Shown, FailsToQuery, CommitsBy, CommitsShowing};
 ghost use Rattle.sqlite.specs.Held.{state};
+ghost use Rattle.sqlite.specs.Values.{bound};
 ghost use Rattle.job_record.specs.Statements.{version_text, find_text, list_text, put_text, drop_archive_text, forget_text, key_params};
 ghost use Rattle.job_record.specs.Columns.{columns_of, IsText, AreColumnsOf, Misreads, misread_as};
+ghost use Rattle.job_record.specs.inner.Crash.{RunsOpen, ChangesOpen};
 
 use crate::fault::RecordFault;
 use crate::texts::Stored;
 use plain_data::Text;
+use sqlite::types::ValueRef;
 use sqlite::{Alter, Connection, Error, ErrorCode, Row as Columns, params};
 
 const FIND: &str = "SELECT key, outputs, files, cost, archived FROM job WHERE key = ?1";
@@ -52,8 +55,9 @@ pub fn find<S: Alter>(conn: &mut Connection<S>, key: &str) -> Result<Option<Colu
     ensures err { HasCleanDisk (state S.Store conn.new) → IfErr result (λ e. (e ≢ QueryReturnedNoRows)
         × QueriesRow find_text (key_params key.now) (state S.Store conn.old) (state S.Store conn.new) (Err e)) }
     ensures survives { Survives (state S.Store conn.old) (state S.Store conn.new) (CommitsShowing find_text (key_params key.now) (state S.Store conn.old)) }
+    ensures open { HasCleanDisk (state S.Store conn.new) → RunsOpen (state S.Store conn.old) (state S.Store conn.new) }
 {
-    match conn.query_row(FIND, params![key]) {
+    match first_row(conn, FIND, params![key]) {
         Ok(columns) => Ok(Some(columns)),
         Err(Error::QueryReturnedNoRows) => Ok(None),
         Err(error) => Err(error),
@@ -64,9 +68,11 @@ pub fn find<S: Alter>(conn: &mut Connection<S>, key: &str) -> Result<Option<Colu
 pub fn put<S: Alter>(conn: &mut Connection<S>, row: &Stored) -> Result<usize, Error>
     ensures runs { HasCleanDisk (state S.Store conn.new) → Executes put_text (columns_of row.now) (state S.Store conn.old) (state S.Store conn.new) result }
     ensures survives { Survives (state S.Store conn.old) (state S.Store conn.new) (CommitsBy put_text (columns_of row.now) (state S.Store conn.old)) }
+    ensures open { HasCleanDisk (state S.Store conn.new) → ChangesOpen (state S.Store conn.old) (state S.Store conn.new) result }
 {
     let cost = held_cost(row.cost);
-    conn.execute(
+    run(
+        conn,
         PUT,
         params![
             row.key.as_str(),
@@ -89,16 +95,18 @@ fn held_cost(cost: u64) -> i64
 pub fn drop_archive<S: Alter>(conn: &mut Connection<S>, key: &str) -> Result<usize, Error>
     ensures runs { HasCleanDisk (state S.Store conn.new) → Executes drop_archive_text (key_params key.now) (state S.Store conn.old) (state S.Store conn.new) result }
     ensures survives { Survives (state S.Store conn.old) (state S.Store conn.new) (CommitsBy drop_archive_text (key_params key.now) (state S.Store conn.old)) }
+    ensures open { HasCleanDisk (state S.Store conn.new) → ChangesOpen (state S.Store conn.old) (state S.Store conn.new) result }
 {
-    conn.execute(DROP_ARCHIVE, params![key])
+    run(conn, DROP_ARCHIVE, params![key])
 }
 
 /// Takes the row of a key out, and answers how many rows that met.
 pub fn forget<S: Alter>(conn: &mut Connection<S>, key: &str) -> Result<usize, Error>
     ensures runs { HasCleanDisk (state S.Store conn.new) → Executes forget_text (key_params key.now) (state S.Store conn.old) (state S.Store conn.new) result }
     ensures survives { Survives (state S.Store conn.old) (state S.Store conn.new) (CommitsBy forget_text (key_params key.now) (state S.Store conn.old)) }
+    ensures open { HasCleanDisk (state S.Store conn.new) → ChangesOpen (state S.Store conn.old) (state S.Store conn.new) result }
 {
-    conn.execute(FORGET, params![key])
+    run(conn, FORGET, params![key])
 }
 
 /// The columns of all rows, by key.
@@ -106,8 +114,52 @@ pub fn list<S: Alter>(conn: &mut Connection<S>) -> Result<Vec<Columns>, Error>
     ensures ok { HasCleanDisk (state S.Store conn.new) → IfOk result (λ rows. Shown list_text [] (state S.Store conn.old) (state S.Store conn.new) rows.items) }
     ensures err { HasCleanDisk (state S.Store conn.new) → IfErr result (FailsToQuery list_text [] (state S.Store conn.old) (state S.Store conn.new)) }
     ensures survives { Survives (state S.Store conn.old) (state S.Store conn.new) (CommitsShowing list_text [] (state S.Store conn.old)) }
+    ensures open { HasCleanDisk (state S.Store conn.new) → RunsOpen (state S.Store conn.old) (state S.Store conn.new) }
 {
-    conn.query_all(LIST, &[])
+    all_rows(conn, LIST, &[])
+}
+
+// A statement says what it does only of an open connection, and `prepare` refuses one that a failure has shut.
+fn run<S: Alter>(
+    conn: &mut Connection<S>,
+    text: &str,
+    params: &[ValueRef<'_>],
+) -> Result<usize, Error>
+    ensures runs { HasCleanDisk (state S.Store conn.new) → Executes text.now (bound params.now) (state S.Store conn.old) (state S.Store conn.new) result }
+    ensures survives { Survives (state S.Store conn.old) (state S.Store conn.new) (CommitsBy text.now (bound params.now) (state S.Store conn.old)) }
+    ensures open { HasCleanDisk (state S.Store conn.new) → ChangesOpen (state S.Store conn.old) (state S.Store conn.new) result }
+{
+    let statement = conn.prepare(text)?;
+    statement.execute(conn, params)
+}
+
+// The first row of a query, on an open connection.
+fn first_row<S: Alter>(
+    conn: &mut Connection<S>,
+    text: &str,
+    params: &[ValueRef<'_>],
+) -> Result<Columns, Error>
+    ensures row { HasCleanDisk (state S.Store conn.new) → QueriesRow text.now (bound params.now) (state S.Store conn.old) (state S.Store conn.new) result }
+    ensures survives { Survives (state S.Store conn.old) (state S.Store conn.new) (CommitsShowing text.now (bound params.now) (state S.Store conn.old)) }
+    ensures open { HasCleanDisk (state S.Store conn.new) → RunsOpen (state S.Store conn.old) (state S.Store conn.new) }
+{
+    let statement = conn.prepare(text)?;
+    statement.query_row(conn, params)
+}
+
+// All rows of a query, on an open connection.
+fn all_rows<S: Alter>(
+    conn: &mut Connection<S>,
+    text: &str,
+    params: &[ValueRef<'_>],
+) -> Result<Vec<Columns>, Error>
+    ensures ok { HasCleanDisk (state S.Store conn.new) → IfOk result (λ rows. Shown text.now (bound params.now) (state S.Store conn.old) (state S.Store conn.new) rows.items) }
+    ensures err { HasCleanDisk (state S.Store conn.new) → IfErr result (FailsToQuery text.now (bound params.now) (state S.Store conn.old) (state S.Store conn.new)) }
+    ensures survives { Survives (state S.Store conn.old) (state S.Store conn.new) (CommitsShowing text.now (bound params.now) (state S.Store conn.old)) }
+    ensures open { HasCleanDisk (state S.Store conn.new) → RunsOpen (state S.Store conn.old) (state S.Store conn.new) }
+{
+    let statement = conn.prepare(text)?;
+    statement.query_all(conn, params)
 }
 
 /// The columns as texts and numbers.

@@ -1,5 +1,5 @@
--- What the parts of an opening may leave to a crash, and what they make of the map.
-use Rattle.std.specs.Prelude.{◌≡◌, ◌⊎◌, List, [], Result, Ok, Err, false}
+-- What the parts of an opening and of a command may leave to a crash, and what an opening makes of the map.
+use Rattle.std.specs.Prelude.{◌≡◌, ◌⊎◌, List, [], Result, Ok, Err, false, IsTrue, IsErr}
 use Rattle.sqlite.specs.Store.{Ghosts}
 use Rattle.sqlite.specs.Tree.{Trees}
 use Rattle.sqlite.specs.State.{State, IsUnchanged, CommitsShowing}
@@ -25,3 +25,15 @@ module _ {S : Type 0} (g : Ghosts S) where
 abbrev pub OpensMap : State → State → Result (Unit {0}) RecordFault → Type 0
 OpensMap old new (Ok done) = OpensAs old new
 OpensMap old new (Err fault) = RefusesAs old new
+
+-- a call that runs no statement
+pub record IsIdle (old new : State) : Type 0 where
+  pub was_open : IsTrue new.is_open → IsTrue old.is_open
+  pub crash : (trees : Trees) → new.may_leave trees → old.may_leave trees
+
+-- a statement runs only on an open connection
+abbrev pub RunsOpen : State → State → Type 0
+RunsOpen old new = IsTrue old.is_open ⊎ IsIdle old new
+
+abbrev pub ChangesOpen : {A E : Type 0} → State → State → Result A E → Type 0
+ChangesOpen old new result = IsTrue old.is_open ⊎ (IsErr result × IsIdle old new)

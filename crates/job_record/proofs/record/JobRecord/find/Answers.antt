@@ -1,0 +1,7 @@
+use Rattle.job_record.proofs.SafeCalls.{find_safe}
+use Rattle.job_record.proofs.record.JobRecord.find.Goals as goal
+
+pub returns-clause-safe : goal.returns-clause-safe
+returns-clause-safe g c clean =
+    let look = c.look_up-answer in
+    find_safe g.S.Store c.args.self.now.conn look.new.conn g.met.S.Store.settled c.args.key.now look.result (look.ensures.finds clean) (look.ensures.open clean) clean look.ensures.survives
