@@ -1,5 +1,5 @@
 -- A statement that runs after a look at its text does what it does without the look.
-use Rattle.std.proofs.Common.{◌≡◌, ◌⊎◌, inl, inr, ℕ, ◌≤◌, Bool, true, false, cond, List, [], Option, Some, None, Ok, Err, Result, refl, sym, ap, subst, ◌∙◌, true≢false, arith}
+use Rattle.std.proofs.Common.{◌≡◌, inl, inr, ℕ, ◌≤◌, Bool, true, false, cond, List, [], Option, Some, None, Ok, Err, Result, refl, sym, ap, ◌∙◌, true≢false, arith}
 use Rattle.std.specs.Prelude.{MatchBool}
 use Rattle.sqlite.specs.Order.{Row}
 use Rattle.sqlite.specs.Tree.{Trees}
@@ -12,7 +12,7 @@ use Rattle.sqlite_schema.specs.declared.command.Command.TheVariants.{Select, Beg
 use Rattle.sqlite_schema.specs.declared.command.Returning.{Returning}
 use Rattle.sqlite_resolve.specs.declared.compiled.Compiled.{Compiled}
 use Rattle.sqlite.specs.Effect.{Database}
-use Rattle.sqlite.specs.State.{State, KeepsCounts, Shows, IsUnchanged, IsRolledBack, HasCause, Fails, Writes, Runs, RunsCommand, RunsAlone, shows_rows, IsStatement, IsNotRun, ExecutesIn, Executes, CommitsBy, ShowsRows, Shown, FailsToShow, FailsToQuery, Begins, QueriesRow, CommitsShowing}
+use Rattle.sqlite.specs.State.{State, KeepsCounts, Shows, IsUnchanged, IsRolledBack, HasCause, Fails, Writes, Runs, RunsCommand, shows_rows, IsStatement, IsNotRun, ExecutesIn, Executes, CommitsBy, ShowsRows, Shown, FailsToShow, FailsToQuery, Begins, QueriesRow, CommitsShowing}
 use Rattle.sqlite.proofs.Callers.{unchanged_then}
 
 module _ (old mid new : State) (same : IsUnchanged old mid) (limit : mid.step_limit ≡ old.step_limit) (counts : old.faults ≤ mid.faults) where

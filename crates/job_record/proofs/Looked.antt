@@ -1,11 +1,10 @@
 -- A look at a text that refuses it runs no statement, and one that takes it says that the connection is open.
-use Rattle.std.proofs.Common.{◌≡◌, ◌⊎◌, inl, inr, ℕ, List, Ok, Err, Result, IsTrue, refl, sym, ap, subst, ◌∙◌}
+use Rattle.std.proofs.Common.{◌≡◌, inl, inr, ℕ, List, Err, subst}
 use Rattle.sqlite.specs.Order.{Row}
-use Rattle.sqlite.specs.Tree.{Trees}
 use Rattle.sqlite.specs.declared.error.Error.{Error}
 use Rattle.sqlite.specs.State.{State, HasCleanDisk, IsUnchanged, Survives, IsNotRun, ExecutesIn, Executes, CommitsBy, FailsToQuery, QueriesRow, CommitsShowing}
 use Rattle.sqlite.proofs.StateLemmas.{survives_then}
-use Rattle.job_record.specs.inner.Crash.{IsIdle, RunsOpen, ChangesOpen}
+use Rattle.job_record.specs.inner.Crash.{IsIdle}
 use Rattle.job_record.proofs.Opens.{was_clean}
 use Rattle.job_record.proofs.After.{commits_from, showing_from}
 

@@ -1,5 +1,5 @@
 -- What a crash leaves after a record is opened, or refused.
-use Rattle.std.proofs.Common.{◌≡◌, ◌⊎◌, inl, inr, ℕ, List, [], Option, Some, None, Ok, Err, Result, IsTrue, refl, sym, true≢false}
+use Rattle.std.proofs.Common.{◌≡◌, inl, inr, ℕ, List, [], Option, Some, None, Ok, Err, Result, IsTrue, refl, sym, true≢false}
 use Rattle.sqlite.specs.Store.{Ghosts}
 use Rattle.sqlite.specs.Order.{Row as Columns}
 use Rattle.sqlite.specs.Tree.{Trees}
@@ -12,7 +12,7 @@ use Rattle.job_record.specs.declared.fault.RecordFault.{RecordFault}
 use Rattle.job_record.specs.Statements.{list_text}
 use Rattle.job_record.specs.Log.{outcome}
 use Rattle.job_record.specs.RecordMap.{Lists}
-use Rattle.job_record.specs.Map.{held, IsRecord}
+use Rattle.job_record.specs.Map.{held}
 use Rattle.job_record.specs.Opening.{ReadsRecord, Opens}
 use Rattle.job_record.specs.OpenMap.{OpensAs, RefusesAs, CrashesAs}
 use Rattle.job_record.specs.Crash.{OpensSafely, RefusesSafely}

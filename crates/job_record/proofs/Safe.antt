@@ -1,27 +1,23 @@
 -- What a crash leaves after each command.
-use Rattle.std.proofs.Common.{◌≡◌, ◌⊎◌, inl, inr, ℕ, zero, suc, Bool, true, false, ◌||◌, if◌then◌else◌, cond, List, [], ◌∷◌, Option, Some, None, option_map, Ok, Err, Result, IsTrue, unwrap_or, refl, sym, ap, subst, ◌∙◌}
-use Rattle.std.specs.Prelude.{MatchBool, bytes_eq, IsErr}
+use Rattle.std.proofs.Common.{◌≡◌, ◌⊎◌, inl, inr, ℕ, false, ◌||◌, if◌then◌else◌, cond, List, ◌∷◌, Option, Some, None, option_map, Ok, Result, IsTrue, unwrap_or, refl, sym, ap, subst, ◌∙◌}
+use Rattle.std.specs.Prelude.{bytes_eq}
 use Rattle.std.proofs.lemmas.Bool.{cases_Bool}
 use Rattle.sqlite.specs.Order.{Row as Columns}
 use Rattle.sqlite.specs.Tree.{Trees}
 use Rattle.sqlite.specs.Command.{Command}
-use Rattle.sqlite.specs.declared.error.Error.{Error}
 use Rattle.sqlite.specs.Schema.{Schema}
 use Rattle.sqlite.specs.Effect.{Database, IsDatabase, is_query}
 use Rattle.sqlite.specs.Calls.{IsWrite}
 use Rattle.sqlite.specs.Listing.{understood}
-use Rattle.sqlite.specs.State.{State, HasCleanDisk, IsUnchanged, IsRolledBack, Survives, Writes, RunsCommand, is_pragma, shows_rows, text_of, ExecutesIn, Executes, CommitsBy, CommitsShowing, IsNotRun}
+use Rattle.sqlite.specs.State.{State, HasCleanDisk, Survives, Writes, is_pragma, shows_rows, text_of, ExecutesIn, Executes, CommitsBy}
 use Rattle.sqlite.specs.Clock.{timed}
-use Rattle.sqlite.proofs.Callers.{IsPlain, command_of, runs_as, never_commits}
+use Rattle.sqlite.proofs.Callers.{IsPlain, command_of}
 use Rattle.sqlite.proofs.StateLemmas.{runs_write}
-use Rattle.sqlite.proofs.InsideLemmas.{fails_whole}
-use Rattle.sqlite_rules.specs.Lists.{Has}
 use Rattle.job_record.specs.Tables.{record_schema}
-use Rattle.job_record.specs.Map.{held_in, held, unarchived, IsKeyed, IsRecord, IsSame, Stands}
+use Rattle.job_record.specs.Map.{held_in, held, unarchived, IsKeyed, IsRecord, Stands}
 use Rattle.job_record.specs.Crash.{KeyMap, Change, sets, unarchives, forgets, changed_by, IsLeft, IsSafe}
 use Rattle.job_record.specs.inner.Crash.{RunsOpen, ChangesOpen}
 use Rattle.job_record.proofs.KeyTest.{same_text}
-use Rattle.job_record.proofs.MapSteps.{undone_stands}
 
 -- while the connection is open, a crash leaves the last commit
 abbrev pub Settles : State → Type 0

@@ -1,5 +1,5 @@
 -- Each command keeps the record safe from a crash.
-use Rattle.std.proofs.Common.{◌≡◌, ◌⊎◌, inl, inr, ℕ, zero, suc, pos, min, ◌-◌, ◌^◌, if◌then◌else◌, false, List, [], ◌∷◌, Option, Some, None, option_map, Ok, Err, Result, IsTrue, refl, sym, ap, subst, ◌∙◌}
+use Rattle.std.proofs.Common.{◌≡◌, inl, inr, ℕ, zero, suc, pos, min, ◌-◌, ◌^◌, if◌then◌else◌, false, List, [], ◌∷◌, Option, Some, None, option_map, Ok, Err, Result, IsTrue, refl, sym, ap, subst, ◌∙◌}
 use Rattle.sqlite.specs.Store.{Ghosts}
 use Rattle.sqlite.specs.Order.{Row as Columns}
 use Rattle.sqlite.specs.Tree.{Trees}
@@ -15,9 +15,9 @@ use Rattle.job_record.specs.declared.fault.RecordFault.TheVariants.{NotARecord, 
 use Rattle.job_record.specs.Tables.{record_schema}
 use Rattle.job_record.specs.Statements.{find_text, list_text, put_text, drop_archive_text, forget_text, key_params, put_params}
 use Rattle.job_record.specs.Texts.{texts_of}
-use Rattle.job_record.specs.RecordMap.{Finds, Puts, Changes, Lists, changed}
+use Rattle.job_record.specs.RecordMap.{Finds, Puts, Lists, changed}
 use Rattle.job_record.specs.Map.{held_in, held, unarchived, IsRecord, IsSame, Stands, FindsIn, ListsIn}
-use Rattle.job_record.specs.Crash.{KeyMap, Change, sets, unarchives, forgets, changed_by, IsLeft, IsSafe, AnswersSafely, ChangesSafely, ReadsSafely}
+use Rattle.job_record.specs.Crash.{KeyMap, Change, sets, unarchives, forgets, changed_by, IsLeft, IsSafe, ChangesSafely, ReadsSafely}
 use Rattle.job_record.specs.inner.Crash.{RunsOpen, ChangesOpen}
 use Rattle.job_record.proofs.Compiled.{put_command, put_is, put_plain, drop_is, drop_plain, forget_is, forget_plain}
 use Rattle.job_record.proofs.OneKey.{Forgot, Dropped, drops, forgets as forgets_row}
