@@ -55,7 +55,8 @@ fn host_of(alloc: Global, row: &Row) -> Result<Scripted, RowFault>
     Ok(Scripted::new(alloc, script_of(alloc, row)?, least_started))
 }
 
-fn accepted(alloc: Global, row: &Row) -> Result<Accepted, RowFault> {
+/// The row's process, where it is accepted.
+pub fn accepted(alloc: Global, row: &Row) -> Result<Accepted, RowFault> {
     let process = process_of(alloc, row)?;
     done(accept(alloc, process))
 }
@@ -68,7 +69,7 @@ fn process_of(alloc: Global, row: &Row) -> Result<Process, RowFault> {
 }
 
 /// The inputs of a row, in a file of the folder `/d`.
-fn inputs_of(alloc: Global, row: &Row) -> Result<Keyed<Value>, RowFault> {
+pub fn inputs_of(alloc: Global, row: &Row) -> Result<Keyed<Value>, RowFault> {
     let base = done(Url::parse(alloc, "file:///d/inputs.json"))?;
     let value = done(from_json(alloc, row.json("inputs")?))?;
     let located = resolve(alloc, value, &base);
@@ -95,7 +96,7 @@ fn natural_or(row: &Row, name: &str, absent: u64) -> Result<u64, RowFault> {
 }
 
 /// What the row's run may use: its `slots` and `retries`, which are 1 and 0 where it has none.
-fn options_of(alloc: Global, row: &Row) -> Result<Options, RowFault>
+pub fn options_of(alloc: Global, row: &Row) -> Result<Options, RowFault>
     ensures { IfOk result IsWithinLimits }
 {
     let slots = natural_or(row, "slots", 1)?;
