@@ -22,13 +22,26 @@ pub(crate) fn shown(rt: &HostRuntime, row: &Row) -> Result<String, RowFault> {
         return told(rt, row, path, &[]);
     }
     let bytes = made(alloc, row)?;
-    if fs::write(rt, FILE, bytes.as_slice()).is_err() {
+    if fs::write(rt, FILE, bytes.as_slice()).is_err() || !is_ready(rt, row) {
         return Err(RowFault::BadArgument);
     }
     let text = told(rt, row, FILE, bytes.as_slice());
     let _removed = fs::remove_file(rt, FILE);
     let _removed = fs::remove_file(rt, LOG);
     text
+}
+
+// Whether nobody may write the row's file any more, where the row has `read_only`.
+fn is_ready(rt: &HostRuntime, row: &Row) -> bool {
+    if row.find("read_only").is_none() {
+        return true;
+    }
+    let Ok(metadata) = fs::metadata(rt, FILE) else {
+        return false;
+    };
+    let mut permissions = metadata.permissions();
+    permissions.set_readonly(true);
+    fs::set_permissions(rt, FILE, permissions).is_ok()
 }
 
 // The bytes of the row's file.
