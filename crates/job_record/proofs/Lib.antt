@@ -2,6 +2,7 @@ mod After
 mod Compiled
 mod Edits
 mod Files
+mod FoundAgain
 mod KeyOrder
 mod KeyTest
 mod KeyedRows

@@ -3,7 +3,7 @@ use Rattle.std.specs.Prelude.{◌≡◌, ◌⊎◌, ℕ, if◌then◌else◌, Li
 use Rattle.sqlite.specs.Order.{Row as Columns}
 use Rattle.sqlite.specs.Tree.{Trees}
 use Rattle.sqlite.specs.Effect.{IsDatabase}
-use Rattle.sqlite.specs.State.{State}
+use Rattle.sqlite.specs.State.{State, Opens}
 use Rattle.sqlite_rules.specs.Lists.{Has}
 use Rattle.job_record.specs.declared.fault.RecordFault.{RecordFault}
 use Rattle.job_record.specs.declared.fault.RecordFault.TheVariants.{Store}
@@ -63,3 +63,7 @@ pub record OpensSafely (old new : State) : Type 0 where
 pub record RefusesSafely (old new : State) : Type 0 where
   pub blank : IsBlank old → IsTrue old.is_open → (trees : Trees) → new.may_leave trees → (trees ≡ old.committed.trees) ⊎ AreEmptyRecord trees
   pub taken : IsRecord old → IsTrue old.is_open → IsSafe new (held old) []
+
+-- a connection that is opened over the trees that a record left shows that record
+abbrev pub FindsAgain : State → Type 0
+FindsAgain s = (map : KeyMap) → Opens s → IsDatabase s.now → IsLeft s.now.trees map → IsRecord s × ((key : List ℕ) → held s key ≡ map key)

@@ -4,12 +4,13 @@
 //! `JobRecord` is a finite map from key to row. `find` looks a key up, `put` sets the whole row of a key,
 //! `drop_archive` says that its archive is gone, `forget` takes the row out, and `list` gives all rows by key.
 //! Each command is one SQL statement (`specs/Statements.antt`), and its contract is that statement's meaning with the
-//! command's arguments. A refused command changes nothing. A crash leaves what a crash could leave before the
-//! command, or what the command commits. The record keeps a log: each command adds one entry.
+//! command's arguments. A refused command changes nothing, and one that was answered done outlives a crash
+//! (`specs/Crash.antt`). The record keeps a log: each command adds one entry.
 #![tactic(auto)]
 
 mod commands;
 mod fault;
+mod laws;
 mod log;
 mod making;
 mod record;
@@ -18,6 +19,7 @@ mod tables;
 mod texts;
 
 pub use fault::RecordFault;
+pub use laws::see_record;
 pub use log::{Command, Entry};
 pub use record::JobRecord;
 pub use row::{Found, Row};

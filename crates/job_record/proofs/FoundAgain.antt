@@ -1,0 +1,19 @@
+-- What a record left is that record again, where it is opened.
+use Rattle.std.proofs.Common.{◌≡◌, sym}
+use Rattle.sqlite.specs.State.{State}
+use Rattle.sqlite_catalog.proofs.ReadLemmas.{lists_once}
+use Rattle.job_record.specs.Tables.{record_schema}
+use Rattle.job_record.specs.Crash.{FindsAgain}
+
+pub found_again : (s : State) → FindsAgain s
+found_again s map opens sound left =
+    let same : s.now.schema ≡ record_schema = lists_once _ s.now.schema record_schema sound.lists left.sound.lists in (
+      record {
+        schema = same;
+        sound = sound;
+        keyed = left.keyed;
+        settled = sym opens.clean;
+        autocommit = opens.autocommit;
+      },
+      left.holds,
+    )
