@@ -1,8 +1,7 @@
 -- What an answer of each kind tells of the phase, and of the course.
 use Rattle.std.specs.Prelude.{◌<◌, Contains, vec_capacity, vec_len}
-use Rattle.std.proofs.Common.{◌≡◌, ℕ, List, [], length, refl, subst}
-use Rattle.cwl_value.specs.declared.place.Segment.{Segment}
-use Rattle.proc_host.specs.Answers.{is_measured, is_staged, is_started, has_ended, is_listed, is_read, is_delivered, has_failed}
+use Rattle.std.proofs.Common.{◌≡◌, ℕ, List, length, refl, subst}
+use Rattle.proc_host.specs.Answers.{is_measured, is_started, has_ended, is_listed, is_read}
 use Rattle.proc_host.specs.declared.call.HostAnswer.{HostAnswer}
 use Rattle.proc_host.specs.declared.call.HostRequest.{HostRequest}
 use Rattle.proc_host.specs.declared.child.ChildEnd.{ChildEnd}
@@ -18,7 +17,7 @@ use Rattle.run_core.specs.declared.state.JobPhase.{JobPhase}
 use Rattle.run_core.specs.declared.state.Phase.{Phase}
 use Rattle.run_core.specs.inner.Follows.{AsksOf, CanStage, IsReady, IsReadyFor}
 use Rattle.run_core.specs.inner.Parts.{job_in}
-use Rattle.run_core.specs.inner.Standing.{HasRoom, TakesOne}
+use Rattle.run_core.specs.inner.Standing.{HasRoom}
 
 -- the job of the phase was staged
 pub record AtWork (course : Course) (phase : Phase) : Type 0 where

@@ -1,10 +1,8 @@
 -- What is turned to, by cases.
-use Rattle.std.specs.Prelude.{◌<◌, IsSome, is_some, option_map, slice_get, unwrap_or}
-use Rattle.std.proofs.Common.{◌≡◌, ◌∙◌, ℕ, Bool, true, false, List, [], ◌∷◌, ◌++◌, Option, Some, None, refl, ap}
+use Rattle.std.specs.Prelude.{IsSome, is_some, option_map, slice_get, unwrap_or}
+use Rattle.std.proofs.Common.{◌≡◌, ℕ, Bool, true, false, List, [], Option, Some, None, refl, ap}
 use Rattle.job_graph.specs.Jobs.{Job}
-use Rattle.job_graph.specs.Words.{Fields, JobPlace}
-use Rattle.run_rules.specs.declared.outcome.Report.{Report}
-use Rattle.run_rules.specs.declared.outcome.RunFault.{RunFault}
+use Rattle.job_graph.specs.Words.{Fields}
 use Rattle.run_core.specs.declared.state.Course.{Course}
 use Rattle.run_core.specs.declared.state.Given.{Given}
 use Rattle.run_core.specs.declared.state.JobNext.{JobNext}

@@ -1,6 +1,6 @@
 -- Room for what comes next.
-use Rattle.std.specs.Prelude.{◌<◌, ◌≤◌, vec_capacity, vec_len}
-use Rattle.std.proofs.Common.{◌≡◌, ◌∙◌, ◌⊎◌, inl, inr, ◌+◌, ℕ, List, [], ◌∷◌, Result, length, refl, sym, subst, arith}
+use Rattle.std.specs.Prelude.{◌≤◌}
+use Rattle.std.proofs.Common.{◌≡◌, ◌⊎◌, inl, inr, ◌+◌, ℕ, List, [], ◌∷◌, Result, length, refl, sym, subst, arith}
 use Rattle.run_rules.specs.declared.outcome.Report.{Report}
 use Rattle.run_rules.specs.declared.outcome.RunFault.{RunFault}
 use Rattle.run_core.specs.declared.state.Course.{Course}

@@ -1,14 +1,12 @@
 -- What stays of a course, and what a step then may rest on.
-use Rattle.std.specs.Prelude.{◌<◌, ◌≤◌, ◌^◌, Contains, slice_get}
-use Rattle.std.proofs.Common.{◌≡◌, ◌∙◌, ◌+◌, ℕ, List, length, Some, sym, ap, subst, arith}
+use Rattle.std.specs.Prelude.{Contains}
+use Rattle.std.proofs.Common.{◌≡◌, ℕ, List, ap}
 use Rattle.std.proofs.lemmas.Option.{get_or_from_slice_get, slice_get_within}
 use Rattle.job_graph.specs.Jobs.{Walker}
-use Rattle.job_graph.specs.declared.made.Resolved.{Resolved as KeptResolved}
 use Rattle.job_graph.specs.Unfold.{Resolved}
 use Rattle.run_core.specs.declared.state.Course.{Course}
 use Rattle.run_core.specs.declared.state.Flight.{Flight}
-use Rattle.run_core.specs.declared.state.JobState.{JobState}
-use Rattle.run_core.specs.inner.Course.{Past, TakesOut, past_of}
+use Rattle.run_core.specs.inner.Course.{Past, TakesOut}
 use Rattle.run_core.specs.inner.Knows.{IsUnfolded, fails, knows}
 
 -- the same jobs were staged, in as many folders, and the same children are in flight

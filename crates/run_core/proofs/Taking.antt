@@ -1,7 +1,7 @@
 -- What an event makes of the past, field by field.
-use Rattle.std.specs.Prelude.{◌<◌, ◌≤◌, is_some, slice_get}
+use Rattle.std.specs.Prelude.{◌<◌, is_some, slice_get}
 use Rattle.std.specs.List.{remove}
-use Rattle.std.proofs.Common.{◌≡◌, ◌∙◌, ◌+◌, ℕ, Bool, true, false, not, List, [], ◌∷◌, ◌++◌, length, get_or, Some, refl, sym, ap, subst}
+use Rattle.std.proofs.Common.{◌≡◌, ◌∙◌, ◌+◌, ℕ, Bool, true, false, not, List, length, get_or, Some, refl, sym, ap, subst}
 use Rattle.std.proofs.Math.ListN.{set}
 use Rattle.std.proofs.lemmas.Option.{same_Some, slice_get-get_or, slice_get_read}
 use Rattle.job_graph.specs.Jobs.{Job}

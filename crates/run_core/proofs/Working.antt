@@ -4,7 +4,6 @@ use Rattle.std.proofs.lemmas.List.{reverse-append}
 use Rattle.collected_outputs.specs.Collected.{IsCollected}
 use Rattle.collected_outputs.specs.HeadsWanted.{limit_of}
 use Rattle.collected_outputs.specs.Outputs.{Left}
-use Rattle.command_line.specs.declared.launch.Launch.{Launch}
 use Rattle.input_files.specs.Contents.{with_contents}
 use Rattle.input_files.specs.declared.contents.TheConstants.{MOST_CONTENTS}
 use Rattle.input_files.specs.declared.fault.ContentsFault.{ContentsFault}

@@ -11,6 +11,7 @@ pub mod GivenUp
 pub mod Leaving
 pub mod Looked
 pub mod Lost
+pub mod Modes
 pub mod Ready
 pub mod Stepped
 pub mod Taken

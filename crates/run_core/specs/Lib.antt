@@ -1,3 +1,4 @@
 pub mod Limits
 pub mod Core
+pub mod Machine
 pub mod inner

@@ -3,6 +3,7 @@ pub mod Attempts
 pub mod Course
 pub mod Due
 pub mod Follows
+pub mod Inside
 pub mod Keeps
 pub mod Knows
 pub mod Measured

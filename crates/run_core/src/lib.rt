@@ -3,9 +3,8 @@
 //! `RunCore` asks one request at a time and takes one answer; it touches nothing itself. For every sequence of answers
 //! what it asked and was told is a run, and it ends as that run does.
 //!
-//! `specs/inner` says what the machine keeps of the run so far. Of what a caller sees only `Stands` rests on it, the
-//! invariant that each call keeps (`specs/Core.antt`). A caller hands it on unopened, and what follows from it the
-//! other clauses say, so a reader may skip both.
+//! Callers see a machine as a `Machine` (`specs/Machine.antt`), and `specs/Core.antt` says what each call does. `specs/inner`
+//! says what the machine keeps of the run so far: an invariant of every machine, which no public clause cites.
 #![tactic(auto)]
 
 mod anyway;

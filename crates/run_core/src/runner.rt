@@ -7,12 +7,13 @@ ghost use Rattle.run_rules.specs.Blame.{BlamesRightly};
 ghost use Rattle.run_rules.specs.Reports.{entries_of, Concludes};
 ghost use Rattle.job_graph.specs.Words.{JobPlace};
 ghost use Rattle.run_core.specs.declared.state.Phase.{Phase};
-ghost use Rattle.run_core.specs.Core.{setting_of, transcript, asked, flying, IsLost, IsEnded, Stands, MayAsk, Begins, Took, GaveUp};
+ghost use Rattle.run_core.specs.Core.{IsLost, MayAsk, Begins, Took, GaveUp};
 ghost use Rattle.run_core.specs.Limits.{IsWithinLimits};
 ghost use Rattle.run_core.specs.inner.Course.{past_of};
 ghost use Rattle.run_core.specs.inner.Follows.{AsksIn, HasPairs, IsReadyFor, MakesRoom, Moves, told_of};
 ghost use Rattle.run_core.specs.inner.Measures.{Begins as BeginsAt};
 ghost use Rattle.run_core.specs.inner.Standing.{HasRoom};
+ghost use Rattle.run_core.specs.inner.Turn.{IsEnded};
 ghost use Rattle.workflow_check.specs.Checked.{fault_in};
 
 use crate::anyway::can_go_on;
@@ -29,6 +30,7 @@ use job_graph::see_ids;
 use plain_data::Keyed;
 use run_rules::an_honest_run_is_reported_rightly;
 use std::alloc::{AllocError, Global};
+use std::marker::Model;
 use std::mem;
 
 /// A run of a process as a machine: it asks one request, is told one answer, and so on until it asks nothing more.
@@ -41,6 +43,23 @@ pub struct RunCore<'a> {
     pairs: Vec<Pair>,
     course: Course<'a>,
     turn: Turn,
+}
+
+impl<'a> Model for RunCore<'a> {
+    ghost use Rattle.run_core.specs.Machine.{Machine};
+    ghost use Rattle.cwl_value.specs.contracts.value.Value as value;
+    ghost use Rattle.document_links.specs.contracts.process.Process as process;
+    ghost use Rattle.std.specs.Coded.{codes};
+
+    ghost Value = { Machine };
+
+    ghost coded = { Prim.hlevel (codes, process.the_row.coded, value.the_row.coded) };
+
+    ghost use Rattle.run_core.specs.inner.Inside.{seen, Stands};
+
+    ghost view = { seen };
+
+    ghost invariant = { Stands };
 }
 
 impl<'a> RunCore<'a> {
@@ -57,46 +76,37 @@ impl<'a> RunCore<'a> {
         ensures err { IfErr result (λ fault. fault ≡ RunFault.OutOfMemory) }
     {
         see_ids(process);
-        let mut core = RunCore {
-            alloc,
-            given: Given {
-                process,
-                inputs,
-                options,
-            },
-            pairs: Vec::new(alloc),
-            course: at_first(alloc),
-            turn: ended(Err(RunFault::OutOfMemory)),
+        let given = Given {
+            process,
+            inputs,
+            options,
         };
-        let machine = &mut core;
-        match start(
-            alloc,
-            &machine.given,
-            &mut machine.pairs,
-            &mut machine.course,
-            &mut machine.turn,
-        ) {
-            Ok(()) => Ok(core),
-            Err(AllocError) => {
-                mem::drop(core);
-                Err(RunFault::OutOfMemory)
-            }
+        let mut pairs = Vec::new(alloc);
+        let mut course = at_first(alloc);
+        match start(alloc, &given, &mut pairs, &mut course) {
+            Ok(turn) => Ok(RunCore {
+                alloc,
+                given,
+                pairs,
+                course,
+                turn,
+            }),
+            Err(AllocError) => Err(RunFault::OutOfMemory),
         }
     }
 
     /// What it asks now, which may be asked after the run so far; `Finished` where it has ended.
     pub fn next(&self) -> &Request
-        requires { Stands self.now }
-        ensures asked { result.now ≡ asked self.now }
-        ensures flying { (place : JobPlace) → asked self.now ≡ Request.Host place HostRequest.Collect → flying self.now ≢ [] }
-        ensures allowed { asked self.now ≢ Request.Finished → MayAsk self.now }
+        ensures asked { result.now ≡ self.now.asks }
+        ensures flying { (place : JobPlace) → self.now.asks ≡ Request.Host place HostRequest.Collect → self.now.flying ≢ [] }
+        ensures allowed { self.now.asks ≢ Request.Finished → MayAsk self.now }
     {
         &self.turn.asks
     }
 
     /// The tickets of the children in flight, while it asks something.
     pub fn in_flight(&self) -> &[u64]
-        ensures { result.now ≡ flying self.now }
+        ensures { result.now ≡ self.now.flying }
     {
         self.course.tickets.as_slice()
     }
@@ -104,8 +114,7 @@ impl<'a> RunCore<'a> {
     /// Takes the answer to what it asks. Where memory runs out for what comes next, the pair is kept, the children in
     /// flight are waited for, and nothing else is asked; once none is in flight it answers so, and `finish` says so too.
     pub fn take(&mut self, answer: Answer) -> Result<(), RunFault>
-        requires stands { Stands self.old }
-        requires answers { MayAnswer (flying self.old) (asked self.old) answer }
+        requires { MayAnswer self.old.flying self.old.asks answer }
         ensures { Took self.old answer result self.new }
     {
         can_go_on(&self.course, job_in(&self.turn.phase));
@@ -130,8 +139,7 @@ impl<'a> RunCore<'a> {
     /// for, and nothing else is asked. It answers out of memory where none is in flight, or where their ends alone were
     /// waited for already.
     pub fn give_up(&mut self) -> Result<(), RunFault>
-        requires stands { Stands self.old }
-        requires asks { asked self.old ≢ Request.Finished }
+        requires { self.old.asks ≢ Request.Finished }
         ensures { GaveUp self.old result self.new }
     {
         let next = given_up(self.alloc, &self.course, &self.turn.phase);
@@ -141,37 +149,33 @@ impl<'a> RunCore<'a> {
 
     /// What came of the run, where it has ended.
     pub fn finish(self) -> Result<Report, RunFault>
-        requires stands { Stands self }
-        requires finished { asked self ≡ Request.Finished }
-        ensures concluded { Concludes (setting_of self.entry) (transcript self.entry) result }
-        ensures faults { IfErr result (BlamesRightly (entries_of (transcript self.entry))) }
+        requires { self.asks ≡ Request.Finished }
+        ensures concluded { Concludes self.entry.setting self.entry.transcript result }
+        ensures faults { IfErr result (BlamesRightly (entries_of self.entry.transcript)) }
         ensures lost { (result ≡ Err RunFault.OutOfMemory) ↔ IsLost self.entry }
     {
         an_honest_run_is_reported_rightly();
-        let mut core = self;
-        let phase = mem::replace(&mut core.turn.phase, Phase::Collecting);
-        mem::drop(core);
-        outcome_of(phase)
+        let turn = self.turn;
+        outcome_of(turn.phase)
     }
 }
 
-/// Comes to the first state, with room for one pair and one more.
+/// The first turn, with room for one pair and one more.
 fn start<'a>(
     alloc: Global,
     given: &Given<'a>,
     pairs: &mut Vec<Pair>,
     course: &mut Course<'a>,
-    turn: &mut Turn,
-) -> Result<(), AllocError>
+) -> Result<Turn, AllocError>
     requires { course.old.folders ≡ 0 }
     ensures items { pairs.new.items ≡ pairs.old.items }
     ensures room { OnOk result (vec_len pairs.new + 2 ≤ vec_capacity pairs.new) }
-    ensures begins { OnOk result (BeginsAt given.now course.old turn.new course.new) }
-    ensures one_more { OnOk result (HasRoom course.new turn.new.phase) }
+    ensures begins { IfOk result (λ turn. BeginsAt given.now course.old turn course.new) }
+    ensures one_more { IfOk result (λ turn. HasRoom course.new turn.phase) }
 {
-    let first = begun(alloc, given, course)?;
-    mem::drop(mem::replace(turn, first));
-    reserve(pairs, course)
+    let turn = begun(alloc, given, course)?;
+    reserve(pairs, course)?;
+    Ok(turn)
 }
 
 /// Moves to the state that follows from the answer, and gives back what was asked.

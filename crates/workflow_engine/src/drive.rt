@@ -1,6 +1,5 @@
 //! A whole run on a host.
 ghost use Rattle.std.specs.Prelude.{◌≡◌, ◌++◌, [], None, IfErr};
-ghost use Rattle.run_core.specs.Core.{setting_of, transcript, asked, flying, Stands};
 ghost use Rattle.run_core.specs.Limits.{IsWithinLimits};
 ghost use Rattle.run_rules.specs.Reports.{entries_of};
 ghost use Rattle.workflow_check.specs.Checked.{fault_in};
@@ -48,14 +47,12 @@ pub fn run<H: Host>(
 /// Asks the host what the machine asks, until it asks nothing more. Where the host runs out of memory, the machine is told
 /// so, and asks for the ends of the children in flight alone.
 fn drive<H: Host>(host: &mut H, core: &mut RunCore<'_>, held: &mut Vec<Ticket>)
-    requires stands { Stands core.old }
-    requires first { transcript core.old ≡ [] }
-    requires flying { flying core.old ≡ H.running host.old }
+    requires first { core.old.transcript ≡ [] }
+    requires flying { core.old.flying ≡ H.running host.old }
     requires covered { Covers held.old.items (H.running host.old) }
-    ensures stands { Stands core.new }
-    ensures setting { setting_of core.new ≡ setting_of core.old }
-    ensures logged { H.log host.new ≡ H.log host.old ++ entries_of (transcript core.new) }
-    ensures finished { asked core.new ≡ Request.Finished }
+    ensures setting { core.new.setting ≡ core.old.setting }
+    ensures logged { H.log host.new ≡ H.log host.old ++ entries_of core.new.transcript }
+    ensures finished { core.new.asks ≡ Request.Finished }
     ensures covered { Covers held.new.items (H.running host.new) }
 {
     while let Request::Host(_, request) = core.next() {

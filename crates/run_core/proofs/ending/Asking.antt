@@ -5,9 +5,10 @@ use Rattle.proc_host.specs.declared.call.HostRequest.{HostRequest}
 use Rattle.job_graph.specs.Words.{JobPlace}
 use Rattle.run_rules.specs.declared.request.Request.{Request}
 use Rattle.run_rules.specs.Scene.{scene_of}
-use Rattle.run_core.specs.declared.runner.RunCore.{RunCore}
+use Rattle.run_core.specs.declared.runner.RunCore.TheInside.{Inside}
 use Rattle.run_core.specs.declared.state.Turn.{Turn}
-use Rattle.run_core.specs.Core.{Goes, MayAsk, Stands, allowed, drains, off_run, on_run, setting_of}
+use Rattle.run_core.specs.Core.{MayAsk, allowed, drains}
+use Rattle.run_core.specs.inner.Inside.{Goes, Stands, off_run, on_run, seen, setting_in}
 use Rattle.run_core.specs.inner.Course.{Past, past_of}
 use Rattle.run_core.specs.inner.Standing.{IsLostAt, draining, lost}
 use Rattle.run_core.proofs.going.Asked.{collects_some}
@@ -23,21 +24,27 @@ lost_collects : (past : Past) {turn : Turn} → IsLostAt past turn → turn.asks
 lost_collects past (draining some) asks = refl
 lost_collects past lost asks = absurd (asks refl)
 
+lost_some : (past : Past) {turn : Turn} → IsLostAt past turn → turn.asks ≢ Request.Finished → past.tickets ≢ []
+lost_some past (draining some) asks = some
+lost_some past lost asks = absurd (asks refl)
+
 -- Wherever the machine is
 
-module _ (core : RunCore) where
+module _ (core : Inside) where
   waits_so : Goes core → (place : JobPlace) → core.turn.asks ≡ Request.Host place HostRequest.Collect → core.course.tickets.items ≢ []
-  waits_so (on_run runs) place asks = collects_some (scene_of (setting_of core)) core.pairs.items core.course core.turn place runs asks
+  waits_so (on_run runs) place asks = collects_some (scene_of (setting_in core.given)) core.pairs.items core.course core.turn place runs asks
   waits_so (off_run out) place asks = lost_waits (past_of core.course) place out.at asks
 
   pub waits_for_one : Stands core → (place : JobPlace) → core.turn.asks ≡ Request.Host place HostRequest.Collect → core.course.tickets.items ≢ []
   waits_for_one stands = waits_so stands.going
 
-  may_ask_so : Stands core → Goes core → core.turn.asks ≢ Request.Finished → MayAsk core
+  may_ask_so : Stands core → Goes core → core.turn.asks ≢ Request.Finished → MayAsk (seen core)
   may_ask_so stands (on_run runs) asks =
       allowed runs.happened runs.marks runs.goes
       (allows core.given (laws_of core.given stands.accepted stands.ids) stands.limits.least_slots core.pairs.items core.course core.turn runs asks)
-  may_ask_so stands (off_run out) asks = drains out (lost_collects (past_of core.course) out.at asks)
+  may_ask_so stands (off_run out) asks =
+      drains out.front out.tail out.happened out.marks out.goes out.collects out.pairs (lost_some (past_of core.course) out.at asks)
+      (lost_collects (past_of core.course) out.at asks)
 
-  pub may_ask : Stands core → core.turn.asks ≢ Request.Finished → MayAsk core
+  pub may_ask : Stands core → core.turn.asks ≢ Request.Finished → MayAsk (seen core)
   may_ask stands = may_ask_so stands stands.going

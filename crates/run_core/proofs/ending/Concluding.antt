@@ -1,5 +1,5 @@
 -- What is reported of the machine's run where it has ended.
-use Rattle.std.proofs.Common.{◌≡◌, true, List, [], ◌∷◌, Result, Err, sym, subst, append-nil}
+use Rattle.std.proofs.Common.{◌≡◌, true, List, [], Result, Err, sym, subst, append-nil}
 use Rattle.plan_checker.specs.declared.plan.Mark.{Mark}
 use Rattle.job_graph.specs.Apart.{ids_differ}
 use Rattle.job_graph.specs.Eval.{World}
@@ -12,27 +12,24 @@ use Rattle.run_rules.specs.End.{End}
 use Rattle.run_rules.specs.EndsSo.{EndsSo}
 use Rattle.run_rules.specs.Events.{Progress, measures}
 use Rattle.run_rules.specs.Honest.{IsHonest}
-use Rattle.run_rules.specs.Reports.{AreWaits, Concludes, IsRight, report_of, whole}
+use Rattle.run_rules.specs.Reports.{Concludes, IsRight, report_of, whole}
 use Rattle.run_rules.specs.Reports as reports
 use Rattle.run_rules.specs.Run.{IsRun}
 use Rattle.run_rules.specs.Scene.{Scene, scene_of}
-use Rattle.run_core.specs.declared.runner.RunCore.{RunCore}
+use Rattle.run_core.specs.declared.runner.RunCore.TheInside.{Inside}
 use Rattle.run_core.specs.declared.state.Course.{Course}
 use Rattle.run_core.specs.declared.state.Phase.{Phase}
 use Rattle.run_core.specs.declared.state.Turn.{Turn}
-use Rattle.run_core.specs.Core.{Goes, IsEnded, Stands, off_run, on_run, setting_of}
+use Rattle.run_core.specs.inner.Inside.{Goes, Stands, off_run, on_run, setting_in}
 use Rattle.run_core.specs.inner.Course.{Past, past_of}
-use Rattle.run_core.specs.inner.Standing.{AreCollects, IsAt, IsLostAt, Runs, collecting, delivering, draining, ended, lost, measuring, staging, working}
+use Rattle.run_core.specs.inner.Turn.{IsEnded}
+use Rattle.run_core.specs.inner.Standing.{IsAt, IsLostAt, Runs, collecting, delivering, draining, ended, lost, measuring, staging, working}
 
 -- the law that what is reported of a run is right in each world where it is honest
 abbrev pub ReportsRightly : Type 0
 ReportsRightly =
     (setting : Setting) (t : List Pair) (end : End) (run : IsRun setting t end) (world : World) → ids_differ setting.process ≡ true →
     IsHonest setting world run.happened.events → IsRight setting (measures run.happened.events) world (report_of end)
-
-are_waits : (tail : List Pair) → AreCollects tail → AreWaits tail
-are_waits [] collects = tt
-are_waits (pair ∷ tail) collects = (collects.0, are_waits tail collects.1)
 
 -- On the run
 
@@ -79,24 +76,24 @@ lost_asks_no_more past lost asks = tt
 
 -- Wherever the machine is
 
-module _ (core : RunCore) where
-  lost_so : Goes core → Concludes (setting_of core) core.pairs.items (Err RunFault.OutOfMemory)
+module _ (core : Inside) where
+  lost_so : Goes core → Concludes (setting_in core.given) core.pairs.items (Err RunFault.OutOfMemory)
   lost_so (on_run runs) = reports.lost core.pairs.items [] runs.happened runs.marks runs.goes tt (sym (append-nil core.pairs.items))
-  lost_so (off_run out) = reports.lost out.front out.tail out.happened out.marks out.goes (are_waits out.tail out.collects) out.pairs
+  lost_so (off_run out) = reports.lost out.front out.tail out.happened out.marks out.goes out.collects out.pairs
 
   concludes_so : (law : ReportsRightly) (result : Result Report RunFault) → ids_differ core.given.process.now ≡ true → Goes core → core.turn.phase ≡ Phase.Ended result →
-      Concludes (setting_of core) core.pairs.items result
-  concludes_so law result ids (on_run runs) phase = whole_run law (setting_of core) core.pairs.items core.course core.turn result ids runs phase
+      Concludes (setting_in core.given) core.pairs.items result
+  concludes_so law result ids (on_run runs) phase = whole_run law (setting_in core.given) core.pairs.items core.course core.turn result ids runs phase
   concludes_so law result ids (off_run out) phase =
-      lost_at (setting_of core) core.pairs.items (past_of core.course) result out.at phase (lost_so (off_run out))
+      lost_at (setting_in core.given) core.pairs.items (past_of core.course) result out.at phase (lost_so (off_run out))
 
   -- where it has ended
   pub concludes : (law : ReportsRightly) (result : Result Report RunFault) → Stands core → core.turn.phase ≡ Phase.Ended result →
-      Concludes (setting_of core) core.pairs.items result
+      Concludes (setting_in core.given) core.pairs.items result
   concludes law result stands = concludes_so law result stands.ids stands.going
 
   ended_so : Goes core → core.turn.asks ≡ Request.Finished → IsEnded core.turn.phase
-  ended_so (on_run runs) asks = asks_no_more (scene_of (setting_of core)) runs.happened runs.marks core.course runs.at asks
+  ended_so (on_run runs) asks = asks_no_more (scene_of (setting_in core.given)) runs.happened runs.marks core.course runs.at asks
   ended_so (off_run out) asks = lost_asks_no_more (past_of core.course) out.at asks
 
   pub has_ended : Stands core → core.turn.asks ≡ Request.Finished → IsEnded core.turn.phase

@@ -14,7 +14,7 @@ use Rattle.run_rules.specs.declared.request.Request.{Request}
 use Rattle.run_rules.specs.Allowed.{Allowed}
 use Rattle.run_rules.specs.Answers.{MayAnswer}
 use Rattle.run_rules.specs.Scene.{Scene, scene_of}
-use Rattle.run_core.specs.Core.{setting_in}
+use Rattle.run_core.specs.inner.Inside.{setting_in}
 use Rattle.run_core.specs.declared.state.Course.{Course}
 use Rattle.run_core.specs.declared.state.Given.{Given}
 use Rattle.run_core.specs.declared.state.Turn.{Turn}

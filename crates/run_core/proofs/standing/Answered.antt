@@ -1,6 +1,6 @@
 -- What each answer leaves.
-use Rattle.std.specs.Prelude.{Contains, IsSome}
-use Rattle.std.proofs.Common.{◌≡◌, ◌∙◌, ℕ, ◌<◌, ◌≤◌, List, [], ◌∷◌, ◌++◌, length, Option, Some, None, Result, Ok, Err, refl, sym, ap, subst, arith}
+use Rattle.std.specs.Prelude.{Contains}
+use Rattle.std.proofs.Common.{◌≡◌, ◌∙◌, List, [], Option, None, Result, Err, refl, sym, ap, subst, arith}
 use Rattle.proc_host.specs.Answers.{fault_of, is_measured, is_staged, is_started, has_ended, is_listed, is_read, is_delivered, has_failed}
 use Rattle.proc_host.specs.declared.call.Entry.{Entry}
 use Rattle.proc_host.specs.declared.call.HostAnswer.{HostAnswer}
@@ -15,7 +15,6 @@ use Rattle.run_rules.specs.declared.outcome.Report.{Report}
 use Rattle.run_rules.specs.declared.outcome.RunFault.{RunFault}
 use Rattle.run_rules.specs.declared.request.Answer.{Answer}
 use Rattle.run_rules.specs.declared.request.Request.{Request}
-use Rattle.run_rules.specs.declared.setting.Options.{Options}
 use Rattle.job_graph.specs.Words.{JobPlace}
 use Rattle.run_core.specs.declared.state.Course.{Course}
 use Rattle.run_core.specs.declared.state.Flight.{Flight}
@@ -25,13 +24,13 @@ use Rattle.run_core.specs.declared.state.Measuring.{Measuring}
 use Rattle.run_core.specs.declared.state.Phase.{Phase}
 use Rattle.run_core.specs.declared.state.Turn.{Turn}
 use Rattle.run_core.specs.inner.Attempts.{StaysBounded}
-use Rattle.run_core.specs.inner.Course.{Past, past_of, with_staging}
+use Rattle.run_core.specs.inner.Course.{Past, past_of}
 use Rattle.run_core.specs.inner.Follows.{AsksOf, FollowsFrom}
 use Rattle.run_core.specs.inner.Knows.{IsKnown}
 use Rattle.run_core.specs.inner.Measures.{MeasuresOn, all_measured, measures}
 use Rattle.run_core.specs.inner.Picks.{AfterEnd, AfterFault, badly, for_now, well}
 use Rattle.run_core.specs.inner.Standing.{Blames}
-use Rattle.run_core.proofs.standing.Books.{Books, BooksAt, books_end, books_landed, books_staged, books_start, books_unstaged}
+use Rattle.run_core.proofs.standing.Books.{Books, books_end, books_landed, books_staged, books_start, books_unstaged}
 use Rattle.run_core.proofs.standing.Leaving.{FewKnown, KnowsSome, Leaves, MayKnow, books_course, books_unfolded, leaves_end, leaves_temporary, picks_leave, turns_leave}
 
 abbrev pub host_answer : Answer → HostAnswer

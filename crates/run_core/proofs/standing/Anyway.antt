@@ -1,19 +1,17 @@
 -- Where memory runs out for what follows from an answer, the answer still makes a longer run.
-use Rattle.std.specs.Prelude.{◌≢◌, Contains, MatchBool, bytes_eq, slice_get}
+use Rattle.std.specs.Prelude.{Contains, MatchBool, bytes_eq, slice_get}
 use Rattle.std.specs.List.{IsDistinct}
 use Rattle.std.specs.Map.{keys_of}
-use Rattle.std.proofs.Common.{◌≡◌, ◌∙◌, ◌⊎◌, inl, inr, ℕ, Bool, true, false, List, [], ◌∷◌, ◌++◌, reverse, Option, Some, None, Result, Ok, Err, refl, sym, ap, subst, arith}
+use Rattle.std.proofs.Common.{◌≡◌, ◌∙◌, ◌⊎◌, inl, inr, ℕ, Bool, true, false, List, [], ◌∷◌, ◌++◌, reverse, Option, Some, None, Result, Ok, Err, refl, sym, ap}
 use Rattle.std.proofs.lemmas.Option.{slice_get-get_or}
 use Rattle.command_line.specs.Launch.{IsLaunch, IsRefused}
 use Rattle.command_line.specs.declared.fault.BuildFault.{BuildFault}
 use Rattle.command_line.specs.declared.launch.Launch.{Launch}
 use Rattle.collected_outputs.specs.Collected.{Collected, IsCollected}
 use Rattle.collected_outputs.specs.Contents.{Heads}
-use Rattle.collected_outputs.specs.HeadsWanted.{AreHeadsWanted}
-use Rattle.collected_outputs.specs.Laws.{EveryFolderHasOutputsOrAFault, SomeHeadsAreWanted}
+use Rattle.collected_outputs.specs.Laws.{EveryFolderHasOutputsOrAFault}
 use Rattle.collected_outputs.specs.Listing.{listing_of}
 use Rattle.command_line.specs.Laws.{LaunchOrRefusal}
-use Rattle.cwl_process.specs.declared.tool.Tool.{Tool}
 use Rattle.input_files.specs.Contents.{heads_wanted, with_contents}
 use Rattle.input_files.specs.declared.contents.TheConstants.{MOST_CONTENTS}
 use Rattle.input_files.specs.declared.fault.ContentsFault.{ContentsFault}
@@ -36,7 +34,7 @@ use Rattle.run_rules.specs.declared.setting.Options.{Options}
 use Rattle.run_rules.specs.Allowed.{Allowed}
 use Rattle.run_rules.specs.Answers.{MayAnswer, by_host}
 use Rattle.run_rules.specs.CollectsOn.{CollectsOn, reads_on as reads_more, collects, collects_none, left_of}
-use Rattle.run_rules.specs.Events.{Event, Work, Started, Progress, file_measured, job_staged, job_started, child_exited, job_succeeded, job_failed, job_failed_for_now, result_delivered, host_failed, collect_failed, in_flight, job_at, nothing_due, input_heads_due, number_at, scan_due, output_heads_due, start_due, started_at}
+use Rattle.run_rules.specs.Events.{Event, Work, Started, Progress, file_measured, job_staged, job_started, child_exited, job_succeeded, job_failed, job_failed_for_now, result_delivered, host_failed, collect_failed, job_at, nothing_due, input_heads_due, number_at, scan_due, output_heads_due, start_due}
 use Rattle.run_rules.specs.Folders.{runtime_of}
 use Rattle.run_rules.specs.Plans.{is_planning, LoadsHeld}
 use Rattle.run_rules.specs.Run.{Goes, asks}

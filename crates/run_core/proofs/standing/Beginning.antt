@@ -7,9 +7,10 @@ use Rattle.run_rules.specs.Reports.{entries_of}
 use Rattle.run_rules.specs.Scene.{scene_of}
 use Rattle.run_rules.specs.declared.request.Pair.{Pair}
 use Rattle.run_rules.specs.declared.setting.Options.{Options}
-use Rattle.run_core.specs.Core.{Begins, on_run, setting_in}
+use Rattle.run_core.specs.Core.{Begins}
+use Rattle.run_core.specs.inner.Inside.{Stands, on_run, seen, setting_in}
 use Rattle.run_core.specs.Limits.{IsWithinLimits}
-use Rattle.run_core.specs.declared.runner.RunCore.{RunCore}
+use Rattle.run_core.specs.declared.runner.RunCore.TheInside.{Inside}
 use Rattle.run_core.specs.declared.state.Course.{Course}
 use Rattle.run_core.specs.declared.state.Phase.{Phase}
 use Rattle.run_core.specs.inner.Course.{Past, nothing_past, past_of}
@@ -21,6 +22,7 @@ use Rattle.run_core.proofs.standing.Books.{Books}
 use Rattle.run_core.proofs.standing.Facts.{few_known}
 use Rattle.run_core.proofs.standing.Flown.{measures_fly}
 use Rattle.run_core.proofs.standing.Leaving.{Leaves}
+use Rattle.run_core.proofs.standing.Modes.{lost_phase}
 
 nothing_booked : (options : Options) (entries : List Entry) → Books options entries nothing_past
 nothing_booked options entries = record {
@@ -33,7 +35,7 @@ two_at_most past (Phase.Ended outcome) = omega arith
 two_at_most past Phase.Draining = omega arith
 two_at_most past phase = omega arith
 
-module _ (core : RunCore) (limits : IsWithinLimits core.given.options) (accepted : fault_in core.given.process.now ≡ None) (ids : ids_differ core.given.process.now ≡ true)
+module _ (core : Inside) (limits : IsWithinLimits core.given.options) (accepted : fault_in core.given.process.now ≡ None) (ids : ids_differ core.given.process.now ≡ true)
     (empty : core.pairs.items ≡ []) (fits : vec_len core.pairs + 2 ≤ vec_capacity core.pairs) (old : Course) (nothing : past_of old ≡ nothing_past) (none : old.known ≡ None)
     (begins : BeginsAt core.given old core.turn core.course) (room : HasRoom core.course core.turn.phase) where
   runs : Runs (scene_of (setting_in core.given)) [] core.course core.turn
@@ -56,20 +58,22 @@ module _ (core : RunCore) (limits : IsWithinLimits core.given.options) (accepted
       both_fit : (n m a k : ℕ) → n + 2 ≤ m → k ≡ 0 → a ≤ k + 2 → n + a ≤ m
       both_fit n m a k fits none two = omega (arith, fits, none, two)
 
-  pub begins_at : Begins core.given.process.now core.given.inputs.now core.given.options core
+  pub stands_first : Stands core
+  stands_first = record {
+    limits = limits;
+    accepted = accepted;
+    ids = ids;
+    going = on_run (subst (λ (t : List Pair). Runs (scene_of (setting_in core.given)) t core.course core.turn) (sym empty) runs);
+    bounded = leaves.bounded;
+    blames = leaves.blames;
+    room = room;
+    pairs_room = pairs_fit;
+  }
+
+  pub begins_at : Begins core.given.process.now core.given.inputs.now core.given.options (seen core)
   begins_at = record {
-    stands = record {
-      limits = limits;
-      accepted = accepted;
-      ids = ids;
-      going = on_run (subst (λ (t : List Pair). Runs (scene_of (setting_in core.given)) t core.course core.turn) (sym empty) runs);
-      bounded = leaves.bounded;
-      blames = leaves.blames;
-      room = room;
-      pairs_room = pairs_fit;
-    };
     setting = refl;
     nothing_asked = empty;
     none_in_flight = none_flies;
-    not_lost = leaves.not_lost;
+    not_lost = λ lost. leaves.not_lost (lost_phase core.turn.phase lost);
   }

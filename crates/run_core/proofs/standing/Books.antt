@@ -1,13 +1,12 @@
 -- What bounds a run and what it blames on its host, as what has happened goes on.
-use Rattle.std.specs.Prelude.{Contains, IsSome, slice_get}
+use Rattle.std.specs.Prelude.{Contains, slice_get}
 use Rattle.std.specs.List.{remove}
-use Rattle.std.proofs.Common.{◌≡◌, ◌∙◌, ◌⊎◌, inl, inr, ℕ, ◌+◌, ◌<◌, ◌≤◌, Bool, true, List, [], ◌∷◌, ◌++◌, length, Option, Some, None, Result, refl, sym, ap, subst, arith}
+use Rattle.std.proofs.Common.{◌≡◌, ◌∙◌, inl, inr, ℕ, ◌+◌, ◌<◌, ◌≤◌, List, length, Option, Some, None, Result, refl, sym, subst, arith}
 use Rattle.std.proofs.lemmas.List.Elements.{Contains-push_cases}
 use Rattle.std.proofs.lemmas.Option.{slice_get_within}
 use Rattle.plan_checker.specs.declared.graph.TheConstants.{MOST_VERTICES}
 use Rattle.proc_host.specs.declared.call.Entry.{Entry}
 use Rattle.proc_host.specs.declared.call.HostAnswer.{HostAnswer}
-use Rattle.job_graph.specs.Jobs.{Job}
 use Rattle.job_graph.specs.Unfold.{or_else}
 use Rattle.run_rules.specs.declared.outcome.Report.{Report}
 use Rattle.run_rules.specs.declared.outcome.RunFault.{RunFault}
@@ -17,7 +16,7 @@ use Rattle.run_core.specs.declared.state.Flight.{Flight}
 use Rattle.run_core.specs.declared.state.JobState.{JobState}
 use Rattle.run_core.specs.declared.state.Kept.{Kept}
 use Rattle.run_core.specs.inner.Attempts.{IsBounded, tries_of}
-use Rattle.run_core.specs.inner.Course.{GivesUp, Past, TakesOut, again, given_up_in, no_more, staged_in, too_often, with_end, with_giving_up, with_staging, with_start}
+use Rattle.run_core.specs.inner.Course.{Past, TakesOut, given_up_in, staged_in, with_end, with_giving_up, with_staging, with_start}
 use Rattle.run_core.specs.inner.Standing.{BlamesSoFar, SettlesRightly}
 use Rattle.run_core.proofs.standing.Tickets.{left_there}
 use Rattle.run_core.proofs.standing.Tries.{gave_up_before, gave_up_once_more, gave_up_staged, length_again, length_before, length_given_up, length_new, tries_again, tries_before, tries_given_up, tries_new}

@@ -2,16 +2,16 @@
 use Rattle.std.specs.Prelude.{nat_eq}
 use Rattle.std.specs.List.{IsDistinct}
 use Rattle.std.specs.Map.{keys_of}
-use Rattle.std.proofs.Common.{◌≡◌, ◌≢◌, ◌∙◌, ℕ, ◌≤◌, List, [], ◌∷◌, ◌++◌, length, reverse, Option, Some, None, refl, sym, ap, subst}
+use Rattle.std.proofs.Common.{◌≡◌, ◌≢◌, ◌∙◌, ℕ, ◌≤◌, List, [], ◌∷◌, length, reverse, Option, Some, None, refl, sym, ap, subst}
 use Rattle.std.proofs.lemmas.List.{reverse-append, reverse-reverse}
 use Rattle.plan_checker.specs.declared.plan.Mark.{Mark}
 use Rattle.plan_checker.specs.declared.graph.TheConstants.{MOST_VERTICES}
 use Rattle.proc_host.specs.declared.call.HostRequest.{HostRequest}
 use Rattle.job_graph.specs.declared.unfolding.Unfolding.{Unfolding}
 use Rattle.job_graph.specs.Jobs.{Job, Walker}
-use Rattle.job_graph.specs.Unfold.{Resolved, unfolded}
-use Rattle.job_graph.specs.Words.{JobPlace, Name}
-use Rattle.run_rules.specs.Events.{Event, Progress, in_flight, measures, resolved}
+use Rattle.job_graph.specs.Unfold.{Resolved}
+use Rattle.job_graph.specs.Words.{Name}
+use Rattle.run_rules.specs.Events.{Event, Progress, measures, resolved}
 use Rattle.run_rules.specs.Scene.{Scene}
 use Rattle.run_rules.specs.declared.request.Pair.{Pair}
 use Rattle.run_rules.specs.declared.request.Request.{Request}
@@ -21,7 +21,7 @@ use Rattle.run_core.specs.declared.state.Course.{Course}
 use Rattle.run_core.specs.declared.state.JobPhase.{JobPhase}
 use Rattle.run_core.specs.declared.state.Phase.{Phase}
 use Rattle.run_core.specs.declared.state.Turn.{Turn}
-use Rattle.run_core.specs.inner.Course.{Past, known_in, nothing_past, past_of}
+use Rattle.run_core.specs.inner.Course.{Past, known_in, past_of}
 use Rattle.run_core.specs.inner.Due.{call_for, work_of}
 use Rattle.run_core.specs.inner.Keeps.{Reflects}
 use Rattle.run_core.specs.inner.Knows.{IsKnown}

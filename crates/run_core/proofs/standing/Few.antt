@@ -1,10 +1,10 @@
 -- Where no equation fails, no more jobs are known than a graph may have.
-use Rattle.std.specs.Prelude.{◌&&◌, nat_le}
-use Rattle.std.proofs.Common.{◌≡◌, ◌∙◌, ℕ, ◌+◌, ◌≤◌, Bool, true, false, cond, List, [], ◌∷◌, ◌++◌, length, filter_map, fold, reverse, Option, Some, None, refl, sym, ap, arith}
+use Rattle.std.specs.Prelude.{◌&&◌}
+use Rattle.std.proofs.Common.{◌≡◌, ◌≤◌, Bool, true, false, cond, List, [], ◌∷◌, ◌++◌, length, reverse, Option, Some, None, refl, arith}
 use Rattle.std.proofs.lemmas.Bool.{leb-true}
 use Rattle.plan_checker.specs.declared.graph.TheConstants.{MOST_VERTICES}
 use Rattle.job_graph.specs.Jobs.{Job, Met, Walker, met_fault, met_job}
-use Rattle.job_graph.specs.Unfold.{Fault, Resolved, fault_after, first_fault, is_known, is_within_limits, job_met, jobs_after, met_after, or_else, too_many_jobs, unfolded, with_job, with_met}
+use Rattle.job_graph.specs.Unfold.{Fault, Resolved, fault_after, first_fault, is_known, is_within_limits, jobs_after, met_after, or_else, too_many_jobs, unfolded, with_met}
 
 first_true : (a b : Bool) → (a && b) ≡ true → a ≡ true
 first_true true b is = refl

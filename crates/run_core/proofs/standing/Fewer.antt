@@ -1,6 +1,6 @@
 -- Each answer is one of so many.
 use Rattle.std.specs.Prelude.{◌*◌, IsSome}
-use Rattle.std.proofs.Common.{◌≡◌, ◌∙◌, ℕ, ◌+◌, ◌<◌, ◌≤◌, List, [], ◌∷◌, ◌++◌, length, reverse, Bool, true, false, Option, Some, None, Result, Ok, Err, refl, sym, ap, subst, arith, length-append}
+use Rattle.std.proofs.Common.{◌≡◌, ◌∙◌, ℕ, ◌+◌, ◌<◌, ◌≤◌, List, [], ◌∷◌, ◌++◌, length, reverse, Option, Some, None, Result, Err, refl, sym, ap, subst, arith, length-append}
 use Rattle.std.proofs.lemmas.List.{length-reverse}
 use Rattle.plain_data.specs.ByName.{with_value}
 use Rattle.proc_host.specs.Answers.{fault_of, is_measured, is_staged, is_started, has_ended, is_listed, is_read, is_delivered, has_failed}
@@ -9,13 +9,11 @@ use Rattle.proc_host.specs.declared.child.ChildEnd.{ChildEnd}
 use Rattle.cwl_process.specs.declared.tool.Tool.{Tool}
 use Rattle.job_graph.specs.Unfold.{or_else}
 use Rattle.job_graph.specs.Words.{Name}
-use Rattle.staging.specs.declared.measure.Measure.{Measure}
 use Rattle.run_rules.specs.Answers.{MayAnswer, by_host}
 use Rattle.run_rules.specs.declared.outcome.Report.{Report}
 use Rattle.run_rules.specs.declared.outcome.RunFault.{RunFault}
 use Rattle.run_rules.specs.declared.request.Answer.{Answer}
 use Rattle.run_rules.specs.declared.request.Request.{Request}
-use Rattle.run_rules.specs.declared.setting.Options.{Options}
 use Rattle.run_core.specs.declared.state.Course.{Course}
 use Rattle.run_core.specs.declared.state.Filling.{Filling}
 use Rattle.run_core.specs.declared.state.Flight.{Flight}
@@ -28,7 +26,7 @@ use Rattle.run_core.specs.declared.state.Phase.{Phase}
 use Rattle.run_core.specs.declared.state.Reading.{Reading}
 use Rattle.run_core.specs.declared.state.Turn.{Turn}
 use Rattle.run_core.specs.inner.Attempts.{StaysBounded, answers_left, many_files, weight_of, weight_of_past}
-use Rattle.run_core.specs.inner.Course.{Past, past_of, with_end, with_staging, with_start}
+use Rattle.run_core.specs.inner.Course.{Past, past_of, with_end}
 use Rattle.run_core.specs.inner.Due.{Starts}
 use Rattle.run_core.specs.inner.Follows.{AsksOf, FollowsFrom}
 use Rattle.run_core.specs.inner.Measures.{MeasuresOn, all_measured, measures}

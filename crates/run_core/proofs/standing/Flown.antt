@@ -1,7 +1,7 @@
 -- The children in flight after each answer.
 use Rattle.std.specs.Prelude.{Bool, nat_eq}
-use Rattle.std.specs.List.{IsDistinct, remove}
-use Rattle.std.proofs.Common.{◌≡◌, ◌∙◌, ℕ, List, [], ◌∷◌, ◌++◌, None, refl, sym, ap}
+use Rattle.std.specs.List.{IsDistinct}
+use Rattle.std.proofs.Common.{◌≡◌, ◌∙◌, ℕ, List, [], None, refl, sym, ap}
 use Rattle.proc_host.specs.Answers.{fault_of, is_measured, is_staged, is_started, has_ended, is_listed, is_read, is_delivered, has_failed}
 use Rattle.proc_host.specs.Tickets.{without}
 use Rattle.proc_host.specs.declared.call.HostAnswer.{HostAnswer}
@@ -24,7 +24,7 @@ use Rattle.run_core.specs.declared.state.Measuring.{Measuring}
 use Rattle.run_core.specs.declared.state.Phase.{Phase}
 use Rattle.run_core.specs.declared.state.Turn.{Turn}
 use Rattle.run_core.specs.inner.Course.{GivesUp, Past, TakesOut, again, known_in, no_more, past_of, too_often}
-use Rattle.run_core.specs.inner.Follows.{AsksOf, FollowsFrom, IsLeftAfter, IsOneLess}
+use Rattle.run_core.specs.inner.Follows.{AsksOf, FollowsFrom, IsLeftAfter}
 use Rattle.run_core.specs.inner.Knows.{IsUnfolded, fails as unfold_fails, knows as unfold_knows}
 use Rattle.run_core.specs.inner.Measures.{MeasuresOn, all_measured, measures}
 use Rattle.run_core.specs.inner.Picks.{AfterEnd, AfterFault, AfterTemporary, Picks, Turns, again as stages_again, asks, badly, drains, ends_so, fails, for_now, gives, gives_late, has_result, no_more as tries_no_more, stages, waits_for_one, well}

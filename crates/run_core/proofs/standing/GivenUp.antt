@@ -1,6 +1,6 @@
 -- What the machine is in once it gave up, since memory ran out outside of it.
 use Rattle.std.specs.Prelude.{◌≢◌, ◌-◌, ◌*◌}
-use Rattle.std.proofs.Common.{◌≡◌, ◌∙◌, ℕ, ◌+◌, ◌<◌, ◌≤◌, List, [], ◌∷◌, length, vec_len, vec_capacity, Result, Ok, Err, refl, sym, subst, arith, append-nil}
+use Rattle.std.proofs.Common.{◌≡◌, ◌∙◌, ℕ, ◌+◌, ◌<◌, ◌≤◌, List, [], ◌∷◌, length, vec_len, vec_capacity, Result, Ok, Err, refl, sym, ap, subst, arith, append-nil}
 use Rattle.proc_host.specs.declared.call.Entry.{Entry}
 use Rattle.proc_host.specs.declared.call.HostRequest.{HostRequest}
 use Rattle.plan_checker.specs.declared.plan.Mark.{Mark}
@@ -11,11 +11,13 @@ use Rattle.run_rules.specs.declared.outcome.Report.{Report}
 use Rattle.run_rules.specs.declared.outcome.RunFault.{RunFault}
 use Rattle.run_rules.specs.declared.request.Request.{Request}
 use Rattle.run_rules.specs.declared.setting.Options.{Options}
-use Rattle.run_core.specs.declared.runner.RunCore.{RunCore}
+use Rattle.run_core.specs.declared.runner.RunCore.TheInside.{Inside}
 use Rattle.run_core.specs.declared.state.Course.{Course}
 use Rattle.run_core.specs.declared.state.Phase.{Phase}
 use Rattle.run_core.specs.declared.state.Turn.{Turn}
-use Rattle.run_core.specs.Core.{GaveUp, Goes, IsDraining, MayEnd, Stands, drained_before, nobody_flies, off_run, on_run, setting_of}
+use Rattle.run_core.specs.Core.{GaveUp, IsDraining, MayEnd, drained_before, nobody_flies}
+use Rattle.run_core.specs.Machine.{is_draining}
+use Rattle.run_core.specs.inner.Inside.{Goes, Stands, mode_of, off_run, on_run, seen, setting_in}
 use Rattle.run_core.specs.inner.Attempts.{StaysBounded, answers_left, many_files, most_stagings, weight_of, weight_of_past}
 use Rattle.run_core.specs.inner.Course.{Past, past_of}
 use Rattle.run_core.specs.inner.Follows.{told_of}
@@ -90,12 +92,12 @@ none_more n = omega arith
 still_fit : (pairs room ahead before flown : ℕ) → ahead ≤ flown → flown ≤ before → pairs + before ≤ room → pairs + ahead ≤ room
 still_fit pairs room ahead before flown less more fits = omega (arith, less, more, fits)
 
-module _ (core : RunCore) (asks : core.turn.asks ≢ Request.Finished) where
+module _ (core : Inside) (asks : core.turn.asks ≢ Request.Finished) where
   abbrev past : Past
   past = past_of core.course
 
   abbrev s : Scene
-  s = scene_of (setting_of core)
+  s = scene_of (setting_in core.given)
 
   not_ended : Goes core → (outcome : Result Report RunFault) → core.turn.phase ≡ Phase.Ended outcome → ⊥
   not_ended (on_run runs) outcome phase = asks (asks_none_at s runs.happened runs.marks core.course runs.at outcome phase)
@@ -113,7 +115,7 @@ module _ (core : RunCore) (asks : core.turn.asks ≢ Request.Finished) where
       subst (λ (p : Phase). 0 < answers_left core.given.options past p) (sym its.is) (some_there core.course.tickets.items its.some)
 
   -- more than the ends of the children in flight, where it did not wait for them alone
-  more_left : Goes core → (IsDraining core → ⊥) → length core.course.tickets.items < answers_left core.given.options past core.turn.phase
+  more_left : Goes core → (IsDraining (seen core) → ⊥) → length core.course.tickets.items < answers_left core.given.options past core.turn.phase
   more_left (on_run runs) still =
       subst (λ n. length core.course.tickets.items < n) (sym (left_on runs))
       (lost_below (length core.course.tickets.items) (length core.course.tickets.items) (length core.course.tickets.items) 0
@@ -121,12 +123,12 @@ module _ (core : RunCore) (asks : core.turn.asks ≢ Request.Finished) where
       (none_more (length core.course.tickets.items)) (some_weight core.turn.phase))
   more_left (off_run out) still =
       let its : WaitsForSome past core.turn = lost_waits_for past out.at asks in
-      absurd (still (record { phase = its.is; asks = its.asks_ends }))
+      absurd (still (record { mode = ap mode_of its.is; asks = its.asks_ends }))
 
   -- where it waited for them alone
-  was_draining : Goes core → core.turn.phase ≡ Phase.Draining → IsDraining core
+  was_draining : Goes core → core.turn.phase ≡ Phase.Draining → IsDraining (seen core)
   was_draining (on_run runs) drains = absurd (never_drains s core.pairs.items core.course core.turn runs drains)
-  was_draining (off_run out) drains = let its : WaitsForSome past core.turn = lost_waits_for past out.at asks in record { phase = its.is; asks = its.asks_ends }
+  was_draining (off_run out) drains = let its : WaitsForSome past core.turn = lost_waits_for past out.at asks in record { mode = ap mode_of its.is; asks = its.asks_ends }
 
   -- there is room for the ends of the children in flight
   ahead_some : Goes core → length core.course.tickets.items ≤ pairs_ahead past core.turn.phase
@@ -139,7 +141,7 @@ module _ (core : RunCore) (asks : core.turn.asks ≢ Request.Finished) where
 
   -- The machine
 
-  abbrev after : Turn → RunCore
+  abbrev after : Turn → Inside
   after turn = core_with core core.pairs core.course turn
 
   off_now : Goes core → (turn : Turn) → IsLostAt past turn → RanOut s core.pairs.items past turn
@@ -178,52 +180,60 @@ module _ (core : RunCore) (asks : core.turn.asks ≢ Request.Finished) where
           (lost_ahead_at past at) (ahead_some stands.going) stands.pairs_room;
     }
 
-    ended_up : MayEnd core → GaveUp core (Err RunFault.OutOfMemory) (after ends_now)
-    ended_up may = record {
-      stands = stands_after ends_now lost;
-      setting = refl;
-      same = refl;
-      waits = tt;
-      ends = may;
-      steps = some_left stands.going;
-      ok = tt;
-      err = refl;
-      lost = refl;
-      finished = refl;
-    }
+    ended_up : MayEnd (seen core) → Stands (after ends_now) × GaveUp (seen core) (Err RunFault.OutOfMemory) (seen (after ends_now))
+    ended_up may = (
+      stands_after ends_now lost,
+      record {
+        setting = refl;
+        same = refl;
+        waits = tt;
+        ends = may;
+        steps = some_left stands.going;
+        ok = tt;
+        err = refl;
+        lost = refl;
+        finished = refl;
+      },
+    )
 
-    waits_on : core.course.tickets.items ≢ [] → (IsDraining core → ⊥) → GaveUp core (Ok tt) (after drains_now)
-    waits_on some still = record {
-      stands = stands_after drains_now (draining some);
-      setting = refl;
-      same = refl;
-      waits = record { before = still; draining = record { phase = refl; asks = refl }; some = some; flying = refl };
-      ends = tt;
-      steps = more_left stands.going still;
-      ok = λ is_lost. cc;
-      err = tt;
-      lost = tt;
-      finished = tt;
-    }
+    waits_on : core.course.tickets.items ≢ [] → (IsDraining (seen core) → ⊥) → Stands (after drains_now) × GaveUp (seen core) (Ok tt) (seen (after drains_now))
+    waits_on some still = (
+      stands_after drains_now (draining some),
+      record {
+        setting = refl;
+        same = refl;
+        waits = record { before = still; draining = record { mode = refl; asks = refl }; some = some; flying = refl };
+        ends = tt;
+        steps = more_left stands.going still;
+        ok = λ is_lost. cc;
+        err = tt;
+        lost = tt;
+        finished = tt;
+      },
+    )
 
     -- once the turn is this one
     abbrev GivesUpTo : Turn → Type 0
-    GivesUpTo turn = GaveUp core (told_of turn.phase) (after turn)
+    GivesUpTo turn = Stands (after turn) × GaveUp (seen core) (told_of turn.phase) (seen (after turn))
 
-    by_tickets : (tickets : List ℕ) → core.course.tickets.items ≡ tickets → (IsDraining core → ⊥) → GivesUpTo (lost_with tickets)
+    by_tickets : (tickets : List ℕ) → core.course.tickets.items ≡ tickets → (IsDraining (seen core) → ⊥) → GivesUpTo (lost_with tickets)
     by_tickets [] is still = ended_up (nobody_flies is)
     by_tickets (ticket ∷ tickets) is still = waits_on (λ none. let never : ticket ∷ tickets ≡ [] = sym is ∙ none in cc) still
 
+    -- it does not wait for them alone in another phase
+    still : (phase : Phase) → core.turn.phase ≡ phase → (mode_of phase ≡ is_draining → ⊥) → IsDraining (seen core) → ⊥
+    still phase is other was = other (ap mode_of (sym is) ∙ was.mode)
+
     by_phase : (phase : Phase) → core.turn.phase ≡ phase → GivesUpTo (given_up past phase)
     by_phase Phase.Draining is = ended_up (drained_before (was_draining stands.going is))
-    by_phase (Phase.Measuring looks) is = by_tickets core.course.tickets.items refl (λ was. let never : Phase.Measuring looks ≡ Phase.Draining = sym is ∙ was.phase in cc)
-    by_phase (Phase.Staging number) is = by_tickets core.course.tickets.items refl (λ was. let never : Phase.Staging number ≡ Phase.Draining = sym is ∙ was.phase in cc)
-    by_phase (Phase.Working number work) is = by_tickets core.course.tickets.items refl (λ was. let never : Phase.Working number work ≡ Phase.Draining = sym is ∙ was.phase in cc)
-    by_phase Phase.Collecting is = by_tickets core.course.tickets.items refl (λ was. let never : Phase.Collecting ≡ Phase.Draining = sym is ∙ was.phase in cc)
-    by_phase (Phase.Delivering outputs) is = by_tickets core.course.tickets.items refl (λ was. let never : Phase.Delivering outputs ≡ Phase.Draining = sym is ∙ was.phase in cc)
+    by_phase (Phase.Measuring looks) is = by_tickets core.course.tickets.items refl (still (Phase.Measuring looks) is (λ same. cc))
+    by_phase (Phase.Staging number) is = by_tickets core.course.tickets.items refl (still (Phase.Staging number) is (λ same. cc))
+    by_phase (Phase.Working number work) is = by_tickets core.course.tickets.items refl (still (Phase.Working number work) is (λ same. cc))
+    by_phase Phase.Collecting is = by_tickets core.course.tickets.items refl (still Phase.Collecting is (λ same. cc))
+    by_phase (Phase.Delivering outputs) is = by_tickets core.course.tickets.items refl (still (Phase.Delivering outputs) is (λ same. cc))
     by_phase (Phase.Ended outcome) is = absurd (not_ended stands.going outcome is)
 
-    pub gave_up : (turn : Turn) (result : Result (Unit {0}) RunFault) → turn ≡ given_up past core.turn.phase → result ≡ told_of turn.phase → GaveUp core result (after turn)
+    pub gave_up : (turn : Turn) (result : Result (Unit {0}) RunFault) → turn ≡ given_up past core.turn.phase → result ≡ told_of turn.phase → Stands (after turn) × GaveUp (seen core) result (seen (after turn))
     gave_up turn result is told =
-        subst (λ (r : Result (Unit {0}) RunFault). GaveUp core r (after turn)) (sym told)
+        subst (λ (r : Result (Unit {0}) RunFault). Stands (after turn) × GaveUp (seen core) r (seen (after turn))) (sym told)
         (subst GivesUpTo (sym is) (by_phase core.turn.phase refl))

@@ -1,6 +1,6 @@
 -- What each step leaves: the run stays bounded, what it blames on the host is so, and memory is not what it ends by.
-use Rattle.std.specs.Prelude.{Contains, IfErr, IsSome}
-use Rattle.std.proofs.Common.{◌≡◌, ◌∙◌, ℕ, ◌<◌, ◌≤◌, List, [], ◌∷◌, ◌++◌, length, Bool, true, false, Option, Some, None, Result, Ok, Err, refl, sym, ap, subst, arith}
+use Rattle.std.specs.Prelude.{IfErr}
+use Rattle.std.proofs.Common.{◌≡◌, ◌∙◌, ℕ, ◌≤◌, List, [], ◌∷◌, ◌++◌, length, Bool, true, Option, Some, None, Result, Ok, Err, refl, sym, ap, subst, arith}
 use Rattle.plan_checker.specs.declared.graph.TheConstants.{MOST_VERTICES}
 use Rattle.proc_host.specs.declared.call.Entry.{Entry}
 use Rattle.job_graph.specs.declared.unfolding.Unfolding.{Unfolding}
@@ -17,8 +17,8 @@ use Rattle.run_core.specs.declared.state.JobNext.{JobNext}
 use Rattle.run_core.specs.declared.state.Phase.{Phase}
 use Rattle.run_core.specs.declared.state.Turn.{Turn}
 use Rattle.run_core.specs.inner.Attempts.{StaysBounded}
-use Rattle.run_core.specs.inner.Course.{GivesUp, Past, again, known_in, no_more, past_of, too_often, with_giving_up}
-use Rattle.run_core.specs.inner.Knows.{IsKnown, IsUnfolded, Knows, Learns, end_by, fails as unfold_fails, knows as unfold_knows}
+use Rattle.run_core.specs.inner.Course.{GivesUp, Past, again, known_in, no_more, past_of, too_often}
+use Rattle.run_core.specs.inner.Knows.{IsKnown, IsUnfolded, Learns, end_by, fails as unfold_fails, knows as unfold_knows}
 use Rattle.run_core.specs.inner.Picks.{AfterTemporary, Delivers, Picks, Stages, Turns, again as stages_again, asks, delivers, drains, ends_so, fails, gives, gives_late, has_result, no_more as tries_no_more, stages, succeeds_at_once, waits_for_one}
 use Rattle.run_core.specs.inner.Standing.{Blames, SettlesRightly}
 use Rattle.run_core.proofs.standing.Books.{Books, BooksAt, books_at_again, books_at_new, books_end, books_given_up}

@@ -1,8 +1,6 @@
 -- How many files the open work on a job still looks at, by its rule.
-use Rattle.std.specs.Prelude.{◌^◌}
-use Rattle.std.proofs.Common.{◌≡◌, ◌∙◌, ℕ, ◌+◌, ◌*◌, ◌<◌, ◌≤◌, List, [], ◌∷◌, ◌++◌, length, reverse, Some, None, refl, sym, ap, subst, arith}
+use Rattle.std.proofs.Common.{◌≡◌, ℕ, ◌+◌, ◌*◌, ◌≤◌, List, [], length, reverse, None, refl, ap, arith}
 use Rattle.std.proofs.lemmas.List.{length-reverse}
-use Rattle.command_line.specs.declared.launch.Launch.{Launch}
 use Rattle.collected_outputs.specs.Contents.{Heads}
 use Rattle.proc_host.specs.declared.call.HostRequest.{HostRequest}
 use Rattle.staging.specs.declared.found.Found.{Found}
@@ -10,14 +8,14 @@ use Rattle.run_rules.specs.declared.setting.Options.{Options}
 use Rattle.job_graph.specs.Jobs.{Job}
 use Rattle.job_graph.specs.Words.{Name, Fields, JobPlace}
 use Rattle.run_rules.specs.CollectsOn.{CollectsOn, reads_on as reads_more, collects, collects_none}
-use Rattle.run_rules.specs.Events.{Event, Work, Started, input_heads_due, nothing_due, output_heads_due, scan_due, start_due}
+use Rattle.run_rules.specs.Events.{Event, Work, Started, input_heads_due, output_heads_due}
 use Rattle.run_rules.specs.StartsOn.{StartsOn, reads_on, has_launch, has_no_launch, has_no_contents}
 use Rattle.run_core.specs.declared.site.Site.{Site}
 use Rattle.run_core.specs.declared.state.JobNext.{JobNext}
 use Rattle.run_core.specs.declared.state.JobPhase.{JobPhase}
 use Rattle.run_core.specs.declared.state.Kept.{Kept}
 use Rattle.run_core.specs.inner.Attempts.{many_files, weight_of_job}
-use Rattle.run_core.specs.inner.Due.{Calls, CallsNext, Collects, FitsCall, IsKept, Starts, work_of}
+use Rattle.run_core.specs.inner.Due.{CallsNext, Collects, FitsCall, IsKept, Starts, work_of}
 
 -- the weight of a job that goes on; of what comes next where it does not
 abbrev pub weight_next : JobNext → ℕ

@@ -1,17 +1,16 @@
 -- What comes where memory ran out.
-use Rattle.std.specs.Prelude.{◌≢◌, Contains, OnErr, nat_eq}
-use Rattle.std.proofs.Common.{◌≡◌, ◌∙◌, ℕ, ◌+◌, ◌*◌, ◌<◌, ◌≤◌, List, [], ◌∷◌, ◌++◌, length, Result, Ok, Err, refl, sym, ap, subst, arith, length-append, append_assoc, append-nil}
-use Rattle.proc_host.specs.Answers.{fault_of, is_measured, is_staged, is_started, has_ended, is_listed, is_read, is_delivered, has_failed}
-use Rattle.proc_host.specs.Tickets.{without}
+use Rattle.std.specs.Prelude.{◌≢◌}
+use Rattle.std.proofs.Common.{◌≡◌, ◌∙◌, ℕ, ◌<◌, ◌≤◌, List, [], ◌∷◌, ◌++◌, length, Err, refl, sym, ap, subst, arith, append_assoc, append-nil}
+use Rattle.proc_host.specs.Answers.{fault_of, has_ended, has_failed}
 use Rattle.proc_host.specs.declared.call.Entry.{Entry}
 use Rattle.proc_host.specs.declared.call.HostAnswer.{HostAnswer}
-use Rattle.proc_host.specs.declared.call.HostFault.{HostFault}
 use Rattle.proc_host.specs.declared.call.HostRequest.{HostRequest}
 use Rattle.plan_checker.specs.declared.plan.Mark.{Mark}
 use Rattle.job_graph.specs.Words.{JobPlace}
-use Rattle.run_rules.specs.Answers.{MayAnswer, by_host, flying_after}
+use Rattle.run_rules.specs.Answers.{MayAnswer, by_host}
 use Rattle.run_rules.specs.Events.{Progress}
 use Rattle.run_rules.specs.Plans.{LoadsHeld}
+use Rattle.run_rules.specs.Reports.{AreWaits, IsWait}
 use Rattle.run_rules.specs.Run.{Goes}
 use Rattle.run_rules.specs.Scene.{Scene}
 use Rattle.run_rules.specs.declared.outcome.RunFault.{RunFault}
@@ -26,7 +25,7 @@ use Rattle.run_core.specs.declared.state.Turn.{Turn}
 use Rattle.run_core.specs.inner.Attempts.{StaysBounded, answers_left}
 use Rattle.run_core.specs.inner.Course.{Past, past_of}
 use Rattle.run_core.specs.inner.Follows.{AsksOf, FollowsFrom}
-use Rattle.run_core.specs.inner.Standing.{AreCollects, Blames, IsLostAt, RanOut, draining, lost, pairs_ahead}
+use Rattle.run_core.specs.inner.Standing.{Blames, IsLostAt, RanOut, draining, lost, pairs_ahead}
 use Rattle.run_core.specs.inner.Turn.{lost_after, lost_with, waits}
 use Rattle.run_core.specs.Core.{IsLanded, collect_lost, none_flies}
 use Rattle.run_core.proofs.standing.Flown.{FliesAfter, flies_on, none_waited_for}
@@ -93,7 +92,7 @@ lost_now s t happened marks past goes = record {
   at = lost_at past;
 }
 
-collects_more : (tail : List Pair) (pair : Pair) → AreCollects tail → pair.request ≡ Request.Host [] HostRequest.Collect → AreCollects (tail ++ pair ∷ [])
+collects_more : (tail : List Pair) (pair : Pair) → AreWaits tail → IsWait pair → AreWaits (tail ++ pair ∷ [])
 collects_more [] pair all is = (is, tt)
 collects_more (p ∷ tail) pair all is = (all.0, collects_more tail pair all.1 is)
 

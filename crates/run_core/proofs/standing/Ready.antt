@@ -1,6 +1,6 @@
 -- A machine that stands is ready for an answer.
-use Rattle.std.specs.Prelude.{◌≢◌, ◌^◌, ◌*◌}
-use Rattle.std.proofs.Common.{◌≡◌, ◌∙◌, ℕ, ◌+◌, ◌<◌, ◌≤◌, true, List, [], length, None, Result, refl, sym, ap, subst, arith}
+use Rattle.std.specs.Prelude.{◌^◌}
+use Rattle.std.proofs.Common.{◌≡◌, ◌+◌, ◌<◌, ◌≤◌, true, None, Result, refl, sym, subst, arith}
 use Rattle.workflow_check.specs.Checked.{fault_in}
 use Rattle.job_graph.specs.Apart.{ids_differ}
 use Rattle.run_rules.specs.Answers.{MayAnswer}
@@ -8,19 +8,18 @@ use Rattle.run_rules.specs.Scene.{Scene, scene_of}
 use Rattle.run_rules.specs.declared.outcome.Report.{Report}
 use Rattle.run_rules.specs.declared.outcome.RunFault.{RunFault}
 use Rattle.run_rules.specs.declared.request.Answer.{Answer}
-use Rattle.run_rules.specs.declared.request.Pair.{Pair}
 use Rattle.run_rules.specs.declared.setting.Options.{Options}
-use Rattle.run_core.specs.Core.{Stands, setting_in}
+use Rattle.run_core.specs.inner.Inside.{Stands, setting_in}
 use Rattle.run_core.specs.Limits.{IsWithinLimits}
-use Rattle.run_core.specs.declared.runner.RunCore.{RunCore}
+use Rattle.run_core.specs.declared.runner.RunCore.TheInside.{Inside}
 use Rattle.run_core.specs.declared.state.Course.{Course}
 use Rattle.run_core.specs.declared.state.Given.{Given}
 use Rattle.run_core.specs.declared.state.Phase.{Phase}
 use Rattle.run_core.specs.declared.state.Turn.{Turn}
-use Rattle.run_core.specs.inner.Attempts.{IsBounded, StaysBounded, most_stagings}
+use Rattle.run_core.specs.inner.Attempts.{StaysBounded, most_stagings}
 use Rattle.run_core.specs.inner.Course.{Past, past_of, with_staging}
 use Rattle.run_core.specs.inner.Follows.{AsksIn, IsReady, IsReadyFor}
-use Rattle.run_core.specs.inner.Standing.{IsLostAt, Runs, draining, lost, pairs_ahead}
+use Rattle.run_core.specs.inner.Standing.{IsLostAt, draining, lost, pairs_ahead}
 use Rattle.run_core.proofs.events.Reflecting.{Laws}
 use Rattle.run_core.proofs.going.Asked.{AreFitting, asks_in, readies}
 use Rattle.run_core.proofs.going.Given.{allows, follows_on, laws_of}
@@ -42,7 +41,7 @@ runs_on_of given accepted ids some =
       asks_in = asks_in (scene_of (setting_in given));
     }
 
-pub runs_on : (core : RunCore) → Stands core → RunsOn core.given
+pub runs_on : (core : Inside) → Stands core → RunsOn core.given
 runs_on core stands = runs_on_of core.given stands.accepted stands.ids stands.limits.least_slots
 
 few_of : (options : Options) (past : Past) → IsWithinLimits options → past.folders ≤ most_stagings options → past.folders + 2 < 2 ^ 64
@@ -61,7 +60,7 @@ ready_for : (course : Course) (phase : Phase) → IsReady course → IsReadyFor 
 ready_for course Phase.Draining ready = tt
 ready_for course phase ready = ready
 
-module _ (core : RunCore) (answer : Answer) (stands : Stands core) (may : MayAnswer core.course.tickets.items core.turn.asks answer) where
+module _ (core : Inside) (answer : Answer) (stands : Stands core) (may : MayAnswer core.course.tickets.items core.turn.asks answer) where
   abbrev s : Scene
   s = scene_of (setting_in core.given)
 

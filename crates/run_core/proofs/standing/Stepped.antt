@@ -1,16 +1,13 @@
 -- Where the machine is after each answer, whether memory was there or not.
 use Rattle.std.specs.Prelude.{◌-◌, ◌*◌, Contains}
-use Rattle.std.proofs.Common.{◌≡◌, ◌∙◌, ℕ, ◌+◌, ◌<◌, ◌≤◌, List, [], ◌∷◌, ◌++◌, length, Result, Err, refl, sym, ap, subst, arith}
+use Rattle.std.proofs.Common.{◌≡◌, ◌∙◌, ℕ, ◌+◌, ◌<◌, ◌≤◌, List, [], ◌∷◌, ◌++◌, length, refl, sym, ap, subst, arith}
 use Rattle.std.proofs.lemmas.List.Elements.{Contains-append_left, Contains-push}
 use Rattle.proc_host.specs.declared.call.HostAnswer.{HostAnswer}
 use Rattle.proc_host.specs.declared.call.HostRequest.{HostRequest}
-use Rattle.proc_host.specs.declared.call.Entry.{Entry}
-use Rattle.run_rules.specs.Answers.{MayAnswer, flying_after}
+use Rattle.run_rules.specs.Answers.{MayAnswer}
 use Rattle.run_rules.specs.Blame.{logged_answers}
 use Rattle.run_rules.specs.Reports.{entries_of}
 use Rattle.run_rules.specs.Scene.{Scene, scene_of}
-use Rattle.run_rules.specs.declared.outcome.Report.{Report}
-use Rattle.run_rules.specs.declared.outcome.RunFault.{RunFault}
 use Rattle.run_rules.specs.declared.request.Answer.{Answer}
 use Rattle.run_rules.specs.declared.request.Pair.{Pair}
 use Rattle.run_rules.specs.declared.request.Request.{Request}
@@ -18,7 +15,7 @@ use Rattle.run_core.specs.declared.state.Course.{Course}
 use Rattle.run_core.specs.declared.state.Given.{Given}
 use Rattle.run_core.specs.declared.state.Phase.{Phase}
 use Rattle.run_core.specs.declared.state.Turn.{Turn}
-use Rattle.run_core.specs.Core.{setting_in}
+use Rattle.run_core.specs.inner.Inside.{setting_in}
 use Rattle.run_core.specs.inner.Anyway.{CanGoOn}
 use Rattle.run_core.specs.inner.Attempts.{StaysBounded, answers_left, many_files, most_stagings, weight_of, weight_of_past}
 use Rattle.run_core.specs.inner.Course.{Past, past_of}

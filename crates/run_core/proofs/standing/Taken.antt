@@ -1,22 +1,17 @@
 -- One answer taken: what the machine is in then.
 use Rattle.std.specs.Prelude.{◌≢◌, ◌*◌, Contains, IfErr}
-use Rattle.std.specs.List.{IsDistinct}
-use Rattle.std.proofs.Common.{◌≡◌, ◌∙◌, ◌⊎◌, inl, inr, ℕ, ◌+◌, ◌<◌, ◌≤◌, List, [], ◌∷◌, ◌++◌, length, Option, None, Result, Ok, Err, refl, sym, ap, subst, arith, length-append}
+use Rattle.std.proofs.Common.{◌≡◌, ◌∙◌, ℕ, ◌+◌, ◌<◌, ◌≤◌, List, [], ◌∷◌, ◌++◌, length, Result, Ok, Err, refl, sym, ap, subst, arith, length-append}
 use Rattle.std.proofs.lemmas.List.{map-append}
-use Rattle.std.proofs.lemmas.List.Elements.{Contains-append_left, Contains-push, filter_map-append}
-use Rattle.plan_checker.specs.declared.plan.Mark.{Mark}
-use Rattle.proc_host.specs.Answers.{is_measured, is_staged, is_started, has_ended, is_listed, is_read, is_delivered, has_failed}
+use Rattle.std.proofs.lemmas.List.Elements.{filter_map-append}
+use Rattle.proc_host.specs.Answers.{is_started}
 use Rattle.proc_host.specs.declared.call.Entry.{Entry}
 use Rattle.proc_host.specs.Tickets.{without}
 use Rattle.proc_host.specs.declared.call.HostFault.{HostFault}
 use Rattle.proc_host.specs.declared.call.HostAnswer.{HostAnswer}
 use Rattle.proc_host.specs.declared.call.HostRequest.{HostRequest}
-use Rattle.job_graph.specs.declared.unfolding.Unfolding.{Unfolding}
-use Rattle.job_graph.specs.Words.{JobPlace}
 use Rattle.run_rules.specs.Allowed.{Allowed}
 use Rattle.run_rules.specs.Answers.{MayAnswer, by_host, flying_after}
 use Rattle.run_rules.specs.Blame.{BlamesRightly, IsToBlame, WereStarted, logged_answers}
-use Rattle.run_rules.specs.Events.{Progress}
 use Rattle.run_rules.specs.Reports.{entries_of, entry_of}
 use Rattle.run_rules.specs.Scene.{Scene, scene_of}
 use Rattle.run_rules.specs.declared.outcome.Report.{Report}
@@ -30,21 +25,16 @@ use Rattle.run_core.specs.declared.state.Given.{Given}
 use Rattle.run_core.specs.declared.state.JobPhase.{JobPhase}
 use Rattle.run_core.specs.declared.state.Phase.{Phase}
 use Rattle.run_core.specs.declared.state.Turn.{Turn}
-use Rattle.run_core.specs.Core.{IsLanded, setting_in}
-use Rattle.run_core.specs.inner.Anyway.{CanGoOn}
-use Rattle.run_core.specs.inner.Attempts.{StaysBounded, answers_left, many_files, most_stagings, weight_of, weight_of_job, weight_of_past}
-use Rattle.run_core.specs.inner.Course.{Past, known_in, past_of}
-use Rattle.run_core.specs.inner.Follows.{AsksIn, AsksOf, FollowsFrom, MakesRoom, Moves, gives_up, has_room, moves, no_room}
-use Rattle.run_core.specs.inner.Parts.{job_in}
-use Rattle.run_core.specs.inner.Standing.{Blames, IsLostAt, RanOut, Runs, SettlesRightly, draining, lost, pairs_ahead}
+use Rattle.run_core.specs.Core.{IsLanded}
+use Rattle.run_core.specs.inner.Inside.{setting_in}
+use Rattle.run_core.specs.inner.Attempts.{StaysBounded, answers_left, many_files, weight_of, weight_of_job, weight_of_past}
+use Rattle.run_core.specs.inner.Course.{Past, past_of}
+use Rattle.run_core.specs.inner.Follows.{AsksIn, AsksOf, FollowsFrom}
+use Rattle.run_core.specs.inner.Standing.{Blames, RanOut, Runs, SettlesRightly, pairs_ahead}
 use Rattle.run_core.specs.inner.Turn.{lost_after, lost_with, waits}
-use Rattle.run_core.proofs.standing.Answered.{asks_none, host_answer, step_leaves}
-use Rattle.run_core.proofs.standing.Anyway.{GoesOn, goes_anyway}
-use Rattle.run_core.proofs.standing.Facts.{few_known, knows_some, looks_at_some, tickets_apart}
-use Rattle.run_core.proofs.standing.Fewer.{step_fewer}
-use Rattle.run_core.proofs.standing.Flown.{FliesAfter, flies_on, left_flies, none_waited_for, step_flies}
-use Rattle.run_core.proofs.standing.Leaving.{Leaves}
-use Rattle.run_core.proofs.standing.Lost.{Drained, flies_lost, landed_when_none, lost_at, lost_blames, lost_bounded, lost_few, lost_more, lost_now, none_when_lost, step_drains}
+use Rattle.run_core.proofs.standing.Answered.{asks_none, host_answer}
+use Rattle.run_core.proofs.standing.Flown.{FliesAfter, flies_on, none_waited_for}
+use Rattle.run_core.proofs.standing.Lost.{none_when_lost}
 use Rattle.run_core.proofs.standing.Tickets.{at_most}
 
 -- how the run of a machine goes on while memory is there

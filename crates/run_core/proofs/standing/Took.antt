@@ -1,63 +1,46 @@
 -- What the machine's callers learn of an answer taken.
-use Rattle.std.specs.Prelude.{◌≢◌, OnErr, OnOk, IfErr}
-use Rattle.std.proofs.Common.{◌≡◌, ◌∙◌, ℕ, ◌+◌, ◌<◌, ◌≤◌, List, [], ◌∷◌, ◌++◌, Vec, Global, length, vec_len, vec_capacity, Result, Ok, Err, refl, sym, ap, subst, arith}
+use Rattle.std.specs.Prelude.{◌≢◌}
+use Rattle.std.proofs.Common.{◌≡◌, ◌∙◌, ℕ, ◌+◌, ◌<◌, ◌≤◌, List, [], ◌∷◌, ◌++◌, Vec, Global, length, vec_len, vec_capacity, Result, refl, sym, ap, subst, arith}
 use Rattle.std.proofs.lemmas.List.Elements.{filter_map-append}
 use Rattle.proc_host.specs.declared.call.HostRequest.{HostRequest}
 use Rattle.run_rules.specs.Answers.{MayAnswer}
 use Rattle.run_rules.specs.Reports.{entries_of, entry_of}
 use Rattle.run_rules.specs.Scene.{scene_of}
-use Rattle.run_rules.specs.declared.outcome.Report.{Report}
 use Rattle.run_rules.specs.declared.outcome.RunFault.{RunFault}
 use Rattle.run_rules.specs.declared.request.Answer.{Answer}
 use Rattle.run_rules.specs.declared.request.Pair.{Pair}
 use Rattle.run_rules.specs.declared.request.Request.{Request}
-use Rattle.run_core.specs.declared.runner.RunCore.{RunCore}
+use Rattle.run_core.specs.declared.runner.RunCore.TheInside.{Inside}
 use Rattle.run_core.specs.declared.state.Course.{Course}
-use Rattle.run_core.specs.declared.state.Given.{Given}
 use Rattle.run_core.specs.declared.state.Phase.{Phase}
 use Rattle.run_core.specs.declared.state.Turn.{Turn}
-use Rattle.run_core.specs.Core.{Goes, IsDraining, Stands, Took, off_run, on_run, setting_in}
+use Rattle.run_core.specs.Core.{IsDraining, Took}
+use Rattle.run_core.specs.Machine.{Machine}
+use Rattle.run_core.specs.inner.Inside.{Goes, Stands, mode_of, off_run, on_run, seen, setting_in}
 use Rattle.run_core.specs.inner.Anyway.{CanGoOn}
 use Rattle.run_core.specs.inner.Course.{Past, past_of}
-use Rattle.run_core.specs.inner.Follows.{AsksIn, HasPairs, IsReady, IsReadyFor, MakesRoom, Moves, has_room, no_room, told_of}
+use Rattle.run_core.specs.inner.Follows.{HasPairs, MakesRoom, Moves, has_room, no_room, told_of}
 use Rattle.run_core.specs.inner.Parts.{job_in}
-use Rattle.run_core.specs.inner.Standing.{Blames, HasRoom, RanOut, Runs, draining, lost, pairs_ahead}
+use Rattle.run_core.specs.inner.Standing.{Blames, HasRoom, RanOut, Runs, pairs_ahead}
 use Rattle.run_core.specs.inner.Turn.{lost_after, waits}
 use Rattle.run_core.proofs.standing.Lost.{lost_room}
-use Rattle.run_core.proofs.standing.Stepped.{LeavesRoom, leaves_room, taken}
+use Rattle.run_core.proofs.standing.Modes.{Tells, draining_phase, tells, tells_lost, tells_ok}
+use Rattle.run_core.proofs.standing.Stepped.{leaves_room, taken}
 use Rattle.run_core.proofs.standing.Taken.{IsGoing, RunsOn, Taken, off, on, taken_same}
-
--- What `take` answers
-
-data Tells (phase : Phase) : Type 0 where
-  tells_ok : told_of phase ≡ Ok tt → (phase ≡ Phase.Ended (Err RunFault.OutOfMemory) → ⊥) → Tells phase
-  tells_lost : phase ≡ Phase.Ended (Err RunFault.OutOfMemory) → Tells phase
-
-tells : (phase : Phase) → Tells phase
-tells (Phase.Ended (Err RunFault.OutOfMemory)) = tells_lost refl
-tells (Phase.Ended (Err RunFault.TooManyJobs)) = tells_ok refl (λ lost. cc)
-tells (Phase.Ended (Err (RunFault.Host fault running))) = tells_ok refl (λ lost. cc)
-tells (Phase.Ended (Ok report)) = tells_ok refl (λ lost. cc)
-tells (Phase.Measuring measuring) = tells_ok refl (λ lost. cc)
-tells (Phase.Staging number) = tells_ok refl (λ lost. cc)
-tells (Phase.Working number phase) = tells_ok refl (λ lost. cc)
-tells Phase.Collecting = tells_ok refl (λ lost. cc)
-tells (Phase.Delivering outputs) = tells_ok refl (λ lost. cc)
-tells Phase.Draining = tells_ok refl (λ lost. cc)
 
 -- The machine as a whole
 
 abbrev pub noted : Request → Answer → Pair
 noted request answer = record { request = request; answer = answer }
 
-abbrev pub core_with : RunCore → Vec Pair Global → Course → Turn → RunCore
+abbrev pub core_with : Inside → Vec Pair Global → Course → Turn → Inside
 core_with core pairs course turn = record { alloc = core.alloc; given = core.given; pairs = pairs; course = course; turn = turn }
 
-pub going_of : (core : RunCore) → Goes core → IsGoing (scene_of (setting_in core.given)) core.pairs.items core.course core.turn
+pub going_of : (core : Inside) → Goes core → IsGoing (scene_of (setting_in core.given)) core.pairs.items core.course core.turn
 going_of core (on_run r) = on r
 going_of core (off_run out) = off out
 
-goes_so : (core : RunCore) (t : List Pair) → core.pairs.items ≡ t → IsGoing (scene_of (setting_in core.given)) t core.course core.turn → Goes core
+goes_so : (core : Inside) (t : List Pair) → core.pairs.items ≡ t → IsGoing (scene_of (setting_in core.given)) t core.course core.turn → Goes core
 goes_so core t same (on r) = on_run (subst (λ (all : List Pair). Runs (scene_of (setting_in core.given)) all core.course core.turn) (sym same) r)
 goes_so core t same (off out) = off_run (subst (λ (all : List Pair). RanOut (scene_of (setting_in core.given)) all (past_of core.course) core.turn) (sym same) out)
 
@@ -69,7 +52,7 @@ pairs_fit pairs room past last old new same (no_room fits) =
     smaller : (n m a b : ℕ) → n + b ≤ m → a ≤ b → n + a ≤ m
     smaller n m a b fits less = omega (arith, fits, less)
 
-module _ (core : RunCore) (answer : Answer) (pairs : Vec Pair Global) (course : Course) (turn : Turn) (stands : Stands core)
+module _ (core : Inside) (answer : Answer) (pairs : Vec Pair Global) (course : Course) (turn : Turn) (stands : Stands core)
     (longer : pairs.items ≡ core.pairs.items ++ noted core.turn.asks answer ∷ []) (room : HasRoom course turn.phase)
     (fits : vec_len pairs + pairs_ahead (past_of course) turn.phase ≤ vec_capacity pairs)
     (it : Taken core.given core.pairs.items core.course core.turn answer turn course) where
@@ -88,15 +71,17 @@ module _ (core : RunCore) (answer : Answer) (pairs : Vec Pair Global) (course : 
   more_entries : entries_of pairs.items ≡ entries_of core.pairs.items ++ entries_of (noted core.turn.asks answer ∷ [])
   more_entries = ap entries_of longer ∙ filter_map-append entry_of core.pairs.items (noted core.turn.asks answer ∷ [])
 
-  drains_then : IsDraining core → turn.asks ≢ Request.Finished → IsDraining (core_with core pairs course turn)
-  drains_then was asks =
-      let is : turn ≡ waits HostRequest.Collect Phase.Draining = it.drains was.phase asks in
-      record { phase = ap (λ (t : Turn). t.phase) is; asks = ap (λ (t : Turn). t.asks) is }
+  abbrev new : Machine
+  new = seen (core_with core pairs course turn)
 
-  took_by : Tells turn.phase → Took core answer (told_of turn.phase) (core_with core pairs course turn)
+  drains_then : IsDraining (seen core) → turn.asks ≢ Request.Finished → IsDraining new
+  drains_then was asks =
+      let is : turn ≡ waits HostRequest.Collect Phase.Draining = it.drains (draining_phase core.turn.phase was.mode) asks in
+      record { mode = ap (λ (t : Turn). mode_of t.phase) is; asks = ap (λ (t : Turn). t.asks) is }
+
+  took_by : Tells turn.phase → Took (seen core) answer (told_of turn.phase) new
   took_by (tells_ok is not_lost) =
-      subst (λ (r : Result (Unit {0}) RunFault). Took core answer r (core_with core pairs course turn)) (sym is) (record {
-        stands = stands_then;
+      subst (λ (r : Result (Unit {0}) RunFault). Took (seen core) answer r new) (sym is) (record {
         setting = refl;
         pair = longer;
         entries = more_entries;
@@ -110,8 +95,7 @@ module _ (core : RunCore) (answer : Answer) (pairs : Vec Pair Global) (course : 
         finished = tt;
       })
   took_by (tells_lost is) =
-      subst (λ (r : Result (Unit {0}) RunFault). Took core answer r (core_with core pairs course turn)) (sym (ap told_of is)) (record {
-        stands = stands_then;
+      subst (λ (r : Result (Unit {0}) RunFault). Took (seen core) answer r new) (sym (ap told_of is)) (record {
         setting = refl;
         pair = longer;
         entries = more_entries;
@@ -121,18 +105,18 @@ module _ (core : RunCore) (answer : Answer) (pairs : Vec Pair Global) (course : 
         steps = it.fewer;
         ok = tt;
         err = refl;
-        lost = is;
+        lost = ap mode_of is;
         finished = it.finished is;
       })
 
-  took_told : (result : Result (Unit {0}) RunFault) → result ≡ told_of turn.phase → Took core answer result (core_with core pairs course turn)
-  took_told result is = subst (λ (r : Result (Unit {0}) RunFault). Took core answer r (core_with core pairs course turn)) (sym is) (took_by (tells turn.phase))
+  took_told : (result : Result (Unit {0}) RunFault) → result ≡ told_of turn.phase → Stands (core_with core pairs course turn) × Took (seen core) answer result new
+  took_told result is = (stands_then, subst (λ (r : Result (Unit {0}) RunFault). Took (seen core) answer r new) (sym is) (took_by (tells turn.phase)))
 
-module _ (core : RunCore) (answer : Answer) (runs_on : RunsOn core.given) (stands : Stands core) (may : MayAnswer core.course.tickets.items core.turn.asks answer) where
+module _ (core : Inside) (answer : Answer) (runs_on : RunsOn core.given) (stands : Stands core) (may : MayAnswer core.course.tickets.items core.turn.asks answer) where
   pub took : (pairs : Vec Pair Global) (new course : Course) (next turn : Turn) (result : Result (Unit {0}) RunFault) → CanGoOn core.course (job_in core.turn.phase) →
       pairs.items ≡ core.pairs.items ++ noted core.turn.asks answer ∷ [] → Moves core.given core.course core.turn answer next new →
       MakesRoom (vec_len pairs) (vec_capacity pairs) (past_of new) next turn → past_of course ≡ past_of new → course.known ≡ new.known → HasRoom course turn.phase →
-      result ≡ told_of turn.phase → Took core answer result (core_with core pairs course turn)
+      result ≡ told_of turn.phase → Stands (core_with core pairs course turn) × Took (seen core) answer result (seen (core_with core pairs course turn))
   took pairs new course next turn result can longer moved made same known room is =
       took_told core answer pairs course turn stands longer room (pairs_fit (vec_len pairs) (vec_capacity pairs) (past_of new) (past_of course) next turn same made)
       (taken_same core.given runs_on core.pairs.items core.course core.turn answer turn new course same known

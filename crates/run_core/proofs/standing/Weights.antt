@@ -1,15 +1,13 @@
 -- Each choice of what comes next leaves few answers.
-use Rattle.std.specs.Prelude.{◌≢◌, ◌-◌, ◌*◌, IsSome}
+use Rattle.std.specs.Prelude.{◌-◌, ◌*◌, IsSome}
 use Rattle.std.specs.List.{remove}
-use Rattle.std.proofs.Common.{◌≡◌, ◌∙◌, ℕ, ◌+◌, ◌<◌, ◌≤◌, List, [], ◌∷◌, ◌++◌, length, Bool, true, false, Option, Some, None, Result, refl, sym, ap, subst, arith, length-append}
+use Rattle.std.proofs.Common.{◌≡◌, ℕ, ◌+◌, ◌≤◌, List, [], ◌∷◌, ◌++◌, length, Bool, true, false, Option, Some, None, refl, sym, ap, subst, arith, length-append}
 use Rattle.std.proofs.lemmas.List.Edits.{length-remove}
 use Rattle.std.proofs.lemmas.Nat.{mul-le}
 use Rattle.std.proofs.lemmas.Option.{slice_get_within}
 use Rattle.plan_checker.specs.declared.graph.TheConstants.{MOST_VERTICES}
 use Rattle.job_graph.specs.Jobs.{Job, Walker}
-use Rattle.job_graph.specs.Unfold.{Resolved, or_else}
-use Rattle.run_rules.specs.declared.outcome.Report.{Report}
-use Rattle.run_rules.specs.declared.outcome.RunFault.{RunFault}
+use Rattle.job_graph.specs.Unfold.{Resolved}
 use Rattle.run_rules.specs.declared.setting.Options.{Options}
 use Rattle.run_core.specs.declared.state.Course.{Course}
 use Rattle.run_core.specs.declared.state.Flight.{Flight}
@@ -19,8 +17,8 @@ use Rattle.run_core.specs.declared.state.Kept.{Kept}
 use Rattle.run_core.specs.declared.state.Phase.{Phase}
 use Rattle.run_core.specs.declared.state.Turn.{Turn}
 use Rattle.run_core.specs.inner.Attempts.{IsBounded, answers_left, many_files, most_stagings, tries_of, weight_of_past}
-use Rattle.run_core.specs.inner.Course.{GivesUp, Past, TakesOut, again, known_in, no_more, past_of, too_often, with_end, with_staging, with_start}
-use Rattle.run_core.specs.inner.Knows.{IsUnfolded, end_by, fails as unfold_fails, knows as unfold_knows}
+use Rattle.run_core.specs.inner.Course.{GivesUp, Past, TakesOut, again, known_in, no_more, past_of, too_often, with_staging, with_start}
+use Rattle.run_core.specs.inner.Knows.{IsUnfolded, fails as unfold_fails, knows as unfold_knows}
 use Rattle.run_core.specs.inner.Picks.{AfterTemporary, Delivers, Picks, Stages, Turns, again as stages_again, asks, delivers, drains, ends_so, fails, gives, gives_late, has_result, no_more as tries_no_more, stages, succeeds_at_once, waits_for_one}
 use Rattle.run_core.proofs.standing.Leaving.{KnowsSome, learns_by}
 use Rattle.run_core.proofs.standing.Looked.{weight_next}

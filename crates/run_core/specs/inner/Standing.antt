@@ -18,7 +18,7 @@ use Rattle.run_rules.specs.End.{End}
 use Rattle.run_rules.specs.EndsSo.{EndsSo}
 use Rattle.run_rules.specs.Events.{Event, Progress, Started, nothing_due, started_at}
 use Rattle.run_rules.specs.Plans.{LoadsHeld}
-use Rattle.run_rules.specs.Reports.{report_of}
+use Rattle.run_rules.specs.Reports.{AreWaits, report_of}
 use Rattle.run_rules.specs.Run.{Goes}
 use Rattle.run_rules.specs.Scene.{Scene}
 use Rattle.run_rules.proofs.events.Places.{IsJob}
@@ -86,17 +86,12 @@ pub record Runs (s : Scene) (t : List Pair) (course : Course) (turn : Turn) : Ty
   pub goes : Goes s (LoadsHeld s) t happened marks
   pub at : IsAt s happened marks course turn
 
--- collects alone, whatever they were answered
-abbrev pub AreCollects : List Pair → Type 0
-AreCollects [] = Unit {0}
-AreCollects (pair ∷ pairs) = (pair.request ≡ Request.Host [] HostRequest.Collect) × AreCollects pairs
-
 -- the children in flight are waited for, and then it has ended
 pub data IsLostAt (past : Past) : Turn → Type 0 where
   draining : past.tickets ≢ [] → IsLostAt past (record { asks = Request.Host [] HostRequest.Collect; phase = Phase.Draining })
   lost : IsLostAt past (record { asks = Request.Finished; phase = Phase.Ended (Err RunFault.OutOfMemory) })
 
--- memory ran out: what was asked and answered is a run so far, and collects after it
+-- memory ran out: what was asked and answered is a run so far, and waits after it
 pub record RanOut (s : Scene) (t : List Pair) (past : Past) (turn : Turn) : Type 0 where
   pub front : List Pair
   pub tail : List Pair
@@ -104,7 +99,7 @@ pub record RanOut (s : Scene) (t : List Pair) (past : Past) (turn : Turn) : Type
   pub happened : Progress
   pub marks : List Mark
   pub goes : Goes s (LoadsHeld s) front happened marks
-  pub collects : AreCollects tail
+  pub collects : AreWaits tail
   pub at : IsLostAt past turn
 
 -- a failure that settled the end: one of the host's blames it rightly, and memory that ran out settles none

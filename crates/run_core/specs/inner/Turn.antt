@@ -26,6 +26,10 @@ collects = waits HostRequest.Collect Phase.Collecting
 abbrev pub ends : Result Report RunFault → Turn
 ends outcome = record { asks = Request.Finished; phase = Phase.Ended outcome }
 
+abbrev pub IsEnded : Phase → Type 0
+IsEnded (Phase.Ended outcome) = Unit {0}
+IsEnded phase = ⊥
+
 abbrev pub succeeds : Value → Turn
 succeeds outputs = ends (reported (Outcome.Success outputs))
 

@@ -1,4 +1,4 @@
-use Rattle.std.proofs.Common.{◌≡◌, ◌∙◌, ◌<◌, length, sym, arith, rules, tests}
+use Rattle.std.proofs.Common.{◌≡◌, arith, rules, tests}
 use Rattle.std.proofs.lemmas.Iterator.{IsFirst-from_position, YieldsList-from_slice}
 use Rattle.std.proofs.option.Match.{if_some}
 use Rattle.run_core.specs.inner.Course.{past_of}

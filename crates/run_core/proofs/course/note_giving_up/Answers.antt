@@ -1,6 +1,5 @@
-use Rattle.std.proofs.Common.{◌≡◌, ◌∙◌, Result, false, length, refl, sym, ap, subst}
+use Rattle.std.proofs.Common.{◌∙◌, Result, false, length, refl, sym, ap, subst}
 use Rattle.std.proofs.lemmas.Option.{slice_get_read}
-use Rattle.cwl_value.specs.declared.place.Segment.{Segment}
 use Rattle.job_graph.specs.Words.{JobPlace}
 use Rattle.job_graph.specs.inner.Views.{job_of}
 use Rattle.run_rules.specs.Reports.{reported}

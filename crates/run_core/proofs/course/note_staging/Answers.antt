@@ -1,5 +1,5 @@
 use Rattle.std.specs.Result.{is_ok}
-use Rattle.std.proofs.Common.{◌≡◌, ◌∙◌, ◌+◌, ◌<◌, cond, ◌++◌, ◌∷◌, [], ℕ, List, Result, length, refl, sym, ap, arith}
+use Rattle.std.proofs.Common.{◌≡◌, ◌∙◌, ◌+◌, ◌<◌, cond, ◌++◌, ◌∷◌, [], ℕ, List, length, refl, sym, ap, arith}
 use Rattle.std.proofs.lemmas.Option.{slice_get_read}
 use Rattle.run_core.specs.declared.state.JobState.{JobState}
 use Rattle.run_core.specs.inner.Course.{past_of, staged_in}

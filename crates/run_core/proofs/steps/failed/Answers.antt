@@ -1,4 +1,4 @@
-use Rattle.std.proofs.Common.{◌≡◌, ◌∙◌, ℕ, List, Err, ap}
+use Rattle.std.proofs.Common.{◌∙◌, ℕ, List, Err, ap}
 use Rattle.run_rules.specs.declared.outcome.RunFault.{RunFault}
 use Rattle.run_core.specs.inner.Course.{Past, past_of, with_end}
 use Rattle.run_core.proofs.Choices.{fault_by, if_lost}

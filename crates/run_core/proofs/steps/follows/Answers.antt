@@ -1,9 +1,9 @@
-use Rattle.std.proofs.Common.{◌<◌, ◌+◌, ◌^◌, rules, arith}
+use Rattle.std.proofs.Common.{rules, arith}
 use Rattle.proc_host.specs.declared.call.HostAnswer.{HostAnswer}
 use Rattle.run_rules.specs.Answers.{MayAnswer}
 use Rattle.run_rules.specs.declared.request.Answer.{Answer}
 use Rattle.run_core.specs.inner.Follows.{IsReady}
-use Rattle.run_core.proofs.Asked.{AtStart, AtWork, at_bytes, at_listing, at_measure, at_start, it_flies, ready_but, still_lists, still_measures, still_reads, still_starts}
+use Rattle.run_core.proofs.Asked.{at_bytes, at_listing, at_measure, at_start, it_flies, ready_but, still_lists, still_measures, still_reads, still_starts}
 use Rattle.run_core.proofs.Lists.{on_err}
 use Rattle.run_core.proofs.steps.follows.Goals as goal
 

@@ -3,7 +3,7 @@ use Rattle.job_graph.specs.inner.Views.{job_of}
 use Rattle.run_core.specs.declared.state.JobNext.{JobNext}
 use Rattle.run_core.specs.inner.Picks.{Turns, badly, for_now, well}
 use Rattle.run_core.proofs.Lists.{if_ok}
-use Rattle.run_core.proofs.Noted.{Lands, lands}
+use Rattle.run_core.proofs.Noted.{lands}
 use Rattle.run_core.proofs.steps.landed.Goals as goal
 
 pub job_of-requires : goal.job_of-requires

@@ -1,8 +1,19 @@
 use Rattle.std.proofs.Common.{◌∙◌}
-use Rattle.run_core.proofs.standing.Beginning.{begins_at}
+use Rattle.run_core.proofs.standing.Beginning.{begins_at, stands_first}
 use Rattle.run_core.proofs.runner.RunCore.new.Goals as goal
+
+pub invariant_of-result : goal.invariant_of-result
+invariant_of-result c =
+    stands_first _ c.requires.limits c.requires.accepted c.see_ids.ensures (c.start.ensures.items ∙ c.new-pairs.ensures.items) c.in-Ok.ensures.room _
+    c.at_first-course.ensures.past c.at_first-course.ensures.known c.in-Ok.ensures.begins c.in-Ok.ensures.one_more
 
 pub returns-in-Ok-clause-ok : goal.returns-in-Ok-clause-ok
 returns-in-Ok-clause-ok c =
-    begins_at _ c.requires.limits c.requires.accepted c.see_ids.ensures (c.in-Ok.ensures.items ∙ c.new.ensures.items) c.in-Ok.ensures.room _
-    c.at_first.ensures.past c.at_first.ensures.known c.in-Ok.ensures.begins c.in-Ok.ensures.one_more
+    begins_at (record {
+      alloc = c.args.alloc;
+      given = record { process = c.args.process; inputs = c.args.inputs; options = c.args.options };
+      pairs = c.start.new.pairs;
+      course = c.start.new.course;
+      turn = c.in-Ok.turn;
+    }) c.requires.limits c.requires.accepted c.see_ids.ensures (c.start.ensures.items ∙ c.new-pairs.ensures.items) c.in-Ok.ensures.room _
+    c.at_first-course.ensures.past c.at_first-course.ensures.known c.in-Ok.ensures.begins c.in-Ok.ensures.one_more

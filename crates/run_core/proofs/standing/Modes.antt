@@ -1,0 +1,42 @@
+-- How far a machine is, and what it tells.
+use Rattle.std.proofs.Common.{◌≡◌, Ok, Err, refl}
+use Rattle.run_rules.specs.declared.outcome.RunFault.{RunFault}
+use Rattle.run_core.specs.declared.state.Phase.{Phase}
+use Rattle.run_core.specs.Machine.{is_draining, is_over}
+use Rattle.run_core.specs.inner.Follows.{told_of}
+use Rattle.run_core.specs.inner.Inside.{mode_of}
+
+pub draining_phase : (phase : Phase) → mode_of phase ≡ is_draining → phase ≡ Phase.Draining
+draining_phase Phase.Draining is = refl
+draining_phase (Phase.Ended outcome) is = absurd cc
+draining_phase (Phase.Measuring measuring) is = absurd cc
+draining_phase (Phase.Staging number) is = absurd cc
+draining_phase (Phase.Working number phase) is = absurd cc
+draining_phase Phase.Collecting is = absurd cc
+draining_phase (Phase.Delivering outputs) is = absurd cc
+
+pub lost_phase : (phase : Phase) → mode_of phase ≡ is_over (Err RunFault.OutOfMemory) → phase ≡ Phase.Ended (Err RunFault.OutOfMemory)
+lost_phase (Phase.Ended outcome) is = cc
+lost_phase Phase.Draining is = absurd cc
+lost_phase (Phase.Measuring measuring) is = absurd cc
+lost_phase (Phase.Staging number) is = absurd cc
+lost_phase (Phase.Working number phase) is = absurd cc
+lost_phase Phase.Collecting is = absurd cc
+lost_phase (Phase.Delivering outputs) is = absurd cc
+
+-- what `take` answers
+pub data Tells (phase : Phase) : Type 0 where
+  tells_ok : told_of phase ≡ Ok tt → (mode_of phase ≡ is_over (Err RunFault.OutOfMemory) → ⊥) → Tells phase
+  tells_lost : phase ≡ Phase.Ended (Err RunFault.OutOfMemory) → Tells phase
+
+pub tells : (phase : Phase) → Tells phase
+tells (Phase.Ended (Err RunFault.OutOfMemory)) = tells_lost refl
+tells (Phase.Ended (Err RunFault.TooManyJobs)) = tells_ok refl (λ lost. cc)
+tells (Phase.Ended (Err (RunFault.Host fault running))) = tells_ok refl (λ lost. cc)
+tells (Phase.Ended (Ok report)) = tells_ok refl (λ lost. cc)
+tells (Phase.Measuring measuring) = tells_ok refl (λ lost. cc)
+tells (Phase.Staging number) = tells_ok refl (λ lost. cc)
+tells (Phase.Working number phase) = tells_ok refl (λ lost. cc)
+tells Phase.Collecting = tells_ok refl (λ lost. cc)
+tells (Phase.Delivering outputs) = tells_ok refl (λ lost. cc)
+tells Phase.Draining = tells_ok refl (λ lost. cc)
