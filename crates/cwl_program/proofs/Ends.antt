@@ -1,25 +1,38 @@
 -- From what a function answers to the end of the program.
-use Rattle.std.proofs.Common.{◌≡◌, ◌≢◌, ℕ, List, Result, Ok, Err, IfOk, inl, inr, subst, sym}
+use Rattle.std.proofs.Common.{◌≡◌, ◌≢◌, ℕ, List, Bool, true, false, Result, Ok, Err, IfOk, inl, inr, subst, sym}
 use Rattle.std.specs.Result.{result_unwrap_or}
 use Rattle.std.specs.declared.alloc.AllocError.{AllocError}
 use Rattle.clap.specs.Words.{HasKind, Text, fault_of, kind_of}
 use Rattle.clap.specs.declared.error.Error.{Error}
 use Rattle.clap.specs.declared.error.ErrorKind.TheVariants.{OutOfMemory}
 use Rattle.cwl_program.specs.CommandLine.{Asks, command_line, wish_of}
-use Rattle.cwl_program.specs.Tells.{Explains, Held, IsEndOf, LeadsTo, Tells, chooses, explains, out_of_memory}
+use Rattle.cwl_program.specs.Tells.{Explains, Held, IsEndOf, IsExplained, IsTold, LeadsTo, Prints, Tells, alone, asks_why, chooses, explained as and_words, explains, out_of_memory}
 use Rattle.cwl_program.specs.declared.command.Choice.{Choice}
 use Rattle.cwl_program.specs.declared.exit.Exit.{Exit}
 use Rattle.cwl_program.specs.declared.exit.Exit.TheVariants.{Fault}
 use Rattle.cwl_program.specs.declared.exit.Fault.TheVariants as faults
 
 -- what a choice comes to, or the fault where memory was short
-pub chosen_or_fault : (words : List Text) (choice : Choice) (answer : Result Exit AllocError) (exit : Exit)
+pub chosen_or_fault : (words : List Text) (choice : Choice) (answer : Result Exit AllocError) (exit : Exit) (why : Bool)
     → Asks words (wish_of choice) → IfOk answer (IsEndOf choice)
-    → exit ≡ result_unwrap_or answer (Fault faults.OutOfMemory) → LeadsTo words exit
-chosen_or_fault words choice (Ok x) exit asked end is_it =
-    subst (λ (e : Exit). LeadsTo words e) (sym is_it) (chooses choice asked end)
-chosen_or_fault words choice (Err error) exit asked end is_it =
-    subst (λ (e : Exit). LeadsTo words e) (sym is_it) out_of_memory
+    → exit ≡ result_unwrap_or answer (Fault faults.OutOfMemory) → why ≡ asks_why choice → LeadsTo words exit why
+chosen_or_fault words choice (Ok x) exit why asked end is_it same =
+    subst (λ (b : Bool). LeadsTo words exit b) (sym same)
+    (subst (λ (e : Exit). LeadsTo words e (asks_why choice)) (sym is_it) (chooses choice asked end))
+chosen_or_fault words choice (Err error) exit why asked end is_it same =
+    subst (λ (b : Bool). LeadsTo words exit b) (sym same)
+    (subst (λ (e : Exit). LeadsTo words e (asks_why choice)) (sym is_it) (out_of_memory choice asked))
+
+pub told_alone : (exit : Exit) (out out_new err err_new : Held) (why : Bool)
+    → why ≡ false → Prints exit out out_new err err_new → IsTold exit out out_new err err_new why
+told_alone exit out out_new err err_new why unasked line =
+    subst (λ (b : Bool). IsTold exit out out_new err err_new b) (sym unasked) (alone line)
+
+pub told_with_words : (exit : Exit) (out out_new err err_told err_new : Held) (why : Bool)
+    → why ≡ true → Prints exit out out_new err err_told → IsExplained exit err_told err_new
+    → IsTold exit out out_new err err_new why
+told_with_words exit out out_new err err_told err_new why asked line words =
+    subst (λ (b : Bool). IsTold exit out out_new err err_new b) (sym asked) (and_words err_told line words)
 
 pub explained : (words : List Text) (out out_new err err_new : Held) (error : Error) (status : ℕ)
     → kind_of error ≢ OutOfMemory → HasKind (fault_of command_line words) error

@@ -1,11 +1,12 @@
 -- The words of `run`, in the terms of `clap`, and what they name.
 use Rattle.std.specs.Prelude.{◌≡◌, ◌≤◌, ℕ, List, Option, Some, None, Bool, true, false, codes, unwrap_or, option_map}
+use Rattle.std.specs.Str.{bytes_eq}
 use Rattle.std.specs.Str.Parse.{IsNumeral, digits_value, without_leading_plus}
 use Rattle.clap.specs.Words.{App, Row, Rule, Text, first_of, new_app, new_rule, with_rule}
 use Rattle.clap.specs.declared.builder.command.Command.{Command}
 use Rattle.clap.specs.declared.builder.command.Command.TheViews.{out-Command}
 use Rattle.cwl_program.specs.declared.run_words.RunWords.{RunWords}
-use Rattle.clap.specs.declared.builder.ArgAction.TheVariants.{Set}
+use Rattle.clap.specs.declared.builder.ArgAction.TheVariants.{Set, SetTrue}
 use Rattle.clap.specs.declared.builder.value_parser.ValueParser.TheVariants.{Unsigned}
 
 -- an argument by its place, and one by its name, as `--work DIR`
@@ -19,7 +20,11 @@ named_rule id = record (new_rule id) { long = Some id; action = Some Set; value_
 abbrev pub numbered_rule : Text → ℕ → ℕ → Rule
 numbered_rule id least most = record (named_rule id) { parser = Some (Unsigned least most) }
 
--- `run` with its two folders alone, with its two numbers, with its document, and with the input object too
+-- an option without a value, as `--explain`
+abbrev pub flag_rule : Text → Rule
+flag_rule id = record (new_rule id) { long = Some id; action = Some SetTrue }
+
+-- `run` with its two folders alone, with its two numbers, with its other option, with its document, and with the input object too
 abbrev pub with_folders : App
 with_folders = with_rule (with_rule (new_app (codes "run")) (named_rule (codes "work"))) (named_rule (codes "outdir"))
 
@@ -29,8 +34,11 @@ with_slots = with_rule with_folders (numbered_rule (codes "slots") 1 64)
 abbrev pub with_numbers : App
 with_numbers = with_rule with_slots (numbered_rule (codes "retries") 0 10)
 
+abbrev pub with_explain : App
+with_explain = with_rule with_numbers (flag_rule (codes "explain"))
+
 abbrev pub with_document : App
-with_document = with_rule with_numbers (placed_rule (codes "DOCUMENT") true)
+with_document = with_rule with_explain (placed_rule (codes "DOCUMENT") true)
 
 abbrev pub run_command : App
 run_command = with_rule with_document (placed_rule (codes "INPUTS") false)
@@ -39,7 +47,8 @@ run_command = with_rule with_document (placed_rule (codes "INPUTS") false)
 abbrev pub IsLocal : Command → Type 0
 IsLocal command = (out-Command command).has_globals ≡ false
 
--- the document, the input object's file where one is named, the two folders, and the texts of the two numbers that are given
+-- the document, the input object's file where one is named, the two folders, the texts of the two numbers that are given, and
+-- whether to say in words what went wrong
 pub record RunWish : Type 0 where
   pub document : Text
   pub inputs : Option Text
@@ -47,6 +56,7 @@ pub record RunWish : Type 0 where
   pub outdir : Text
   pub slots : Option Text
   pub retries : Option Text
+  pub explain : Bool
 
 -- what the words of `run` name
 abbrev pub run_wish : List Row → RunWish
@@ -57,6 +67,7 @@ run_wish rows = record {
   outdir = unwrap_or (first_of (codes "outdir") rows) (codes ".");
   slots = first_of (codes "slots") rows;
   retries = first_of (codes "retries") rows;
+  explain = bytes_eq (unwrap_or (first_of (codes "explain") rows) (codes "")) (codes "true");
 }
 
 abbrev pub wish_of_run : RunWords → RunWish
@@ -67,6 +78,7 @@ wish_of_run words = record {
   outdir = words.outdir.now;
   slots = option_map (λ s. s.now) words.slots;
   retries = option_map (λ s. s.now) words.retries;
+  explain = words.explain;
 }
 
 -- ---- the numbers

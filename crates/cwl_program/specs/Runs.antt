@@ -50,7 +50,7 @@ place_json place = compact_text (json_of (values.Text (job_text place)))
 -- the output object in one line, or which job failed and how
 abbrev pub outcome_exit : Outcome → Exit
 outcome_exit (outcomes.Success outputs) = exits.Output (compact_text (json_of outputs))
-outcome_exit (outcomes.PermanentFail place cause) = exits.Permanent (place_json place)
+outcome_exit (outcomes.PermanentFail place cause) = exits.Permanent (place_json place) cause
 outcome_exit (outcomes.TemporaryFail place) = exits.Temporary (place_json place)
 
 -- a run that has no outcome is a fault

@@ -9,7 +9,7 @@ abbrev pub status_of : Exit → ℕ
 status_of (Output line) = 0
 status_of (Broken rule) = 1
 status_of (Record ending) = record_program.status_of ending
-status_of (Permanent place) = 1
+status_of (Permanent place cause) = 1
 status_of (Temporary place) = 2
 status_of (Fault fault) = 3
 status_of (Refused refusal) = 33

@@ -1,5 +1,5 @@
 -- What the program writes to its two writers for these words, and the status that it then answers.
-use Rattle.std.specs.Prelude.{◌≡◌, ◌≢◌, ℕ, List, ◌++◌, Option, None, codes, option_map}
+use Rattle.std.specs.Prelude.{◌≡◌, ◌≢◌, ℕ, List, ◌++◌, Bool, true, false, Option, None, codes, option_map}
 use Rattle.std.specs.Io.KnownBytes.{Appends}
 use Rattle.clap.specs.Words.{IsAmong, Text, fault_of}
 use Rattle.clap.specs.declared.error.ErrorKind.{ErrorKind}
@@ -30,7 +30,7 @@ abbrev pub Prints : Exit → (out out_new err err_new : Held) → Type 0
 Prints (Output line) out out_new err err_new = IsGiven line out out_new err err_new
 Prints (Broken rule) out out_new err err_new = IsGiven (codes "broken " ++ name_of rule) out out_new err err_new
 Prints (Shows ending) out out_new err err_new = record_program.Prints ending out out_new err err_new
-Prints (Permanent place) out out_new err err_new = IsGiven (codes "permanentFail " ++ place) err err_new out out_new
+Prints (Permanent place cause) out out_new err err_new = IsGiven (codes "permanentFail " ++ place) err err_new out out_new
 Prints (Temporary place) out out_new err err_new = IsGiven (codes "temporaryFail " ++ place) err err_new out out_new
 Prints (Refused refusal) out out_new err err_new = IsGiven (codes "refused: " ++ refusal_code refusal) err err_new out out_new
 Prints (Fault fault) out out_new err err_new = IsGiven (codes "fault: " ++ word_of fault) err err_new out out_new
@@ -46,10 +46,18 @@ IsEndOf (Check file) exit = IsCheck exit
 IsEndOf (Run words) exit = IsRunExit (option_map (λ s. s.now) words.slots) (option_map (λ s. s.now) words.retries) exit
 IsEndOf (Record words) exit = IsRecordExit exit
 
--- the end that these words lead to
-pub data LeadsTo (words : List Text) : Exit → Type 0 where
-  chooses : {exit : Exit} (choice : Choice) → Asks words (wish_of choice) → IsEndOf choice exit → LeadsTo words exit
-  out_of_memory : LeadsTo words (Fault faults.OutOfMemory)
+-- whether the choice asks for words on what went wrong
+abbrev pub asks_why : Choice → Bool
+asks_why (Run words) = words.explain
+asks_why choice = false
+
+-- the end that these words lead to, and whether it is to be explained
+pub data LeadsTo (words : List Text) : Exit → Bool → Type 0 where
+  chooses : {exit : Exit} (choice : Choice) → Asks words (wish_of choice) → IsEndOf choice exit → LeadsTo words exit (asks_why choice)
+  -- memory ran out on the way to that end
+  out_of_memory : (choice : Choice) → Asks words (wish_of choice) → LeadsTo words (Fault faults.OutOfMemory) (asks_why choice)
+  -- or before the words were read
+  unread : LeadsTo words (Fault faults.OutOfMemory) false
 
 -- `clap` answers with what is wrong, and not with the help that the words ask for
 abbrev pub IsWrong : ErrorKind → Type 0
@@ -62,16 +70,33 @@ pub data Explains (kind : ErrorKind) (out out_new err err_new : Held) : ℕ → 
   -- a write failed
   unwritten : Explains kind out out_new err err_new 3
 
--- an end is said in its line, with its status
-pub data Says (exit : Exit) (out out_new err err_new : Held) : ℕ → Type 0 where
-  says : Prints exit out out_new err err_new → Says exit out out_new err err_new (status_of exit)
+-- a writer was given a line more
+abbrev pub HasLine : (old new : Held) → Type 0
+HasLine old new = (words : List ℕ) × Appends old new (words ++ codes "\n")
+
+-- what follows the line of an end on the errors: nothing where nothing went wrong, else a line in words
+abbrev pub IsExplained : Exit → (err err_new : Held) → Type 0
+IsExplained (Output line) err err_new = err_new ≡ err
+IsExplained (Broken rule) err err_new = err_new ≡ err
+IsExplained (Shows ending) err err_new = err_new ≡ err
+IsExplained exit err err_new = HasLine err err_new
+
+-- an end is said in its line; where it is to be explained, words follow on the errors
+pub data IsTold (exit : Exit) (out out_new err err_new : Held) : Bool → Type 0 where
+  alone : Prints exit out out_new err err_new → IsTold exit out out_new err err_new false
+  explained : (err_told : Held) → Prints exit out out_new err err_told → IsExplained exit err_told err_new →
+      IsTold exit out out_new err err_new true
+
+-- an end is said, with its status
+pub data Says (exit : Exit) (explains : Bool) (out out_new err err_new : Held) : ℕ → Type 0 where
+  says : IsTold exit out out_new err err_new explains → Says exit explains out out_new err err_new (status_of exit)
   -- a write failed
-  fails : Says exit out out_new err err_new 3
+  fails : Says exit explains out out_new err err_new 3
 
 -- what is written and answered for these words
 pub data Tells (words : List Text) (out out_new err err_new : Held) (status : ℕ) : Type 0 where
   -- the words lead to this end
-  ends : (exit : Exit) → LeadsTo words exit → Says exit out out_new err err_new status →
+  ends : (exit : Exit) (explains : Bool) → LeadsTo words exit explains → Says exit explains out out_new err err_new status →
       Tells words out out_new err err_new status
   -- the words ask for help, or are refused, by a kind that they may be refused by
   explains : (kind : ErrorKind) → IsAmong kind (fault_of command_line words) →

@@ -94,10 +94,8 @@ fn ended(alloc: Global, given: &Given, world: World) -> Result<Exit, AllocError>
     let World { options, script } = world;
     let mut host = Scripted::new(alloc, script, 0);
     let report = run(alloc, &mut host, &given.process, &given.inputs, options);
-    let exit = exit_of_run(alloc, &report);
-    mem::drop(report);
     mem::drop(host);
-    exit
+    exit_of_run(alloc, report)
 }
 
 /// What the example's run is done with.

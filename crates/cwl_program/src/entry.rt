@@ -1,20 +1,21 @@
-ghost use Rattle.std.specs.Prelude.{◌≡◌, ◌≢◌, IfOk, IfErr, map, string_bytes};
+ghost use Rattle.std.specs.Prelude.{◌≡◌, ◌≢◌, IfOk, IfErr, OnOk, map, string_bytes};
 ghost use Rattle.clap.specs.Words.{HasKind, fault_of, kind_of};
 ghost use Rattle.cwl_program.specs.CommandLine.{Asks, command_line};
-ghost use Rattle.cwl_program.specs.Tells.{Explains, IsEndOf, IsRecordExit, LeadsTo, Says, Tells};
+ghost use Rattle.cwl_program.specs.Tells.{Explains, IsEndOf, IsRecordExit, IsTold, LeadsTo, Says, Tells, asks_why};
 ghost use Rattle.std.specs.Result.{result_unwrap_or};
 
 use crate::certificate::exit_of_check;
 use crate::command::{Choice, choice_of};
 use crate::demo::exit_of_demo;
 use crate::exit::{Exit, Fault};
+use crate::explaining::explain_exit;
 use crate::record_words::RecordWords;
 use crate::run::exit_of_process;
 use clap::Error;
 use clap::error::ErrorKind;
 use process_machine::World;
 use record_program::Records;
-use std::alloc::AllocError;
+use std::alloc::{AllocError, Global};
 use std::io::Write;
 use std::process::{ExitCode, Stdio};
 use std::rt::Env;
@@ -67,40 +68,61 @@ where
     R::File: Into<Stdio>,
     ensures { Tells (map (λ word. string_bytes word) words.now) (O.contents out.old) (O.contents out.new) (E.contents err.old) (E.contents err.new) result }
 {
-    match exit_of(rt, words, path) {
-        Ok(exit) => {
-            let status = say(&exit, out, err);
-            mem::drop(exit);
+    match end_of(rt, words, path) {
+        Ok(end) => {
+            let status = say(rt.alloc(), &end, out, err);
+            mem::drop(end);
             status
         }
         Err(error) => explain(&error, out, err),
     }
 }
 
+/// How the program ends, and whether that is to be explained in words.
+#[derive(Drop)]
+struct End {
+    exit: Exit,
+    explains: bool,
+}
+
 /// Says how the program ends.
-fn say<O: Write, E: Write>(exit: &Exit, out: &mut O, err: &mut E) -> u8
-    ensures { Says exit.now (O.contents out.old) (O.contents out.new) (E.contents err.old) (E.contents err.new) result }
+fn say<O: Write, E: Write>(alloc: Global, end: &End, out: &mut O, err: &mut E) -> u8
+    ensures { Says end.now.exit end.now.explains (O.contents out.old) (O.contents out.new) (E.contents err.old) (E.contents err.new) result }
 {
-    match exit.print(out, err) {
-        Ok(()) => exit.status(),
+    match tell(alloc, end, out, err) {
+        Ok(()) => end.exit.status(),
         Err(_) => FAULT,
     }
 }
 
+fn tell<O: Write, E: Write>(alloc: Global, end: &End, out: &mut O, err: &mut E) -> io::Result<()>
+    ensures { OnOk result (IsTold end.now.exit (O.contents out.old) (O.contents out.new) (E.contents err.old) (E.contents err.new) end.now.explains) }
+{
+    end.exit.print(out, err)?;
+    if end.explains {
+        return explain_exit(alloc, &end.exit, err);
+    }
+    Ok(())
+}
+
 /// Returns the end that the words lead to, or `clap`'s error.
-#[tactic(auto, using(crate::specs::Tells::out_of_memory))]
-fn exit_of<R: World + Env + Records>(rt: &R, words: &[String], path: &str) -> Result<Exit, Error>
+#[tactic(auto, using(crate::specs::Tells::unread))]
+fn end_of<R: World + Env + Records>(rt: &R, words: &[String], path: &str) -> Result<End, Error>
 where
     R::File: Into<Stdio>,
-    ensures ok { IfOk result (LeadsTo (map (λ word. string_bytes word) words.now)) }
+    ensures ok { IfOk result (λ end. LeadsTo (map (λ word. string_bytes word) words.now) end.exit end.explains) }
     ensures other { IfErr result (λ e. kind_of e ≢ ErrorKind.OutOfMemory) }
     ensures err { IfErr result (HasKind (fault_of command_line (map (λ word. string_bytes word) words.now))) }
 {
     match choice_of(rt.alloc(), words) {
-        Ok(choice) => Ok(exit_or_fault(end_of_choice(rt, &choice, path))),
-        Err(error) if matches!(error.kind(), ErrorKind::OutOfMemory) => {
-            Ok(Exit::Fault(Fault::OutOfMemory))
-        }
+        Ok(choice) => Ok(End {
+            exit: exit_or_fault(end_of_choice(rt, &choice, path)),
+            explains: asks_why(&choice),
+        }),
+        Err(error) if matches!(error.kind(), ErrorKind::OutOfMemory) => Ok(End {
+            exit: Exit::Fault(Fault::OutOfMemory),
+            explains: false,
+        }),
         Err(error) => Err(error),
     }
 }
@@ -127,6 +149,16 @@ fn exit_of_record<R: Records>(rt: &R, words: &RecordWords) -> Exit
     ensures { IsRecordExit result }
 {
     Exit::Record(rt.record_ending(words.file, words.forget))
+}
+
+/// Whether the choice asks for words on what went wrong.
+fn asks_why(choice: &Choice) -> bool
+    ensures { result ≡ asks_why choice.now }
+{
+    match choice {
+        Choice::Run(words) => words.explain,
+        _ => false,
+    }
 }
 
 /// Out of memory ends the program as a fault.

@@ -10,6 +10,7 @@ use plain_data::Text;
 use plan_checker::Broken;
 use proc_host::HostFault;
 use record_program::Ending;
+use run_core::Cause;
 use std::io;
 use std::io::Write;
 use workflow_check::LinkCheckFault;
@@ -23,8 +24,8 @@ pub enum Exit {
     Broken(Broken),
     /// The rows of a record, or why they can't be shown.
     Record(Ending),
-    /// A job failed permanently; its place as JSON text.
-    Permanent(Text),
+    /// A job failed permanently: its place as JSON text, and why.
+    Permanent(Text, Cause),
     /// A job failed temporarily; its place as JSON text.
     Temporary(Text),
     /// What the program was given is refused.
@@ -115,7 +116,7 @@ impl Exit {
     {
         match self {
             Exit::Output(_) => 0,
-            Exit::Broken(_) | Exit::Permanent(_) => 1,
+            Exit::Broken(_) | Exit::Permanent(_, _) => 1,
             Exit::Temporary(_) => 2,
             Exit::Record(ending) => ending.status(),
             Exit::Fault(_) => 3,
@@ -131,7 +132,7 @@ impl Exit {
             Exit::Output(line) => writeln!(out, "{line}"),
             Exit::Broken(broken) => writeln!(out, "broken {}", rule_name(*broken)),
             Exit::Record(ending) => ending.print(out, err),
-            Exit::Permanent(place) => writeln!(err, "permanentFail {place}"),
+            Exit::Permanent(place, _) => writeln!(err, "permanentFail {place}"),
             Exit::Temporary(place) => writeln!(err, "temporaryFail {place}"),
             Exit::Refused(refusal) => writeln!(err, "refused: {}", refusal.code()),
             Exit::Fault(fault) => writeln!(err, "fault: {}", fault.word()),

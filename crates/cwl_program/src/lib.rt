@@ -4,7 +4,7 @@
 //! `main_run` is the whole program over two writers, and `program` hands it the words, `PATH`, the standard output and
 //! the standard error. Its contract, `Tells`, says which words lead to which end, and which line and status say it:
 //! `ok COST` for the text of a certificate of that cost alone, `broken NAME` by the first broken rule, `refused: X1`
-//! for every other text, and a run's end by its report.
+//! for every other text, and a run's end by its report. With `run --explain` a line in words follows that of a failure.
 #![tactic(auto)]
 
 mod certificate;
@@ -13,6 +13,7 @@ mod demo;
 mod documents;
 mod entry;
 mod exit;
+mod explaining;
 mod inputs;
 mod paths;
 mod record_words;

@@ -281,8 +281,6 @@ where
     ensures { IfOk result (IsRan options) }
 {
     let report = run(alloc, &mut host, &given.process, &given.inputs, options);
-    let exit = exit_of_run(alloc, &report);
-    mem::drop(report);
     mem::drop(host);
-    exit
+    exit_of_run(alloc, report)
 }

@@ -1,6 +1,6 @@
 ghost use Rattle.std.specs.Prelude.{◌≡◌, ◌≤◌, IfOk, IfErr, Some, false, option_map};
 ghost use Rattle.clap.specs.Words.{app_of, found_of, kind_of, rows_of, rule_of};
-ghost use Rattle.cwl_program.specs.RunWords.{IsChosen, IsLocal, named_rule, numbered_rule, placed_rule, run_command, run_wish, wish_of_run, with_document, with_folders, with_numbers, with_slots};
+ghost use Rattle.cwl_program.specs.RunWords.{IsChosen, IsLocal, flag_rule, named_rule, numbered_rule, placed_rule, run_command, run_wish, wish_of_run, with_document, with_explain, with_folders, with_numbers, with_slots};
 
 use clap::builder::ValueParser;
 use clap::error::ErrorKind;
@@ -22,6 +22,8 @@ const SLOTS_HELP: &str = "How many jobs may run side by side, from 1 to 64 [1]";
 const RETRIES_HELP: &str =
     "How often a job that fails temporarily is started again, from 0 to 10 [0]";
 
+const EXPLAIN_HELP: &str = "Say in words what went wrong, and where";
+
 const INPUTS_HELP: &str = "The input object's file, in JSON; without it the object is empty";
 
 /// The files and folders that the words of a run name, and the texts of its numbers.
@@ -33,6 +35,8 @@ pub struct RunWords<'a> {
     pub outdir: &'a str,
     pub slots: Option<&'a str>,
     pub retries: Option<&'a str>,
+    /// Whether to say in words what went wrong.
+    pub explain: bool,
 }
 
 /// An argument by its place.
@@ -68,6 +72,17 @@ fn numbered<'a>(alloc: Global, id: &'a str, least: u64, most: u64, help: &'a str
         .value_name("N")
         .action(ArgAction::Set)
         .value_parser(ValueParser::Unsigned(least, most))
+        .help(help)
+}
+
+/// An option without a value, as `--explain`.
+fn flag<'a>(alloc: Global, id: &'a str, help: &'a str) -> Arg<'a>
+    ensures rule { rule_of result ≡ flag_rule id.now }
+    ensures local { result.global ≡ false }
+{
+    Arg::new(alloc, id)
+        .long(id)
+        .action(ArgAction::SetTrue)
         .help(help)
 }
 
@@ -108,6 +123,17 @@ fn numbers_command<'a>(alloc: Global) -> Result<Command<'a>, Error>
     Ok(command)
 }
 
+// And with its other option.
+fn explain_command<'a>(alloc: Global) -> Result<Command<'a>, Error>
+    ensures ok { IfOk result (λ command. app_of command ≡ with_explain) }
+    ensures local { IfOk result IsLocal }
+    ensures err { IfErr result (λ e. kind_of e ≡ ErrorKind.OutOfMemory) }
+{
+    let explain = flag(alloc, "explain", EXPLAIN_HELP);
+    let command = numbers_command(alloc)?.arg(explain)?;
+    Ok(command)
+}
+
 // And with its document.
 fn document_command<'a>(alloc: Global) -> Result<Command<'a>, Error>
     ensures ok { IfOk result (λ command. app_of command ≡ with_document) }
@@ -120,7 +146,7 @@ fn document_command<'a>(alloc: Global) -> Result<Command<'a>, Error>
         true,
         "The document of the process, in JSON",
     );
-    let command = numbers_command(alloc)?.arg(document)?;
+    let command = explain_command(alloc)?.arg(document)?;
     Ok(command)
 }
 
@@ -146,6 +172,7 @@ pub fn run_words<'a>(words: &ArgMatches<'a>) -> RunWords<'a>
         outdir: words.get_str("outdir").unwrap_or("."),
         slots: words.get_str("slots"),
         retries: words.get_str("retries"),
+        explain: words.get_str("explain").unwrap_or("") == "true",
     }
 }
 

@@ -3,7 +3,7 @@ use Rattle.cwl_program.proofs.Ends.{explained}
 use Rattle.cwl_program.proofs.entry.main_run.Goals as goal
 
 pub returns-in-Ok : goal.returns-in-Ok
-returns-in-Ok g c = ends c.in-Ok.exit c.in-Ok.ensures.ok c.say-status.ensures
+returns-in-Ok g c = ends c.in-Ok.end.exit c.in-Ok.end.explains c.in-Ok.ensures.ok c.say-status.ensures
 
 pub returns-in-Err : goal.returns-in-Err
 returns-in-Err g c =

@@ -1,0 +1,10 @@
+use Rattle.std.proofs.lemmas.Result.{on_ok_weaker}
+use Rattle.cwl_program.proofs.Ends.{told_alone, told_with_words}
+use Rattle.cwl_program.proofs.entry.tell.Goals as goal
+
+pub returns-then-end : goal.returns-then-end
+returns-then-end g c =
+    on_ok_weaker c.explain_exit.result (λ words. told_with_words _ _ _ _ _ _ _ c.if-end.true c.in_ok-print.ensures words) c.explain_exit.ensures
+
+pub returns : goal.returns
+returns g c = told_alone _ _ _ _ _ _ c.if-end.false c.in_ok-print.ensures
