@@ -56,7 +56,8 @@ fn words(rt: &HostRuntime) -> io::Result<Vec<String>> {
 /// Runs the whole program over two writers, for these words (the program's name first) and this `PATH` for children.
 ///
 /// Returns the exit status: 0 success, 1 a permanent failure or a broken certificate, 2 a temporary failure, 33 a refused
-/// document, input or certificate, 3 any other fault. A write that fails ends with 3.
+/// document, input or certificate, 3 any other fault. A write that fails ends with 3, and so do words of `--explain` for which
+/// there is no memory.
 pub fn main_run<R: World + Env + Records, O: Write, E: Write>(
     rt: &R,
     words: &[String],
@@ -95,6 +96,7 @@ fn say<O: Write, E: Write>(alloc: Global, end: &End, out: &mut O, err: &mut E) -
     }
 }
 
+// Writes the line of an end, and behind it the words that it is to be explained in.
 fn tell<O: Write, E: Write>(alloc: Global, end: &End, out: &mut O, err: &mut E) -> io::Result<()>
     ensures { OnOk result (IsTold end.now.exit (O.contents out.old) (O.contents out.new) (E.contents err.old) (E.contents err.new) end.now.explains) }
 {

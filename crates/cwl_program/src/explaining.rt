@@ -26,6 +26,7 @@ pub fn explain_exit<E: Write>(alloc: Global, exit: &Exit, err: &mut E) -> io::Re
     }
 }
 
+// Writes these words as a line.
 fn put_line<E: Write>(words: &str, err: &mut E) -> io::Result<()>
     ensures { OnOk result (HasLine (E.contents err.old) (E.contents err.new)) }
 {
@@ -56,7 +57,9 @@ fn cause_words(alloc: Global, cause: &Cause) -> Result<String, AllocError> {
 fn equation_words(alloc: Global, cause: &NoValue) -> Result<String, AllocError> {
     match cause {
         NoValue::Missing(input) => {
-            format!(in alloc; "a file of input `{input}` is absent, or of the other kind")
+            format!(in alloc;
+                "a File or Directory of input `{input}` is absent, or of the other kind"
+            )
         }
         NoValue::Kind(input) => {
             format!(in alloc; "the value of input `{input}` does not fit its type")
