@@ -7,14 +7,18 @@
 //! `{"found":[[NAME,IS_DIR,SIZE,SUM]]}` and `{"delivered":true}`. A call that the script does not answer next fails.
 #![tactic(auto)]
 
+mod alone;
 mod copies;
 mod end;
+mod giving_up;
 mod hosts;
 mod list;
 mod machine;
+mod orders;
 mod requests;
 mod run;
 mod script;
+mod timed;
 mod words;
 
 use row_io::{Answers, Row, RowFault, answer_rows};
@@ -34,6 +38,9 @@ impl Answers for Calls<'_> {
             "copy_listing" => copies::listing(alloc, row),
             "copy_plan" => copies::plan(alloc, row),
             "run" => run::answer(alloc, row),
+            "gives_up" => giving_up::answer(alloc, row),
+            "orders" => orders::answer(alloc, row),
+            "timed" => timed::answer(self.0, row),
             "main_run" => words::program(self.0, row),
             "main_run_out_of_room" => words::program_out_of_room(self.0, row),
             "child" | "children" | "stage" | "deliver" => machine::told_of(self.0, row),

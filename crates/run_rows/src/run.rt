@@ -38,13 +38,45 @@ fn answer_on(alloc: Global, row: &Row, host: &mut Scripted) -> Result<String, Ro
 fn end_on(alloc: Global, row: &Row, host: &mut Scripted) -> Result<String, RowFault>
     requires { host.old.running ≡ [] }
 {
+    let case = case_of(alloc, row)?;
+    let end = end_of(alloc, row, host, &case);
+    mem::drop(case);
+    end
+}
+
+fn end_of(alloc: Global, row: &Row, host: &mut Scripted, case: &Case) -> Result<String, RowFault>
+    requires { host.old.running ≡ [] }
+{
     let options = options_of(alloc, row)?;
-    let inputs = inputs_of(alloc, row)?;
-    let process = accepted(alloc, row)?;
-    let end = run(alloc, host, process.as_process(), &inputs, options);
+    let end = run(
+        alloc,
+        host,
+        case.process.as_process(),
+        &case.inputs,
+        options,
+    );
     let text = end_json(alloc, &end);
     mem::drop(end);
     text
+}
+
+/// What a row's run is of.
+#[derive(Drop)]
+pub struct Case {
+    pub process: Accepted,
+    pub inputs: Keyed<Value>,
+}
+
+/// The row's process, where it is accepted, and its inputs.
+pub fn case_of(alloc: Global, row: &Row) -> Result<Case, RowFault> {
+    let inputs = inputs_of(alloc, row)?;
+    match accepted(alloc, row) {
+        Ok(process) => Ok(Case { process, inputs }),
+        Err(fault) => {
+            mem::drop(inputs);
+            Err(fault)
+        }
+    }
 }
 
 /// A host that answers from the row's script; it collects once `least_started` children were started, where the row says so.
@@ -95,7 +127,7 @@ fn natural_or(row: &Row, name: &str, absent: u64) -> Result<u64, RowFault> {
 }
 
 /// What the row's run may use: its `slots` and `retries`, which are 1 and 0 where it has none.
-fn options_of(alloc: Global, row: &Row) -> Result<Options, RowFault>
+pub fn options_of(alloc: Global, row: &Row) -> Result<Options, RowFault>
     ensures { IfOk result IsWithinLimits }
 {
     let slots = natural_or(row, "slots", 1)?;
