@@ -83,15 +83,22 @@ impl<'a> RunCore<'a> {
         };
         let mut pairs = Vec::new(alloc);
         let mut course = at_first(alloc);
-        match start(alloc, &given, &mut pairs, &mut course) {
-            Ok(turn) => Ok(RunCore {
+        let mut turn = ended(Err(RunFault::OutOfMemory));
+        match start(alloc, &given, &mut pairs, &mut course, &mut turn) {
+            Ok(()) => Ok(RunCore {
                 alloc,
                 given,
                 pairs,
                 course,
                 turn,
             }),
-            Err(AllocError) => Err(RunFault::OutOfMemory),
+            Err(AllocError) => {
+                mem::drop(given);
+                mem::drop(pairs);
+                mem::drop(course);
+                mem::drop(turn);
+                Err(RunFault::OutOfMemory)
+            }
         }
     }
 
@@ -155,27 +162,37 @@ impl<'a> RunCore<'a> {
         ensures lost { (result ≡ Err RunFault.OutOfMemory) ↔ IsLost self.entry }
     {
         an_honest_run_is_reported_rightly();
-        let turn = self.turn;
-        outcome_of(turn.phase)
+        let RunCore {
+            alloc: _,
+            given,
+            pairs,
+            course,
+            turn,
+        } = self;
+        mem::drop(given);
+        mem::drop(pairs);
+        mem::drop(course);
+        phase_outcome(turn)
     }
 }
 
-/// The first turn, with room for one pair and one more.
+/// Comes to the first turn, with room for one pair and one more.
 fn start<'a>(
     alloc: Global,
     given: &Given<'a>,
     pairs: &mut Vec<Pair>,
     course: &mut Course<'a>,
-) -> Result<Turn, AllocError>
+    turn: &mut Turn,
+) -> Result<(), AllocError>
     requires { course.old.folders ≡ 0 }
     ensures items { pairs.new.items ≡ pairs.old.items }
     ensures room { OnOk result (vec_len pairs.new + 2 ≤ vec_capacity pairs.new) }
-    ensures begins { IfOk result (λ turn. BeginsAt given.now course.old turn course.new) }
-    ensures one_more { IfOk result (λ turn. HasRoom course.new turn.phase) }
+    ensures begins { OnOk result (BeginsAt given.now course.old turn.new course.new) }
+    ensures one_more { OnOk result (HasRoom course.new turn.new.phase) }
 {
-    let turn = begun(alloc, given, course)?;
-    reserve(pairs, course)?;
-    Ok(turn)
+    let first = begun(alloc, given, course)?;
+    mem::drop(mem::replace(turn, first));
+    reserve(pairs, course)
 }
 
 /// Moves to the state that follows from the answer, and gives back what was asked.
@@ -278,7 +295,17 @@ fn told_of(phase: &Phase) -> Result<(), RunFault>
     }
 }
 
-/// What `finish` answers, at the end.
+/// What `finish` answers after the last turn.
+fn phase_outcome(turn: Turn) -> Result<Report, RunFault>
+    requires { IsEnded turn.phase }
+    ensures { turn.phase ≡ Phase.Ended result }
+{
+    let Turn { asks, phase } = turn;
+    mem::drop(asks);
+    outcome_of(phase)
+}
+
+/// What it answers at the end.
 fn outcome_of(phase: Phase) -> Result<Report, RunFault>
     requires { IsEnded phase }
     ensures { phase ≡ Phase.Ended result }

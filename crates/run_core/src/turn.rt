@@ -11,6 +11,7 @@ use cwl_value::{JobPlace, Value, copy_job};
 use plain_data::Items;
 use proc_host::HostRequest;
 use std::alloc::{AllocError, Global};
+use std::mem;
 
 pub(crate) fn reported(alloc: Global, outcome: Outcome) -> Result<Report, RunFault>
     ensures { result ≡ reported outcome }
@@ -92,11 +93,17 @@ pub(crate) fn working(
 ) -> Result<Turn, AllocError>
     ensures { IfOk result (λ turn. turn ≡ works place.now number request phase) }
 {
-    let place = copy_job(alloc, place)?;
-    Ok(Turn {
-        asks: Request::Host(place, request),
-        phase: Phase::Working(number, phase),
-    })
+    match copy_job(alloc, place) {
+        Ok(place) => Ok(Turn {
+            asks: Request::Host(place, request),
+            phase: Phase::Working(number, phase),
+        }),
+        Err(refused) => {
+            mem::drop(request);
+            mem::drop(phase);
+            Err(refused)
+        }
+    }
 }
 
 /// The job gives no outputs.

@@ -4,10 +4,10 @@ use Rattle.run_core.specs.Machine.{Machine}
 use Rattle.run_core.proofs.ending.Concluding.{concludes, has_ended}
 use Rattle.run_core.proofs.runner.RunCore.finish.Goals as goal
 
-pub outcome_of-requires : goal.outcome_of-requires
-outcome_of-requires c = has_ended c.self.inside c.self.invariant (ap (λ (core : Machine). core.asks) c.self.view_is ∙ c.requires)
+pub phase_outcome-requires : goal.phase_outcome-requires
+phase_outcome-requires c = has_ended c.self.inside c.self.invariant (ap (λ (core : Machine). core.asks) c.self.view_is ∙ c.requires)
 
 pub returns-clause-concluded : goal.returns-clause-concluded
 returns-clause-concluded c =
-    subst (λ (core : Machine). Concludes core.setting core.transcript c.outcome_of.result) c.self.view_is
-    (concludes c.self.inside c.an_honest_run_is_reported_rightly.ensures c.outcome_of.result c.self.invariant c.outcome_of.ensures)
+    subst (λ (core : Machine). Concludes core.setting core.transcript c.phase_outcome.result) c.self.view_is
+    (concludes c.self.inside c.an_honest_run_is_reported_rightly.ensures c.phase_outcome.result c.self.invariant c.phase_outcome.ensures)

@@ -14,6 +14,6 @@ returns-in-Ok-clause-ok c =
       given = record { process = c.args.process; inputs = c.args.inputs; options = c.args.options };
       pairs = c.start.new.pairs;
       course = c.start.new.course;
-      turn = c.in-Ok.turn;
+      turn = c.start.new.turn;
     }) c.requires.limits c.requires.accepted c.see_ids.ensures (c.start.ensures.items ∙ c.new-pairs.ensures.items) c.in-Ok.ensures.room _
     c.at_first-course.ensures.past c.at_first-course.ensures.known c.in-Ok.ensures.begins c.in-Ok.ensures.one_more
