@@ -1,6 +1,12 @@
+pub mod Bounding
 pub mod Counted
 pub mod Differ
 pub mod Made
+pub mod Missing
 pub mod Named
+pub mod Needing
+pub mod OneProcess
 pub mod Placed
+pub mod Related
 pub mod Results
+pub mod Running

@@ -2,9 +2,11 @@ pub mod Bounds
 pub mod Codes
 pub mod Defaults
 pub mod Documents
+pub mod LeadsTo
 pub mod Library
 pub mod Linked
 pub mod Names
+pub mod ProcessOf
 pub mod Refused
 pub mod Targets
 pub mod Urls

@@ -9,6 +9,7 @@ mod bounds;
 mod defaults;
 mod fault;
 mod joining;
+mod laws;
 mod library;
 mod linking;
 mod names;
@@ -20,5 +21,9 @@ mod walk;
 
 pub use bounds::{MOST_PROCESSES, MOST_WORKFLOWS};
 pub use fault::{LinkError, LinkFault};
+pub use laws::{
+    a_document_has_one_process, only_bounds_refuse_a_process, only_what_is_named_is_missing,
+    what_is_linked_is_the_process, what_is_linked_needs_documents,
+};
 pub use process::{Process, Step, Workflow};
 pub use reading::{Docs, needed_docs, read_process};
