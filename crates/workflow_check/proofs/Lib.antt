@@ -1,8 +1,12 @@
 pub mod Carried
+pub mod Circle
+pub mod Closed
 pub mod Facts
 pub mod Named
 pub mod Nested
 pub mod Ordered
 pub mod Overlap
+pub mod Ranked
 pub mod Variants
 pub mod Waiting
+pub mod Ways

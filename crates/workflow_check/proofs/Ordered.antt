@@ -9,6 +9,7 @@ use Rattle.document_links.specs.declared.process.Step.{Step, out-Step}
 use Rattle.workflow_check.specs.Order.{is_cyclic, is_of, is_some_left, leads_to, left_after, some_lead, still_waiting, waits_for}
 use Rattle.workflow_check.specs.Scope.{Named}
 use Rattle.workflow_check.specs.Sound.{HasOrder, IsIn, is_fed_by, is_named, one_named}
+use Rattle.workflow_check.proofs.Closed.{kept}
 
 -- the round in which the step of that id goes
 rank_at : ℕ → Named Step → List ℕ → ℕ
@@ -17,32 +18,25 @@ rank_at (suc n) steps id = cond (is_of (still_waiting steps) id) (suc (rank_at n
 
 -- ---- tests of elements
 
-either : (a b : Bool) → (a || b) ≡ true → (a ≡ true) ⊎ (b ≡ true)
+pub either : (a b : Bool) → (a || b) ≡ true → (a ≡ true) ⊎ (b ≡ true)
 either true b is = inl refl
 either false b is = inr is
 
-left_true : (a b : Bool) → a ≡ true → (a || b) ≡ true
+pub left_true : (a b : Bool) → a ≡ true → (a || b) ≡ true
 left_true a b is = ap (λ c. c || b) is
 
-right_true : (a b : Bool) → b ≡ true → (a || b) ≡ true
+pub right_true : (a b : Bool) → b ≡ true → (a || b) ≡ true
 right_true true b is = refl
 right_true false b is = is
 
 -- where one test passes another does
-more : {X : Type 0} (p q : X → Bool) → ((x : X) → p x ≡ true → q x ≡ true) → (xs : List X) → list_any p xs ≡ true → list_any q xs ≡ true
+pub more : {X : Type 0} (p q : X → Bool) → ((x : X) → p x ≡ true → q x ≡ true) → (xs : List X) → list_any p xs ≡ true → list_any q xs ≡ true
 more p q wider [] is = is
 more p q wider (x ∷ xs) is =
     elim (either (p x) (list_any p xs) is) as (λ _. list_any q (x ∷ xs) ≡ true)
     [ inl here ↦ left_true (q x) (list_any q xs) (wider x here) | inr rest ↦ right_true (q x) (list_any q xs) (more p q wider xs rest) ]
 
--- an element that passes is among those that pass
-kept : {X : Type 0} (p : X → Bool) (x : X) (xs : List X) → p x ≡ true → IsIn x xs → IsIn x (filter p xs)
-kept p x [] is at = at
-kept p x (y ∷ ys) is (inl same) = subst (λ b. IsIn x (cond b (y ∷ filter p ys) (filter p ys))) (sym (ap p (sym same) ∙ is)) (inl same)
-kept p x (y ∷ ys) is (inr rest) =
-    elim (p y) as (λ b. IsIn x (cond b (y ∷ filter p ys) (filter p ys))) [ true ↦ inr (kept p x ys is rest) | false ↦ kept p x ys is rest ]
-
-has_id : (e : List ℕ × Step) (steps : Named Step) → IsIn e steps → is_of steps e.0 ≡ true
+pub has_id : (e : List ℕ × Step) (steps : Named Step) → IsIn e steps → is_of steps e.0 ≡ true
 has_id e [] at = absurd at
 has_id e (f ∷ fs) (inl same) = left_true (bytes_eq f.0 e.0) (is_of fs e.0) ((bytes_eq-Decides f.0 e.0).1 (ap (λ x. x.0) (sym same)))
 has_id e (f ∷ fs) (inr rest) = right_true (bytes_eq f.0 e.0) (is_of fs e.0) (has_id e fs rest)

@@ -29,6 +29,21 @@ is_fed_by id e = list_any (λ input. one_named id input.1.links.sources) (out-St
 abbrev pub HasOrder : Named Step → Type 0
 HasOrder steps = (rank : List ℕ → ℕ) × ((e : List ℕ × Step) (id : List ℕ) → IsIn e steps → is_of steps id ≡ true → is_fed_by id e ≡ true → rank id < rank e.0)
 
+-- a link of the steps: a source of the one names the other
+pub record IsLink (steps : Named Step) (e f : List ℕ × Step) : Type 0 where
+  pub waits : IsIn e steps
+  pub named : IsIn f steps
+  pub source : is_fed_by f.0 e ≡ true
+
+-- a way along links, from a step to one that it waits for
+pub data IsWay (steps : Named Step) : List ℕ × Step → List ℕ × Step → Type 0 where
+  link : (e f : List ℕ × Step) → IsLink steps e f → IsWay steps e f
+  further : (e f g : List ℕ × Step) → IsLink steps e f → IsWay steps f g → IsWay steps e g
+
+-- A step waits for itself: a way along links leads from it back to it.
+abbrev pub HasCircle : Named Step → Type 0
+HasCircle steps = (e : List ℕ × Step) × IsWay steps e e
+
 -- each of the elements
 abbrev pub Each : {X : Type 0} → (X → Type 0) → List X → Type 0
 Each P [] = Unit {0}

@@ -1,1 +1,3 @@
+pub mod Ranks
 pub mod Seen
+pub mod Ways

@@ -5,6 +5,7 @@
 #![tactic(auto)]
 
 mod accepted;
+mod circles;
 mod fault;
 mod finding;
 mod laws;
@@ -12,9 +13,12 @@ mod levels;
 mod linking;
 mod order;
 mod overlapping;
+mod ranks;
+mod rounds;
 mod scope;
+mod search;
 mod shapes;
 
 pub use accepted::{Accepted, accept};
 pub use fault::{AcceptError, LinkCheckFault, LinkRule};
-pub use laws::{accepted_workflows_are_sound, steps_have_an_order};
+pub use laws::{accepted_workflows_are_sound, cycles_are_circles, steps_have_an_order};

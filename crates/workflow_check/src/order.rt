@@ -1,15 +1,16 @@
 //! Steps that wait for one another (K4).
-ghost use Rattle.std.specs.Prelude.{◌≡◌, None, OnOk, IfOk, IfErr, map};
-ghost use Rattle.std.specs.List.{list_any};
+ghost use Rattle.std.specs.Prelude.{◌≡◌, None, OnOk, IfOk, IfErr, IfSome};
 ghost use Rattle.workflow_check.specs.Faults.{IsErrorOf};
-ghost use Rattle.workflow_check.specs.Order.{is_cyclic, is_of, leads_to, order_fault, some_lead, still_waiting, waits_on};
-ghost use Rattle.workflow_check.specs.inner.Seen.{lent};
+ghost use Rattle.workflow_check.specs.Order.{is_cyclic, order_fault};
 
+use crate::circles::is_circle;
 use crate::fault::{AcceptError, LinkRule, refused};
-use crate::finding::lists;
-use cwl_process::{Entries, Source, StepInput};
+use crate::ranks::some_late;
+use crate::rounds::by_rounds;
+use crate::search::{Search, walk_steps};
+use cwl_process::Entries;
 use document_links::Step;
-use plain_data::{Items, Text};
+use plain_data::Text;
 use std::alloc::{AllocError, Global};
 
 /// Looks whether the steps can be put in an order in which each comes after those that it is linked to.
@@ -17,82 +18,47 @@ pub(crate) fn check_order(alloc: Global, steps: &Entries<Step>) -> Result<(), Ac
     ensures ok { OnOk result (order_fault steps.now ≡ None) }
     ensures err { IfErr result (IsErrorOf (order_fault steps.now)) }
 {
-    if is_cyclic(alloc, steps)? {
+    if is_cyclic(alloc, steps.as_slice())? {
         return Err(refused(alloc, LinkRule::Cycle));
     }
     Ok(())
 }
 
-/// Takes out the steps that wait for none of those that are left, until none goes.
-fn is_cyclic(alloc: Global, steps: &Entries<Step>) -> Result<bool, AllocError>
+/// Looks whether steps wait for one another: by what a search finds, which is checked, and by rounds where that shows nothing.
+fn is_cyclic(alloc: Global, steps: &[(Text, Step)]) -> Result<bool, AllocError>
     ensures { IfOk result (λ cyclic. cyclic ≡ is_cyclic steps.now) }
 {
-    let mut left = Vec::new(alloc);
-    for entry in steps.as_slice() {
-        left.push(entry)?;
+    match searched(alloc, steps)? {
+        Some(cyclic) => Ok(cyclic),
+        None => by_rounds(alloc, steps),
     }
-    'rounds: for round in 0..steps.len() {
-        left = still_waiting(alloc, left.as_slice())?;
-    }
-    Ok(!left.is_empty())
 }
 
-fn still_waiting<'p>(
-    alloc: Global,
-    left: &[&'p (Text, Step)],
-) -> Result<Vec<&'p (Text, Step)>, AllocError>
-    ensures { IfOk result (λ kept. map lent kept.items ≡ still_waiting (map lent left.now)) }
+fn searched(alloc: Global, steps: &[(Text, Step)]) -> Result<Option<bool>, AllocError>
+    ensures { IfOk result (λ found. IfSome found (λ cyclic. cyclic ≡ is_cyclic steps.now)) }
 {
-    let mut kept = Vec::new(alloc);
-    for entry in left {
-        if waits(left, &entry.1.inputs) {
-            kept.push(*entry)?;
+    let found = walk_steps(alloc, steps)?;
+    Ok(shown(&found, steps))
+}
+
+/// What the search shows: a circle of links, or an order of the steps. No proof speaks of the search, so what it found is looked at here.
+fn shown(found: &Search<'_>, steps: &[(Text, Step)]) -> Option<bool>
+    ensures { IfSome result (λ cyclic. cyclic ≡ is_cyclic steps.now) }
+{
+    match found.back {
+        Some(link) => {
+            if is_circle(steps, found.states.as_slice(), link) {
+                Some(true)
+            } else {
+                None
+            }
+        }
+        None => {
+            if some_late(&found.ranks, steps) {
+                None
+            } else {
+                Some(false)
+            }
         }
     }
-    Ok(kept)
-}
-
-fn waits(left: &[&(Text, Step)], inputs: &Entries<StepInput>) -> bool
-    ensures { result ≡ waits_on (map lent left.now) inputs.now }
-{
-    inputs
-        .as_slice()
-        .iter()
-        .any(|entry| waits_for_source(left, &entry.1))
-}
-
-fn waits_for_source(left: &[&(Text, Step)], input: &StepInput) -> bool
-    ensures { result ≡ some_lead (map lent left.now) input.now.links.sources }
-{
-    match &input.links.sources {
-        None => false,
-        Some(sources) => some_leads(left, sources.as_slice()),
-    }
-}
-
-fn some_leads(left: &[&(Text, Step)], sources: &[Source]) -> bool
-    ensures { result ≡ list_any (λ source. leads_to (map lent left.now) source.step) sources.now }
-{
-    sources.iter().any(|source| leads(left, source))
-}
-
-fn leads(left: &[&(Text, Step)], source: &Source) -> bool
-    ensures { result ≡ leads_to (map lent left.now) source.now.step }
-{
-    match &source.step {
-        None => false,
-        Some(id) => is_one(left, id),
-    }
-}
-
-/// Whether one of the steps has that id.
-fn is_one(left: &[&(Text, Step)], id: &Text) -> bool
-    ensures { result ≡ is_of (map lent left.now) id.now }
-{
-    for entry in left {
-        if entry.0.as_str() == id.as_str() {
-            return true;
-        }
-    }
-    false
 }

@@ -2,7 +2,7 @@ use Rattle.std.proofs.Common.{◌∙◌, ◌+◌, ◌-◌, ◌<◌, ap, sym, len
 use Rattle.workflow_check.specs.Order.{left_after, still_waiting}
 use Rattle.workflow_check.specs.inner.Seen.{lent}
 use Rattle.workflow_check.proofs.Waiting.{next_round}
-use Rattle.workflow_check.proofs.order.is_cyclic.Goals as goal
+use Rattle.workflow_check.proofs.rounds.by_rounds.Goals as goal
 
 pub rounds-preserved : goal.rounds-preserved
 rounds-preserved c =

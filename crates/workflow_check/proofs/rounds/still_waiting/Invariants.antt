@@ -2,7 +2,7 @@ use Rattle.std.proofs.Common.{◌≡◌, ◌++◌, drop, map}
 use Rattle.std.specs.List.{filter}
 use Rattle.workflow_check.specs.Order.{waits_for}
 use Rattle.workflow_check.specs.inner.Seen.{lent}
-use Rattle.workflow_check.proofs.order.still_waiting.Given as goal
+use Rattle.workflow_check.proofs.rounds.still_waiting.Given as goal
 
 abbrev pub invariant-loop-entry : goal.invariant-loop-entry
 invariant-loop-entry l =
