@@ -236,9 +236,9 @@ at_steps find inner urls room base (e ∷ es) url tells named lost =
     let later = steps_urls (urls base) base es in
     either (Missed find (first ++ later) url) (missing_then _ _ url lost)
     (λ own.
-      missed_more find first (first ++ later) url (in_front first later)
-      (at_step find inner urls room base (get (codes "run") e.1) url tells named
-      (missing_within (codes "run") _ url (missing_checked _ _ url (missing_within e.0 (step_left inner find room base e.1) url own)))))
+    missed_more find first (first ++ later) url (in_front first later)
+    (at_step find inner urls room base (get (codes "run") e.1) url tells named
+    (missing_within (codes "run") _ url (missing_checked _ _ url (missing_within e.0 (step_left inner find room base e.1) url own)))))
     (λ more. missed_more find later (first ++ later) url (in_back first later) (at_steps find inner urls more.0 base es url tells named more.1))
 
 at_field : (find : Finds) (inner : ℕ → Parts → Data → Left) (urls : Parts → Data → List (List ℕ)) (room : ℕ) (base : Parts) (o : Option Data) (url : List ℕ)

@@ -53,10 +53,12 @@ name_follows : (find : Finds) (inner other : ℕ → Parts → Data → Left) (r
 name_follows find inner other room base name n (Err fault) follows one is ok = absurd (not_ok fault n ok)
 name_follows find inner other room base name n (Ok t) follows one is ok =
     let at = t.0 in
-    let less = (follows room at t.1 n (elsewhere_ok at _ n ok)).0 in
-    (less, λ more wide.
-      let rest = one_left other more at n one (omega (arith, less, wide)) in
-      (rest.0, ap (λ t. at_target t (other more)) (empty_target base name at (target_ok find base name t is).0) ∙ ap (elsewhere at) rest.1, rest.2))
+    let less = (follows room at t.1 n (elsewhere_ok at _ n ok)).0 in (
+      less,
+      λ more wide.
+          let rest = one_left other more at n one (omega (arith, less, wide)) in
+          (rest.0, ap (λ t. at_target t (other more)) (empty_target base name at (target_ok find base name t is).0) ∙ ap (elsewhere at) rest.1, rest.2),
+    )
 
 run_follows : (find : Finds) (inner other : ℕ → Parts → Data → Left) (room : ℕ) (base : Parts) (run : Data) (o : Option (List ℕ)) (n : ℕ) → Follows inner other → CountsOne other
     → option_map_or (λ name. at_target (target find base name) (inner room)) o (inner room base run) ≡ Ok n
@@ -87,11 +89,13 @@ steps_follow find inner other room base [] n follows one ok =
 steps_follow find inner other room base (e ∷ es) n follows one ok =
     let parts = then_ok _ _ n ok in
     let first = step_follows find inner other room base e.1 parts.0 follows one (within_ok e.0 _ parts.0 parts.1) in
-    let later = steps_follow find inner other parts.0 base es n follows one parts.2 in
-    (omega (arith, first.0, later.0), λ more wide.
-      let here = first.1 more wide in
-      let rest = later.1 here.0 here.2 in
-      (rest.0, ap (λ x. then_left x (λ k. steps_left other anything k base es)) (ap (within e.0) here.1) ∙ rest.1, rest.2))
+    let later = steps_follow find inner other parts.0 base es n follows one parts.2 in (
+      omega (arith, first.0, later.0),
+      λ more wide.
+          let here = first.1 more wide in
+          let rest = later.1 here.0 here.2 in
+          (rest.0, ap (λ x. then_left x (λ k. steps_left other anything k base es)) (ap (within e.0) here.1) ∙ rest.1, rest.2),
+    )
 
 field_follows : (find : Finds) (inner other : ℕ → Parts → Data → Left) (room : ℕ) (base : Parts) (o : Option Data) (n : ℕ) → Follows inner other → CountsOne other
     → option_map_or (λ v. steps_left inner find room base (entries kind.Step v)) o (Ok room) ≡ Ok n

@@ -183,7 +183,13 @@ all_found docs find up url d at = read_is find url d (value_at url docs) (up url
 
 pub linked_is_process : (bytes : List ℕ) (base : Parts) (docs : Documents) (process : Process) → IsLinked bytes base docs process → IsItsProcess bytes base docs process
 linked_is_process bytes base docs process is =
-    let together = is.2 in
-    (is.0, is.1, (together.0, together.1,
-    subst (IsProcessOf together.0 base nothing_asked is.0) (sym together.3)
-    (within_bounds together.0 base is.0 together.2.0 (all_found docs together.0 together.1) (document_is_process bytes is.0 is.1.0) together.2.1)))
+    let together = is.2 in (
+      is.0,
+      is.1,
+      (
+        together.0,
+        together.1,
+        subst (IsProcessOf together.0 base nothing_asked is.0) (sym together.3)
+            (within_bounds together.0 base is.0 together.2.0 (all_found docs together.0 together.1) (document_is_process bytes is.0 is.1.0) together.2.1),
+      ),
+    )

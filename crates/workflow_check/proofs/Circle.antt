@@ -79,8 +79,8 @@ circle steps is =
     let first = one_left left (ap is_some_left (same_rounds n steps) ∙ is) in
     one_leads_back (IsWay steps) (on steps) left
     (λ e at.
-      let next = linked left e (closed e at) in
-      (next.0, next.1, IsWay.link e next.0 (record { waits = left_are_of waits_for n steps e at; named = left_are_of waits_for n steps next.0 next.1; source = next.2 })))
+    let next = linked left e (closed e at) in
+    (next.0, next.1, IsWay.link e next.0 (record { waits = left_are_of waits_for n steps e at; named = left_are_of waits_for n steps next.0 next.1; source = next.2 })))
     first.0 first.1
 
 -- ---- an order leaves no circle

@@ -104,10 +104,10 @@ module _ {X : Type 0} where
         | inr among ↦
             one_leads_back T on xs
             (λ y in_rest.
-              let next = each y (inr in_rest) in
-              elim next.1 as (λ _. (z : X) × IsIn z xs × T y z) [
-                | inl back ↦ (first.0, among, on y h first.0 (subst (λ z. T y z) back next.2) first.2)
-                | inr further ↦ (next.0, further, next.2)
-              ])
+            let next = each y (inr in_rest) in
+            elim next.1 as (λ _. (z : X) × IsIn z xs × T y z) [
+              | inl back ↦ (first.0, among, on y h first.0 (subst (λ z. T y z) back next.2) first.2)
+              | inr further ↦ (next.0, further, next.2)
+            ])
             first.0 among
       ]
