@@ -1,14 +1,12 @@
 -- Steps of which some are left after all rounds wait for one another in a circle.
-use Rattle.std.proofs.Common.{◌≡◌, ◌∙◌, ◌<◌, ◌≤◌, ◌↔◌, ◌⊎◌, ℕ, zero, suc, Bool, true, false, List, [], ◌∷◌, length, cond, ap, sym, refl, subst, arith, inl, inr}
-use Rattle.std.specs.Prelude.{◌||◌, Option, Some, None}
-use Rattle.std.specs.List.{filter, list_any}
+use Rattle.std.proofs.Common.{◌≡◌, ◌∙◌, ◌<◌, ◌↔◌, ℕ, zero, suc, Bool, true, false, List, [], ◌∷◌, length, ap, sym, refl, arith, inl, inr}
+use Rattle.std.specs.Prelude.{Option, Some, None}
+use Rattle.std.specs.List.{list_any}
 use Rattle.std.specs.Str.{bytes_eq}
 use Rattle.std.proofs.lemmas.Bool.{true≢false}
-use Rattle.std.proofs.lemmas.Slice.Eq.{bytes_eq-Decides}
 use Rattle.cwl_process.specs.declared.links.Source.{Source}
-use Rattle.cwl_process.specs.declared.workflow.StepInput.{StepInput}
 use Rattle.document_links.specs.declared.process.Step.{Step, out-Step}
-use Rattle.workflow_check.specs.Order.{is_cyclic, is_of, is_some_left, leads_to, left_after, some_lead, still_waiting, waits_for, waits_on}
+use Rattle.workflow_check.specs.Order.{is_cyclic, is_some_left, leads_to, left_after, some_lead, still_waiting, waits_for}
 use Rattle.workflow_check.specs.Scope.{Named}
 use Rattle.workflow_check.specs.Sound.{HasCircle, HasOrder, IsIn, IsLink, IsWay, is_fed_by, is_named, one_named}
 use Rattle.workflow_check.proofs.Ordered.{either, has_id, left_true, order, right_true}

@@ -1,5 +1,5 @@
 -- For private clauses: links and ways between steps that are named by their places.
-use Rattle.std.specs.Prelude.{ℕ, List, Option, Some, None, slice_get}
+use Rattle.std.specs.Prelude.{ℕ, Option, Some, None, slice_get}
 use Rattle.document_links.specs.declared.process.Step.{Step}
 use Rattle.workflow_check.specs.Scope.{Named}
 use Rattle.workflow_check.specs.Sound.{IsLink, IsWay}
