@@ -1,4 +1,5 @@
 mod Grows
+mod Index
 mod Loops
 mod Marks
 mod MetMore

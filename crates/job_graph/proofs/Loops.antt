@@ -1,5 +1,6 @@
 -- What loops have gathered, before what is left; and how many there are.
-use Rattle.std.proofs.Common.{◌≡◌, ◌≢◌, length, List, [], ◌∷◌, ◌++◌, Option, Some, None, refl, ap, sym, append_assoc}
+use Rattle.std.proofs.Common.{◌≡◌, ◌≢◌, length, List, [], ◌∷◌, ◌++◌, Option, Some, None, false, refl, ap, sym, append_assoc}
+use Rattle.std.specs.Prelude.{is_some}
 use Rattle.std.proofs.lemmas.List.{length-map}
 use Rattle.document_links.specs.declared.process.Step.{Step}
 use Rattle.job_graph.specs.Jobs.{with_first}
@@ -18,6 +19,15 @@ before_none (Some ws) = refl
 pub before_one : {T : Type 0} (vs : List T) (v : T) (found : Option (List T)) → put_before vs (with_first (Some v) found) ≡ put_before (vs ++ v ∷ []) found
 before_one vs v None = refl
 before_one vs v (Some ws) = ap Some (sym (append_assoc vs (v ∷ []) ws))
+
+-- with one that is there, all are there where the others are
+pub first_there : {T : Type 0} (v : T) (found : Option (List T)) → is_some (with_first (Some v) found) ≡ is_some found
+first_there v None = refl
+first_there v (Some ws) = refl
+
+pub not_some : {T : Type 0} (found : Option T) → is_some found ≡ false → found ≡ None
+not_some None none = refl
+not_some (Some v) none = absurd cc
 
 pub steps_length : (facts : Facts) (steps : List (Name × Step)) → length (steps_of facts steps) ≡ length steps
 steps_length facts steps = length-map steps _

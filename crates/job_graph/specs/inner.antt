@@ -1,5 +1,6 @@
 pub mod Entered
 pub mod Growth
+pub mod Index
 pub mod Levels
 pub mod Marks
 pub mod Rounds

@@ -1,5 +1,5 @@
 //! The outputs of a scattered step: those of its jobs, put together.
-ghost use Rattle.std.specs.Prelude.{◌≡◌, ◌≢◌, ◌++◌, [], Some, length, map, IfOk, IfSome, OnOk, option_map};
+ghost use Rattle.std.specs.Prelude.{◌≡◌, ◌≢◌, ◌++◌, [], Some, length, map, IfOk, IfSome, OnOk, is_some, option_map};
 ghost use Rattle.std.specs.List.{flat_map};
 ghost use Rattle.job_graph.specs.Equations.{out_gathered, walks_together};
 ghost use Rattle.job_graph.specs.Jobs.{all_there};
@@ -34,7 +34,21 @@ fn all_under(
     Ok(Some(values))
 }
 
-/// An output of all, put together once each has its value.
+/// Whether all walks have a value under a name.
+#[tactic(auto, using(crate::proofs::Loops::first_there))]
+fn are_there(walks: &[Walk<'_>], name: &str) -> bool
+    ensures { result ≡ is_some (all_there (map (λ w. out_under name.now (Some w.outs)) (map walk_of walks.now))) }
+{
+    for walk in walks {
+        if out_under(walk.outs.as_slice(), name).is_none() {
+            return false;
+        }
+    }
+    true
+}
+
+/// An output of all, put together once each has its value. Until then no value is copied.
+#[tactic(auto, using(crate::proofs::Loops::not_some))]
 fn out_gathered(
     alloc: Global,
     shape: &Shape,
@@ -46,6 +60,9 @@ fn out_gathered(
     requires one_each { length walks.now ≡ length (tuples_of shape.now.method shape.now.lengths) }
     ensures { IfOk result (λ value. value ≡ out_gathered shape.now.method shape.now.lengths (map walk_of walks.now) name.now) }
 {
+    if !are_there(walks, name) {
+        return Ok(None);
+    }
     match all_under(alloc, walks, name)? {
         None => Ok(None),
         Some(values) => Ok(Some(gather(alloc, shape, values)?)),

@@ -15,6 +15,7 @@ mod growth;
 mod ids;
 mod inputs;
 mod laws;
+mod learned;
 mod links;
 mod made;
 mod mark;

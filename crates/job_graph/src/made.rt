@@ -4,11 +4,11 @@ ghost use Rattle.std.specs.Map.{keys_of};
 ghost use Rattle.std.specs.Option.{option_copied};
 ghost use Rattle.link_values.specs.StepInputs.{null, value_under};
 ghost use Rattle.job_graph.specs.Jobs.{outs_of};
-ghost use Rattle.job_graph.specs.Unfold.{outputs_at};
 ghost use Rattle.job_graph.specs.inner.Views.{resolved_of};
 ghost use Rattle.job_graph.specs.Made.{dir_value_moved, fields_made, file_value_moved, made_place, value_moved};
 
-use crate::mark::{Marked, mark_of};
+use crate::learned::Learned;
+use crate::mark::Marked;
 use crate::walk::Out;
 use cwl_process::{Entries, ToolOutput};
 use cwl_value::{DirVal, FileVal, JobPlace, Place, Value, copy_job};
@@ -38,20 +38,7 @@ pub(crate) struct Facts {
     /// What is at the paths of the input files.
     pub measures: Keyed<Measure>,
     /// The jobs that have ended, in the order learned.
-    pub learned: Items<Resolved>,
-}
-
-/// The outputs of the job at a place, where they are known.
-pub(crate) fn outputs_at<'a>(learned: &'a [Resolved], place: &JobPlace) -> Option<&'a Keyed<Value>>
-    ensures { option_copied result ≡ outputs_at (map resolved_of learned.now) place.now }
-{
-    let mark = mark_of(place.as_slice());
-    for resolved in learned {
-        if resolved.at.is(place.as_slice(), mark) {
-            return Some(&resolved.outputs);
-        }
-    }
-    None
+    pub learned: Learned,
 }
 
 /// The outputs of the job at a place, by the ids of its tool's outputs.

@@ -22,6 +22,12 @@ impl Marked {
         Marked { place, mark }
     }
 
+    pub(crate) fn mark(&self) -> u64
+        ensures { result ≡ mark_of self.now.place }
+    {
+        self.mark
+    }
+
     /// Whether it is this place, whose mark is given too.
     #[tactic(auto, using(crate::proofs::Marks::other_mark))]
     pub(crate) fn is(&self, place: &[Segment], mark: u64) -> bool
@@ -75,5 +81,8 @@ fn of_numbers(start: u64, numbers: &[usize]) -> u64
 fn mixed(mark: u64, number: u64) -> u64
     ensures { result ≡ mixed mark number }
 {
-    mark.wrapping_mul(31).wrapping_add(number)
+    mark.wrapping_mul(SPREAD).wrapping_add(number)
 }
+
+/// An odd number near 2 ^ 64 over the golden ratio: numbers that follow one another come far apart.
+const SPREAD: u64 = 11_400_714_819_323_198_485;

@@ -5,7 +5,7 @@ ghost use Rattle.job_graph.specs.Equations.{meaning_of};
 ghost use Rattle.job_graph.specs.Jobs as jobs;
 ghost use Rattle.job_graph.specs.inner.Views.{made_from, met_of};
 
-use crate::made::{Facts, outputs_at};
+use crate::made::Facts;
 use crate::step::walk_process;
 use crate::walk::{Met, Out, Walk};
 use cwl_value::Value;
@@ -66,7 +66,7 @@ fn is_well(facts: &Facts, met: &Met<'_>) -> bool
     ensures { result ≡ jobs.is_well (made_from facts.now) (met_of met.now) }
 {
     match met {
-        Met::Job(job) => outputs_at(facts.learned.as_slice(), &job.place).is_some(),
+        Met::Job(job) => facts.learned.outputs_at(&job.place).is_some(),
         Met::Fault(_, _) => false,
     }
 }

@@ -10,11 +10,12 @@ ghost use Rattle.job_graph.specs.inner.Views.{resolved_of};
 use crate::fault::{UnfoldError, UnfoldFault};
 use crate::growth::{KnownJob, grow};
 use crate::inputs::root_fields;
+use crate::learned::Learned;
 use crate::made::{Facts, Resolved};
 use crate::outcome::walk_from_root;
 use cwl_value::{JobPlace, Value};
 use document_links::Process;
-use plain_data::{Items, Keyed, Text};
+use plain_data::{Keyed, Text};
 use staging::Measure;
 use std::alloc::Global;
 use std::mem;
@@ -52,7 +53,7 @@ impl<'a> Unfolding<'a> {
             fields,
             facts: Facts {
                 measures,
-                learned: Items::new(alloc),
+                learned: Learned::new(alloc),
             },
             known: Vec::new(alloc),
             entries: 0,

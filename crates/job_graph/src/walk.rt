@@ -8,7 +8,7 @@ ghost use Rattle.job_graph.specs.inner.Views.{made_from, met_of, walk_of};
 
 use crate::cause::Cause;
 use crate::inputs::tool_inputs;
-use crate::made::{Facts, job_outs, outputs_at};
+use crate::made::{Facts, job_outs};
 use cwl_process::{Entries, Tool};
 use cwl_value::{JobPlace, Value, copy_job};
 use plain_data::{Items, Keyed, Text};
@@ -154,7 +154,7 @@ fn job_walk<'a>(
     let place = copy_job(alloc, place)?;
     let outs = job_outs(
         alloc,
-        outputs_at(facts.learned.as_slice(), &place),
+        facts.learned.outputs_at(&place),
         &tool.outputs,
         &place,
     )?;

@@ -1,7 +1,7 @@
 use Rattle.std.proofs.Common.{◌≡◌, drop, find, map}
 use Rattle.job_graph.specs.Words.{is_same_place}
 use Rattle.job_graph.specs.inner.Views.{resolved_of}
-use Rattle.job_graph.proofs.made.outputs_at.Given as goal
+use Rattle.job_graph.proofs.learned.outputs_among.Given as goal
 
 abbrev pub invariant-loop-resolved : goal.invariant-loop-resolved
 invariant-loop-resolved l =

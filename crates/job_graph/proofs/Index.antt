@@ -1,0 +1,167 @@
+-- What an index by marks says of what was learned, and that it stays so.
+use Rattle.std.proofs.Common.{◌≡◌, ◌∙◌, ◌≤◌, ◌<◌, ℕ, zero, suc, List, [], ◌∷◌, ◌++◌, map, length, take, drop, find, Bool, true, false, cond, Option, Some, None, option_map, refl, sym, ap, ap₂, subst, arith}
+use Rattle.std.specs.Prelude.{◌||◌, MatchOption, OnErr, OnOk, Result, Ok, Err}
+use Rattle.std.specs.BTreeMap.{BTreeMap, IsUnchanged, Updates, get, is_at}
+use Rattle.std.specs.List.{list_any}
+use Rattle.std.specs.Map.{lookup}
+use Rattle.std.specs.Ordering.{is_eq, nat_cmp}
+use Rattle.std.specs.declared.cmp.Ordering.{Ordering}
+use Rattle.std.specs.declared.cmp.Ordering.TheVariants.{Less, Equal, Greater}
+use Rattle.std.proofs.Math.ListN.{drop_of_length-le}
+use Rattle.std.proofs.lemmas.List.{take-append-le}
+use Rattle.std.proofs.lemmas.List.Folds.{list_any-append}
+use Rattle.std.proofs.lemmas.Cmp.{nat_cmp_total, tied_itself}
+use Rattle.std.proofs.lemmas.Map.Lookups.{exact_unsigned}
+use Rattle.job_graph.specs.declared.made.Resolved.{Resolved as KeptResolved}
+use Rattle.job_graph.specs.Words.{Fields, JobPlace, is_same_place}
+use Rattle.job_graph.specs.Unfold.{Resolved, outputs_at}
+use Rattle.job_graph.specs.inner.Index.{IsFirst, IsIndexed, before, has_mark}
+use Rattle.job_graph.specs.inner.Marks.{mark_of}
+use Rattle.job_graph.specs.inner.Views.{resolved_of}
+use Rattle.job_graph.proofs.Marks.{other_mark}
+use Rattle.job_graph.proofs.laws_of_walks.Part.{neither_one, neither_other}
+
+pub none_after : (learned : List KeptResolved) (first : ℕ) → length learned < first → [] ≡ drop first learned
+none_after learned first after = sym (drop_of_length-le learned (omega (arith, after)))
+
+-- ---- none passes in a part of a list
+
+module _ (p : KeptResolved → Bool) where
+  of_all : (n : ℕ) (xs : List KeptResolved) → list_any p xs ≡ false → list_any p (take n xs) ≡ false
+  of_all zero xs none = refl
+  of_all (suc n) [] none = refl
+  of_all (suc n) (x ∷ xs) none =
+      ap₂ (λ (a b : Bool). a || b) (neither_one (p x) (list_any p xs) none) (of_all n xs (neither_other (p x) (list_any p xs) none))
+
+  of_fewer : (n m : ℕ) (xs : List KeptResolved) → m ≤ n → list_any p (take n xs) ≡ false → list_any p (take m xs) ≡ false
+  of_fewer n zero xs less none = refl
+  of_fewer zero (suc m) xs less none = absurd (omega (arith, less))
+  of_fewer (suc n) (suc m) [] less none = refl
+  of_fewer (suc n) (suc m) (x ∷ xs) less none =
+      ap₂ (λ (a b : Bool). a || b) (neither_one (p x) (list_any p (take n xs)) none)
+      (of_fewer n m xs (omega (arith, less)) (neither_other (p x) (list_any p (take n xs)) none))
+
+  with_last : (n : ℕ) (xs : List KeptResolved) (x : KeptResolved) → list_any p (take n xs) ≡ false → p x ≡ false → list_any p (take n (xs ++ x ∷ [])) ≡ false
+  with_last zero xs x none last = refl
+  with_last (suc n) [] x none last = ap₂ (λ (a b : Bool). a || b) last (of_all n [] refl)
+  with_last (suc n) (y ∷ ys) x none last =
+      ap₂ (λ (a b : Bool). a || b) (neither_one (p y) (list_any p (take n ys)) none) (with_last n ys x (neither_other (p y) (list_any p (take n ys)) none) last)
+
+  without_last : (n : ℕ) (xs : List KeptResolved) (x : KeptResolved) → list_any p (take n (xs ++ x ∷ [])) ≡ false → list_any p (take n xs) ≡ false
+  without_last zero xs x none = refl
+  without_last (suc n) [] x none = refl
+  without_last (suc n) (y ∷ ys) x none =
+      ap₂ (λ (a b : Bool). a || b) (neither_one (p y) (list_any p (take n (ys ++ x ∷ []))) none)
+      (without_last n ys x (neither_other (p y) (list_any p (take n (ys ++ x ∷ []))) none))
+
+  before_more : (o : Option ℕ) (xs : List KeptResolved) (x : KeptResolved) → list_any p (before o xs) ≡ false → p x ≡ false → list_any p (before o (xs ++ x ∷ [])) ≡ false
+  before_more None xs x none last = list_any-append p xs (x ∷ []) ∙ ap₂ (λ (a b : Bool). a || (b || false)) none last
+  before_more (Some n) xs x none last = with_last n xs x none last
+
+  before_less : (o : Option ℕ) (xs : List KeptResolved) (x : KeptResolved) → list_any p (before o (xs ++ x ∷ [])) ≡ false → list_any p (before o xs) ≡ false
+  before_less None xs x none = neither_one (list_any p xs) (list_any p (x ∷ [])) (sym (list_any-append p xs (x ∷ [])) ∙ none)
+  before_less (Some n) xs x none = without_last n xs x none
+
+  before_first : (o : Option ℕ) (xs : List KeptResolved) (first : ℕ) → list_any p (before o xs) ≡ false → IsFirst o (length xs) first → list_any p (take first xs) ≡ false
+  before_first None xs first none is = of_all first xs none
+  before_first (Some n) xs first none is = of_fewer n first xs is.0 none
+
+is_within : (o : Option ℕ) (end first : ℕ) → IsFirst o end first → first ≤ end
+is_within None end first is = omega (arith, is)
+is_within (Some n) end first is = is.1
+
+-- ---- what is found
+
+is_equal : (o : Ordering) → is_eq o ≡ true → o ≡ Equal
+is_equal Less is = absurd cc
+is_equal Equal is = refl
+is_equal Greater is = absurd cc
+
+itself : (n : ℕ) → is_eq (nat_cmp n n) ≡ true
+itself n = ap is_eq (tied_itself nat_cmp_total n)
+
+module _ (place : JobPlace) where
+  abbrev at_place : Resolved → Bool
+  at_place r = is_same_place r.place place
+
+  not_both : (b : Bool) → b ≡ true → b ≡ false → ⊥
+  not_both true is none = absurd cc
+  not_both false is none = absurd cc
+
+  not_there : (x : KeptResolved) → has_mark (mark_of place) x ≡ false → at_place (resolved_of x) ≡ false
+  not_there x none = other_mark x.at.place place (λ same.
+      not_both (has_mark (mark_of place) x) (ap (λ (mark : ℕ). is_eq (nat_cmp mark (mark_of place))) same ∙ itself (mark_of place)) none)
+
+  none_found : (xs : List KeptResolved) → list_any (has_mark (mark_of place)) xs ≡ false → find at_place (map resolved_of xs) ≡ None
+  none_found [] none = refl
+  none_found (x ∷ xs) none =
+      ap (λ (b : Bool). cond b (Some (resolved_of x)) (find at_place (map resolved_of xs))) (not_there x (neither_one (has_mark (mark_of place) x) (list_any (has_mark (mark_of place)) xs) none))
+      ∙ none_found xs (neither_other (has_mark (mark_of place) x) (list_any (has_mark (mark_of place)) xs) none)
+
+  found_later : (n : ℕ) (xs : List KeptResolved) → list_any (has_mark (mark_of place)) (take n xs) ≡ false → find at_place (map resolved_of xs) ≡ find at_place (map resolved_of (drop n xs))
+  found_later zero xs none = refl
+  found_later (suc n) [] none = refl
+  found_later (suc n) (x ∷ xs) none =
+      ap (λ (b : Bool). cond b (Some (resolved_of x)) (find at_place (map resolved_of xs))) (not_there x (neither_one (has_mark (mark_of place) x) (list_any (has_mark (mark_of place)) (take n xs)) none))
+      ∙ found_later n xs (neither_other (has_mark (mark_of place) x) (list_any (has_mark (mark_of place)) (take n xs)) none)
+
+none_before : (firsts : BTreeMap ℕ ℕ) (learned : List KeptResolved) (place : JobPlace) (mark : ℕ) (o : Option ℕ) → IsIndexed firsts learned → mark ≡ mark_of place → get nat_cmp firsts mark ≡ o
+    → list_any (has_mark (mark_of place)) (before o learned) ≡ false
+none_before firsts learned place mark o indexed is got =
+    subst (λ (m : ℕ). list_any (has_mark m) (before o learned) ≡ false) is (subst (λ (found : Option ℕ). list_any (has_mark mark) (before found learned) ≡ false) got (indexed mark))
+
+pub outputs_nowhere : (firsts : BTreeMap ℕ ℕ) (learned : List KeptResolved) (place : JobPlace) (mark : ℕ) → IsIndexed firsts learned → mark ≡ mark_of place → get nat_cmp firsts mark ≡ None
+    → outputs_at (map resolved_of learned) place ≡ None
+outputs_nowhere firsts learned place mark indexed is got =
+    ap (option_map (λ r. r.outputs)) (none_found place learned (none_before firsts learned place mark None indexed is got))
+
+pub outputs_later : (firsts : BTreeMap ℕ ℕ) (learned : List KeptResolved) (place : JobPlace) (mark first : ℕ) → IsIndexed firsts learned → mark ≡ mark_of place → get nat_cmp firsts mark ≡ Some first
+    → outputs_at (map resolved_of learned) place ≡ outputs_at (map resolved_of (drop first learned)) place
+outputs_later firsts learned place mark first indexed is got =
+    ap (option_map (λ r. r.outputs)) (found_later place first learned (none_before firsts learned place mark (Some first) indexed is got))
+
+-- ---- what stays indexed
+
+pub none_indexed : (firsts : BTreeMap ℕ ℕ) (learned : List KeptResolved) → learned ≡ [] → IsIndexed firsts learned
+none_indexed firsts learned none mark =
+    subst (λ (xs : List KeptResolved). list_any (has_mark mark) (before (get nat_cmp firsts mark) xs) ≡ false) (sym none) (by (get nat_cmp firsts mark))
+  where
+    by : (o : Option ℕ) → list_any (has_mark mark) (before o []) ≡ false
+    by None = refl
+    by (Some n) = of_all (has_mark mark) n [] refl
+
+pub same_indexed : (old new : BTreeMap ℕ ℕ) (learned : List KeptResolved) → IsIndexed old learned → IsUnchanged old new → IsIndexed new learned
+same_indexed old new learned indexed same mark =
+    subst (λ (es : List (ℕ × ℕ)). list_any (has_mark mark) (before (lookup (is_at (nat_cmp mark)) es) learned) ≡ false) (sym same) (indexed mark)
+
+pub popped_indexed : (firsts : BTreeMap ℕ ℕ) (old new : List KeptResolved) (found : Option KeptResolved) → IsIndexed firsts old
+    → MatchOption found ((old ≡ []) × (new ≡ [])) (λ last. old ≡ new ++ last ∷ []) → IsIndexed firsts new
+popped_indexed firsts old new None indexed off mark = none_indexed firsts new off.1 mark
+popped_indexed firsts old new (Some last) indexed off mark =
+    before_less (has_mark mark) (get nat_cmp firsts mark) new last
+    (subst (λ (xs : List KeptResolved). list_any (has_mark mark) (before (get nat_cmp firsts mark) xs) ≡ false) off (indexed mark))
+
+module _ (old new : BTreeMap ℕ ℕ) (learned : List KeptResolved) (mark first : ℕ) (indexed : IsIndexed old learned) (is : IsFirst (get nat_cmp old mark) (length learned) first) (put : Updates nat_cmp old new mark (Some first)) where
+  none_first : (q : ℕ) → is_at (nat_cmp mark) q ≡ true → list_any (has_mark q) (take first learned) ≡ false
+  none_first q same =
+      subst (λ (m : ℕ). list_any (has_mark m) (take first learned) ≡ false) (exact_unsigned mark q (is_equal (nat_cmp mark q) same))
+      (before_first (has_mark mark) (get nat_cmp old mark) learned first (indexed mark) is)
+
+  pub put_indexed : IsIndexed new learned
+  put_indexed q = subst (λ (o : Option ℕ). list_any (has_mark q) (before o learned) ≡ false) (sym (put.0 q)) (by (is_at (nat_cmp mark) q) refl)
+    where
+      by : (same : Bool) → is_at (nat_cmp mark) q ≡ same → list_any (has_mark q) (before (cond same (Some first) (get nat_cmp old q)) learned) ≡ false
+      by true same = none_first q same
+      by false other = indexed q
+
+  pub pushed_indexed : (one : KeptResolved) → mark ≡ mark_of one.at.place → IsIndexed new (learned ++ one ∷ [])
+  pushed_indexed one marked q = subst (λ (o : Option ℕ). list_any (has_mark q) (before o (learned ++ one ∷ [])) ≡ false) (sym (put.0 q)) (by (is_at (nat_cmp mark) q) refl)
+    where
+      by : (same : Bool) → is_at (nat_cmp mark) q ≡ same → list_any (has_mark q) (before (cond same (Some first) (get nat_cmp old q)) (learned ++ one ∷ [])) ≡ false
+      by true same =
+          ap (list_any (has_mark q)) (take-append-le first learned (one ∷ []) (is_within (get nat_cmp old mark) (length learned) first is)) ∙ none_first q same
+      by false other = before_more (has_mark q) (get nat_cmp old q) learned one (indexed q) (ap (λ (m : ℕ). is_at (nat_cmp m) q) (sym marked) ∙ other)
+
+  pub pushed_or_not : {T E : Type 0} (result : Result T E) (after : List KeptResolved) (one : KeptResolved) → mark ≡ mark_of one.at.place → OnOk result (after ≡ learned ++ one ∷ []) → OnErr result (after ≡ learned) → IsIndexed new after
+  pushed_or_not (Ok done) after one marked ok err = subst (IsIndexed new) (sym ok) (pushed_indexed one marked)
+  pushed_or_not (Err error) after one marked ok err = subst (IsIndexed new) (sym err) put_indexed
