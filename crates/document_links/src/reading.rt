@@ -5,6 +5,7 @@ ghost use Rattle.document_table.specs.Entries.{IsProcess};
 ghost use Rattle.cwl_process.specs.Documents as one;
 ghost use Rattle.document_links.specs.Documents.{IsApart, IsErrorOf, IsLinked, IsNeeded, IsNotNeeding, IsOwnError, IsRefused, IsTogether, bounded};
 ghost use Rattle.document_links.specs.Library.{finds_in};
+ghost use Rattle.document_links.specs.ProcessOf.{IsItsProcess};
 
 use crate::bounds::{MOST_PROCESSES, MOST_WORKFLOWS, left};
 use crate::fault::{LinkError, LinkFault};
@@ -37,6 +38,7 @@ pub fn read_process(
     docs: &Docs,
 ) -> Result<Process, LinkError>
     ensures ok { IfOk result (λ process. IsLinked bytes.now base.now docs.now process) }
+    ensures process { IfOk result (λ process. IsItsProcess bytes.now base.now docs.now process) }
     ensures err { IfErr result (λ e. IsRefused e bytes.now base.now docs.now) }
 {
     let document = own_document(alloc, bytes, base)?;

@@ -1,0 +1,13 @@
+use Rattle.std.proofs.lemmas.Result.{IfOk-weaker}
+use Rattle.serde_json.specs.View.{view}
+use Rattle.document_links.specs.Documents.{IsTogether}
+use Rattle.document_links.specs.ProcessOf.{IsItsProcess}
+use Rattle.document_links.proofs.Related.{linked_is_process}
+use Rattle.document_links.proofs.reading.read_process.Goals as goal
+
+pub returns-clause-process : goal.returns-clause-process
+returns-clause-process c =
+    let d = view c.in_ok-document.document in
+    IfOk-weaker c.together-process.result (IsTogether d c.args.base.now c.args.docs.now) (IsItsProcess c.args.bytes.now c.args.base.now c.args.docs.now)
+    (λ process is. linked_is_process c.args.bytes.now c.args.base.now c.args.docs.now process (d, c.in_ok-document.ensures.ok, is))
+    c.together-process.ensures.ok
