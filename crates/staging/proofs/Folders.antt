@@ -13,22 +13,9 @@ use Rattle.staging.specs.declared.group.Member.{Member}
 use Rattle.staging.specs.declared.group.Placed.{Placed}
 use Rattle.staging.proofs.Together.{nothing_in}
 
--- no earlier group is the same
-
-pub none_more : (placed : List Placed) (group : List Member) (i : ℕ) (x : Placed) → i < length placed → x ≡ get_or placed i x → (x.members ≡ group → ⊥) → NoneIs (take i placed) group → NoneIs (take (i + 1) placed) group
-none_more placed group i x within is here before p in_p =
-    let cut : take (i + 1) placed ≡ take i placed ++ x ∷ [] = take_more placed i x within ∙ ap (λ y. take i placed ++ y ∷ []) (sym is) in
-    elim (Contains-push_cases (take i placed) x p (subst (λ (l : List Placed). Contains l p) cut in_p)) [
-      | inl old ↦ before p old
-      | inr same ↦ λ e. here (ap (λ (q : Placed). q.members) same ∙ e)
-    ]
-
-pub none_at_end : (placed : List Placed) (group : List Member) (i : ℕ) → i ≡ length placed → NoneIs (take i placed) group → NoneIs placed group
-none_at_end placed group i is h = subst (λ (l : List Placed). NoneIs l group) (ap (λ n. take n placed) is ∙ take-length placed) h
-
 -- above all that hold something
 
-head_in : (p : Placed) (ps : List Placed) → Contains (p ∷ ps) p
+pub head_in : (p : Placed) (ps : List Placed) → Contains (p ∷ ps) p
 head_in p ps = (0, omega arith, refl)
 
 above_free : (group : List Member) (placed : List Placed) (top : ℕ) → IsAbove placed top → list_any (is_in_the_way group top) placed ≡ false

@@ -2,6 +2,7 @@ pub mod Copies
 pub mod Decided
 pub mod Erasing
 pub mod Greedy
+pub mod Indexing
 pub mod Moved
 pub mod Numbered
 pub mod Grouped

@@ -1,12 +1,12 @@
 -- The folders of groups, looked up.
-use Rattle.std.proofs.Common.{◌≡◌, ℕ, ◌+◌, ◌<◌, Bool, true, false, true≢false, ◌&&◌, List, [], ◌∷◌, ◌++◌, length, get_or, take, drop, Some, None, ◌⊎◌, inl, inr, refl, sym, ap, ◌∙◌, arith, take-append-drop}
-use Rattle.std.specs.Prelude.{Contains, find, bytes_eq}
-use Rattle.std.proofs.lemmas.List.{take_more, drop_more}
+use Rattle.std.proofs.Common.{◌≡◌, ℕ, Bool, true, false, true≢false, ◌&&◌, List, [], ◌∷◌, ◌⊎◌, inl, inr, refl, sym, ap, ◌∙◌, arith}
+use Rattle.std.specs.Prelude.{Contains, bytes_eq, option_map, unwrap_or}
 use Rattle.std.proofs.lemmas.List.Elements.{Contains-append_right, Contains-append_cases, Contains-push_cases}
 use Rattle.std.proofs.lemmas.Slice.Eq.{bytes_eq-Decides}
 use Rattle.staging.specs.declared.group.Member.{Member}
 use Rattle.staging.specs.declared.group.Placed.{Placed}
-use Rattle.staging.specs.inner.Ways.{same_members, place_in, number_in}
+use Rattle.staging.specs.declared.index.FolderIndex.{FolderIndex}
+use Rattle.staging.specs.inner.Indexed.{IsIndex, same_members, place_in, number_in}
 use Rattle.staging.proofs.Greedy.{both, both_first, both_second}
 use Rattle.staging.proofs.Together.{nothing_in}
 
@@ -37,27 +37,6 @@ not_same ms ns apart = by_test (same_members ms ns) refl where
   by_test true h = absurd (apart (same_is ms ns h))
   by_test false h = h
 
--- one more that isn't it
-find-none : {X : Type 0} (p : X → Bool) (xs ys : List X) → find p xs ≡ None → find p (xs ++ ys) ≡ find p ys
-find-none p [] ys h = refl
-find-none p (x ∷ xs) ys h = by_test (find-none p xs ys) (p x) refl where
-  by_test : (find p xs ≡ None → find p (xs ++ ys) ≡ find p ys) → (b : Bool) → p x ≡ b → find p ((x ∷ xs) ++ ys) ≡ find p ys
-  by_test rest true here = let e : Some x ≡ None = rw here at h in cc
-  by_test rest false here = let e : find p xs ≡ None = rw here at h in rw here (rest e)
-
-pub place_none_more : (placed : List Placed) (group : List Member) (i : ℕ) (x : Placed) → i < length placed → x ≡ get_or placed i x → same_members x.members group ≡ false → place_in (take i placed) group ≡ None
-    → place_in (take (i + 1) placed) group ≡ None
-place_none_more placed group i x within is apart before =
-    ap (λ l. place_in l group) (take_more placed i x within ∙ ap (λ y. take i placed ++ y ∷ []) (sym is))
-    ∙ find-none (λ (p : Placed). same_members p.members group) (take i placed) (x ∷ []) before
-    ∙ rw apart refl
-
-pub place_found : (placed : List Placed) (group : List Member) (i : ℕ) (x : Placed) → i < length placed → x ≡ get_or placed i x → same_members x.members group ≡ true → place_in (take i placed) group ≡ None
-    → place_in placed group ≡ Some x
-place_found placed group i x within is same before =
-    let whole : placed ≡ take i placed ++ x ∷ drop (i + 1) placed = sym (take-append-drop i placed) ∙ ap (λ l. take i placed ++ l) (drop_more placed i x within ∙ ap (λ y. y ∷ drop (i + 1) placed) (sym is)) in
-    ap (λ l. place_in l group) whole ∙ find-none (λ (p : Placed). same_members p.members group) (take i placed) (x ∷ drop (i + 1) placed) before ∙ rw same refl
-
 pub contains_cons : {X : Type 0} (x : X) (xs : List X) (y : X) → Contains (x ∷ xs) y → (x ≡ y) ⊎ Contains xs y
 contains_cons x xs y c =
     elim (Contains-append_cases (x ∷ []) xs y c) [
@@ -66,9 +45,13 @@ contains_cons x xs y c =
     ]
 
 -- each placed group's number is its folder's, where groups that are the same share one
-pub numbers : (placed : List Placed) → ((p q : Placed) → Contains placed p → Contains placed q → p.members ≡ q.members → p.folder ≡ q.folder) → (p : Placed) → Contains placed p → number_in placed p.members ≡ p.folder
-numbers [] one p in_p = absurd (nothing_in p in_p)
-numbers (q ∷ qs) one p in_p = by_test (numbers qs (λ r s in_r in_s. one r s (Contains-append_right (q ∷ []) qs r in_r) (Contains-append_right (q ∷ []) qs s in_s)) p) (same_members q.members p.members) refl where
+
+abbrev first_number : List Placed → List Member → ℕ
+first_number placed group = unwrap_or (option_map (λ (p : Placed). p.folder) (place_in placed group)) 0
+
+first_numbers : (placed : List Placed) → ((p q : Placed) → Contains placed p → Contains placed q → p.members ≡ q.members → p.folder ≡ q.folder) → (p : Placed) → Contains placed p → first_number placed p.members ≡ p.folder
+first_numbers [] one p in_p = absurd (nothing_in p in_p)
+first_numbers (q ∷ qs) one p in_p = by_test (first_numbers qs (λ r s in_r in_s. one r s (Contains-append_right (q ∷ []) qs r in_r) (Contains-append_right (q ∷ []) qs s in_s)) p) (same_members q.members p.members) refl where
   later : same_members q.members p.members ≡ false → Contains qs p
   later apart =
       elim (contains_cons q qs p in_p) [
@@ -76,6 +59,9 @@ numbers (q ∷ qs) one p in_p = by_test (numbers qs (λ r s in_r in_s. one r s (
         | inr there ↦ there
       ]
 
-  by_test : (Contains qs p → number_in qs p.members ≡ p.folder) → (b : Bool) → same_members q.members p.members ≡ b → number_in (q ∷ qs) p.members ≡ p.folder
+  by_test : (Contains qs p → first_number qs p.members ≡ p.folder) → (b : Bool) → same_members q.members p.members ≡ b → first_number (q ∷ qs) p.members ≡ p.folder
   by_test rest true same = rw same (one q p (0, omega arith, refl) in_p (same_is q.members p.members same))
   by_test rest false apart = rw apart (rest (later apart))
+
+pub numbers : (index : FolderIndex) (placed : List Placed) → IsIndex index placed → ((p q : Placed) → Contains placed p → Contains placed q → p.members ≡ q.members → p.folder ≡ q.folder) → (p : Placed) → Contains placed p → number_in index p.members ≡ p.folder
+numbers index placed is one p in_p = ap (λ o. unwrap_or o 0) (is p.members) ∙ first_numbers placed one p in_p

@@ -14,6 +14,7 @@ mod fault;
 mod found;
 mod group;
 mod groups;
+mod index;
 mod item;
 mod laws;
 mod matching;

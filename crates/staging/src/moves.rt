@@ -1,26 +1,30 @@
 //! What is copied: each file of the placed groups, once.
-ghost use Rattle.std.specs.Prelude.{◌≡◌, ◌++◌, map, IfOk, OnOk};
+ghost use Rattle.std.specs.Prelude.{◌≡◌, ◌++◌, [], map, IfOk, OnOk};
+ghost use Rattle.staging.specs.inner.Indexed.{IsIndex};
 ghost use Rattle.staging.specs.Plan.{AreMoves, folder_path as path_of, move_to as move_of};
 
 use crate::group::{Member, Placed};
-use crate::placing::shared_folder;
+use crate::index::FolderIndex;
 use crate::plan::Move;
 use crate::targets::{Folders, folder_path, path_in};
 use plain_data::Items;
 use std::alloc::{AllocError, Global};
 
-/// Each copy once: a group that shares its folder with an earlier one is copied with that.
+/// Each copy once: a group that shares its folder with an earlier one is copied with that. Notes the groups in an index
+/// that has none.
 pub(crate) fn moves_of(
     alloc: Global,
     placed: &[Placed],
     folders: Folders<'_>,
+    index: &mut FolderIndex,
 ) -> Result<Items<Move>, AllocError>
-    ensures { IfOk result (AreMoves (path_of folders.entry.holds_others folders.entry.dir.now) placed.now) }
+    requires { IsIndex index.old [] }
+    ensures moves { IfOk result (AreMoves (path_of folders.entry.holds_others folders.entry.dir.now) placed.now) }
+    ensures noted { OnOk result (IsIndex index.new placed.now) }
 {
     let mut moves = Items::new(alloc);
-    for at in 0..placed.len() {
-        let (earlier, one) = (&placed[..at], &placed[at]);
-        if shared_folder(earlier, one.members.as_slice()).is_none() {
+    for one in placed {
+        if index.note(alloc, one.members.as_slice(), one.folder)? {
             push_moves(alloc, one, folders, &mut moves)?;
         }
     }

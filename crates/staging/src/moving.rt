@@ -6,9 +6,9 @@ ghost use Rattle.cwl_value.specs.declared.value.DirVal.{out-DirVal};
 ghost use Rattle.staging.specs.Groups.{path_in as path_at, name_of as name_in, copied, copied_file, copied_dir, items_moved, fields_moved};
 ghost use Rattle.staging.specs.inner.Ways.{folder_by, group_at, dir_group_at, file_as};
 
-use crate::group::{Member, Placed};
+use crate::group::Member;
 use crate::groups::{dir_group, file_group, name_of};
-use crate::placing::shared_folder;
+use crate::index::FolderIndex;
 use crate::targets::{Folders, folder_path, path_in};
 use cwl_value::{DirVal, FileVal, Place, Value};
 use plain_data::{Items, Keyed, Text};
@@ -18,7 +18,7 @@ use std::alloc::{AllocError, Global};
 #[derive(Clone, Copy, Drop)]
 pub(crate) enum Way<'a> {
     /// Each in the folder that it was put into.
-    Placed(&'a [Placed], Folders<'a>),
+    Placed(&'a FolderIndex, Folders<'a>),
     /// All in one folder.
     Inside(&'a str),
 }
@@ -105,9 +105,9 @@ fn folder_of_file(alloc: Global, file: &FileVal, way: Way<'_>) -> Result<String,
 {
     match way {
         Way::Inside(folder) => String::from_str(alloc, folder),
-        Way::Placed(placed, folders) => {
+        Way::Placed(index, folders) => {
             let group = file_group(alloc, file)?;
-            folder_of_group(alloc, group.as_slice(), placed, folders)
+            folder_of_group(alloc, group.as_slice(), index, folders)
         }
     }
 }
@@ -124,9 +124,9 @@ fn folder_of_dir(alloc: Global, dir: &DirVal, way: Way<'_>) -> Result<String, Al
 {
     match way {
         Way::Inside(folder) => String::from_str(alloc, folder),
-        Way::Placed(placed, folders) => {
+        Way::Placed(index, folders) => {
             let group = dir_group(alloc, dir)?;
-            folder_of_group(alloc, group.as_slice(), placed, folders)
+            folder_of_group(alloc, group.as_slice(), index, folders)
         }
     }
 }
@@ -135,12 +135,13 @@ fn folder_of_dir(alloc: Global, dir: &DirVal, way: Way<'_>) -> Result<String, Al
 fn folder_of_group(
     alloc: Global,
     group: &[Member],
-    placed: &[Placed],
+    index: &FolderIndex,
     folders: Folders<'_>,
 ) -> Result<String, AllocError>
-    ensures { IfOk result (λ folder. string_bytes folder ≡ folder_by (Way.Placed placed.entry folders.entry) group.now) }
+    ensures { IfOk result (λ folder. string_bytes folder ≡ folder_by (Way.Placed index.entry folders.entry) group.now) }
 {
-    folder_path(alloc, folders, shared_folder(placed, group).unwrap_or(0))
+    let found = index.folder_of(alloc, group)?;
+    folder_path(alloc, folders, found.unwrap_or(0))
 }
 
 // The File in a folder, beside these files.

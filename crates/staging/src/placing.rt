@@ -1,19 +1,20 @@
 //! Which folder each group of files goes to.
-ghost use Rattle.std.specs.Prelude.{◌≡◌, ◌+◌, ◌≤◌, ◌↔◌, IsTrue, IfOk, MatchOption, option_map, Contains, bytes_eq, length, vec_len};
+ghost use Rattle.std.specs.Prelude.{◌≡◌, ◌+◌, ◌≤◌, ◌++◌, ◌∷◌, [], IfOk, bytes_eq, length, vec_len};
 ghost use Rattle.std.specs.Char.{is_ascii_digit};
 ghost use Rattle.std.specs.List.{list_all, list_any};
 ghost use Rattle.staging.specs.Placing.{ArePlaced, IsFolder, has_reserved, is_reserved, share_a_name, are_digits};
-ghost use Rattle.staging.specs.inner.Ways.{place_in};
-ghost use Rattle.staging.specs.inner.Folders.{NoneIs, IsLowest, IsAbove, TellsTaken, IsFirstFree};
+ghost use Rattle.staging.specs.inner.Indexed.{IsIndex};
+ghost use Rattle.staging.specs.inner.Folders.{IsLowest, IsAbove, TellsTaken, IsFirstFree};
 
 use crate::group::{Member, Placed};
+use crate::index::FolderIndex;
 use plain_data::{Items, Text};
 use std::alloc::{AllocError, Global};
 
 /// Puts each group into a folder. Where `holds_others` says so, folder 0 holds the numbered ones, and no file of their
 /// names.
 ///
-/// The time grows with the square of the number of groups.
+/// The time grows with the square of the number of groups that differ.
 pub fn place_groups(
     alloc: Global,
     groups: Vec<Items<Member>>,
@@ -22,60 +23,55 @@ pub fn place_groups(
     ensures { IfOk result (ArePlaced holds_others groups.items) }
 {
     let mut placed = Items::new(alloc);
+    let mut index = FolderIndex::new(alloc);
     for members in groups {
-        let folder = folder_of(alloc, placed.as_slice(), members.as_slice(), holds_others)?;
+        let folder = next_folder(
+            alloc,
+            &mut index,
+            placed.as_slice(),
+            members.as_slice(),
+            holds_others,
+        )?;
         placed.push(Placed { members, folder })?;
     }
     Ok(placed)
 }
 
-fn folder_of(
+// The folder of the next group, which is then noted.
+fn next_folder(
     alloc: Global,
+    index: &mut FolderIndex,
     placed: &[Placed],
     group: &[Member],
     holds_others: bool,
 ) -> Result<usize, AllocError>
-    requires { IsAbove placed.now (length placed.now + 1) }
+    requires above { IsAbove placed.now (length placed.now + 1) }
+    requires index { IsIndex index.old placed.now }
+    ensures folder { IfOk result (IsFolder holds_others placed.now group.now) }
+    ensures near { IfOk result (λ k. k ≤ length placed.now + 1) }
+    ensures noted { IfOk result (λ k. IsIndex index.new (placed.now ++ record { members = group.now; folder = k } ∷ [])) }
+{
+    let folder = folder_of(alloc, index, placed, group, holds_others)?;
+    index.note(alloc, group, folder)?;
+    Ok(folder)
+}
+
+fn folder_of(
+    alloc: Global,
+    index: &FolderIndex,
+    placed: &[Placed],
+    group: &[Member],
+    holds_others: bool,
+) -> Result<usize, AllocError>
+    requires above { IsAbove placed.now (length placed.now + 1) }
+    requires index { IsIndex index.now placed.now }
     ensures folder { IfOk result (IsFolder holds_others placed.now group.now) }
     ensures near { IfOk result (λ k. k ≤ length placed.now + 1) }
 {
-    match shared_folder(placed, group) {
+    match index.folder_of(alloc, group)? {
         Some(folder) => Ok(folder),
         None => lowest_folder(alloc, placed, group, holds_others),
     }
-}
-
-// The folder of an earlier group with the same places and names.
-pub(crate) fn shared_folder(placed: &[Placed], group: &[Member]) -> Option<usize>
-    ensures found { MatchOption result (NoneIs placed.now group.now) (λ k. Contains placed.now (record { members = group.now; folder = k })) }
-    ensures first { result ≡ option_map (λ (p : Placed). p.folder) (place_in placed.now group.now) }
-{
-    for one in placed {
-        if are_same(one.members.as_slice(), group) {
-            return Some(one.folder);
-        }
-    }
-    None
-}
-
-fn are_same(group: &[Member], other: &[Member]) -> bool
-    ensures { IsTrue result ↔ (group.now ≡ other.now) }
-{
-    if group.len() != other.len() {
-        return false;
-    }
-    for at in 0..group.len() {
-        if !is_same(&group[at], &other[at]) {
-            return false;
-        }
-    }
-    true
-}
-
-fn is_same(one: &Member, other: &Member) -> bool
-    ensures { IsTrue result ↔ (one.now ≡ other.now) }
-{
-    one.name.equals(&other.name) && one.source.equals(&other.source)
 }
 
 fn lowest_folder(

@@ -4,6 +4,7 @@ ghost use Rattle.cwl_value.specs.Erased.{fields_erased};
 ghost use Rattle.staging.specs.Plan.{IsPlan};
 
 use crate::groups::push_field_groups;
+use crate::index::FolderIndex;
 use crate::moves::moves_of;
 use crate::moving::{Way, moved_fields};
 use crate::placing::place_groups;
@@ -69,7 +70,8 @@ fn plan(alloc: Global, values: &Keyed<Value>, folders: Folders<'_>) -> Result<St
     let mut groups = Vec::new(alloc);
     push_field_groups(alloc, values, &mut groups)?;
     let placed = place_groups(alloc, groups, folders.holds_others)?;
-    let moves = moves_of(alloc, placed.as_slice(), folders)?;
-    let value = moved_fields(alloc, values, Way::Placed(placed.as_slice(), folders))?;
+    let mut index = FolderIndex::new(alloc);
+    let moves = moves_of(alloc, placed.as_slice(), folders, &mut index)?;
+    let value = moved_fields(alloc, values, Way::Placed(&index, folders))?;
     Ok(StagePlan { moves, value })
 }

@@ -1,32 +1,19 @@
 -- The folders of groups, looked up. No public contract cites this.
-use Rattle.std.specs.Prelude.{ℕ, Bool, true, false, ◌&&◌, List, [], ◌∷◌, Option, find, bytes_eq}
+use Rattle.std.specs.Prelude.{ℕ, List, [], ◌∷◌}
 use Rattle.std.specs.List.{flat_map}
-use Rattle.std.specs.Option.{option_map_or}
 use Rattle.cwl_value.specs.declared.place.Place.TheVariants.{Path}
 use Rattle.cwl_value.specs.declared.value.Value.{Value}
 use Rattle.cwl_value.specs.declared.value.FileVal.{FileVal, out-FileVal, roll-FileVal}
 use Rattle.cwl_value.specs.declared.value.DirVal.{DirVal, out-DirVal}
 use Rattle.staging.specs.declared.group.Member.{Member}
-use Rattle.staging.specs.declared.group.Placed.{Placed}
 use Rattle.staging.specs.declared.moving.Way.{Way}
 use Rattle.staging.specs.declared.moving.Way.TheVariants as way
 use Rattle.staging.specs.Groups.{FolderOf, member_of, name_of, path_in, copied}
 use Rattle.staging.specs.Plan.{folder_path}
-
-abbrev pub same_members : List Member → List Member → Bool
-same_members [] [] = true
-same_members (m ∷ ms) (n ∷ ns) = bytes_eq m.name n.name && (bytes_eq m.source n.source && same_members ms ns)
-same_members _ _ = false
-
-abbrev pub place_in : List Placed → List Member → Option Placed
-place_in placed group = find (λ p. same_members p.members group) placed
-
--- the number of the folder that a group was put into
-abbrev pub number_in : List Placed → List Member → ℕ
-number_in placed group = option_map_or (λ p. p.folder) (place_in placed group) 0
+use Rattle.staging.specs.inner.Indexed.{number_in}
 
 abbrev pub folder_by : Way → FolderOf
-folder_by (way.Placed placed folders) group = folder_path folders.holds_others folders.dir.now (number_in placed.now group)
+folder_by (way.Placed index folders) group = folder_path folders.holds_others folders.dir.now (number_in index.now group)
 folder_by (way.Inside folder) group = folder.now
 
 -- what a File is copied with
