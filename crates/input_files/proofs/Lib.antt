@@ -1,3 +1,5 @@
 mod Fileless
+mod Folders
 mod Heads
 mod Once
+mod OneMore

@@ -11,3 +11,4 @@ pub mod Paths
 pub mod Present
 pub mod Refusals
 pub mod Taken
+pub mod inner

@@ -16,6 +16,7 @@ mod contents;
 mod fault;
 mod files;
 mod given;
+mod grouped;
 mod inputs;
 mod laws;
 mod listing;

@@ -1,7 +1,9 @@
 //! What stands below a measured folder, as values.
 ghost use Rattle.std.specs.Prelude.{◌≡◌, ◌++◌, ◌∷◌, [], IfOk, OnOk};
 ghost use Rattle.input_files.specs.Listing as spec;
+ghost use Rattle.input_files.specs.inner.Folders.{IsByFolder};
 
+use crate::grouped::Grouped;
 use crate::names::{front_of, last_of, path_below};
 use cwl_value::{DirVal, FileVal, Place, Value};
 use plain_data::{Items, Text};
@@ -63,7 +65,28 @@ pub(crate) fn values_below(
 ) -> Result<Items<Value>, AllocError>
     ensures { IfOk result (λ values. values ≡ spec.values_below root.now listing.now) }
 {
-    values_in(alloc, root, listing.as_slice(), listing.len(), "")
+    let by_folder = by_folder(alloc, listing.as_slice())?;
+    let values = values_in(
+        alloc,
+        root,
+        listing.as_slice(),
+        &by_folder,
+        listing.len(),
+        "",
+    );
+    drop(by_folder);
+    values
+}
+
+// The entries by the folder that each stands in.
+fn by_folder<'l>(alloc: Global, listing: &'l [Found]) -> Result<Grouped<'l, &'l Found>, AllocError>
+    ensures { IfOk result (λ grouped. IsByFolder grouped listing.now) }
+{
+    let mut grouped = Grouped::new(alloc);
+    for found in listing {
+        grouped.add(alloc, front_of(found.name.as_str()), found)?;
+    }
+    Ok(grouped)
 }
 
 // What stands in a folder, to this depth.
@@ -72,19 +95,19 @@ fn values_in(
     alloc: Global,
     root: &str,
     listing: &[Found],
+    by_folder: &Grouped<'_, &Found>,
     depth: usize,
     folder: &str,
 ) -> Result<Items<Value>, AllocError>
+    requires { IsByFolder by_folder.now listing.now }
     ensures { IfOk result (λ values. values ≡ spec.values_in root.now listing.now depth folder.now) }
 {
     let mut values = Items::new(alloc);
     if depth == 0 {
         return Ok(values);
     }
-    for found in listing {
-        if front_of(found.name.as_str()) == folder {
-            values.push(found_value(alloc, root, listing, depth - 1, found)?)?;
-        }
+    for found in by_folder.under(folder) {
+        values.push(found_value(alloc, root, listing, by_folder, depth - 1, found)?)?;
     }
     Ok(values)
 }
@@ -95,15 +118,17 @@ fn found_value(
     alloc: Global,
     root: &str,
     listing: &[Found],
+    by_folder: &Grouped<'_, &Found>,
     depth: usize,
     found: &Found,
 ) -> Result<Value, AllocError>
+    requires { IsByFolder by_folder.now listing.now }
     ensures { IfOk result (λ v. v ≡ spec.found_value root.now (spec.values_in root.now listing.now depth) found.now) }
 {
     let path = path_below(alloc, root, found.name.as_str())?;
     let name = last_of(found.name.as_str());
     if found.is_dir {
-        let inside = values_in(alloc, root, listing, depth, found.name.as_str())?;
+        let inside = values_in(alloc, root, listing, by_folder, depth, found.name.as_str())?;
         measured_dir(alloc, path.as_str(), name, inside)
     } else {
         measured_file(alloc, path.as_str(), name, found.size, &found.sum)
