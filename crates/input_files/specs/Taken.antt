@@ -5,6 +5,7 @@ use Rattle.std.specs.Prelude.{not, ◌&&◌, if◌then◌else◌, List, [], ◌�
 use Rattle.cwl_process.specs.declared.tool.ToolInput.{ToolInput}
 use Rattle.cwl_process.specs.declared.workflow.WorkflowInput.{WorkflowInput}
 use Rattle.cwl_value.specs.declared.value.Value.{Value}
+use Rattle.value_depth.specs.Limit.{is_within_limit}
 use Rattle.input_files.specs.Given.{Name, Fields, last_by_name, or_default, value_under}
 use Rattle.input_files.specs.Present.{is_present}
 use Rattle.input_files.specs.Measured.{Measures, as_measured}
@@ -29,10 +30,10 @@ module _ {X : Type 0} (of : X → Parameter) where
   abbrev pub taken_value : Measures → Fields → Name × X → Value
   taken_value measures fields input = or_default (option_map (as_measured measures) (of input.1).default) (value_under input.0 fields)
 
-  -- what is wrong with an input of this value first
+  -- what is wrong with an input of this value first; a value is of no type where its JSON nests over the limit
   abbrev pub fault_with : Name × X → Value → Option InputFault
   fault_with input v =
-      (if not ((of input.1).takes v) then Some (fault.Kind input.0)
+      (if not ((of input.1).takes v && is_within_limit v) then Some (fault.Kind input.0)
       else if (of input.1).uses_files && not (is_present v) then Some (fault.Missing input.0)
       else if lacks_carried (of input.1).secondary_files v then Some (fault.Secondary input.0)
       else None)

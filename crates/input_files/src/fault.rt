@@ -6,7 +6,7 @@ use std::fmt;
 /// What is wrong with a job's inputs; each has the id of the input.
 #[derive(Debug, Drop)]
 pub enum InputFault {
-    /// The value does not fit the input's type.
+    /// The value does not fit the input's type, or its JSON nests over 100 deep.
     Kind(Text),
     /// A File or Directory of the value is absent, or of the other kind.
     Missing(Text),
@@ -17,7 +17,10 @@ pub enum InputFault {
 impl fmt::Display for InputFault {
     fn fmt<W: fmt::Write>(&self, f: &mut fmt::Formatter<W>) -> fmt::Result {
         match self {
-            InputFault::Kind(input) => write!(f, "the value of {input} does not fit its type"),
+            InputFault::Kind(input) => write!(
+                f,
+                "the value of {input} does not fit its type, or nests over 100 deep"
+            ),
             InputFault::Missing(input) => write!(
                 f,
                 "a file of {input} is absent, or of the other kind"

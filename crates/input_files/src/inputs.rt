@@ -3,6 +3,7 @@ ghost use Rattle.std.specs.Prelude.{◌≡◌, IfOk, IfErr, OnOk, Ok};
 ghost use Rattle.plain_data.specs.ByName.{with_value};
 ghost use Rattle.input_files.specs.Inputs as spec;
 ghost use Rattle.input_files.specs.Refusals.{RefusesInputs};
+ghost use Rattle.value_depth.specs.Limit.{is_within_limit};
 
 use crate::beside::{all_beside, lacks_required};
 use crate::fault::{InputError, InputFault};
@@ -15,14 +16,15 @@ use plain_data::{Keyed, Text};
 use staging::Measure;
 use std::alloc::{AllocError, Global};
 use std::mem;
+use value_depth::is_within_limit;
 
 /// The value of each input of a tool under the input's id: what is given, or the default in place of null, each File
 /// and Directory as it was measured, with the files that were found beside each File.
 ///
 /// # Errors
 ///
-/// The first fault in the order of the tool's inputs, and of one input the first of `Kind`, `Missing` and `Secondary`;
-/// `OutOfMemory`.
+/// The first fault in the order of the tool's inputs, and of one input the first of `Kind` (also where the value's JSON,
+/// as it was measured, nests over 100 deep), `Missing` and `Secondary`; `OutOfMemory`.
 pub fn inputs_for(
     alloc: Global,
     inputs: &[(Text, ToolInput)],
@@ -78,7 +80,7 @@ fn fault_in(
 ) -> Result<Option<InputFault>, AllocError>
     ensures { IfOk result (λ fault. fault ≡ spec.fault_in measures.now input.now value.now) }
 {
-    if !fits_input(&input.1.kind, value) {
+    if !fits_input(&input.1.kind, value) || !nests_within_limit(alloc, measures, input, value)? {
         return Ok(Some(InputFault::Kind(input.0.copied(alloc)?)));
     }
     if !is_there(measures, value) {
@@ -88,6 +90,21 @@ fn fault_in(
         return Ok(Some(InputFault::Secondary(input.0.copied(alloc)?)));
     }
     Ok(None)
+}
+
+// Whether the JSON of the value, as it was measured, nests within the limit.
+fn nests_within_limit(
+    alloc: Global,
+    measures: &Keyed<Measure>,
+    input: &(Text, ToolInput),
+    value: &Value,
+) -> Result<bool, AllocError>
+    ensures { IfOk result (λ within. within ≡ is_within_limit (spec.with_measures measures.now input.now.1.secondary_files value.now)) }
+{
+    let measured = with_measures(alloc, measures, input.1.secondary_files.as_slice(), value)?;
+    let is_within = is_within_limit(&measured);
+    mem::drop(measured);
+    Ok(is_within)
 }
 
 fn measured_inputs(

@@ -16,6 +16,7 @@ use plain_data::{Keyed, Text};
 use staging::Measure;
 use std::alloc::{AllocError, Global};
 use std::mem;
+use value_depth::is_within_limit;
 
 /// What is handed to the root of a run, under the ids of its inputs: what is given, or the default in place of null, each
 /// File and Directory as it was measured, with the files that were found beside each File. What is absent has no sum and
@@ -59,8 +60,8 @@ fn root_value<P: Parameter>(
 ///
 /// # Errors
 ///
-/// The first fault in the order of the inputs, and of one input the first of `Kind`, `Missing` (for a tool) and
-/// `Secondary`; `OutOfMemory`.
+/// The first fault in the order of the inputs, and of one input the first of `Kind` (also where the value's JSON nests
+/// over 100 deep), `Missing` (for a tool) and `Secondary`; `OutOfMemory`.
 pub fn process_inputs<P: Parameter>(
     alloc: Global,
     inputs: &[(Text, P)],
@@ -141,7 +142,7 @@ fn fault_with<P: Parameter>(
 ) -> Result<Option<InputFault>, AllocError>
     ensures { IfOk result (λ fault. fault ≡ spec.fault_with P.of input.now value.now) }
 {
-    if !input.1.takes(value) {
+    if !input.1.takes(value) || !is_within_limit(value) {
         return Ok(Some(InputFault::Kind(input.0.copied(alloc)?)));
     }
     if input.1.uses_files() && !is_present(value) {
