@@ -1,8 +1,8 @@
 -- Each name is matched by a pattern or it isn't, and each text reads as a pattern or has a fault.
-use Rattle.std.proofs.Common.{◌≡◌, ◌⊎◌, inl, inr, ℕ, zero, suc, ◌+◌, ◌<◌, ◌≤◌, Bool, true, false, true≢false, not, ◌&&◌, ◌||◌, ◌==◌, eqb-true, List, [], ◌∷◌, ◌++◌, length, length-append, Option, Some, None, Result, Ok, Err, refl, sym, ap, subst, ◌∙◌, arith}
+use Rattle.std.proofs.Common.{◌≡◌, ◌⊎◌, inl, inr, ℕ, zero, suc, ◌+◌, ◌<◌, ◌≤◌, Bool, true, false, true≢false, not, ◌&&◌, ◌==◌, eqb-true, List, [], ◌∷◌, ◌++◌, length, length-append, Option, Some, None, Result, Ok, Err, refl, sym, ap, subst, ◌∙◌, arith}
 use Rattle.std.specs.List.{list_all, list_any}
 use Rattle.staging.specs.Glob.{Glob, takes, may_take, may_begin, is_run}
-use Rattle.staging.specs.Reading.{Reads, Ranges, IsBracket, IsReading, body, fault_of, has_falling, begins_range, is_inside, has_close, closes_later, is_closed, is_empty, is_plain}
+use Rattle.staging.specs.Reading.{Reads, Ranges, IsBracket, IsReading, body, fault_of, has_falling, is_inside, has_close, closes_later, is_closed, is_empty, is_plain}
 use Rattle.staging.specs.declared.fault.GlobFault.{GlobFault}
 use Rattle.staging.specs.declared.fault.GlobFault.TheVariants.{FallingRange}
 use Rattle.staging.specs.declared.item.Bracket.{Bracket}

@@ -1,14 +1,12 @@
 -- Which folder is free, found.
-use Rattle.std.proofs.Common.{◌≡◌, ℕ, ◌+◌, ◌<◌, ◌≤◌, Bool, true, false, ◌&&◌, ◌==◌, List, [], ◌∷◌, ◌++◌, length, length-append, take, get_or, Result, Ok, Err, IfOk, ◌⊎◌, inl, inr, refl, sym, ap, subst, ◌∙◌, arith, ne_eqb}
+use Rattle.std.proofs.Common.{◌≡◌, ℕ, ◌+◌, ◌<◌, ◌≤◌, Bool, true, false, ◌&&◌, ◌==◌, List, [], ◌∷◌, ◌++◌, length, length-append, Result, Ok, Err, IfOk, ◌⊎◌, inl, inr, refl, sym, ap, subst, arith, ne_eqb}
 use Rattle.std.specs.Prelude.{Contains}
 use Rattle.std.specs.List.{list_any}
 use Rattle.std.specs.declared.alloc.AllocError.{AllocError}
-use Rattle.std.proofs.Math.Seq.{take-length}
 use Rattle.std.proofs.lemmas.Bool.Decides.{eqb_tells}
-use Rattle.std.proofs.lemmas.List.{take_more}
 use Rattle.std.proofs.lemmas.List.Elements.{Contains-push_cases, Contains-append_right}
 use Rattle.staging.specs.Placing.{has_reserved, is_in_the_way, is_taken, IsFolder, ArePlaced}
-use Rattle.staging.specs.inner.Folders.{NoneIs, IsAbove, IsLowest, TellsTaken, IsFirstFree}
+use Rattle.staging.specs.inner.Folders.{NoneIs, IsAbove, IsLowest}
 use Rattle.staging.specs.declared.group.Member.{Member}
 use Rattle.staging.specs.declared.group.Placed.{Placed}
 use Rattle.staging.proofs.Together.{nothing_in}
@@ -36,16 +34,6 @@ free_above holds_others placed group top h some =
 
 pub at_most : (a b : ℕ) → a ≤ b → (a < b) ⊎ (a ≡ b)
 at_most a b h = elim (eqb_tells a b) [ inl p ↦ inr p.1 | inr p ↦ inl (omega (arith, p.1)) ]
-
-pub lowest : (holds_others : Bool) (placed : List Placed) (group : List Member) (taken : List Bool) (k : ℕ) → IsAbove placed (length placed + 1) → length taken ≡ length placed + 1 → TellsTaken taken holds_others placed group → IsFirstFree taken k
-    → IsLowest holds_others placed group k
-lowest holds_others placed group taken k above count tells first = (
-  elim (at_most k (length taken) first.within) [
-    | inl within ↦ sym (tells k within) ∙ first.free within
-    | inr is ↦ subst (λ (n : ℕ). is_taken holds_others placed group n ≡ false) (sym (is ∙ count)) (free_above holds_others placed group (length placed + 1) above (omega arith))
-  ],
-  λ j less. let within : j < length taken = omega (arith, first.within) in sym (tells j within) ∙ first.below j less,
-)
 
 pub if_lowest : (holds_others : Bool) (placed : List Placed) (group : List Member) (r : Result ℕ AllocError) → NoneIs placed group → IfOk r (IsLowest holds_others placed group) → IfOk r (IsFolder holds_others placed group)
 if_lowest holds_others placed group (Ok k) none h = IsFolder.lowest k none h.0 h.1

@@ -1,12 +1,11 @@
 -- Groups looked up by their names and places.
-use Rattle.std.proofs.Common.{◌≡◌, ℕ, Bool, true, false, true≢false, not, cond, ◌∷◌, List, [], ◌++◌, Option, Some, None, inl, inr, refl, sym, ap, subst, ◌∙◌}
-use Rattle.std.specs.Prelude.{Contains, is_some, is_none, find, option_map, unwrap_or, bytes_eq}
+use Rattle.std.proofs.Common.{◌≡◌, ℕ, Bool, true, false, true≢false, cond, ◌∷◌, List, [], ◌++◌, Option, Some, None, inl, inr, refl, sym, ap, subst, ◌∙◌}
+use Rattle.std.specs.Prelude.{Contains, is_some, is_none, option_map}
 use Rattle.std.specs.Bool.{Decides}
 use Rattle.std.specs.BTreeMap as tree
 use Rattle.std.specs.BTreeMap.{BTreeMap, is_at}
 use Rattle.std.specs.Map.{lookup, KeepsOthers, IsKeyTest, AreApart}
-use Rattle.std.specs.Cmp.Lexicographic.{slice_cmp, pointwise, pointwise_decides, bytes_decides, lists_ties, texts_ties}
-use Rattle.std.specs.List.{flat_map}
+use Rattle.std.specs.Cmp.Lexicographic.{slice_cmp, pointwise_decides, bytes_decides, lists_ties, texts_ties}
 use Rattle.std.specs.Option.{option_or}
 use Rattle.std.specs.Ordering.{eq_by_cmp}
 use Rattle.std.proofs.lemmas.Bool.{false_from_ne_true}
@@ -18,7 +17,7 @@ use Rattle.staging.specs.declared.group.Member.{Member}
 use Rattle.staging.specs.declared.group.Placed.{Placed}
 use Rattle.staging.specs.declared.index.FolderIndex.{FolderIndex}
 use Rattle.staging.specs.inner.Folders.{NoneIs}
-use Rattle.staging.specs.inner.Indexed.{IsIndex, number_at, number_of, number_in, texts_of, own_texts, place_in, same_members}
+use Rattle.staging.specs.inner.Indexed.{IsIndex, number_at, number_of, texts_of, place_in, same_members}
 use Rattle.staging.proofs.Folders.{head_in}
 use Rattle.staging.proofs.Numbered.{same_is, is_same, contains_cons}
 use Rattle.staging.proofs.Together.{nothing_in}

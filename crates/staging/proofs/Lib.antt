@@ -6,6 +6,7 @@ pub mod Indexing
 pub mod Moved
 pub mod Numbered
 pub mod Grouped
+pub mod Naming
 pub mod Names
 pub mod Scanned
 pub mod Standing

@@ -25,6 +25,7 @@ mod pattern;
 mod placing;
 mod plan;
 mod reading;
+mod spots;
 mod syntax;
 mod targets;
 

@@ -1,20 +1,21 @@
 //! Which folder each group of files goes to.
-ghost use Rattle.std.specs.Prelude.{◌≡◌, ◌+◌, ◌≤◌, ◌++◌, ◌∷◌, [], IfOk, bytes_eq, length, vec_len};
+ghost use Rattle.std.specs.Prelude.{◌≡◌, ◌+◌, ◌≤◌, ◌<◌, ◌++◌, ◌∷◌, ◌&&◌, [], ℕ, List, true, false, IfOk, length};
 ghost use Rattle.std.specs.Char.{is_ascii_digit};
-ghost use Rattle.std.specs.List.{list_all, list_any};
-ghost use Rattle.staging.specs.Placing.{ArePlaced, IsFolder, has_reserved, is_reserved, share_a_name, are_digits};
+ghost use Rattle.std.specs.List.{list_all};
+ghost use Rattle.staging.specs.Placing.{ArePlaced, IsFolder, is_taken, has_reserved, is_reserved, are_digits};
 ghost use Rattle.staging.specs.inner.Indexed.{IsIndex};
-ghost use Rattle.staging.specs.inner.Folders.{IsLowest, IsAbove, TellsTaken, IsFirstFree};
+ghost use Rattle.staging.specs.inner.Named.{IsNamed};
+ghost use Rattle.staging.specs.inner.Folders.{IsLowest, IsAbove};
+ghost use Rattle.staging.specs.declared.group.Placed.{Placed};
 
 use crate::group::{Member, Placed};
 use crate::index::FolderIndex;
-use plain_data::{Items, Text};
+use crate::spots::FolderNames;
+use plain_data::Items;
 use std::alloc::{AllocError, Global};
 
 /// Puts each group into a folder. Where `holds_others` says so, folder 0 holds the numbered ones, and no file of their
 /// names.
-///
-/// The time grows with the square of the number of groups that differ.
 pub fn place_groups(
     alloc: Global,
     groups: Vec<Items<Member>>,
@@ -24,10 +25,12 @@ pub fn place_groups(
 {
     let mut placed = Items::new(alloc);
     let mut index = FolderIndex::new(alloc);
+    let mut names = FolderNames::new(alloc);
     for members in groups {
         let folder = next_folder(
             alloc,
             &mut index,
+            &mut names,
             placed.as_slice(),
             members.as_slice(),
             holds_others,
@@ -41,104 +44,82 @@ pub fn place_groups(
 fn next_folder(
     alloc: Global,
     index: &mut FolderIndex,
+    names: &mut FolderNames,
     placed: &[Placed],
     group: &[Member],
     holds_others: bool,
 ) -> Result<usize, AllocError>
     requires above { IsAbove placed.now (length placed.now + 1) }
     requires index { IsIndex index.old placed.now }
+    requires names { IsNamed names.old placed.now }
     ensures folder { IfOk result (IsFolder holds_others placed.now group.now) }
     ensures near { IfOk result (λ k. k ≤ length placed.now + 1) }
     ensures noted { IfOk result (λ k. IsIndex index.new (placed.now ++ record { members = group.now; folder = k } ∷ [])) }
+    ensures named { IfOk result (λ k. IsNamed names.new (placed.now ++ record { members = group.now; folder = k } ∷ [])) }
 {
-    let folder = folder_of(alloc, index, placed, group, holds_others)?;
+    let folder = folder_of(alloc, index, names, placed, group, holds_others)?;
     index.note(alloc, group, folder)?;
+    names.note(alloc, group, folder)?;
     Ok(folder)
 }
 
 fn folder_of(
     alloc: Global,
     index: &FolderIndex,
+    names: &FolderNames,
     placed: &[Placed],
     group: &[Member],
     holds_others: bool,
 ) -> Result<usize, AllocError>
     requires above { IsAbove placed.now (length placed.now + 1) }
     requires index { IsIndex index.now placed.now }
+    requires names { IsNamed names.now placed.now }
     ensures folder { IfOk result (IsFolder holds_others placed.now group.now) }
     ensures near { IfOk result (λ k. k ≤ length placed.now + 1) }
 {
     match index.folder_of(alloc, group)? {
         Some(folder) => Ok(folder),
-        None => lowest_folder(alloc, placed, group, holds_others),
+        None => lowest_folder(alloc, names, placed, group, holds_others),
     }
 }
 
 fn lowest_folder(
     alloc: Global,
+    names: &FolderNames,
     placed: &[Placed],
     group: &[Member],
     holds_others: bool,
 ) -> Result<usize, AllocError>
-    requires { IsAbove placed.now (length placed.now + 1) }
+    requires above { IsAbove placed.now (length placed.now + 1) }
+    requires names { IsNamed names.now placed.now }
     ensures lowest { IfOk result (IsLowest holds_others placed.now group.now) }
     ensures near { IfOk result (λ k. k ≤ length placed.now + 1) }
 {
-    let taken = taken_folders(alloc, placed, group, holds_others)?;
-    Ok(first_free(&taken))
-}
-
-// Which folders the group may not go to, of those that hold something and the one after them.
-fn taken_folders(
-    alloc: Global,
-    placed: &[Placed],
-    group: &[Member],
-    holds_others: bool,
-) -> Result<Vec<bool>, AllocError>
-    ensures count { IfOk result (λ taken. vec_len taken ≡ length placed.now + 1) }
-    ensures each { IfOk result (λ taken. TellsTaken taken.items holds_others placed.now group.now) }
-{
     let top = placed.len() + 1;
-    let mut taken = vec![in alloc; false; top]?;
-    for one in placed {
-        if one.folder < top && share_a_name(group, one.members.as_slice()) {
-            taken[one.folder] = true;
-        }
+    let from = lowest_allowed(names, group, holds_others);
+    names.lowest_from(alloc, group, from, top)
+}
+
+// A number below which each folder is taken: past folder 0, where that holds the others and the group has one of their
+// names.
+fn lowest_allowed(names: &FolderNames, group: &[Member], holds_others: bool) -> usize
+    ensures early { (placed : List Placed) → IsNamed names.now placed → (j : ℕ) → j < result → is_taken holds_others placed group.now j ≡ true }
+    ensures allowed { result ≡ 0 → (holds_others && has_reserved group.now) ≡ false }
+{
+    let floor = names.floor_of(group);
+    if floor > 0 {
+        return floor;
     }
-    if holds_others && has_reserved(group) {
-        taken[0] = true;
+    if is_kept_out(group, holds_others) {
+        return 1;
     }
-    Ok(taken)
+    0
 }
 
-// The first index that is free, or the length.
-fn first_free(taken: &[bool]) -> usize
-    ensures { IsFirstFree taken.now result }
+fn is_kept_out(group: &[Member], holds_others: bool) -> bool
+    ensures { result ≡ (holds_others && has_reserved group.now) }
 {
-    for folder in 0..taken.len() {
-        if !taken[folder] {
-            return folder;
-        }
-    }
-    taken.len()
-}
-
-fn share_a_name(group: &[Member], other: &[Member]) -> bool
-    ensures { result ≡ share_a_name group.now other.now }
-{
-    group.iter().any(|member| has_name(&member.name, other))
-}
-
-fn has_name(name: &Text, group: &[Member]) -> bool
-    ensures { result ≡ list_any (λ m. bytes_eq name.now m.name) group.now }
-{
-    group.iter().any(|member| is_name(name, member))
-}
-
-fn is_name(name: &Text, member: &Member) -> bool
-    ensures { result ≡ bytes_eq name.now member.now.name }
-{
-    name.as_str() == member.name.as_str()
+    holds_others && has_reserved(group)
 }
 
 fn has_reserved(group: &[Member]) -> bool

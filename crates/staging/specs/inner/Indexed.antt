@@ -25,7 +25,7 @@ own_texts m = m.name ∷ m.source ∷ []
 abbrev pub texts_of : List Member → List (List ℕ)
 texts_of group = flat_map own_texts group
 
--- the number that stands under these texts
+-- the number under these texts
 abbrev pub number_at : FolderIndex → List (List ℕ) → Option ℕ
 number_at index texts = get_by (λ k. slice_cmp name_cmp texts k.items) index.folders
 

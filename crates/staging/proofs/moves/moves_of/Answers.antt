@@ -1,4 +1,4 @@
-use Rattle.std.proofs.Common.{◌≡◌, ◌+◌, ◌∷◌, ◌++◌, take, sym, subst, ap, List, [], ◌∙◌}
+use Rattle.std.proofs.Common.{◌≡◌, ◌+◌, ◌∷◌, ◌++◌, take, sym, subst, List, [], ◌∙◌}
 use Rattle.staging.specs.Plan.{AreMoves, folder_path}
 use Rattle.staging.specs.inner.Folders.{NoneIs}
 use Rattle.staging.specs.inner.Indexed.{IsIndex}

@@ -1,11 +1,7 @@
-use Rattle.std.proofs.Common.{Bool, List, sym, subst, ap, length, ◌∙◌}
-use Rattle.staging.specs.inner.Folders.{IsFirstFree}
-use Rattle.staging.proofs.Folders.{lowest}
+use Rattle.std.proofs.Common.{refl}
+use Rattle.staging.proofs.Naming.{if_lowest_found}
 use Rattle.staging.proofs.placing.lowest_folder.Goals as goal
 
 pub returns-clause-lowest : goal.returns-clause-lowest
 returns-clause-lowest c =
-    lowest c.args.holds_others c.args.placed.now c.args.group.now c.in_ok-taken.taken.items c.first_free.result c.requires
-    (ap length (sym c.deref.ensures.value) ∙ c.deref.ensures.len ∙ c.in_ok-taken.ensures.count)
-    c.in_ok-taken.ensures.each
-    (subst (λ (l : List Bool). IsFirstFree l c.first_free.result) c.deref.ensures.value c.first_free.ensures)
+    if_lowest_found c.args.holds_others c.args.placed.now c.args.group.now c.args.names.now c.lowest_allowed-from.result _ c.lowest_from.result c.requires.above c.requires.names c.lowest_allowed-from.ensures.early c.lowest_allowed-from.ensures.allowed refl c.lowest_from.ensures

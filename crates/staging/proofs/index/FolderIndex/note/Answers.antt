@@ -1,5 +1,5 @@
-use Rattle.std.proofs.Common.{◌≡◌, ◌∙◌, List, ℕ, None, not, sym, ap}
-use Rattle.std.specs.Prelude.{is_some, is_none}
+use Rattle.std.proofs.Common.{◌≡◌, ◌∙◌, None, not, sym, ap}
+use Rattle.std.specs.Prelude.{is_some}
 use Rattle.staging.specs.inner.Indexed.{number_at, number_of, texts_of}
 use Rattle.staging.proofs.Indexing.{noted_first, noted_again, put_here, put_others, none_of}
 use Rattle.staging.proofs.index.FolderIndex.note.Goals as goal
