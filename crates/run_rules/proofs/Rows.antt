@@ -6,6 +6,8 @@ use Rattle.command_line.specs.Launch.{IsLaunch}
 use Rattle.command_line.specs.declared.launch.Launch.{Launch}
 use Rattle.command_line.specs.declared.launch.Variable.{Variable}
 use Rattle.cwl_value.specs.declared.place.Place.{Place}
+use Rattle.serde_json.specs.Data.{Data, string}
+use Rattle.cwl_value.specs.Json.{json_of, value_json, dir_json, file_json}
 use Rattle.cwl_value.specs.Erased.{erased, placeless_file, placeless_dir}
 use Rattle.cwl_value.specs.declared.value.FileVal.{FileVal, roll-FileVal, fold-roll-FileVal}
 use Rattle.cwl_value.specs.declared.value.DirVal.{DirVal}
@@ -174,6 +176,9 @@ no_files = rw (out-roll-Value, out-roll-Value) refl
 all_there : is_present abc_text ≡ true
 all_there = fold-roll-Value Bool Bool Bool value_there dir_present file_present (Value-F.Text (codes "abc"))
 
+its_json : json_of abc_text ≡ string (codes "abc")
+its_json = fold-roll-Value Data Data Data value_json dir_json file_json (Value-F.Text (codes "abc"))
+
 module _ (measures : Measures) where
   as_it_stands : as_measured measures abc_text ≡ abc_text
   as_it_stands = fold-roll-Value Value DirVal FileVal roll-Value (dir_level measures) (file_level measures) (Value-F.Text (codes "abc"))
@@ -185,7 +190,7 @@ module _ (measures : Measures) where
   it_is_handed = rw (out-roll-Value, as_it_stands, nothing_beside) refl
 
   it_is_taken : tool_inputs hello.inputs abc measures ≡ Ok abc
-  it_is_taken = rw (a_text, out-roll-Value, all_there, no_files, out-roll-Value) refl
+  it_is_taken = rw (a_text, out-roll-Value, its_json, all_there, no_files, out-roll-Value) refl
 
   it_fits : inputs_of hello abc measures ≡ Ok abc
   it_fits = ap (λ (fields : Fields). by_input (tool_inputs hello.inputs fields measures)) it_is_handed ∙ ap by_input it_is_taken

@@ -1,4 +1,4 @@
-use Rattle.std.proofs.Common.{◌≡◌, ◌-◌, List, map, take, take_all, ap, ◌∙◌, Bor, arith}
+use Rattle.std.proofs.Common.{◌≡◌, ◌-◌, map, take, take_all, ap, ◌∙◌, Bor, arith}
 use Rattle.staging.specs.declared.found.Found.{Found}
 use Rattle.input_files.specs.inner.Folders.{IsByFolder}
 use Rattle.input_files.specs.Listing.{found_value, values_in}
