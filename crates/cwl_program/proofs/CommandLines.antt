@@ -8,7 +8,7 @@ use Rattle.clap.specs.declared.parser.matches.ArgMatches.TheViews.{out-ArgMatche
 use Rattle.std.specs.Box.{box_value}
 use Rattle.clap.proofs.OnLiterals.{clap_on_literals}
 use Rattle.clap.proofs.WalkLemmas.{first_value-rows}
-use Rattle.cwl_program.specs.CommandLine.{Asks, Wish, asks, check, command_line, run, wished}
+use Rattle.cwl_program.specs.CommandLine.{Asks, Wish, asks, check_wish, command_line, run, wished}
 use Rattle.cwl_program.specs.RunWords.{RunWish, run_wish}
 
 simple : is_simple command_line ≡ true
@@ -72,17 +72,13 @@ named_rows m words name named rows =
     both (λ b. (out-SubCommand (box_value b)).name.now) (λ b. rows_of (found_of (out-SubCommand (box_value b)).matches))
     (out-ArgMatches m).subcommand name (rows_of (found_of words)) named rows
 
--- the file that is read of the matches of `check`
-pub file_checked : (m words : ArgMatches) (given : Option (Bor (List ℕ))) (file empty : Bor (List ℕ))
+-- what is read of the matches of `check`
+pub check_wished : (m words : ArgMatches) (wish : Wish)
     → subcommand_name_of m ≡ Some (codes "check")
     → option_map (λ (p : Text × List Row). p.1) (subcommand_rows (out-ArgMatches m).subcommand) ≡ Some (rows_of (found_of words))
-    → option_map (λ s. s.now) given ≡ first_value (found_of words) (codes "CERTIFICATE")
-    → file ≡ unwrap_or given empty → empty.now ≡ []
-    → check file.now ≡ wished (subcommand_rows_of m)
-file_checked m words given file empty name rows value is_file none =
-    let text : file.now ≡ unwrap_or (first_of (codes "CERTIFICATE") (rows_of (found_of words))) [] =
-    or_other given file empty _ [] (value ∙ first_value-rows (found_of words) (codes "CERTIFICATE")) is_file none in
-    ap check text ∙ ap wished (sym (named_rows m words (codes "check") name rows))
+    → wish ≡ check_wish (rows_of (found_of words))
+    → wish ≡ wished (subcommand_rows_of m)
+check_wished m words wish name rows is_it = is_it ∙ ap wished (sym (named_rows m words (codes "check") name rows))
 
 -- what is read of the matches of `run`
 pub run_wished : (m words : ArgMatches) (wish : RunWish)

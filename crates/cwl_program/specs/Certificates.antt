@@ -22,11 +22,11 @@ pub data IsJudgement (graph : List Vertex) (marks : List Mark) (charges : Charge
   holds : IsCertificate graph marks charges → IsJudgement graph marks charges (Output (ok_line (cost graph marks)))
   breaks : (rule : Rule) → IsFirstBroken graph marks charges rule → IsJudgement graph marks charges (Broken rule)
 
--- what is said of bytes: they are the text of these three, or no such text
+-- what is said of bytes: they are the text of these three, or no such text from this line on
 pub data IsVerdict (bytes : List ℕ) : Exit → Type 0 where
   judges : {exit : Exit} (graph : List Vertex) (marks : List Mark) (charges : Charges) →
       IsTextOf bytes graph marks charges → IsJudgement graph marks charges exit → IsVerdict bytes exit
-  unreadable : (line : ℕ) → IsFirstBad bytes line → IsVerdict bytes (Refused refusals.Certificate)
+  unreadable : (line : ℕ) → IsFirstBad bytes line → IsVerdict bytes (Refused (refusals.Certificate line))
 
 -- what is said of a certificate's file
 pub data IsCheck : Exit → Type 0 where

@@ -1,5 +1,6 @@
 pub mod Certificates
 pub mod CommandLine
+pub mod Flags
 pub mod RecordWords
 pub mod RunWords
 pub mod Runs

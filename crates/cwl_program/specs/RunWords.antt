@@ -1,13 +1,13 @@
 -- The words of `run`, in the terms of `clap`, and what they name.
-use Rattle.std.specs.Prelude.{◌≡◌, ◌≤◌, ℕ, List, Option, Some, None, Bool, true, false, codes, unwrap_or, option_map}
-use Rattle.std.specs.Str.{bytes_eq}
+use Rattle.std.specs.Prelude.{◌≡◌, ◌≤◌, ℕ, List, Option, Some, None, Bool, true, false, codes, unwrap_or, option_map, if◌then◌else◌}
 use Rattle.std.specs.Str.Parse.{IsNumeral, digits_value, without_leading_plus}
 use Rattle.clap.specs.Words.{App, Row, Rule, Text, first_of, new_app, new_rule, with_rule}
-use Rattle.clap.specs.declared.builder.command.Command.{Command}
-use Rattle.clap.specs.declared.builder.command.Command.TheViews.{out-Command}
-use Rattle.cwl_program.specs.declared.run_words.RunWords.{RunWords}
-use Rattle.clap.specs.declared.builder.ArgAction.TheVariants.{Set, SetTrue}
+use Rattle.clap.specs.declared.builder.ArgAction.TheVariants.{Set}
 use Rattle.clap.specs.declared.builder.value_parser.ValueParser.TheVariants.{Unsigned}
+use Rattle.cwl_program.specs.Flags.{flag_rule, is_wanted, with_flags}
+use Rattle.cwl_program.specs.declared.run_words.RunWords.{RunWords}
+use Rattle.cwl_program.specs.declared.telling.Telling.{Telling}
+use Rattle.cwl_program.specs.declared.telling.Telling.TheVariants.{Nothing, Lines, OneLine}
 
 -- an argument by its place, and one by its name, as `--work DIR`
 abbrev pub placed_rule : Text → Bool → Rule
@@ -20,11 +20,8 @@ named_rule id = record (new_rule id) { long = Some id; action = Some Set; value_
 abbrev pub numbered_rule : Text → ℕ → ℕ → Rule
 numbered_rule id least most = record (named_rule id) { parser = Some (Unsigned least most) }
 
--- an option without a value, as `--explain`
-abbrev pub flag_rule : Text → Rule
-flag_rule id = record (new_rule id) { long = Some id; action = Some SetTrue }
-
--- `run` with its two folders alone, with its two numbers, with its other option, with its document, and with the input object too
+-- `run` with its two folders alone, with its two numbers, with what it tells of its jobs, with the options of each command, with its
+-- document, and with the input object too
 abbrev pub with_folders : App
 with_folders = with_rule (with_rule (new_app (codes "run")) (named_rule (codes "work"))) (named_rule (codes "outdir"))
 
@@ -34,21 +31,30 @@ with_slots = with_rule with_folders (numbered_rule (codes "slots") 1 64)
 abbrev pub with_numbers : App
 with_numbers = with_rule with_slots (numbered_rule (codes "retries") 0 10)
 
-abbrev pub with_explain : App
-with_explain = with_rule with_numbers (flag_rule (codes "explain"))
+abbrev pub with_verbose : App
+with_verbose = with_rule with_numbers (flag_rule (codes "verbose"))
+
+abbrev pub with_progress : App
+with_progress = with_rule with_verbose (flag_rule (codes "progress"))
+
+abbrev pub with_options : App
+with_options = with_flags with_progress
 
 abbrev pub with_document : App
-with_document = with_rule with_explain (placed_rule (codes "DOCUMENT") true)
+with_document = with_rule with_options (placed_rule (codes "DOCUMENT") true)
 
 abbrev pub run_command : App
 run_command = with_rule with_document (placed_rule (codes "INPUTS") false)
 
--- none of its arguments is one of its subcommands' too
-abbrev pub IsLocal : Command → Type 0
-IsLocal command = (out-Command command).has_globals ≡ false
+-- how it tells of its jobs: `--verbose` comes before `--progress`, and `--quiet` before both
+abbrev pub telling_in : List Row → Telling
+telling_in rows =
+    if is_wanted (codes "verbose") rows then Lines
+    else if is_wanted (codes "progress") rows then OneLine
+    else Nothing
 
--- the document, the input object's file where one is named, the two folders, the texts of the two numbers that are given, and
--- whether to say in words what went wrong
+-- the document, the input object's file where one is named, the two folders, the texts of the two numbers that are given, how to tell
+-- of its jobs, and whether to say in words what went wrong
 pub record RunWish : Type 0 where
   pub document : Text
   pub inputs : Option Text
@@ -56,6 +62,7 @@ pub record RunWish : Type 0 where
   pub outdir : Text
   pub slots : Option Text
   pub retries : Option Text
+  pub telling : Telling
   pub explain : Bool
 
 -- what the words of `run` name
@@ -67,7 +74,8 @@ run_wish rows = record {
   outdir = unwrap_or (first_of (codes "outdir") rows) (codes ".");
   slots = first_of (codes "slots") rows;
   retries = first_of (codes "retries") rows;
-  explain = bytes_eq (unwrap_or (first_of (codes "explain") rows) (codes "")) (codes "true");
+  telling = telling_in rows;
+  explain = is_wanted (codes "explain") rows;
 }
 
 abbrev pub wish_of_run : RunWords → RunWish
@@ -78,6 +86,7 @@ wish_of_run words = record {
   outdir = words.outdir.now;
   slots = option_map (λ s. s.now) words.slots;
   retries = option_map (λ s. s.now) words.retries;
+  telling = words.telling;
   explain = words.explain;
 }
 

@@ -1,11 +1,12 @@
 -- What the program writes to its two writers for these words, and the status that it then answers.
-use Rattle.std.specs.Prelude.{◌≡◌, ◌≢◌, ℕ, List, ◌++◌, Bool, true, false, Option, None, codes, option_map}
+use Rattle.std.specs.Prelude.{◌≡◌, ◌≢◌, ⊤, ℕ, List, ◌++◌, Bool, true, false, Option, None, codes, option_map}
 use Rattle.std.specs.Io.KnownBytes.{Appends}
 use Rattle.clap.specs.Words.{IsAmong, Text, fault_of}
 use Rattle.clap.specs.declared.error.ErrorKind.{ErrorKind}
 use Rattle.clap.specs.declared.error.ErrorKind.TheVariants.{DisplayHelp, DisplayVersion}
 use Rattle.record_program.specs.Endings as record_program
 use Rattle.record_program.specs.declared.ending.Ending.{Ending}
+use Rattle.record_program.specs.declared.ending.Ending.TheVariants.{Rows}
 use Rattle.cwl_program.specs.Certificates.{IsCheck}
 use Rattle.cwl_program.specs.CommandLine.{Asks, command_line, wish_of}
 use Rattle.cwl_program.specs.Runs.{IsRunExit}
@@ -16,6 +17,8 @@ use Rattle.cwl_program.specs.declared.command.Choice.TheVariants.{Demo, Check, R
 use Rattle.cwl_program.specs.declared.exit.Exit.{Exit}
 use Rattle.cwl_program.specs.declared.exit.Exit.TheVariants.{Output, Broken, Record as Shows, Permanent, Temporary, Refused, Fault}
 use Rattle.cwl_program.specs.declared.exit.Fault.TheVariants as faults
+use Rattle.cwl_program.specs.declared.telling.Telling.{Telling}
+use Rattle.cwl_program.specs.declared.telling.Telling.TheVariants.{Nothing, Lines, OneLine}
 
 -- the bytes that a writer holds, where they are known
 abbrev pub Held : Type 0
@@ -41,23 +44,38 @@ pub data IsRecordExit : Exit → Type 0 where
 
 -- what the choice comes to
 abbrev pub IsEndOf : Choice → Exit → Type 0
-IsEndOf Demo exit = IsRunExit None None exit
-IsEndOf (Check file) exit = IsCheck exit
+IsEndOf (Demo explains) exit = IsRunExit None None exit
+IsEndOf (Check file explains) exit = IsCheck exit
 IsEndOf (Run words) exit = IsRunExit (option_map (λ s. s.now) words.slots) (option_map (λ s. s.now) words.retries) exit
 IsEndOf (Record words) exit = IsRecordExit exit
 
 -- whether the choice asks for words on what went wrong
 abbrev pub asks_why : Choice → Bool
+asks_why (Demo explains) = explains
+asks_why (Check file explains) = explains
 asks_why (Run words) = words.explain
-asks_why choice = false
+asks_why (Record words) = words.explain
 
--- the end that these words lead to, and whether it is to be explained
-pub data LeadsTo (words : List Text) : Exit → Bool → Type 0 where
-  chooses : {exit : Exit} (choice : Choice) → Asks words (wish_of choice) → IsEndOf choice exit → LeadsTo words exit (asks_why choice)
+-- how the choice wants the jobs of a run to be told of
+abbrev pub telling_of : Choice → Telling
+telling_of (Run words) = words.telling
+telling_of choice = Nothing
+
+-- the end that these words lead to, whether it is to be explained, and how jobs are told of on the way
+pub data LeadsTo (words : List Text) : Exit → Bool → Telling → Type 0 where
+  chooses : {exit : Exit} (choice : Choice) → Asks words (wish_of choice) → IsEndOf choice exit →
+      LeadsTo words exit (asks_why choice) (telling_of choice)
   -- memory ran out on the way to that end
-  out_of_memory : (choice : Choice) → Asks words (wish_of choice) → LeadsTo words (Fault faults.OutOfMemory) (asks_why choice)
+  out_of_memory : (choice : Choice) → Asks words (wish_of choice) →
+      LeadsTo words (Fault faults.OutOfMemory) (asks_why choice) (telling_of choice)
   -- or before the words were read
-  unread : LeadsTo words (Fault faults.OutOfMemory) false
+  unread : LeadsTo words (Fault faults.OutOfMemory) false Nothing
+
+-- what the errors take before the end is said: nothing where no words want the jobs to be told of
+abbrev pub IsRunTold : Telling → (err err_run : Held) → Type 0
+IsRunTold Nothing err err_run = err_run ≡ err
+IsRunTold Lines err err_run = ⊤
+IsRunTold OneLine err err_run = ⊤
 
 -- `clap` answers with what is wrong, and not with the help that the words ask for
 abbrev pub IsWrong : ErrorKind → Type 0
@@ -74,11 +92,15 @@ pub data Explains (kind : ErrorKind) (out out_new err err_new : Held) : ℕ → 
 abbrev pub HasLine : (old new : Held) → Type 0
 HasLine old new = (words : List ℕ) × Appends old new (words ++ codes "\n")
 
+-- what follows the rows of a record on the errors: nothing, and else a line in words
+abbrev pub IsEndingExplained : Ending → (err err_new : Held) → Type 0
+IsEndingExplained (Rows lines) err err_new = err_new ≡ err
+IsEndingExplained ending err err_new = HasLine err err_new
+
 -- what follows the line of an end on the errors: nothing where nothing went wrong, else a line in words
 abbrev pub IsExplained : Exit → (err err_new : Held) → Type 0
 IsExplained (Output line) err err_new = err_new ≡ err
-IsExplained (Broken rule) err err_new = err_new ≡ err
-IsExplained (Shows ending) err err_new = err_new ≡ err
+IsExplained (Shows ending) err err_new = IsEndingExplained ending err err_new
 IsExplained exit err err_new = HasLine err err_new
 
 -- an end is said in its line; where it is to be explained, words follow on the errors
@@ -95,9 +117,9 @@ pub data Says (exit : Exit) (explains : Bool) (out out_new err err_new : Held) :
 
 -- what is written and answered for these words
 pub data Tells (words : List Text) (out out_new err err_new : Held) (status : ℕ) : Type 0 where
-  -- the words lead to this end
-  ends : (exit : Exit) (explains : Bool) → LeadsTo words exit explains → Says exit explains out out_new err err_new status →
-      Tells words out out_new err err_new status
+  -- the words lead to this end, before which a run may have told of its jobs
+  ends : (exit : Exit) (explains : Bool) (telling : Telling) (err_run : Held) → LeadsTo words exit explains telling →
+      IsRunTold telling err err_run → Says exit explains out out_new err_run err_new status → Tells words out out_new err err_new status
   -- the words ask for help, or are refused, by a kind that they may be refused by
   explains : (kind : ErrorKind) → IsAmong kind (fault_of command_line words) →
       Explains kind out out_new err err_new status → Tells words out out_new err err_new status

@@ -30,7 +30,7 @@ refusal_code (refusals.Document fault) = link_code fault
 refusal_code (refusals.Links fault) = rule_code fault.rule
 refusal_code (refusals.Inputs refusal) = value_code refusal
 refusal_code (refusals.Location fault) = file_code fault
-refusal_code refusals.Certificate = codes "X1"
+refusal_code (refusals.Certificate line) = codes "X1"
 
 abbrev pub word_of : Fault → List ℕ
 word_of (faults.Host fault) = host_code fault

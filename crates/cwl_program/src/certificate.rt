@@ -35,7 +35,9 @@ fn verdict(alloc: Global, bytes: &[u8]) -> Result<Exit, AllocError>
 {
     match read_certificate(alloc, bytes) {
         Ok(read) => judged(alloc, &read),
-        Err(CertificateError::NotACertificate(_)) => Ok(Exit::Refused(Refusal::Certificate)),
+        Err(CertificateError::NotACertificate(line)) => Ok(Exit::Refused(Refusal::Certificate(
+            line,
+        ))),
         Err(CertificateError::OutOfMemory) => Err(AllocError),
     }
 }

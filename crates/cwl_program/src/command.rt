@@ -1,9 +1,10 @@
 ghost use Rattle.std.specs.Prelude.{◌≡◌, IfOk, IfErr, map};
-ghost use Rattle.clap.specs.Words.{HasKind, app_of, fault_of, kind_of, subcommand_rows_of};
-ghost use Rattle.cwl_program.specs.CommandLine.{Asks, check_command as checking, command_line, with_check, with_demo, with_run, wish_of, wished};
-ghost use Rattle.cwl_program.specs.RunWords.{IsLocal};
+ghost use Rattle.clap.specs.Words.{HasKind, app_of, fault_of, found_of, kind_of, rows_of, subcommand_rows_of};
+ghost use Rattle.cwl_program.specs.CommandLine.{Asks, check_command as checking, check_wish, command_line, demo_command as demonstrating, with_check, with_demo, with_run, wish_of, wished};
+ghost use Rattle.cwl_program.specs.Flags.{IsLocal};
 ghost use Rattle.std.specs.Prelude.{string_bytes};
 
+use crate::flags::{is_wanted, with_flags};
 use crate::record_words::{RecordWords, record_command, record_words};
 use crate::run_words::{RunWords, run_command, run_words};
 use clap::error::ErrorKind;
@@ -13,10 +14,10 @@ use std::alloc::Global;
 /// What the words ask for.
 #[derive(Drop)]
 pub enum Choice<'a> {
-    /// Run the worked example over a scripted host.
-    Demo,
-    /// Check the certificate in this file.
-    Check(&'a str),
+    /// Run the worked example over a scripted host, and say in words what went wrong, or not.
+    Demo(bool),
+    /// Check the certificate in this file, and say in words what is wrong with it, or not.
+    Check(&'a str, bool),
     /// Run a tool.
     Run(RunWords<'a>),
     /// Show a record.
@@ -36,15 +37,25 @@ fn check_command<'a>(alloc: Global) -> Result<Command<'a>, Error>
     let check = Command::new(alloc, "check")
         .about("Says whether a certificate shows its plan to be a cheapest one")
         .arg(file)?;
-    Ok(check)
+    with_flags(alloc, check)
 }
 
-// The program's command with the subcommand `demo` alone.
+// The subcommand `demo`.
 fn demo_command<'a>(alloc: Global) -> Result<Command<'a>, Error>
-    ensures ok { IfOk result (λ command. app_of command ≡ with_demo) }
+    ensures ok { IfOk result (λ command. app_of command ≡ demonstrating) }
+    ensures local { IfOk result IsLocal }
     ensures err { IfErr result (λ e. kind_of e ≡ ErrorKind.OutOfMemory) }
 {
     let demo = Command::new(alloc, "demo").about("Runs a small tool over a scripted host");
+    with_flags(alloc, demo)
+}
+
+// The program's command with the subcommand `demo` alone.
+fn with_demo<'a>(alloc: Global) -> Result<Command<'a>, Error>
+    ensures ok { IfOk result (λ command. app_of command ≡ with_demo) }
+    ensures err { IfErr result (λ e. kind_of e ≡ ErrorKind.OutOfMemory) }
+{
+    let demo = demo_command(alloc)?;
     let whole = Command::new(alloc, "deparohi")
         .about("Runs documents of the Common Workflow Language")
         .subcommand_required(true)
@@ -58,7 +69,7 @@ fn with_check<'a>(alloc: Global) -> Result<Command<'a>, Error>
     ensures err { IfErr result (λ e. kind_of e ≡ ErrorKind.OutOfMemory) }
 {
     let check = check_command(alloc)?;
-    let whole = demo_command(alloc)?.subcommand(check)?;
+    let whole = with_demo(alloc)?.subcommand(check)?;
     Ok(whole)
 }
 
@@ -95,9 +106,18 @@ fn chosen<'a>(matches: &ArgMatches<'a>) -> Choice<'a>
     ensures { wish_of result ≡ wished (subcommand_rows_of matches.now) }
 {
     match matches.subcommand() {
-        Some(("check", words)) => Choice::Check(words.get_str("CERTIFICATE").unwrap_or("")),
+        Some(("check", words)) => check_choice(words),
         Some(("run", words)) => Choice::Run(run_words(words)),
         Some(("record", words)) => Choice::Record(record_words(words)),
-        _ => Choice::Demo,
+        Some((_, words)) => Choice::Demo(is_wanted(words, "explain")),
+        None => Choice::Demo(false),
     }
+}
+
+// What the words of `check` ask for.
+fn check_choice<'a>(words: &ArgMatches<'a>) -> Choice<'a>
+    ensures { wish_of result ≡ check_wish (rows_of (found_of words.now)) }
+{
+    let file = words.get_str("CERTIFICATE").unwrap_or("");
+    Choice::Check(file, is_wanted(words, "explain"))
 }

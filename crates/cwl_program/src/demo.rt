@@ -18,7 +18,7 @@ use run_core::Options;
 use staging::Found;
 use std::alloc::{AllocError, Global};
 use std::mem;
-use workflow_engine::run;
+use workflow_engine::{Unwatched, run};
 
 /// The folder that the example's files would be in.
 const ROOT: &str = "/";
@@ -93,7 +93,14 @@ fn ended(alloc: Global, given: &Given, world: World) -> Result<Exit, AllocError>
 {
     let World { options, script } = world;
     let mut host = Scripted::new(alloc, script, 0);
-    let report = run(alloc, &mut host, &given.process, &given.inputs, options);
+    let report = run(
+        alloc,
+        &mut host,
+        &given.process,
+        &given.inputs,
+        options,
+        &mut Unwatched,
+    );
     mem::drop(host);
     exit_of_run(alloc, report)
 }

@@ -1,7 +1,7 @@
-ghost use Rattle.std.specs.Prelude.{◌≡◌, ◌≢◌, IfOk, IfErr, OnOk, map, string_bytes};
+ghost use Rattle.std.specs.Prelude.{◌≡◌, ◌≢◌, IfOk, IfErr, OnOk, OnErr, map, string_bytes};
 ghost use Rattle.clap.specs.Words.{HasKind, fault_of, kind_of};
 ghost use Rattle.cwl_program.specs.CommandLine.{Asks, command_line};
-ghost use Rattle.cwl_program.specs.Tells.{Explains, IsEndOf, IsRecordExit, IsTold, LeadsTo, Says, Tells, asks_why};
+ghost use Rattle.cwl_program.specs.Tells.{Explains, IsEndOf, IsRecordExit, IsRunTold, IsTold, LeadsTo, Says, Tells, asks_why, telling_of};
 ghost use Rattle.std.specs.Result.{result_unwrap_or};
 
 use crate::certificate::exit_of_check;
@@ -11,12 +11,14 @@ use crate::exit::{Exit, Fault};
 use crate::explaining::explain_exit;
 use crate::record_words::RecordWords;
 use crate::run::exit_of_process;
+use crate::telling::Telling;
+use crate::terminal::add_terminal_words;
 use clap::Error;
 use clap::error::ErrorKind;
 use process_machine::World;
 use record_program::Records;
 use std::alloc::{AllocError, Global};
-use std::io::Write;
+use std::io::{IsTerminal, Write};
 use std::process::{ExitCode, Stdio};
 use std::rt::Env;
 use std::{env, io, mem};
@@ -24,7 +26,8 @@ use std::{env, io, mem};
 /// The status of a fault, and of a command line that is refused.
 const FAULT: u8 = 3;
 
-/// Runs the program on its arguments, `PATH` (empty where it is absent), standard output and standard error.
+/// Runs the program on its arguments, `PATH` (empty where it is absent), standard output and standard error. Where standard error is
+/// a terminal it adds `--explain`, and for a run `--progress`.
 ///
 /// A word that is no UTF-8 ends with status 3.
 pub fn program(rt: HostRuntime) -> ExitCode {
@@ -49,7 +52,10 @@ pub fn program(rt: HostRuntime) -> ExitCode {
 }
 
 fn words(rt: &HostRuntime) -> io::Result<Vec<String>> {
-    let words = env::args(rt)?.collect(rt.alloc())?;
+    let mut words = env::args(rt)?.collect(rt.alloc())?;
+    if rt.stderr().is_terminal() {
+        add_terminal_words(rt.alloc(), &mut words)?;
+    }
     Ok(words)
 }
 
@@ -57,7 +63,7 @@ fn words(rt: &HostRuntime) -> io::Result<Vec<String>> {
 ///
 /// Returns the exit status: 0 success, 1 a permanent failure or a broken certificate, 2 a temporary failure, 33 a refused
 /// document, input or certificate, 3 any other fault. A write that fails ends with 3, and so do words of `--explain` for which
-/// there is no memory.
+/// there is no memory. With `run --verbose` or `--progress` the errors also take what is told of the jobs while the run goes on.
 pub fn main_run<R: World + Env + Records, O: Write, E: Write>(
     rt: &R,
     words: &[String],
@@ -69,7 +75,7 @@ where
     R::File: Into<Stdio>,
     ensures { Tells (map (λ word. string_bytes word) words.now) (O.contents out.old) (O.contents out.new) (E.contents err.old) (E.contents err.new) result }
 {
-    match end_of(rt, words, path) {
+    match end_of(rt, words, path, err) {
         Ok(end) => {
             let status = say(rt.alloc(), &end, out, err);
             mem::drop(end);
@@ -84,6 +90,8 @@ where
 struct End {
     exit: Exit,
     explains: bool,
+    // how its jobs were told of
+    telling: Telling,
 }
 
 /// Says how the program ends.
@@ -107,41 +115,52 @@ fn tell<O: Write, E: Write>(alloc: Global, end: &End, out: &mut O, err: &mut E) 
     Ok(())
 }
 
-/// Returns the end that the words lead to, or `clap`'s error.
+/// Returns the end that the words lead to, or `clap`'s error. The jobs of a run are told of on the errors where the words want it.
 #[tactic(auto, using(crate::specs::Tells::unread))]
-fn end_of<R: World + Env + Records>(rt: &R, words: &[String], path: &str) -> Result<End, Error>
+fn end_of<R: World + Env + Records, E: Write>(
+    rt: &R,
+    words: &[String],
+    path: &str,
+    err: &mut E,
+) -> Result<End, Error>
 where
     R::File: Into<Stdio>,
-    ensures ok { IfOk result (λ end. LeadsTo (map (λ word. string_bytes word) words.now) end.exit end.explains) }
+    ensures ok { IfOk result (λ end. LeadsTo (map (λ word. string_bytes word) words.now) end.exit end.explains end.telling) }
+    ensures told { IfOk result (λ end. IsRunTold end.telling (E.contents err.old) (E.contents err.new)) }
+    ensures untold { OnErr result (E.contents err.new ≡ E.contents err.old) }
     ensures other { IfErr result (λ e. kind_of e ≢ ErrorKind.OutOfMemory) }
     ensures err { IfErr result (HasKind (fault_of command_line (map (λ word. string_bytes word) words.now))) }
 {
     match choice_of(rt.alloc(), words) {
         Ok(choice) => Ok(End {
-            exit: exit_or_fault(end_of_choice(rt, &choice, path)),
+            exit: exit_or_fault(end_of_choice(rt, &choice, path, err)),
             explains: asks_why(&choice),
+            telling: telling_of(&choice),
         }),
         Err(error) if matches!(error.kind(), ErrorKind::OutOfMemory) => Ok(End {
             exit: Exit::Fault(Fault::OutOfMemory),
             explains: false,
+            telling: Telling::Nothing,
         }),
         Err(error) => Err(error),
     }
 }
 
-fn end_of_choice<R: World + Env + Records>(
+fn end_of_choice<R: World + Env + Records, E: Write>(
     rt: &R,
     choice: &Choice,
     path: &str,
+    err: &mut E,
 ) -> Result<Exit, AllocError>
 where
     R::File: Into<Stdio>,
-    ensures { IfOk result (IsEndOf choice.now) }
+    ensures end { IfOk result (IsEndOf choice.now) }
+    ensures told { IsRunTold (telling_of choice.now) (E.contents err.old) (E.contents err.new) }
 {
     match choice {
-        Choice::Demo => exit_of_demo(rt.alloc(), path),
-        Choice::Check(file) => exit_of_check(rt, file),
-        Choice::Run(words) => exit_of_process(rt, words, path),
+        Choice::Demo(_) => exit_of_demo(rt.alloc(), path),
+        Choice::Check(file, _) => exit_of_check(rt, file),
+        Choice::Run(words) => exit_of_process(rt, words, path, err),
         Choice::Record(words) => Ok(exit_of_record(rt, words)),
     }
 }
@@ -158,8 +177,20 @@ fn asks_why(choice: &Choice) -> bool
     ensures { result ≡ asks_why choice.now }
 {
     match choice {
+        Choice::Demo(explains) => *explains,
+        Choice::Check(_, explains) => *explains,
         Choice::Run(words) => words.explain,
-        _ => false,
+        Choice::Record(words) => words.explain,
+    }
+}
+
+/// How the choice wants the jobs of a run to be told of.
+fn telling_of(choice: &Choice) -> Telling
+    ensures { result ≡ telling_of choice.now }
+{
+    match choice {
+        Choice::Run(words) => words.telling,
+        _ => Telling::Nothing,
     }
 }
 

@@ -44,7 +44,8 @@ pub enum Refusal {
     Inputs(ValueRefusal),
     /// A document or a file of the inputs has no path.
     Location(FileFault),
-    Certificate,
+    /// The text is no certificate's, and this line is the first that is wrong, counted from 1.
+    Certificate(usize),
 }
 
 /// What went wrong outside documents and jobs.
@@ -70,7 +71,7 @@ impl Refusal {
             Refusal::Links(fault) => fault.code(),
             Refusal::Inputs(refusal) => refusal.code(),
             Refusal::Location(fault) => fault.code(),
-            Refusal::Certificate => "X1",
+            Refusal::Certificate(_) => "X1",
         }
     }
 }

@@ -1,28 +1,46 @@
-//! What went wrong, in words (`deparohi run --explain`).
+//! What went wrong, in words (`--explain`).
 ghost use Rattle.std.specs.Prelude.{OnOk};
-ghost use Rattle.cwl_program.specs.Tells.{HasLine, IsExplained};
+ghost use Rattle.cwl_program.specs.Tells.{HasLine, IsEndingExplained, IsExplained};
 
 use crate::exit::{Exit, Fault, Refusal};
 use job_graph::Cause as NoValue;
+use plain_data::Text;
+use plan_checker::Broken;
 use proc_host::HostFault;
+use record_program::Ending;
 use run_core::Cause;
 use std::alloc::{AllocError, Global};
 use std::io;
 use std::io::Write;
-
-const TEMPORARY_WORDS: &str =
-    "the command ended by a signal, or with a code of `temporaryFailCodes`";
 
 /// Writes a line that says what went wrong and where; nothing of an end in which nothing did.
 pub fn explain_exit<E: Write>(alloc: Global, exit: &Exit, err: &mut E) -> io::Result<()>
     ensures { OnOk result (IsExplained exit.now (E.contents err.old) (E.contents err.new)) }
 {
     match exit {
-        Exit::Output(_) | Exit::Broken(_) | Exit::Record(_) => Ok(()),
+        Exit::Output(_) => Ok(()),
+        Exit::Broken(broken) => put_line(broken_words(alloc, *broken)?.as_str(), err),
+        Exit::Record(ending) => explain_ending(alloc, ending, err),
         Exit::Refused(refusal) => put_line(refusal_words(alloc, refusal)?.as_str(), err),
-        Exit::Permanent(_, cause) => put_line(cause_words(alloc, cause)?.as_str(), err),
-        Exit::Temporary(_) => put_line(TEMPORARY_WORDS, err),
+        Exit::Permanent(place, cause) => {
+            put_line(cause_words(alloc, place, cause)?.as_str(), err)
+        }
+        Exit::Temporary(place) => put_line(temporary_words(alloc, place)?.as_str(), err),
         Exit::Fault(fault) => put_line(fault_words(*fault), err),
+    }
+}
+
+// Writes a line that says why a record can't be shown; nothing where it is.
+fn explain_ending<E: Write>(alloc: Global, ending: &Ending, err: &mut E) -> io::Result<()>
+    ensures { OnOk result (IsEndingExplained ending.now (E.contents err.old) (E.contents err.new)) }
+{
+    match ending {
+        Ending::Rows(_) => Ok(()),
+        Ending::Input => put_line(
+            "the file is not there, is a folder, or can't be looked at",
+            err,
+        ),
+        Ending::Record(fault) => put_line(format!(in alloc; "{fault}")?.as_str(), err),
     }
 }
 
@@ -39,17 +57,77 @@ fn refusal_words(alloc: Global, refusal: &Refusal) -> Result<String, AllocError>
         Refusal::Links(fault) => format!(in alloc; "{fault}"),
         Refusal::Inputs(refusal) => format!(in alloc; "the input object: {refusal}"),
         Refusal::Location(fault) => format!(in alloc; "a document or an input file: {fault}"),
-        Refusal::Certificate => format!(in alloc; "the file is not the text of a certificate"),
+        Refusal::Certificate(line) => {
+            format!(in alloc; "line {line} of the file is no line of a certificate")
+        }
     }
 }
 
-fn cause_words(alloc: Global, cause: &Cause) -> Result<String, AllocError> {
+// The rules of certificates, each with the vertex that breaks it, and its line.
+fn broken_words(alloc: Global, broken: Broken) -> Result<String, AllocError> {
+    match broken {
+        Broken::MarkCount => format!(in alloc; "the plan has not one mark for each vertex"),
+        Broken::ChargeCount => {
+            format!(in alloc;
+                "the charges have not one entry for each vertex, or not one pass for each of its parents"
+            )
+        }
+        Broken::Sum(cost, value) => {
+            format!(in alloc; "the plan costs {cost}, and the charges come to {value}")
+        }
+        Broken::ParentPruned(i, parent) => {
+            let line = line_of(i);
+            format!(in alloc;
+                "line {line}: vertex {i} is computed, and its parent {parent} is pruned"
+            )
+        }
+        Broken::NeededPruned(i) => at_vertex(alloc, i, "is needed, and pruned"),
+        Broken::NoLoad(i) => at_vertex(alloc, i, "is loaded, and can't be"),
+        Broken::EnterNotNeeded(i) => {
+            at_vertex(alloc, i, "is not needed, and something enters there")
+        }
+        Broken::ThroughOverLoad(i) => {
+            at_vertex(alloc, i, "lets more through than its load cost")
+        }
+        Broken::PayOverCompute(i) => at_vertex(alloc, i, "pays more than its compute cost"),
+        Broken::InNotThrough(i) => {
+            at_vertex(alloc, i, "gets something else in all than goes through it")
+        }
+        Broken::ThroughNotOut(i) => {
+            at_vertex(
+                alloc,
+                i,
+                "pays and passes on something else in all than goes through it",
+            )
+        }
+    }
+}
+
+fn at_vertex(alloc: Global, vertex: usize, words: &str) -> Result<String, AllocError> {
+    let line = line_of(vertex);
+    format!(in alloc; "line {line}: vertex {vertex} {words}")
+}
+
+// The line of a vertex in a certificate's text: two lines are before the first one.
+fn line_of(vertex: usize) -> usize {
+    vertex.saturating_add(3)
+}
+
+fn temporary_words(alloc: Global, place: &Text) -> Result<String, AllocError> {
+    format!(in alloc;
+        "the command of {place} ended by a signal, or with a code of `temporaryFailCodes`"
+    )
+}
+
+fn cause_words(alloc: Global, place: &Text, cause: &Cause) -> Result<String, AllocError> {
     match cause {
         Cause::Equation(cause) => equation_words(alloc, cause),
         Cause::Contents(fault) => format!(in alloc; "{fault}"),
         Cause::Build(fault) => format!(in alloc; "no command: {fault}"),
-        Cause::Exit(Some(code)) => format!(in alloc; "the command ended with code {code}"),
-        Cause::Exit(None) => format!(in alloc; "the command ended by a signal"),
+        Cause::Exit(Some(code)) => {
+            format!(in alloc; "the command of {place} ended with code {code}")
+        }
+        Cause::Exit(None) => format!(in alloc; "the command of {place} ended by a signal"),
         Cause::Collect(fault) => format!(in alloc; "no outputs: {fault}"),
     }
 }

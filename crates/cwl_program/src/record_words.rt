@@ -1,8 +1,9 @@
 ghost use Rattle.std.specs.Prelude.{◌≡◌, IfOk, IfErr, false};
 ghost use Rattle.clap.specs.Words.{app_of, found_of, kind_of, rows_of};
 ghost use Rattle.cwl_program.specs.RecordWords.{record_command, record_wish, wish_of_record};
-ghost use Rattle.cwl_program.specs.RunWords.{IsLocal};
+ghost use Rattle.cwl_program.specs.Flags.{IsLocal};
 
+use crate::flags::{is_wanted, with_flags};
 use crate::run_words::{named, placed};
 use clap::error::ErrorKind;
 use clap::{ArgMatches, Command, Error};
@@ -15,6 +16,8 @@ const FORGET_HELP: &str = "Forget the rows whose key has this SHA-1 first";
 pub struct RecordWords<'a> {
     pub file: &'a str,
     pub forget: Option<&'a str>,
+    /// Whether to say in words what went wrong.
+    pub explain: bool,
 }
 
 /// The subcommand `record`.
@@ -27,6 +30,7 @@ pub fn record_command<'a>(alloc: Global) -> Result<Command<'a>, Error>
     let command = Command::new(alloc, "record")
         .about("Shows the rows of a record of jobs")
         .arg(forget)?;
+    let command = with_flags(alloc, command)?;
     let file = placed(alloc, "FILE", true, "The record's file");
     let command = command.arg(file)?;
     Ok(command)
@@ -39,5 +43,6 @@ pub fn record_words<'a>(words: &ArgMatches<'a>) -> RecordWords<'a>
     RecordWords {
         file: words.get_str("FILE").unwrap_or(""),
         forget: words.get_str("forget"),
+        explain: is_wanted(words, "explain"),
     }
 }

@@ -68,7 +68,7 @@ fn of_failure(alloc: Global, place: JobPlace, cause: Cause) -> Result<Exit, Allo
 }
 
 /// Writes a job's place as JSON text.
-fn place_in(alloc: Global, place: &JobPlace) -> Result<Text, AllocError>
+pub fn place_in(alloc: Global, place: &JobPlace) -> Result<Text, AllocError>
     ensures { IfOk result (λ text. text ≡ place_json place.now) }
 {
     canonical_text(alloc, &Value::Text(place_text(alloc, place)?))

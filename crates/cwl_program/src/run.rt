@@ -2,6 +2,7 @@
 ghost use Rattle.std.specs.Prelude.{◌≡◌, [], IfOk, IfErr, option_map};
 ghost use Rattle.run_core.specs.Limits.{IsWithinLimits};
 ghost use Rattle.cwl_program.specs.Runs.{HasNumbers, IsAccepted, IsInputs, IsRan, IsReady, IsRunExit, IsStop};
+ghost use Rattle.cwl_program.specs.Tells.{IsRunTold};
 
 use crate::documents::accepted_of;
 use crate::exit::{Exit, Fault};
@@ -11,17 +12,19 @@ use crate::report::exit_of_run;
 use crate::run_words::{RunWords, retries_of, slots_of};
 use crate::search::docs_of;
 use crate::stop::{Stop, stopped, unread};
+use crate::telling::{Teller, Telling};
 use cwl_value::Value;
 use document_links::Process;
 use plain_data::{Keyed, Text};
 use process_machine::{Machine, World};
 use run_core::Options;
 use std::alloc::{AllocError, Global};
+use std::io::Write;
 use std::process::Stdio;
 use std::rt::Env;
 use std::{env, fs, io, mem};
 use url::Url;
-use workflow_engine::run;
+use workflow_engine::{Unwatched, Watch, run};
 
 /// The input object where no file is given.
 const NO_INPUTS: &[u8] = b"{}";
@@ -58,14 +61,16 @@ impl Places {
 
 /// Runs the process of a document on an input object, in a work folder that is made for it and removed again.
 #[tactic(auto, using(crate::proofs::Stops::stops_so))]
-pub fn exit_of_process<R: World + Env>(
+pub fn exit_of_process<R: World + Env, E: Write>(
     rt: &R,
     words: &RunWords,
     path: &str,
+    err: &mut E,
 ) -> Result<Exit, AllocError>
 where
     R::File: Into<Stdio>,
-    ensures { IfOk result (IsRunExit (option_map (λ s. s.now) words.now.slots) (option_map (λ s. s.now) words.now.retries)) }
+    ensures told { IsRunTold words.now.telling (E.contents err.old) (E.contents err.new) }
+    ensures exit { IfOk result (IsRunExit (option_map (λ s. s.now) words.now.slots) (option_map (λ s. s.now) words.now.retries)) }
 {
     match here_of(rt) {
         Ok(here) => {
@@ -74,7 +79,7 @@ where
                 words,
                 path,
             };
-            let exit = exit_of_call(rt, &call);
+            let exit = exit_of_call(rt, &call, err);
             mem::drop(here);
             exit
         }
@@ -88,13 +93,18 @@ fn here_of<R: World + Env>(rt: &R) -> io::Result<String> {
 }
 
 #[tactic(auto, using(crate::proofs::Stops::stops_so))]
-fn exit_of_call<R: World>(rt: &R, call: &Call<'_>) -> Result<Exit, AllocError>
+fn exit_of_call<R: World, E: Write>(
+    rt: &R,
+    call: &Call<'_>,
+    err: &mut E,
+) -> Result<Exit, AllocError>
 where
     R::File: Into<Stdio>,
-    ensures { IfOk result (IsRunExit (option_map (λ s. s.now) call.now.words.now.slots) (option_map (λ s. s.now) call.now.words.now.retries)) }
+    ensures told { IsRunTold call.now.words.now.telling (E.contents err.old) (E.contents err.new) }
+    ensures exit { IfOk result (IsRunExit (option_map (λ s. s.now) call.now.words.now.slots) (option_map (λ s. s.now) call.now.words.now.retries)) }
 {
     match process_of(rt, call) {
-        Ok(process) => on_process(rt, process, call),
+        Ok(process) => on_process(rt, process, call, err),
         Err(stop) => stopped(stop),
     }
 }
@@ -129,16 +139,22 @@ fn file_bytes<R: World>(rt: &R, file: &str) -> Result<Vec<u8>, Stop>
 }
 
 #[tactic(auto, using(crate::proofs::Stops::stops_so))]
-fn on_process<R: World>(rt: &R, process: Process, call: &Call<'_>) -> Result<Exit, AllocError>
+fn on_process<R: World, E: Write>(
+    rt: &R,
+    process: Process,
+    call: &Call<'_>,
+    err: &mut E,
+) -> Result<Exit, AllocError>
 where
     R::File: Into<Stdio>,
     requires { IsAccepted process }
-    ensures { IfOk result (IsRunExit (option_map (λ s. s.now) call.now.words.now.slots) (option_map (λ s. s.now) call.now.words.now.retries)) }
+    ensures told { IsRunTold call.now.words.now.telling (E.contents err.old) (E.contents err.new) }
+    ensures exit { IfOk result (IsRunExit (option_map (λ s. s.now) call.now.words.now.slots) (option_map (λ s. s.now) call.now.words.now.retries)) }
 {
     match inputs_of(rt, call) {
         Ok(inputs) => {
             let given = Given { process, inputs };
-            let exit = in_places(rt, &given, call);
+            let exit = in_places(rt, &given, call, err);
             mem::drop(given);
             exit
         }
@@ -171,15 +187,21 @@ fn inputs_bytes<R: World>(rt: &R, words: &RunWords) -> Result<Vec<u8>, Stop>
 
 /// Makes the work folder, runs, and removes the folder where that is possible.
 #[tactic(auto, using(crate::specs::Runs::no_work, crate::specs::Runs::stops))]
-fn in_places<R: World>(rt: &R, given: &Given, call: &Call<'_>) -> Result<Exit, AllocError>
+fn in_places<R: World, E: Write>(
+    rt: &R,
+    given: &Given,
+    call: &Call<'_>,
+    err: &mut E,
+) -> Result<Exit, AllocError>
 where
     R::File: Into<Stdio>,
     requires { IsReady given.now }
-    ensures { IfOk result (IsRunExit (option_map (λ s. s.now) call.now.words.now.slots) (option_map (λ s. s.now) call.now.words.now.retries)) }
+    ensures told { IsRunTold call.now.words.now.telling (E.contents err.old) (E.contents err.new) }
+    ensures exit { IfOk result (IsRunExit (option_map (λ s. s.now) call.now.words.now.slots) (option_map (λ s. s.now) call.now.words.now.retries)) }
 {
     match places_of(rt, call) {
         Ok(places) => {
-            let exit = in_work(rt, given, &places, call);
+            let exit = in_work(rt, given, &places, call, err);
             let _removed = fs::remove_dir_all(rt, places.work.as_str());
             mem::drop(places);
             exit
@@ -201,19 +223,21 @@ fn places_from(alloc: Global, call: &Call<'_>) -> Result<Places, AllocError> {
     Ok(Places { work, outdir })
 }
 
-fn in_work<R: World>(
+fn in_work<R: World, E: Write>(
     rt: &R,
     given: &Given,
     places: &Places,
     call: &Call<'_>,
+    err: &mut E,
 ) -> Result<Exit, AllocError>
 where
     R::File: Into<Stdio>,
     requires { IsReady given.now }
-    ensures { IfOk result (IsRunExit (option_map (λ s. s.now) call.now.words.now.slots) (option_map (λ s. s.now) call.now.words.now.retries)) }
+    ensures told { IsRunTold call.now.words.now.telling (E.contents err.old) (E.contents err.new) }
+    ensures exit { IfOk result (IsRunExit (option_map (λ s. s.now) call.now.words.now.slots) (option_map (λ s. s.now) call.now.words.now.retries)) }
 {
     let options = options_of(rt.alloc(), places, call)?;
-    with_options(rt, given, options, places)
+    with_options(rt, given, options, places, call.words.telling, err)
 }
 
 fn options_of(alloc: Global, places: &Places, call: &Call<'_>) -> Result<Options, AllocError>
@@ -232,20 +256,23 @@ fn options_of(alloc: Global, places: &Places, call: &Call<'_>) -> Result<Options
     })
 }
 
-fn with_options<R: World>(
+fn with_options<R: World, E: Write>(
     rt: &R,
     given: &Given,
     options: Options,
     places: &Places,
+    telling: Telling,
+    err: &mut E,
 ) -> Result<Exit, AllocError>
 where
     R::File: Into<Stdio>,
     requires ready { IsReady given.now }
     requires limits { IsWithinLimits options }
-    ensures { IfOk result (IsRan options) }
+    ensures told { IsRunTold telling (E.contents err.old) (E.contents err.new) }
+    ensures exit { IfOk result (IsRan options) }
 {
     match machine_of(rt, places) {
-        Ok(host) => ended(rt.alloc(), host, given, options),
+        Ok(host) => told_of(rt.alloc(), host, given, options, telling, err),
         Err(error) => {
             mem::drop(options);
             Err(error)
@@ -267,11 +294,51 @@ fn machine_at<R: World>(rt: R, places: Places) -> Machine<R>
     Machine::new(rt, work, outdir)
 }
 
-fn ended<R: World>(
+/// Runs, and tells of the jobs as they start and end. Where each has lines, the messages of the children are shown too.
+fn told_of<R: World, E: Write>(
     alloc: Global,
     mut host: Machine<R>,
     given: &Given,
     options: Options,
+    telling: Telling,
+    err: &mut E,
+) -> Result<Exit, AllocError>
+where
+    R::File: Into<Stdio>,
+    requires idle { host.running ≡ [] }
+    requires ready { IsReady given.now }
+    requires limits { IsWithinLimits options }
+    ensures told { IsRunTold telling (E.contents err.old) (E.contents err.new) }
+    ensures exit { IfOk result (IsRan options) }
+{
+    match telling {
+        Telling::Nothing => ended(alloc, host, given, options, &mut Unwatched),
+        Telling::Lines => {
+            host.show_messages();
+            told_by(
+                alloc,
+                host,
+                given,
+                options,
+                Teller::new(alloc, err, telling),
+            )
+        }
+        Telling::OneLine => told_by(
+            alloc,
+            host,
+            given,
+            options,
+            Teller::new(alloc, err, telling),
+        ),
+    }
+}
+
+fn told_by<R: World, E: Write>(
+    alloc: Global,
+    host: Machine<R>,
+    given: &Given,
+    options: Options,
+    mut teller: Teller<'_, E>,
 ) -> Result<Exit, AllocError>
 where
     R::File: Into<Stdio>,
@@ -280,7 +347,34 @@ where
     requires limits { IsWithinLimits options }
     ensures { IfOk result (IsRan options) }
 {
-    let report = run(alloc, &mut host, &given.process, &given.inputs, options);
+    let exit = ended(alloc, host, given, options, &mut teller);
+    teller.finish();
+    mem::drop(teller);
+    exit
+}
+
+fn ended<R: World, W: Watch>(
+    alloc: Global,
+    mut host: Machine<R>,
+    given: &Given,
+    options: Options,
+    watcher: &mut W,
+) -> Result<Exit, AllocError>
+where
+    R::File: Into<Stdio>,
+    requires idle { host.running ≡ [] }
+    requires ready { IsReady given.now }
+    requires limits { IsWithinLimits options }
+    ensures { IfOk result (IsRan options) }
+{
+    let report = run(
+        alloc,
+        &mut host,
+        &given.process,
+        &given.inputs,
+        options,
+        watcher,
+    );
     mem::drop(host);
     exit_of_run(alloc, report)
 }

@@ -1,7 +1,10 @@
 ghost use Rattle.std.specs.Prelude.{◌≡◌, ◌≤◌, IfOk, IfErr, Some, false, option_map};
 ghost use Rattle.clap.specs.Words.{app_of, found_of, kind_of, rows_of, rule_of};
-ghost use Rattle.cwl_program.specs.RunWords.{IsChosen, IsLocal, flag_rule, named_rule, numbered_rule, placed_rule, run_command, run_wish, wish_of_run, with_document, with_explain, with_folders, with_numbers, with_slots};
+ghost use Rattle.cwl_program.specs.Flags.{IsLocal};
+ghost use Rattle.cwl_program.specs.RunWords.{IsChosen, named_rule, numbered_rule, placed_rule, run_command, run_wish, telling_in, wish_of_run, with_document, with_folders, with_numbers, with_options, with_progress, with_slots, with_verbose};
 
+use crate::flags::{flag, is_wanted, with_flags};
+use crate::telling::Telling;
 use clap::builder::ValueParser;
 use clap::error::ErrorKind;
 use clap::{Arg, ArgAction, ArgMatches, Command, Error};
@@ -22,7 +25,11 @@ const SLOTS_HELP: &str = "How many jobs may run side by side, from 1 to 64 [1]";
 const RETRIES_HELP: &str =
     "How often a job that fails temporarily is started again, from 0 to 10 [0]";
 
-const EXPLAIN_HELP: &str = "Say in words what went wrong, and where";
+const VERBOSE_HELP: &str =
+    "Tell of each job as it starts and ends, and show what the commands say on standard error";
+
+const PROGRESS_HELP: &str =
+    "Show in one line how many jobs are done; on a terminal it is shown unasked";
 
 const INPUTS_HELP: &str = "The input object's file, in JSON; without it the object is empty";
 
@@ -35,6 +42,8 @@ pub struct RunWords<'a> {
     pub outdir: &'a str,
     pub slots: Option<&'a str>,
     pub retries: Option<&'a str>,
+    /// How to tell of the jobs.
+    pub telling: Telling,
     /// Whether to say in words what went wrong.
     pub explain: bool,
 }
@@ -75,17 +84,6 @@ fn numbered<'a>(alloc: Global, id: &'a str, least: u64, most: u64, help: &'a str
         .help(help)
 }
 
-/// An option without a value, as `--explain`.
-fn flag<'a>(alloc: Global, id: &'a str, help: &'a str) -> Arg<'a>
-    ensures rule { rule_of result ≡ flag_rule id.now }
-    ensures local { result.global ≡ false }
-{
-    Arg::new(alloc, id)
-        .long(id)
-        .action(ArgAction::SetTrue)
-        .help(help)
-}
-
 // The subcommand `run` with its two folders alone.
 fn folders_command<'a>(alloc: Global) -> Result<Command<'a>, Error>
     ensures ok { IfOk result (λ command. app_of command ≡ with_folders) }
@@ -123,15 +121,36 @@ fn numbers_command<'a>(alloc: Global) -> Result<Command<'a>, Error>
     Ok(command)
 }
 
-// And with its other option.
-fn explain_command<'a>(alloc: Global) -> Result<Command<'a>, Error>
-    ensures ok { IfOk result (λ command. app_of command ≡ with_explain) }
+// And with the lines on its jobs.
+fn verbose_command<'a>(alloc: Global) -> Result<Command<'a>, Error>
+    ensures ok { IfOk result (λ command. app_of command ≡ with_verbose) }
     ensures local { IfOk result IsLocal }
     ensures err { IfErr result (λ e. kind_of e ≡ ErrorKind.OutOfMemory) }
 {
-    let explain = flag(alloc, "explain", EXPLAIN_HELP);
-    let command = numbers_command(alloc)?.arg(explain)?;
+    let verbose = flag(alloc, "verbose", VERBOSE_HELP);
+    let command = numbers_command(alloc)?.arg(verbose)?;
     Ok(command)
+}
+
+// And with the one line on its jobs.
+fn progress_command<'a>(alloc: Global) -> Result<Command<'a>, Error>
+    ensures ok { IfOk result (λ command. app_of command ≡ with_progress) }
+    ensures local { IfOk result IsLocal }
+    ensures err { IfErr result (λ e. kind_of e ≡ ErrorKind.OutOfMemory) }
+{
+    let progress = flag(alloc, "progress", PROGRESS_HELP);
+    let command = verbose_command(alloc)?.arg(progress)?;
+    Ok(command)
+}
+
+// And with the options of each command.
+fn options_command<'a>(alloc: Global) -> Result<Command<'a>, Error>
+    ensures ok { IfOk result (λ command. app_of command ≡ with_options) }
+    ensures local { IfOk result IsLocal }
+    ensures err { IfErr result (λ e. kind_of e ≡ ErrorKind.OutOfMemory) }
+{
+    let command = progress_command(alloc)?;
+    with_flags(alloc, command)
 }
 
 // And with its document.
@@ -146,7 +165,7 @@ fn document_command<'a>(alloc: Global) -> Result<Command<'a>, Error>
         true,
         "The document of the process, in JSON",
     );
-    let command = explain_command(alloc)?.arg(document)?;
+    let command = options_command(alloc)?.arg(document)?;
     Ok(command)
 }
 
@@ -172,8 +191,22 @@ pub fn run_words<'a>(words: &ArgMatches<'a>) -> RunWords<'a>
         outdir: words.get_str("outdir").unwrap_or("."),
         slots: words.get_str("slots"),
         retries: words.get_str("retries"),
-        explain: words.get_str("explain").unwrap_or("") == "true",
+        telling: telling_of(words),
+        explain: is_wanted(words, "explain"),
     }
+}
+
+// How the words want the jobs to be told of.
+fn telling_of(words: &ArgMatches) -> Telling
+    ensures { result ≡ telling_in (rows_of (found_of words.now)) }
+{
+    if is_wanted(words, "verbose") {
+        return Telling::Lines;
+    }
+    if is_wanted(words, "progress") {
+        return Telling::OneLine;
+    }
+    Telling::Nothing
 }
 
 /// How many children may run side by side: one where the words don't say.

@@ -54,7 +54,7 @@ pub(crate) fn stage<R: World>(
     told(log, request, HostFault::Stage, outcome)
 }
 
-/// Starts the child of a launch under this ticket.
+/// Starts the child of a launch under this ticket, whose messages are shown or discarded where no file takes them.
 pub(crate) fn start<R: World>(
     rt: &R,
     log: &mut Vec<Entry>,
@@ -62,6 +62,7 @@ pub(crate) fn start<R: World>(
     flying: &mut Vec<Flying<R::Started>>,
     launch: &Launch,
     ticket: u64,
+    shows: bool,
 ) -> Result<(), HostError>
 where
     R::File: Into<Stdio>,
@@ -73,7 +74,7 @@ where
 {
     make_room(running)?;
     make_room(flying)?;
-    let child = begin(rt, log, launch, ticket)?;
+    let child = begin(rt, log, launch, ticket, shows)?;
     add(running, ticket);
     add(flying, child);
     Ok(())
@@ -84,6 +85,7 @@ fn begin<R: World>(
     log: &mut Vec<Entry>,
     launch: &Launch,
     ticket: u64,
+    shows: bool,
 ) -> Result<Flying<R::Started>, HostError>
 where
     R::File: Into<Stdio>,
@@ -93,7 +95,7 @@ where
 {
     make_room(log)?;
     let request = HostRequest::Start(launch.clone_in(rt.alloc())?);
-    match spawned(rt, launch, ticket) {
+    match spawned(rt, launch, ticket, shows) {
         Ok(child) => {
             note(log, request, HostAnswer::Started(ticket));
             Ok(child)

@@ -26,6 +26,8 @@ pub struct Machine<R: World> {
     // the children that were not collected yet, oldest first
     flying: Vec<Flying<R::Started>>,
     started: u64,
+    // whether messages that no file takes go to the program's own standard error
+    shows: bool,
 }
 
 impl<R: World> Model for Machine<R> {
@@ -57,7 +59,15 @@ impl<R: World> Machine<R> {
             running: Vec::new(alloc),
             flying: Vec::new(alloc),
             started: 0,
+            shows: false,
         }
+    }
+
+    /// From now on the messages of a child that no file takes go to the program's own standard error, and are not discarded.
+    pub fn show_messages(&mut self)
+        ensures { self.new ≡ self.old }
+    {
+        self.shows = true;
     }
 
     /// What was asked and answered so far, oldest first.
@@ -100,6 +110,7 @@ where
             &mut self.flying,
             launch,
             ticket,
+            self.shows,
         )?;
         self.started = ticket;
         Ok(Ticket::new(ticket))

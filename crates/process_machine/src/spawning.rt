@@ -22,17 +22,18 @@ pub(crate) struct Flying<P: OpenProcess> {
     pub started: Instant,
 }
 
-/// Starts the child of a launch.
+/// Starts the child of a launch. Its messages are shown or discarded where no file takes them.
 pub(crate) fn spawned<R: World>(
     rt: &R,
     launch: &Launch,
     ticket: u64,
+    shows: bool,
 ) -> Result<Flying<R::Started>, Trouble>
 where
     R::File: Into<Stdio>,
 {
     let mut command = command_of(rt.alloc(), launch)?;
-    let flying = begun_with_streams(rt, &mut command, launch, ticket);
+    let flying = begun_with_streams(rt, &mut command, launch, ticket, shows);
     mem::drop(command);
     flying
 }
@@ -43,13 +44,14 @@ fn begun_with_streams<R: World>(
     command: &mut Command,
     launch: &Launch,
     ticket: u64,
+    shows: bool,
 ) -> Result<Flying<R::Started>, Trouble>
 where
     R::File: Into<Stdio>,
     requires { IsOf launch.now command.old }
 {
     set_input(rt, &launch.stdin, command)?;
-    set_outputs(rt, launch, command)?;
+    set_outputs(rt, launch, shows, command)?;
     let started = Instant::now(rt)?;
     let child = begun(rt, command, launch)?;
     Ok(Flying {
@@ -156,9 +158,14 @@ where
     Ok(())
 }
 
-// The child's output and messages go to the files of these names in its folder, or nowhere. Where both have one name,
-// they share one file.
-fn set_outputs<R: World>(rt: &R, launch: &Launch, command: &mut Command) -> Result<(), Trouble>
+// The child's output and messages go to the files of these names in its folder, or nowhere, or the messages to the program's
+// own. Where both have one name, they share one file.
+fn set_outputs<R: World>(
+    rt: &R,
+    launch: &Launch,
+    shows: bool,
+    command: &mut Command,
+) -> Result<(), Trouble>
 where
     R::File: Into<Stdio>,
     ensures { Keeps command.old command.new }
@@ -168,8 +175,8 @@ where
             share_output(rt, &launch.dir, output, command)
         }
         (output, messages) => {
-            command.stdout(stream_to(rt, &launch.dir, output)?);
-            command.stderr(stream_to(rt, &launch.dir, messages)?);
+            command.stdout(stream_to(rt, &launch.dir, output, false)?);
+            command.stderr(stream_to(rt, &launch.dir, messages, shows)?);
             Ok(())
         }
     }
@@ -191,11 +198,18 @@ where
     Ok(())
 }
 
-fn stream_to<R: World>(rt: &R, folder: &Text, name: &Option<Text>) -> Result<Stdio, Trouble>
+// A file of this name; without one what the program has itself, or nowhere.
+fn stream_to<R: World>(
+    rt: &R,
+    folder: &Text,
+    name: &Option<Text>,
+    shows: bool,
+) -> Result<Stdio, Trouble>
 where
     R::File: Into<Stdio>,
 {
     match name {
+        None if shows => Ok(Stdio::inherit()),
         None => Ok(Stdio::null()),
         Some(name) => Ok(created(rt, folder, name)?.into()),
     }

@@ -118,6 +118,14 @@ impl<'a> RunCore<'a> {
         self.course.tickets.as_slice()
     }
 
+    /// Returns how many jobs are known so far, those that have ended among them.
+    pub fn known(&self) -> usize {
+        match &self.course.known {
+            None => 0,
+            Some(unfolding) => unfolding.known().len(),
+        }
+    }
+
     /// Takes the answer to what it asks. Where memory runs out for what comes next, the pair is kept, the children in
     /// flight are waited for, and nothing else is asked; once none is in flight it answers so, and `finish` says so too.
     pub fn take(&mut self, answer: Answer) -> Result<(), RunFault>

@@ -16,7 +16,7 @@ use std::alloc::{AllocError, Global};
 use std::mem;
 use url::Url;
 use workflow_check::{Accepted, accept};
-use workflow_engine::run;
+use workflow_engine::{Unwatched, run};
 
 /// How a run of the row's document on its inputs ends over its script, what was asked, and the tickets left.
 pub fn answer(alloc: Global, row: &Row) -> Result<String, RowFault> {
@@ -54,6 +54,7 @@ fn end_of(alloc: Global, row: &Row, host: &mut Scripted, case: &Case) -> Result<
         case.process.as_process(),
         &case.inputs,
         options,
+        &mut Unwatched,
     );
     let text = end_json(alloc, &end);
     mem::drop(end);

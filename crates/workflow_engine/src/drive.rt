@@ -9,6 +9,7 @@ ghost use Rattle.workflow_engine.specs.Gains.{RunsOn};
 
 use crate::ask::ask;
 use crate::tickets::close_all;
+use crate::watch::Watch;
 use cwl_value::Value;
 use document_links::Process;
 use plain_data::Keyed;
@@ -22,12 +23,15 @@ use std::alloc::{AllocError, Global};
 /// object, a permanent failure with its place and cause, a temporary failure, or the host's fault with the tickets that
 /// nobody waits for any more. `Err(OutOfMemory)` says only that an allocation failed; what was asked is a valid prefix
 /// of a run, after which only the ends of children were waited for.
-pub fn run<H: Host>(
+///
+/// The watcher is told of each question and of each answer as they come.
+pub fn run<H: Host, W: Watch>(
     alloc: Global,
     host: &mut H,
     process: &Process,
     inputs: &Keyed<Value>,
     options: Options,
+    watcher: &mut W,
 ) -> Result<Report, RunFault>
     requires idle { H.running host.old ≡ [] }
     requires accepted { fault_in process.now ≡ None }
@@ -39,14 +43,19 @@ pub fn run<H: Host>(
 {
     let mut core = RunCore::new(alloc, process, inputs, options)?;
     let mut held = Vec::new(alloc);
-    drive(host, &mut core, &mut held);
+    drive(host, &mut core, &mut held, watcher);
     close_all(host, held);
     core.finish()
 }
 
 /// Asks the host what the machine asks, until it asks nothing more. Where the host runs out of memory, the machine is told
 /// so, and asks for the ends of the children in flight alone.
-fn drive<H: Host>(host: &mut H, core: &mut RunCore<'_>, held: &mut Vec<Ticket>)
+fn drive<H: Host, W: Watch>(
+    host: &mut H,
+    core: &mut RunCore<'_>,
+    held: &mut Vec<Ticket>,
+    watcher: &mut W,
+)
     requires first { core.old.transcript ≡ [] }
     requires flying { core.old.flying ≡ H.running host.old }
     requires covered { Covers held.old.items (H.running host.old) }
@@ -55,10 +64,14 @@ fn drive<H: Host>(host: &mut H, core: &mut RunCore<'_>, held: &mut Vec<Ticket>)
     ensures finished { core.new.asks ≡ Request.Finished }
     ensures covered { Covers held.new.items (H.running host.new) }
 {
-    while let Request::Host(_, request) = core.next() {
+    while let Request::Host(place, request) = core.next() {
+        watcher.asks(place, request, core.known());
         // An error is that the machine asks nothing more: `finish` says so too.
         let _told = match ask(host, request, held) {
-            Ok(answer) => core.take(Answer::Host(answer)),
+            Ok(answer) => {
+                watcher.answers(place, &answer);
+                core.take(Answer::Host(answer))
+            }
             Err(AllocError) => core.give_up(),
         };
     }

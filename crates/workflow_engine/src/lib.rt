@@ -4,11 +4,13 @@
 //! of the process, without the places of its jobs, and what is answered is what that run comes to
 //! (`run_core`'s `GainsRun`): its end, and where the run is honest in a world, the value of the process there.
 //! Where the answer is the host's fault, the host's failures rose by this very fault. For every answer, no child
-//! runs on under a ticket of the run.
+//! runs on under a ticket of the run. A `Watch` is told of each question and answer, and decides nothing.
 #![tactic(auto)]
 
 mod ask;
 mod drive;
 mod tickets;
+mod watch;
 
 pub use drive::run;
+pub use watch::{Unwatched, Watch};

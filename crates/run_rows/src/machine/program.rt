@@ -37,7 +37,7 @@ fn run(rt: &HostRuntime, row: &Row, place: &str, out: &mut AnswerText) -> Result
     out.put(",\"out\":");
     put_shown(rt.alloc(), out, printed.as_slice(), place)?;
     out.put(",\"err\":");
-    put_shown(rt.alloc(), out, told.as_slice(), place)
+    put_told(rt.alloc(), out, told.as_slice(), place)
 }
 
 // Adds what is in the row's folder.
@@ -89,6 +89,42 @@ fn put_shown(
         Err(_) => return Err(RowFault::BadArgument),
     }
     Ok(())
+}
+
+// The same, with `_` for how long a child ran.
+fn put_told(
+    alloc: Global,
+    out: &mut AnswerText,
+    bytes: &[u8],
+    place: &str,
+) -> Result<(), RowFault> {
+    match str::from_utf8(bytes) {
+        Ok(text) => put_shown(alloc, out, without_millis(alloc, text)?.as_bytes(), place),
+        Err(_) => Err(RowFault::BadArgument),
+    }
+}
+
+// A text in which each line that ends with milliseconds has `_` for them.
+fn without_millis(alloc: Global, text: &str) -> Result<String, AllocError> {
+    let mut whole = String::new(alloc);
+    let mut before = None;
+    for part in text.split(" ms\n") {
+        if let Some(line) = before {
+            add_masked(&mut whole, line)?;
+        }
+        before = Some(part);
+    }
+    whole.push_str(before.unwrap_or(""))?;
+    Ok(whole)
+}
+
+fn add_masked(whole: &mut String, line: &str) -> Result<(), AllocError> {
+    whole.push_str(line.trim_end_matches(is_digit))?;
+    whole.push_str("_ ms\n")
+}
+
+fn is_digit(c: char) -> bool {
+    c.is_ascii_digit()
 }
 
 fn replaced(alloc: Global, text: &str, old: &str, new: &str) -> Result<String, AllocError> {

@@ -3,8 +3,9 @@ use Rattle.cwl_program.proofs.Ends.{explained}
 use Rattle.cwl_program.proofs.entry.main_run.Goals as goal
 
 pub returns-in-Ok : goal.returns-in-Ok
-returns-in-Ok g c = ends c.in-Ok.end.exit c.in-Ok.end.explains c.in-Ok.ensures.ok c.say-status.ensures
+returns-in-Ok g c =
+    ends c.in-Ok.end.exit c.in-Ok.end.explains c.in-Ok.end.telling _ c.in-Ok.ensures.ok c.in-Ok.ensures.told c.say-status.ensures
 
 pub returns-in-Err : goal.returns-in-Err
 returns-in-Err g c =
-    explained _ _ _ _ _ c.in-Err.error _ c.in-Err.ensures.other c.in-Err.ensures.err c.explain.ensures
+    explained _ _ _ _ _ _ c.in-Err.error _ c.in-Err.ensures.other c.in-Err.ensures.err c.in-Err.ensures.untold c.explain.ensures

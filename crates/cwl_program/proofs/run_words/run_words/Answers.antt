@@ -1,5 +1,4 @@
-use Rattle.std.proofs.Common.{◌≡◌, ◌∙◌, List, ℕ, ap, refl, codes, option_map}
-use Rattle.std.specs.Str.{bytes_eq}
+use Rattle.std.proofs.Common.{◌≡◌, ◌∙◌, refl, codes, option_map}
 use Rattle.std.specs.Prelude.{unwrap_or}
 use Rattle.clap.specs.Words.{first_of, found_of, rows_of}
 use Rattle.clap.proofs.WalkLemmas.{first_value-rows}
@@ -21,8 +20,4 @@ returns c =
     c.get_str-5.ensures ∙ first_value-rows found (codes "slots") in
     let retries : option_map (λ s. s.now) c.get_str-6.result ≡ first_of (codes "retries") (rows_of found) =
     c.get_str-6.ensures ∙ first_value-rows found (codes "retries") in
-    let word : c.unwrap_or-4.result.now ≡ unwrap_or (first_of (codes "explain") (rows_of found)) (codes "") =
-    or_other _ _ _ _ (codes "") (c.get_str-7.ensures ∙ first_value-rows found (codes "explain")) c.unwrap_or-4.ensures refl in
-    let explain : c.eq.result ≡ bytes_eq (unwrap_or (first_of (codes "explain") (rows_of found)) (codes "")) (codes "true") =
-    c.eq.ensures ∙ ap (λ (t : List ℕ). bytes_eq t (codes "true")) word in
-    rw (document, inputs, work, outdir, slots, retries, explain) refl
+    rw (document, inputs, work, outdir, slots, retries, c.telling_of.ensures, c.is_wanted.ensures) refl
