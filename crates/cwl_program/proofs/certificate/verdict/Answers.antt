@@ -7,4 +7,4 @@ returns-in-Ok c = IfOk-weaker c.judged.result _ _ (λ exit h. judges _ _ _ c.in-
 
 pub returns-in-Err-NotACertificate : goal.returns-in-Err-NotACertificate
 returns-in-Err-NotACertificate c =
-    unreadable c.in-Err-NotACertificate.field-0-0 (rw c.in-Err-NotACertificate.field-0-is at c.in-Err-NotACertificate.ensures.refused)
+    unreadable c.in-Err-NotACertificate.line (rw c.in-Err-NotACertificate.field-0-is at c.in-Err-NotACertificate.ensures.refused)

@@ -2,8 +2,8 @@ use Rattle.std.proofs.lemmas.Result.{IfOk-weaker}
 use Rattle.cwl_program.specs.Runs.{runs}
 use Rattle.cwl_program.proofs.run.in_work.Goals as goal
 
-pub returns : goal.returns
-returns g c =
+pub returns-clause-exit : goal.returns-clause-exit
+returns-clause-exit g c =
     IfOk-weaker c.with_options.result _ _
     (λ exit is_ran. runs c.in_ok-options.options c.in_ok-options.ensures.numbers is_ran)
-    c.with_options.ensures
+    c.with_options.ensures.exit
