@@ -1,5 +1,5 @@
 -- The options without a value, in the terms of `clap`, and those that each command takes.
-use Rattle.std.specs.Prelude.{◌≡◌, List, Some, Bool, true, false, codes, unwrap_or, if◌then◌else◌}
+use Rattle.std.specs.Prelude.{◌≡◌, List, Some, Bool, false, codes, unwrap_or, if◌then◌else◌}
 use Rattle.std.specs.Str.{bytes_eq}
 use Rattle.clap.specs.Words.{App, Row, Rule, Text, first_of, new_rule, with_rule}
 use Rattle.clap.specs.declared.builder.ArgAction.TheVariants.{SetTrue}
