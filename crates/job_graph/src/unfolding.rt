@@ -2,7 +2,7 @@
 ghost use Rattle.std.specs.Prelude.{◌≡◌, ◌++◌, ◌∷◌, [], List, IfErr, IfOk, OnErr, OnOk, Some, length, option_map, take};
 ghost use Rattle.job_graph.specs.Equations.{walker};
 ghost use Rattle.job_graph.specs.Jobs.{Walker};
-ghost use Rattle.job_graph.specs.Unfold.{Resolved as Learned, unfolded};
+ghost use Rattle.job_graph.specs.Unfold.{Resolved as LearnedJob, unfolded};
 ghost use Rattle.job_graph.specs.Unfolding.{AnswersAlike, Blames, IsAgain, Knows, Learns};
 ghost use Rattle.job_graph.specs.inner.Growth.{Keeps, Resolves, Unfolds};
 ghost use Rattle.job_graph.specs.inner.Views.{resolved_of};
@@ -69,7 +69,7 @@ impl<'a> Unfolding<'a> {
     /// Takes the outputs of the job at a place, whose files are named relative to its output folder. After a refusal it
     /// answers the same from then on, and what is known stays as it was. Out of memory, it is as before the call.
     pub fn learn(&mut self, place: JobPlace, outputs: Keyed<Value>) -> Result<(), UnfoldError>
-        ensures learns { (walks : Walker) (learned : List Learned) → Knows walks learned self.old →
+        ensures learns { (walks : Walker) (learned : List LearnedJob) → Knows walks learned self.old →
             Learns walks learned (record { place = place; outputs = outputs }) self.new result }
         ensures ok { OnOk result (take (length self.old.known.items) self.new.known.items ≡ self.old.known.items) }
         ensures err { OnErr result (AnswersAlike self.old self.new) }
@@ -103,7 +103,7 @@ impl<'a> Unfolding<'a> {
 
     /// Adds what was learned, and what is known then. After an error nothing has changed.
     fn resolve(&mut self, resolved: Resolved) -> Result<(), UnfoldError>
-        ensures resolves { (walks : Walker) (learned : List Learned) → Knows walks learned self.old →
+        ensures resolves { (walks : Walker) (learned : List LearnedJob) → Knows walks learned self.old →
             Resolves walks learned (resolved_of resolved) self.new result }
         ensures ok { OnOk result (take (length self.old.known.items) self.new.known.items ≡ self.old.known.items) }
         ensures err { OnErr result (AnswersAlike self.old self.new) }
