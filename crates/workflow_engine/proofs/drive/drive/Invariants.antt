@@ -4,13 +4,13 @@ use Rattle.run_rules.specs.declared.request.Request.{Request}
 use Rattle.workflow_engine.specs.inner.Held.{Covers}
 use Rattle.workflow_engine.proofs.drive.drive.Given as goal
 
-abbrev pub invariant-loop-request : goal.invariant-loop-request
-invariant-loop-request g l = record {
+abbrev pub invariant-loop-place : goal.invariant-loop-place
+invariant-loop-place g l = record {
   setting : l.core.setting ≡ l.initial.core.setting;
   logged : g.H.Host.log l.host ≡ g.H.Host.log l.initial.host ++ entries_of l.core.transcript;
   flying : l.core.asks ≢ Request.Finished → l.core.flying ≡ g.H.Host.running l.host;
   covered : Covers l.held.items (g.H.Host.running l.host);
 }
 
-abbrev pub decreases-loop-request : goal.decreases-loop-request
-decreases-loop-request g l = l.core.steps_left
+abbrev pub decreases-loop-place : goal.decreases-loop-place
+decreases-loop-place g l = l.core.steps_left
