@@ -2,6 +2,7 @@ pub mod Carried
 pub mod Circle
 pub mod Closed
 pub mod Facts
+pub mod Indexed
 pub mod Named
 pub mod Nested
 pub mod Ordered

@@ -4,12 +4,16 @@ ghost use Rattle.document_links.specs.declared.process.Workflow.{out-Workflow};
 ghost use Rattle.workflow_check.specs.Checked.{fault_in, fault_in_step, fault_in_workflow, own_fault};
 ghost use Rattle.workflow_check.specs.Faults.{IsErrorOf, first_of};
 ghost use Rattle.workflow_check.specs.Scope.{file_type};
+ghost use Rattle.workflow_check.specs.inner.Linked.{links_fault};
+ghost use Rattle.workflow_check.specs.inner.Seen.{around};
 
 use crate::fault::{AcceptError, inside};
+use crate::index::Index;
 use crate::linking::{check_outputs, check_steps};
 use crate::order::check_order;
 use crate::scope::Scope;
 use crate::shapes::check_shapes;
+use crate::steps::Steps;
 use cwl_types::MemberType;
 use document_links::{Process, Workflow};
 use plain_data::Items;
@@ -66,21 +70,38 @@ fn check_inner(
 }
 
 /// Looks at one workflow, without those that are inside.
-fn check_own(
+fn check_own<'p>(
     alloc: Global,
-    workflow: &Workflow,
-    file: &Items<MemberType>,
+    workflow: &'p Workflow,
+    file: &'p Items<MemberType>,
 ) -> Result<(), AcceptError>
     requires { file.now ≡ file_type }
     ensures ok { OnOk result (own_fault (out-Workflow workflow.now) ≡ None) }
     ensures err { IfErr result (IsErrorOf (own_fault (out-Workflow workflow.now))) }
 {
     check_shapes(alloc, &workflow.steps)?;
+    let inputs = Index::of(alloc, workflow.inputs.as_slice())?;
+    let steps = Steps::of(alloc, workflow.steps.as_slice())?;
     let scope = Scope {
-        inputs: &workflow.inputs,
-        steps: &workflow.steps,
+        inputs: &inputs,
+        steps: &steps,
         file,
     };
+    let checked = check_links(alloc, scope, workflow);
+    drop(steps);
+    drop(inputs);
+    checked
+}
+
+/// Looks at the links of one workflow.
+fn check_links(alloc: Global, scope: Scope<'_, '_>, workflow: &Workflow) -> Result<(), AcceptError>
+    requires file { scope.file.now ≡ file_type }
+    requires steps { scope.steps.now ≡ (out-Workflow workflow.now).steps }
+    ensures ok { OnOk result
+        (links_fault (around scope.entry) (out-Workflow workflow.now).outputs ≡ None) }
+    ensures err { IfErr result
+        (IsErrorOf (links_fault (around scope.entry) (out-Workflow workflow.now).outputs)) }
+{
     check_steps(alloc, scope)?;
     check_outputs(alloc, scope, &workflow.outputs)?;
     check_order(alloc, &workflow.steps)

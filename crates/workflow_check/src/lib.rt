@@ -7,7 +7,7 @@
 mod accepted;
 mod circles;
 mod fault;
-mod finding;
+mod index;
 mod laws;
 mod levels;
 mod linking;
@@ -18,6 +18,8 @@ mod rounds;
 mod scope;
 mod search;
 mod shapes;
+mod steps;
+mod texts;
 
 pub use accepted::{Accepted, accept};
 pub use fault::{AcceptError, LinkCheckFault, LinkRule};

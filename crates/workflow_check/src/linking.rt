@@ -2,16 +2,21 @@
 ghost use Rattle.std.specs.Prelude.{◌≡◌, None, OnOk, IfErr, option_map};
 ghost use Rattle.std.specs.List.{list_any};
 ghost use Rattle.plain_data.specs.ByName.{map_values};
+ghost use Rattle.document_links.specs.declared.process.Step.{out-Step};
 ghost use Rattle.workflow_check.specs.Faults.{IsErrorOf, first_of};
 ghost use Rattle.workflow_check.specs.Links.{asked_fault, entries_fault, entry_fault, has_to_be_given, other_fault, others_fault, output_fault, outputs_fault, source_fault, sources_fault, step_fault, steps_fault, type_fault, unlinked_fault};
-ghost use Rattle.workflow_check.specs.Scope.{file_type, tool_asked, workflow_asked};
+ghost use Rattle.workflow_check.specs.Scope.{file_type, takes, tool_asked, workflow_asked};
 ghost use Rattle.workflow_check.specs.Types.{is_null};
+ghost use Rattle.workflow_check.specs.inner.Ports.{taken_under};
 ghost use Rattle.workflow_check.specs.inner.Seen.{around, asked};
 
 use crate::fault::{AcceptError, LinkRule, inside, refused};
-use crate::finding::{has, lists};
+use crate::index::Index;
 use crate::overlapping::{Sink, links_overlap};
-use crate::scope::{Scope, Taken, input_at, is_null, is_there, tool_taken, workflow_taken};
+use crate::scope::{
+    Inputs, Scope, Taken, input_at, inputs_of, is_null, is_there, tool_taken, workflow_taken,
+};
+use crate::texts::Texts;
 use cwl_process::{Entries, Links, Source, StepInput, ToolInput, WorkflowInput, WorkflowOutput};
 use cwl_types::MemberType;
 use document_links::{Process, Step};
@@ -19,7 +24,7 @@ use plain_data::{Items, Text};
 use std::alloc::Global;
 
 /// Looks at the links of each step in its order.
-pub(crate) fn check_steps(alloc: Global, scope: Scope<'_>) -> Result<(), AcceptError>
+pub(crate) fn check_steps<'p>(alloc: Global, scope: Scope<'_, 'p>) -> Result<(), AcceptError>
     requires { scope.file.now ≡ file_type }
     ensures ok { OnOk result (steps_fault (around scope.entry) scope.entry.steps.now ≡ None) }
     ensures err { IfErr result (IsErrorOf (steps_fault (around scope.entry) scope.entry.steps.now)) }
@@ -32,7 +37,7 @@ pub(crate) fn check_steps(alloc: Global, scope: Scope<'_>) -> Result<(), AcceptE
     Ok(())
 }
 
-fn check_step(alloc: Global, scope: Scope<'_>, step: &Step) -> Result<(), AcceptError>
+fn check_step<'p>(alloc: Global, scope: Scope<'_, 'p>, step: &'p Step) -> Result<(), AcceptError>
     requires { scope.file.now ≡ file_type }
     ensures ok { OnOk result (step_fault (around scope.entry) step.now ≡ None) }
     ensures err { IfErr result (IsErrorOf (step_fault (around scope.entry) step.now)) }
@@ -41,14 +46,36 @@ fn check_step(alloc: Global, scope: Scope<'_>, step: &Step) -> Result<(), Accept
     check_others(alloc, &step.process, &step.inputs, scope.file)
 }
 
-fn check_entries(alloc: Global, scope: Scope<'_>, step: &Step) -> Result<(), AcceptError>
+fn check_entries<'p>(alloc: Global, scope: Scope<'_, 'p>, step: &'p Step) -> Result<(), AcceptError>
     requires { scope.file.now ≡ file_type }
     ensures ok { OnOk result (entries_fault (around scope.entry) step.now ≡ None) }
     ensures err { IfErr result (IsErrorOf (entries_fault (around scope.entry) step.now)) }
 {
+    let taken = inputs_of(alloc, &step.process)?;
+    let scatter = Texts::of(alloc, step.scatter.as_slice())?;
+    let checked = check_each_entry(alloc, scope, step, &taken, &scatter);
+    drop(scatter);
+    drop(taken);
+    checked
+}
+
+/// Looks at each entry of a step, by indexes of what its process takes and of what is scattered.
+fn check_each_entry<'p>(
+    alloc: Global,
+    scope: Scope<'_, 'p>,
+    step: &Step,
+    taken: &Inputs<'p>,
+    scatter: &Texts<'_>,
+) -> Result<(), AcceptError>
+    requires file { scope.file.now ≡ file_type }
+    requires taken { taken_under taken.now ≡ takes (out-Step step.now).process }
+    requires scatter { scatter.now ≡ (out-Step step.now).scatter }
+    ensures ok { OnOk result (entries_fault (around scope.entry) step.now ≡ None) }
+    ensures err { IfErr result (IsErrorOf (entries_fault (around scope.entry) step.now)) }
+{
     for entry in step.inputs.as_slice() {
-        let asked_of = input_at(&step.process, &entry.0, scope.file);
-        let scattered = lists(&step.scatter, &entry.0);
+        let asked_of = input_at(taken, &entry.0, scope.file);
+        let scattered = scatter.has(&entry.0);
         if let Err(error) = check_entry(alloc, scope, &entry.1, asked_of, scattered) {
             return Err(inside(alloc, &entry.0, error)?);
         }
@@ -58,7 +85,7 @@ fn check_entries(alloc: Global, scope: Scope<'_>, step: &Step) -> Result<(), Acc
 
 fn check_entry(
     alloc: Global,
-    scope: Scope<'_>,
+    scope: Scope<'_, '_>,
     input: &StepInput,
     asked_of: Option<Taken<'_>>,
     scattered: bool,
@@ -76,7 +103,7 @@ fn check_entry(
 
 fn check_asked(
     alloc: Global,
-    scope: Scope<'_>,
+    scope: Scope<'_, '_>,
     input: &StepInput,
     asked_of: Taken<'_>,
     scattered: bool,
@@ -126,7 +153,7 @@ fn admits_null(kind: &Items<MemberType>) -> bool
 
 fn check_overlap(
     alloc: Global,
-    scope: Scope<'_>,
+    scope: Scope<'_, '_>,
     links: &Links,
     sources: &[Source],
     scattered: bool,
@@ -146,7 +173,7 @@ fn check_overlap(
     Err(refused(alloc, LinkRule::Disjoint))
 }
 
-fn check_sources(alloc: Global, scope: Scope<'_>, links: &Links) -> Result<(), AcceptError>
+fn check_sources(alloc: Global, scope: Scope<'_, '_>, links: &Links) -> Result<(), AcceptError>
     ensures ok { OnOk result (sources_fault (around scope.entry) links.now ≡ None) }
     ensures err { IfErr result (IsErrorOf (sources_fault (around scope.entry) links.now)) }
 {
@@ -156,7 +183,11 @@ fn check_sources(alloc: Global, scope: Scope<'_>, links: &Links) -> Result<(), A
     }
 }
 
-fn check_each_source(alloc: Global, scope: Scope<'_>, sources: &[Source]) -> Result<(), AcceptError>
+fn check_each_source(
+    alloc: Global,
+    scope: Scope<'_, '_>,
+    sources: &[Source],
+) -> Result<(), AcceptError>
     ensures ok { OnOk result (first_of (source_fault (around scope.entry)) sources.now ≡ None) }
     ensures err { IfErr result (IsErrorOf (first_of (source_fault (around scope.entry)) sources.now)) }
 {
@@ -179,16 +210,17 @@ fn check_others(
     ensures ok { OnOk result (others_fault process.now entries.now ≡ None) }
     ensures err { IfErr result (IsErrorOf (others_fault process.now entries.now)) }
 {
+    let entries = Index::of(alloc, entries.as_slice())?;
     match process {
-        Process::Tool(tool) => check_tool_inputs(alloc, &tool.inputs, entries, file),
-        Process::Workflow(workflow) => check_workflow_inputs(alloc, &workflow.inputs, entries),
+        Process::Tool(tool) => check_tool_inputs(alloc, &tool.inputs, &entries, file),
+        Process::Workflow(workflow) => check_workflow_inputs(alloc, &workflow.inputs, &entries),
     }
 }
 
 fn check_tool_inputs(
     alloc: Global,
     inputs: &Entries<ToolInput>,
-    entries: &Entries<StepInput>,
+    entries: &Index<'_, StepInput>,
     file: &Items<MemberType>,
 ) -> Result<(), AcceptError>
     requires { file.now ≡ file_type }
@@ -204,7 +236,7 @@ fn check_tool_inputs(
 fn check_workflow_inputs(
     alloc: Global,
     inputs: &Entries<WorkflowInput>,
-    entries: &Entries<StepInput>,
+    entries: &Index<'_, StepInput>,
 ) -> Result<(), AcceptError>
     ensures ok { OnOk result (first_of (other_fault entries.now) (map_values workflow_asked inputs.now) ≡ None) }
     ensures err { IfErr result (IsErrorOf (first_of (other_fault entries.now) (map_values workflow_asked inputs.now))) }
@@ -219,12 +251,12 @@ fn check_other(
     alloc: Global,
     id: &Text,
     asked_of: Taken<'_>,
-    entries: &Entries<StepInput>,
+    entries: &Index<'_, StepInput>,
 ) -> Result<(), AcceptError>
     ensures ok { OnOk result (other_fault entries.now (id.now, asked asked_of.entry) ≡ None) }
     ensures err { IfErr result (IsErrorOf (other_fault entries.now (id.now, asked asked_of.entry))) }
 {
-    if has(entries, id) {
+    if entries.has(id) {
         return Ok(());
     }
     match check_unlinked(alloc, asked_of) {
@@ -236,7 +268,7 @@ fn check_other(
 /// Looks at the links of the workflow's outputs.
 pub(crate) fn check_outputs(
     alloc: Global,
-    scope: Scope<'_>,
+    scope: Scope<'_, '_>,
     outputs: &Entries<WorkflowOutput>,
 ) -> Result<(), AcceptError>
     requires { scope.file.now ≡ file_type }
@@ -251,7 +283,11 @@ pub(crate) fn check_outputs(
     Ok(())
 }
 
-fn check_output(alloc: Global, scope: Scope<'_>, output: &WorkflowOutput) -> Result<(), AcceptError>
+fn check_output(
+    alloc: Global,
+    scope: Scope<'_, '_>,
+    output: &WorkflowOutput,
+) -> Result<(), AcceptError>
     requires { scope.file.now ≡ file_type }
     ensures ok { OnOk result (output_fault (around scope.entry) output.now ≡ None) }
     ensures err { IfErr result (IsErrorOf (output_fault (around scope.entry) output.now)) }

@@ -56,7 +56,7 @@ pub(crate) struct Sink<'p> {
 
 /// Whether what the links give may be what is asked for, where each of the sources is there.
 pub(crate) fn links_overlap(
-    scope: Scope<'_>,
+    scope: Scope<'_, '_>,
     links: &Links,
     sources: &[Source],
     sink: Sink<'_>,
@@ -79,7 +79,7 @@ pub(crate) fn links_overlap(
 }
 
 /// Whether what one of the sources gives may be of the type.
-fn union_overlaps(scope: Scope<'_>, sources: &[Source], form: Form, sink: Sink<'_>) -> bool
+fn union_overlaps(scope: Scope<'_, '_>, sources: &[Source], form: Form, sink: Sink<'_>) -> bool
     requires { scope.file.now ≡ file_type }
     ensures { result ≡ list_any (λ source. overlaps
         (part_of form (gift scope.entry.inputs.now scope.entry.steps.now source))
@@ -90,7 +90,7 @@ fn union_overlaps(scope: Scope<'_>, sources: &[Source], form: Form, sink: Sink<'
         .any(|source| source_overlaps(scope, source, form, sink))
 }
 
-fn source_overlaps(scope: Scope<'_>, source: &Source, form: Form, sink: Sink<'_>) -> bool
+fn source_overlaps(scope: Scope<'_, '_>, source: &Source, form: Form, sink: Sink<'_>) -> bool
     requires { scope.file.now ≡ file_type }
     ensures { result ≡ overlaps
         (part_of form (gift scope.entry.inputs.now scope.entry.steps.now source.now))
@@ -103,7 +103,12 @@ fn source_overlaps(scope: Scope<'_>, source: &Source, form: Form, sink: Sink<'_>
 }
 
 /// Whether a list of what the sources give may be of the type.
-fn list_overlaps(scope: Scope<'_>, sources: &[Source], form: Form, kind: &Items<MemberType>) -> bool
+fn list_overlaps(
+    scope: Scope<'_, '_>,
+    sources: &[Source],
+    form: Form,
+    kind: &Items<MemberType>,
+) -> bool
     requires { scope.file.now ≡ file_type }
     ensures { result ≡ list_any (members_overlap (array_of (flat_map (part_of form)
         (map (gift scope.entry.inputs.now scope.entry.steps.now) sources.now)) None)) kind.now }
@@ -113,7 +118,7 @@ fn list_overlaps(scope: Scope<'_>, sources: &[Source], form: Form, kind: &Items<
         .any(|member| list_meets(scope, sources, form, member))
 }
 
-fn list_meets(scope: Scope<'_>, sources: &[Source], form: Form, member: &MemberType) -> bool
+fn list_meets(scope: Scope<'_, '_>, sources: &[Source], form: Form, member: &MemberType) -> bool
     requires { scope.file.now ≡ file_type }
     ensures { result ≡ members_overlap (array_of (flat_map (part_of form)
         (map (gift scope.entry.inputs.now scope.entry.steps.now) sources.now)) None) member.now }

@@ -1,13 +1,16 @@
 //! How each step is run: what it scatters over, and which outputs it lists (K5, K6, K7).
 ghost use Rattle.std.specs.Prelude.{◌≡◌, None, OnOk, IfErr};
+ghost use Rattle.document_links.specs.declared.process.Step.{out-Step};
 ghost use Rattle.workflow_check.specs.Faults.{IsErrorOf, first_of};
+ghost use Rattle.workflow_check.specs.Scope.{gives};
 ghost use Rattle.workflow_check.specs.Shapes.{method_fault, output_fault, scatter_fault, shape_fault, shapes_fault};
+ghost use Rattle.workflow_check.specs.inner.Ports.{given_under};
 
 use crate::fault::{AcceptError, LinkRule, inside, refused};
-use crate::finding::has;
-use crate::scope::gives;
+use crate::index::Index;
+use crate::scope::{Outputs, gives, outputs_of};
 use cwl_process::{Entries, StepInput};
-use document_links::{Process, Step};
+use document_links::Step;
 use plain_data::{Items, Text};
 use scatter_shape::Method;
 use std::alloc::Global;
@@ -31,7 +34,7 @@ fn check_shape(alloc: Global, step: &Step) -> Result<(), AcceptError>
 {
     check_scatter(alloc, &step.inputs, &step.scatter)?;
     check_method(alloc, &step.scatter, step.method)?;
-    check_outputs(alloc, &step.process, &step.outputs)
+    check_outputs(alloc, step)
 }
 
 fn check_scatter(
@@ -42,8 +45,9 @@ fn check_scatter(
     ensures ok { OnOk result (first_of (scatter_fault inputs.now) scatter.now ≡ None) }
     ensures err { IfErr result (IsErrorOf (first_of (scatter_fault inputs.now) scatter.now)) }
 {
+    let entries = Index::of(alloc, inputs.as_slice())?;
     for name in scatter.as_slice() {
-        if !has(inputs, name) {
+        if !entries.has(name) {
             return Err(inside(alloc, name, refused(alloc, LinkRule::ScatterNotInput))?);
         }
     }
@@ -64,12 +68,28 @@ fn check_method(
     Ok(())
 }
 
-fn check_outputs(alloc: Global, process: &Process, outputs: &Items<Text>) -> Result<(), AcceptError>
-    ensures ok { OnOk result (first_of (output_fault process.now) outputs.now ≡ None) }
-    ensures err { IfErr result (IsErrorOf (first_of (output_fault process.now) outputs.now)) }
+fn check_outputs(alloc: Global, step: &Step) -> Result<(), AcceptError>
+    ensures ok { OnOk result
+        (first_of (output_fault (out-Step step.now).process) (out-Step step.now).outputs ≡ None) }
+    ensures err { IfErr result (IsErrorOf
+        (first_of (output_fault (out-Step step.now).process) (out-Step step.now).outputs)) }
 {
-    for name in outputs.as_slice() {
-        if !gives(process, name) {
+    let given = outputs_of(alloc, &step.process)?;
+    let checked = check_listed(alloc, step, &given);
+    drop(given);
+    checked
+}
+
+/// Looks whether each output that the step lists is given.
+fn check_listed(alloc: Global, step: &Step, given: &Outputs<'_>) -> Result<(), AcceptError>
+    requires { given_under given.now ≡ gives (out-Step step.now).process }
+    ensures ok { OnOk result
+        (first_of (output_fault (out-Step step.now).process) (out-Step step.now).outputs ≡ None) }
+    ensures err { IfErr result (IsErrorOf
+        (first_of (output_fault (out-Step step.now).process) (out-Step step.now).outputs)) }
+{
+    for name in step.outputs.as_slice() {
+        if !gives(given, name) {
             return Err(inside(alloc, name, refused(alloc, LinkRule::OutputUnknown))?);
         }
     }
