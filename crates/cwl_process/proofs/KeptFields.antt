@@ -1,6 +1,6 @@
 -- Fields, lists and maps of an object read alike where only what is kept of it is there.
-use Rattle.std.proofs.Common.{◌≡◌, ℕ, ◌+◌, List, [], ◌∷◌, map, Bool, true, false, Option, Some, None, Ok, Err, refl, sym, ap, subst, ◌∙◌, bytes_eq, codes}
-use Rattle.std.specs.Prelude.{Result, option_map, option_and_then, unwrap_or, if◌then◌else◌}
+use Rattle.std.proofs.Common.{◌≡◌, ℕ, ◌+◌, List, ◌∷◌, map, Bool, true, false, Option, Some, None, Ok, Err, refl, sym, ap, ◌∙◌}
+use Rattle.std.specs.Prelude.{option_map, option_and_then, if◌then◌else◌}
 use Rattle.std.specs.Option.{option_map_or}
 use Rattle.std.specs.Cmp.Lexicographic.{slice_cmp}
 use Rattle.std.specs.Ordering.{match_ordering, nat_cmp}
@@ -9,14 +9,13 @@ use Rattle.std.specs.declared.cmp.Ordering.TheVariants.{Less, Equal, Greater}
 use Rattle.std.proofs.lemmas.Map.Lookups.{exact_bytes}
 use Rattle.std.proofs.lemmas.Option.{none-some, same_Some}
 use Rattle.serde_json.specs.Data.{Data, null, boolean, number, string, array, object, Items, no_items, item, Members, no_members, member}
-use Rattle.serde_json.specs.Find.{as_bool, as_number, as_str, get, get_member}
-use Rattle.document_table.specs.Entries.{HasForm, IsOf, entries, listed_entries, main_field, mapped_entries}
+use Rattle.serde_json.specs.Find.{as_bool, as_number, as_str, get_member}
+use Rattle.document_table.specs.Entries.{HasForm, entries, listed_entries, mapped_entries}
 use Rattle.document_table.specs.Faults.{at, here, under}
-use Rattle.document_table.specs.Kept.{each_form, kept, kept_form, kept_items, kept_members, put_kept}
-use Rattle.document_table.specs.Layouts.{key_fits, layout_of, member_form, subject_of}
+use Rattle.document_table.specs.Kept.{kept, kept_form, kept_items, kept_members, put_kept}
+use Rattle.document_table.specs.Layouts.{key_fits, member_form, subject_of}
 use Rattle.document_table.specs.Repeats.{name_in}
-use Rattle.document_table.specs.Walk.{fault_in, fault_in_items, fault_in_members, judged, or_else, repeat_fault}
-use Rattle.document_table.specs.declared.fault.Cause.{Cause}
+use Rattle.document_table.specs.Walk.{fault_in, fault_in_items, fault_in_members, judged}
 use Rattle.document_table.specs.declared.fault.Cause.TheVariants as cause
 use Rattle.document_table.specs.declared.fault.DocumentFault.{DocumentFault}
 use Rattle.document_table.specs.declared.form.Form.{Form}

@@ -1,20 +1,19 @@
 -- A tool reads alike where only what is kept of its object is there, so what is written of it tells it from others.
-use Rattle.std.proofs.Common.{◌≡◌, ℕ, ◌+◌, List, [], ◌∷◌, map, Bool, true, false, Option, Some, None, Ok, Err, refl, sym, ap, subst, ◌∙◌, bytes_eq, codes}
-use Rattle.std.specs.Prelude.{ℤ, pos, ◌||◌, ◌&&◌, not, nat_eq, option_map, option_and_then, unwrap_or, if◌then◌else◌}
+use Rattle.std.proofs.Common.{◌≡◌, ℕ, List, [], ◌∷◌, map, Bool, true, false, Option, Some, None, Ok, refl, sym, ap, subst, ◌∙◌, bytes_eq, codes}
+use Rattle.std.specs.Prelude.{pos, ◌||◌, ◌&&◌, not, nat_eq, option_map, option_and_then, unwrap_or, if◌then◌else◌}
 use Rattle.std.specs.List.{ends_with}
 use Rattle.std.specs.Option.{option_map_or}
-use Rattle.serde_json.specs.Data.{Data, null, boolean, number, string, array, object, Items, no_items, item, Members, no_members, member}
-use Rattle.serde_json.specs.Find.{as_bool, as_i64, as_number, as_str, get, get_member}
+use Rattle.serde_json.specs.Data.{Data, null, boolean, number, string, array, object, Items, no_items, item, Members}
+use Rattle.serde_json.specs.Find.{as_bool, as_i64, as_str, get_member}
 use Rattle.cwl_value.specs.Reading.{reading}
 use Rattle.cwl_value.proofs.Texts.{texts_tell_json_apart}
-use Rattle.cwl_types.specs.Types.{type_in}
-use Rattle.document_table.specs.Entries.{HasForm, IsOf, MayHaveForm, entries, main_field}
+use Rattle.document_table.specs.Entries.{HasForm, IsOf, MayHaveForm, entries}
 use Rattle.document_table.specs.Faults.{here}
 use Rattle.document_table.specs.Kept.{each_form, kept, kept_form, kept_items, kept_members}
-use Rattle.document_table.specs.Layouts.{layout_of, member_form}
+use Rattle.document_table.specs.Layouts.{member_form}
 use Rattle.document_table.specs.Leaves.{item_form, short_form, wrong}
 use Rattle.document_table.specs.Table.{form_of}
-use Rattle.document_table.specs.Walk.{fault_in, fault_in_items, fault_in_members, listed, or_else, repeat_fault}
+use Rattle.document_table.specs.Walk.{fault_in_items, fault_in_members, listed, or_else, repeat_fault}
 use Rattle.document_table.specs.declared.fault.Cause.TheVariants as cause
 use Rattle.document_table.specs.declared.form.Form.{Form}
 use Rattle.document_table.specs.declared.form.Form.TheVariants as form
@@ -23,16 +22,13 @@ use Rattle.document_table.specs.declared.form.Kind.TheVariants as kind
 use Rattle.document_table.specs.declared.layout.Layout.{Layout}
 use Rattle.document_table.specs.declared.layout.Layout.TheVariants as layout
 use Rattle.document_table.proofs.Faultless.{field_has_form, first_none, later_none, member_has_form, members_none, some_is_not_none}
-use Rattle.cwl_process.specs.Bindings.{binding_in, bindings_at, secondaries_at, secondary_in}
-use Rattle.cwl_process.specs.Laws.{AreEqualTools, IsToolObject, WrittenTellsToolsApart}
-use Rattle.cwl_process.specs.Parameters.{default_at, if_read, input_type_in, is_text, loads, output_binding_in, output_type_in, tool_input_in, tool_output_in}
+use Rattle.cwl_process.specs.Bindings.{binding_in, bindings_at, secondary_in}
+use Rattle.cwl_process.specs.Laws.{WrittenTellsToolsApart}
+use Rattle.cwl_process.specs.Parameters.{if_read, input_type_in, is_text, output_binding_in, output_type_in, tool_input_in, tool_output_in}
 use Rattle.cwl_process.specs.Simple.{elements, flag_at, int_at, int_in, ints_at, list_at, narrow, one_or_more, text_at, text_in, texts_at}
 use Rattle.cwl_process.specs.Templates.{template_at, template_in, template_of, templates_at}
-use Rattle.cwl_process.specs.Tools.{entries_at, exit_codes_in, streams_in, tool_in}
-use Rattle.cwl_process.specs.declared.tool.Asked.{Asked}
-use Rattle.cwl_process.specs.declared.tool.InputType.{InputType}
+use Rattle.cwl_process.specs.Tools.{entries_at, exit_codes_in, streams_in}
 use Rattle.cwl_process.specs.declared.tool.InputType.TheVariants as input
-use Rattle.cwl_process.specs.declared.tool.OutputType.{OutputType}
 use Rattle.cwl_process.specs.declared.tool.OutputType.TheVariants as output
 use Rattle.cwl_process.proofs.KeptFields.{IsKeptAs, bool_kept, entries_kept, map_kept, member_kept, number_kept, or_kept, read_each, str_kept, then_kept, value_kept}
 use Rattle.cwl_process.proofs.KeptTypes.{input_type_kept, output_type_kept, types_kept}

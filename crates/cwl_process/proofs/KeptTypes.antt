@@ -1,25 +1,21 @@
 -- A type reads alike where only what is kept of it is there.
-use Rattle.std.proofs.Common.{◌≡◌, ℕ, ◌+◌, List, [], ◌∷◌, ◌++◌, Bool, true, false, Option, Some, None, Ok, Err, refl, sym, ap, subst, ◌∙◌, bytes_eq, codes}
-use Rattle.std.specs.Prelude.{Result, option_map, option_and_then, unwrap_or, if◌then◌else◌}
+use Rattle.std.proofs.Common.{◌≡◌, ℕ, ◌+◌, List, [], ◌∷◌, ◌++◌, Bool, true, false, Option, Some, None, Ok, refl, sym, ap, ◌∙◌, bytes_eq, codes}
+use Rattle.std.specs.Prelude.{option_map, option_and_then, unwrap_or, if◌then◌else◌}
 use Rattle.std.specs.Option.{option_map_or}
-use Rattle.std.proofs.lemmas.Option.{none-some, same_Some}
 use Rattle.std.proofs.lemmas.Slice.Eq.{bytes_eq-Decides}
 use Rattle.serde_json.specs.Data.{Data, null, boolean, number, string, array, object, Items, no_items, item, Members, no_members, member}
-use Rattle.serde_json.specs.Find.{as_bool, as_str, get, get_member}
-use Rattle.cwl_types.specs.Types.{array_of, binding_in, is_array, items_in, object_type, symbols_in, text_in, texts_in, type_in, types_in}
+use Rattle.serde_json.specs.Find.{as_bool, as_str, get_member}
+use Rattle.cwl_types.specs.Types.{array_of, binding_in, is_array, items_in, object_type, symbols_in, texts_in, type_in, types_in}
 use Rattle.cwl_types.specs.declared.types.MemberType.{MemberType}
 use Rattle.cwl_types.specs.declared.types.MemberType.TheVariants.{Enum}
-use Rattle.cwl_types.specs.declared.types.ItemBinding.{ItemBinding}
 use Rattle.document_table.specs.Entries.{HasForm}
-use Rattle.document_table.specs.Faults.{at, here, under}
+use Rattle.document_table.specs.Faults.{here}
 use Rattle.document_table.specs.Kept.{kept, kept_form, kept_items, kept_members, put_kept}
-use Rattle.document_table.specs.Layouts.{layout_of, member_form, type_kind, type_layout}
-use Rattle.document_table.specs.Walk.{fault_in, fault_in_items, fault_in_members, judged, or_else, own_fault}
-use Rattle.document_table.specs.declared.fault.Cause.{Cause}
+use Rattle.document_table.specs.Layouts.{member_form, type_kind}
+use Rattle.document_table.specs.Walk.{fault_in, fault_in_items, fault_in_members, judged, own_fault}
 use Rattle.document_table.specs.declared.fault.Cause.TheVariants as cause
 use Rattle.document_table.specs.declared.form.Form.{Form}
 use Rattle.document_table.specs.declared.form.Form.TheVariants as form
-use Rattle.document_table.specs.declared.form.Kind.{Kind}
 use Rattle.document_table.specs.declared.form.Kind.TheVariants as kind
 use Rattle.document_table.specs.declared.layout.Layout.{Layout}
 use Rattle.document_table.specs.declared.layout.Layout.TheVariants as layout

@@ -1,5 +1,5 @@
 -- What the written text of a tool tells (CWL v1.2, Command Line Tool Description, "CommandLineTool").
-use Rattle.std.specs.Prelude.{◌≡◌, ℕ}
+use Rattle.std.specs.Prelude.{◌≡◌}
 use Rattle.serde_json.specs.Data.{Members, object}
 use Rattle.cwl_value.specs.Canonical.{HasWholeNumbers}
 use Rattle.document_table.specs.Entries.{IsOf}

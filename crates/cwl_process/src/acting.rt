@@ -5,11 +5,12 @@ ghost use Rattle.serde_json.specs.Find.{get};
 ghost use Rattle.serde_json.specs.View.{view};
 ghost use Rattle.document_table.specs.Entries.{MayHaveForm, entry_seen};
 ghost use Rattle.document_table.specs.declared.form.Form.TheVariants.{Hints, Requirements};
-ghost use Rattle.cwl_process.specs.Acting.{acting_at, asked_in, environment_of, inside, last_of, nearer, nothing_asked, requirement_at, reuse_of, variable_in, variable_text, variables_in};
+ghost use Rattle.cwl_process.specs.Acting.{acting_at, asked_in, environment_of, inside, last_of, nothing_asked, requirement_at, reuse_of, variable_in, variable_text, variables_in};
 ghost use Rattle.cwl_process.specs.Simple.{value_seen};
 
 use crate::entries::Entries;
 use crate::from_entry::{FromEntry, entries_at};
+use crate::shared::Shared;
 use crate::simple::{flag_at, read_any_text};
 use crate::templates::template_of;
 use crate::tool::{Acting, Asked, Variable};
@@ -24,8 +25,8 @@ impl Asked {
         ensures { option_copied result ≡ environment_of self.now }
     {
         match &self.requirements.environment {
-            Some(environment) => Some(environment),
-            None => self.hints.environment.as_ref(),
+            Some(environment) => Some(environment.as_ref()),
+            None => shared_by(&self.hints.environment),
         }
     }
 
@@ -37,6 +38,15 @@ impl Asked {
             Some(reuse) => reuse,
             None => self.hints.reuse.unwrap_or(true),
         }
+    }
+}
+
+fn shared_by<T: Drop>(value: &Option<Shared<T>>) -> Option<&T>
+    ensures { option_copied result ≡ value.now }
+{
+    match value {
+        Some(value) => Some(value.as_ref()),
+        None => None,
     }
 }
 
@@ -82,8 +92,8 @@ fn read_acting(
 {
     let own = read_environment(alloc, field, value)?;
     let environment = match own {
-        Some(own) => Some(own),
-        None => copied(alloc, &around.environment)?,
+        Some(own) => Some(Shared::new(alloc, own)?),
+        None => inherited(&around.environment)?,
     };
     let reuse = match requirement_at(alloc, field, "WorkReuse", value)? {
         Some(found) => Some(flag_at("enableReuse", true, found)),
@@ -92,15 +102,15 @@ fn read_acting(
     Ok(Acting { environment, reuse })
 }
 
-fn copied(
-    alloc: Global,
-    environment: &Option<Entries<Variable>>,
-) -> Result<Option<Entries<Variable>>, AllocError>
-    ensures { IfOk result (λ copy. copy ≡ environment.now) }
+// A workflow's variables may be as many as its steps, so a copy for each step would grow with the square of the document.
+fn inherited(
+    environment: &Option<Shared<Entries<Variable>>>,
+) -> Result<Option<Shared<Entries<Variable>>>, AllocError>
+    ensures { IfOk result (λ shared. shared ≡ environment.now) }
 {
     match environment {
         None => Ok(None),
-        Some(environment) => Ok(Some(environment.clone_in(alloc)?)),
+        Some(environment) => Ok(Some(environment.share()?)),
     }
 }
 

@@ -1,5 +1,5 @@
 //! Whole documents: from bytes to a process, whose steps may name processes of other documents.
-ghost use Rattle.std.specs.Prelude.{◌≡◌, IfOk, IfErr};
+ghost use Rattle.std.specs.Prelude.{IfOk, IfErr};
 ghost use Rattle.cwl_process.specs.Documents.{IsRefused, IsSound, IsUnlinked};
 ghost use Rattle.serde_json.specs.View.{view};
 

@@ -1,11 +1,9 @@
 //! Values under ids, in the order of their document.
-ghost use Rattle.std.specs.Prelude.{◌≡◌, [], length, ◌↔◌, IsTrue, IfOk, bytes_eq};
+ghost use Rattle.std.specs.Prelude.{◌≡◌, [], length, ◌↔◌, IsTrue, bytes_eq};
 ghost use Rattle.std.specs.List.{IsDistinct};
 ghost use Rattle.std.specs.Map.{keys_of};
 
-use crate::tool::Variable;
 use plain_data::Text;
-use std::alloc::{AllocError, Global};
 use std::marker::Model;
 
 /// Values under ids: in the order of the list, or of the bytes of the map's keys, and no id twice.
@@ -64,26 +62,4 @@ impl<T> Entries<T> {
     {
         self.held.is_empty()
     }
-}
-
-impl Entries<Variable> {
-    /// The same variables in memory of their own.
-    pub fn clone_in(&self, alloc: Global) -> Result<Entries<Variable>, AllocError>
-        ensures { IfOk result (λ copy. copy ≡ self.now) }
-    {
-        let mut copies = Vec::new(alloc);
-        for entry in self.as_slice() {
-            let id = entry.0.copied(alloc)?;
-            copies.push((id, copied_variable(alloc, &entry.1)?))?;
-        }
-        Ok(Entries::from_distinct(copies))
-    }
-}
-
-fn copied_variable(alloc: Global, variable: &Variable) -> Result<Variable, AllocError>
-    ensures { IfOk result (λ copy. copy ≡ variable.now) }
-{
-    let written = variable.written.copied(alloc)?;
-    let value = variable.value.clone_in(alloc)?;
-    Ok(Variable { written, value })
 }

@@ -19,6 +19,7 @@ mod parts;
 mod process;
 mod read_links;
 mod read_workflow;
+mod shared;
 mod simple;
 mod template_faults;
 mod templates;
@@ -36,6 +37,7 @@ pub use parameters::default_at;
 pub use parts::{StepParts, read_step_parts, read_workflow_inputs, read_workflow_outputs};
 pub use process::{Process, Run, RunName};
 pub use read_workflow::is_workflow;
+pub use shared::Shared;
 pub use tool::{
     Acting, Asked, Binding, ExitCodes, InputType, OutputBinding, OutputType, SecondaryFile,
     Streams, Tool, ToolInput, ToolOutput, Variable,

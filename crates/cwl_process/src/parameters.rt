@@ -3,7 +3,6 @@ ghost use Rattle.std.specs.Prelude.{◌≡◌, [], IfOk, option_map, codes};
 ghost use Rattle.std.specs.Option.{option_map_or};
 ghost use Rattle.serde_json.specs.Find.{get};
 ghost use Rattle.serde_json.specs.View.{view};
-ghost use Rattle.cwl_types.specs.Types.{type_in};
 ghost use Rattle.document_table.specs.Entries.{main_field};
 ghost use Rattle.cwl_process.specs.Bindings.{binding_in};
 ghost use Rattle.cwl_process.specs.Parameters.{default_at, input_type_in, is_text, loads, output_binding_in, output_type_in, tool_input_in, tool_output_in, type_at, workflow_input_in, workflow_output_in};

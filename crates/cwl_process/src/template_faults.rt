@@ -1,5 +1,5 @@
 //! Finds the first text with references that is wrong.
-ghost use Rattle.std.specs.Prelude.{◌≡◌, Option, IfOk, map, option_and_then, codes};
+ghost use Rattle.std.specs.Prelude.{◌≡◌, Option, IfOk, map};
 ghost use Rattle.serde_json.specs.Data.{Data};
 ghost use Rattle.serde_json.specs.Find.{get};
 ghost use Rattle.serde_json.specs.View.{view, items_view};

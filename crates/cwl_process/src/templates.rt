@@ -1,9 +1,8 @@
 //! Reads texts with references.
 ghost use Rattle.std.specs.Prelude.{◌≡◌, [], Ok, Err, IfOk, map};
 ghost use Rattle.serde_json.specs.View.{view};
-ghost use Rattle.param_refs.specs.Parsed.{parsed};
 ghost use Rattle.cwl_process.specs.Simple.{value_seen};
-ghost use Rattle.cwl_process.specs.Templates.{refused_as, template_at, template_in, template_of, templates_at, text_fault};
+ghost use Rattle.cwl_process.specs.Templates.{template_at, template_in, template_of, templates_at, text_fault};
 
 use crate::simple::list_at;
 use document_table::{Cause, DocumentFault, here};

@@ -6,7 +6,7 @@ ghost use Rattle.document_table.specs.Entries.{entry_seen};
 ghost use Rattle.document_table.specs.Faults.{under};
 ghost use Rattle.document_table.specs.declared.form.Kind.TheVariants as kind;
 ghost use Rattle.cwl_process.specs.FirstFaults.{first_at, first_in};
-ghost use Rattle.cwl_process.specs.Together.{default_fault, inputs_fault, is_of_type, is_stream, is_value, output_fault, own_step_fault, process_fault, run_fault, step_fault, stdin_fault, tool_fault, workflow_fault};
+ghost use Rattle.cwl_process.specs.Together.{default_fault, inputs_fault, is_of_type, is_stream, is_value, output_fault, own_step_fault, process_fault, step_fault, stdin_fault, tool_fault, workflow_fault};
 
 use crate::read_workflow::is_workflow;
 use crate::template_faults::{asked_fault, at_field, step_text_fault, tool_text_fault};

@@ -1,5 +1,6 @@
 //! Tools: a command, its parameters, and what it asks of the one who runs it.
 use crate::entries::Entries;
+use crate::shared::Shared;
 use cwl_types::MemberType;
 use cwl_value::Value;
 use param_refs::Template;
@@ -127,7 +128,7 @@ pub struct Asked {
 #[derive(Drop)]
 pub struct Acting {
     /// Variables of the environment by their names (CWL v1.2, `EnvVarRequirement`).
-    pub environment: Option<Entries<Variable>>,
+    pub environment: Option<Shared<Entries<Variable>>>,
     /// Whether an earlier result may be used (CWL v1.2, `WorkReuse`).
     pub reuse: Option<bool>,
 }

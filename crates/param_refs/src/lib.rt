@@ -11,7 +11,6 @@
 #![tactic(auto)]
 
 mod context;
-mod copying;
 mod descent;
 mod evaluation;
 mod fault;

@@ -1,5 +1,5 @@
 //! What is at the front of a text: symbols, segments and references.
-ghost use Rattle.std.specs.Prelude.{◌≡◌, ◌<◌, ◌≢◌, ◌++◌, ◌∷◌, true, false, codes, IfOk, IfErr, MatchOption};
+ghost use Rattle.std.specs.Prelude.{◌≡◌, ◌<◌, ◌++◌, ◌∷◌, false, codes, IfOk, IfErr, MatchOption};
 ghost use Rattle.std.specs.Char.{is_ascii_digit};
 ghost use Rattle.std.specs.List.{list_all};
 ghost use Rattle.param_refs.specs.Grammar.{is_symbol_byte, is_number, BeginsNone};
