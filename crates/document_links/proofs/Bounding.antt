@@ -1,8 +1,7 @@
 -- What has a process is refused by the bounds alone.
-use Rattle.std.proofs.Common.{◌≡◌, ℕ, zero, suc, List, [], ◌∷◌, Bool, true, false, Option, Some, None, Ok, Err, refl, sym, ap, subst, ◌∙◌, codes, ◌⊎◌, inl, inr}
+use Rattle.std.proofs.Common.{◌≡◌, ℕ, zero, suc, List, [], true, false, Option, Some, None, Ok, Err, refl, sym, subst, codes, ◌⊎◌, inl, inr}
 use Rattle.std.specs.Prelude.{if◌then◌else◌, Result, ⊤}
 use Rattle.std.specs.Option.{option_map_or}
-use Rattle.std.proofs.lemmas.Bool.{true≢false}
 use Rattle.serde_json.specs.Data.{Data}
 use Rattle.serde_json.specs.Find.{as_str, get}
 use Rattle.document_table.specs.Entries.{entries}
@@ -14,10 +13,10 @@ use Rattle.cwl_process.specs.Acting.{nothing_asked}
 use Rattle.cwl_process.specs.Processes.{is_workflow}
 use Rattle.cwl_process.specs.declared.tool.Asked.{Asked}
 use Rattle.url.specs.Parts.{Parts}
-use Rattle.document_links.specs.Bounds.{at_target, left, run_left, step_left, steps_left, tool_left, workflow_left}
+use Rattle.document_links.specs.Bounds.{at_target, left, run_left, steps_left, tool_left, workflow_left}
 use Rattle.document_links.specs.Documents.{bounded, told_left}
-use Rattle.document_links.specs.Library.{Finds, Found}
-use Rattle.document_links.specs.ProcessOf.{AreStepsOf, IsProcessOf, IsRunBy, objects_at}
+use Rattle.document_links.specs.Library.{Finds}
+use Rattle.document_links.specs.ProcessOf.{AreStepsOf, IsProcessOf, IsRunBy}
 use Rattle.document_links.specs.Targets.{found_as, found_at, target}
 use Rattle.document_links.specs.Urls.{joined, url_text}
 use Rattle.document_links.specs.Walks.{Left, checked, elsewhere, then_left, within}

@@ -1,5 +1,5 @@
 //! How many processes there are, and how many workflows are inside one another: counted before any is built.
-ghost use Rattle.std.specs.Prelude.{◌≡◌, None, Ok, IfOk, IfErr, map, codes};
+ghost use Rattle.std.specs.Prelude.{◌≡◌, None, Ok, IfOk, IfErr, map};
 ghost use Rattle.serde_json.specs.View.{view};
 ghost use Rattle.document_table.specs.Entries.{entry_seen};
 ghost use Rattle.document_links.specs.Bounds.{left, run_left, step_left, steps_left, workflow_left};

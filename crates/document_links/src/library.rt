@@ -1,11 +1,11 @@
 //! What other documents read as.
-ghost use Rattle.std.specs.Prelude.{◌≡◌, IfOk};
+ghost use Rattle.std.specs.Prelude.{IfOk};
 ghost use Rattle.document_links.specs.Library.{AreReadAs, IsLookUp, IsReadAs, finds_in, seen};
 ghost use Rattle.document_links.specs.inner.Sound.{AllProcesses, AllSound, IsSoundReading};
 
 use cwl_process::read_sound;
 use document_table::{DocumentError, DocumentFault};
-use plain_data::{Items, Keyed, Text};
+use plain_data::{Items, Keyed};
 use serde_json::Value;
 use std::alloc::{AllocError, Global};
 

@@ -1,8 +1,8 @@
 //! The documents that a document names.
-ghost use Rattle.std.specs.Prelude.{◌≡◌, ◌++◌, [], IfOk, OnOk, map, codes};
+ghost use Rattle.std.specs.Prelude.{◌≡◌, ◌++◌, IfOk, OnOk, map};
 ghost use Rattle.serde_json.specs.View.{view};
 ghost use Rattle.document_table.specs.Entries.{entry_seen};
-ghost use Rattle.document_links.specs.Names.{each_once, name_url, run_urls, step_urls, steps_urls, urls_in, workflow_urls};
+ghost use Rattle.document_links.specs.Names.{each_once, name_url, step_urls, steps_urls, urls_in, workflow_urls};
 
 use crate::joining::{joined, url_text};
 use cwl_process::is_workflow;

@@ -1,5 +1,5 @@
 //! Where a place is too long for `url`.
-ghost use Rattle.std.specs.Prelude.{◌≡◌, codes, map};
+ghost use Rattle.std.specs.Prelude.{◌≡◌, map};
 ghost use Rattle.plain_data.specs.ByName.{map_values};
 ghost use Rattle.file_values.specs.Location as location;
 ghost use Rattle.file_values.specs.Resolved as spec;

@@ -4,7 +4,7 @@ ghost use Rattle.serde_json.specs.View.{view};
 ghost use Rattle.document_table.specs.Entries.{IsProcess};
 ghost use Rattle.document_links.specs.Library.{finds_among, finds_in};
 ghost use Rattle.document_links.specs.Refused.{IsWalkErrorOf};
-ghost use Rattle.document_links.specs.Targets.{found_at, found_as, target};
+ghost use Rattle.document_links.specs.Targets.{found_at, target};
 ghost use Rattle.document_links.specs.inner.Sound.{AllProcesses, AllSound};
 
 use crate::fault::LinkFault;

@@ -4,7 +4,7 @@ ghost use Rattle.document_links.specs.Walks.{Left, told_of, within};
 ghost use Rattle.document_links.specs.Refused.{IsWalkErrorOf};
 ghost use Rattle.document_links.specs.declared.walk.WalkError.TheVariants.{OutOfMemory};
 
-use crate::fault::{LinkError, LinkFault};
+use crate::fault::LinkFault;
 use crate::joining::url_text;
 use document_table::{DocumentFault, under};
 use plain_data::Text;
