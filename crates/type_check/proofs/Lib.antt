@@ -1,1 +1,7 @@
+pub mod Depths
+pub mod Kept
+pub mod Meets
+pub mod Noted
 pub mod Rounds
+pub mod Tests
+pub mod Weights
