@@ -5,13 +5,12 @@ use Rattle.std.specs.List.{list_any}
 use Rattle.std.proofs.lemmas.List.Folds.{list_any-append}
 use Rattle.cwl_types.specs.declared.types.ArrayType.{ArrayType, out-ArrayType}
 use Rattle.cwl_types.specs.declared.types.MemberType.{MemberType, out-MemberType}
-use Rattle.cwl_types.specs.declared.types.MemberType.TheVariants.{Plain, Array, Enum, rolls-Array}
-use Rattle.cwl_types.specs.declared.types.PlainType.{PlainType}
+use Rattle.cwl_types.specs.declared.types.MemberType.TheVariants.{Array, Enum, rolls-Array}
 use Rattle.cwl_types.specs.declared.types.MemberType.TheOpen.{MemberType-F, ArrayType-F}
 use Rattle.cwl_types.specs.declared.types.MemberType.TheViews as member_views
 use Rattle.cwl_types.specs.declared.types.MemberType.TheFolds.{fold-roll-MemberType, fold_out-ArrayType, fold_out-MemberType}
 use Rattle.type_check.specs.Depths.{items_at, items_of, lists_at, some_has_lists}
-use Rattle.type_check.specs.Overlaps.{Meets, Seen, array_at, array_meets, enum_at, enum_meets, has_lists, has_texts, member_meets, members_overlap, overlaps, plain_meets, some_meet}
+use Rattle.type_check.specs.Overlaps.{Meets, Seen, array_at, array_meets, enum_at, enum_meets, has_lists, has_texts, member_meets, members_overlap, overlaps, some_meet}
 use Rattle.type_check.specs.inner.Members.{has_symbol, some_has_texts, symbol_at, texts_at}
 use Rattle.type_check.proofs.Tests.{any_alike, any_either, any_none, or_false, or_turned}
 
@@ -40,14 +39,6 @@ at_enum symbols other = search (rules, member_views.the_lemmas, fold-roll-Member
 pub enum_among : (symbols : List (List ℕ)) (ms : List MemberType)
     → list_any (members_overlap (Enum symbols)) ms ≡ (some_has_texts ms || list_any (λ text. list_any (has_symbol text) ms) symbols)
 enum_among symbols ms = any_alike (members_overlap (Enum symbols)) (enum_meets symbols) ms (at_enum symbols) ∙ enum_some symbols ms
-
--- ---- types by their names
-
-at_plain : (kind : PlainType) (other : MemberType) → members_overlap (Plain kind) other ≡ plain_meets kind other
-at_plain kind other = search (rules, member_views.the_lemmas, fold-roll-MemberType Meets Meets member_meets array_meets, fold_out-MemberType Meets Meets member_meets array_meets)
-
-pub plain_among : (kind : PlainType) (ms : List MemberType) → list_any (members_overlap (Plain kind)) ms ≡ list_any (plain_meets kind) ms
-plain_among kind ms = any_alike (members_overlap (Plain kind)) (plain_meets kind) ms (at_plain kind)
 
 -- ---- arrays
 

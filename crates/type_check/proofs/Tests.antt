@@ -7,10 +7,6 @@ pub or_false : (a : Bool) → (a || false) ≡ a
 or_false true = refl
 or_false false = refl
 
-pub or_assoc : (a b c : Bool) → ((a || b) || c) ≡ (a || (b || c))
-or_assoc true b c = refl
-or_assoc false b c = refl
-
 or_true : (a : Bool) → (a || true) ≡ true
 or_true true = refl
 or_true false = refl

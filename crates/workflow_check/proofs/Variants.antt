@@ -44,12 +44,6 @@ array_meets_array a items = left a (array_of items None) ∙ search (rules, memb
 pub enum_meets_array : (s : List (List ℕ)) (items : List MemberType) → members_overlap (Enum s) (array_of items None) ≡ false
 enum_meets_array s items = search (rules, member_views.the_lemmas, fold-roll-MemberType Meets Meets member_meets array_meets_step, fold_out-MemberType Meets Meets member_meets array_meets_step)
 
-pub array_meets_plain : (items : List MemberType) (k : PlainType) → members_overlap (array_of items None) (Plain k) ≡ has_lists k
-array_meets_plain items k = left (record { items = items; binding = None }) (Plain k) ∙ search (rules, member_views.the_lemmas)
-
-pub array_meets_enum : (items : List MemberType) (s : List (List ℕ)) → members_overlap (array_of items None) (Enum s) ≡ false
-array_meets_enum items s = left (record { items = items; binding = None }) (Enum s) ∙ search (rules, member_views.the_lemmas)
-
 pub array_meets : (items : List MemberType) (a : ArrayType) → members_overlap (array_of items None) (Array a) ≡ overlaps items (out-ArrayType a).items
 array_meets items a = left (record { items = items; binding = None }) (Array a) ∙ search (rules, member_views.the_lemmas)
 

@@ -12,7 +12,7 @@ ghost use Rattle.workflow_check.specs.inner.Seen.{around, asked};
 
 use crate::fault::{AcceptError, LinkRule, inside, refused};
 use crate::index::Index;
-use crate::overlapping::{Sink, links_overlap};
+use crate::overlapping::links_overlap;
 use crate::scope::{
     Inputs, Scope, Taken, input_at, inputs_of, is_null, is_there, tool_taken, workflow_taken,
 };
@@ -166,8 +166,8 @@ fn check_overlap(
     if sources.is_empty() {
         return Ok(());
     }
-    let sink = Sink { scattered, kind };
-    if links_overlap(scope, links, sources, sink) {
+    let overlap = links_overlap(alloc, scope, links, sources, scattered, kind)?;
+    if overlap {
         return Ok(());
     }
     Err(refused(alloc, LinkRule::Disjoint))

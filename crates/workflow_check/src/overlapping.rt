@@ -1,9 +1,10 @@
 //! Whether what links give may be of a type.
-ghost use Rattle.std.specs.Prelude.{◌≡◌, [], ◌∷◌, None, map};
+ghost use Rattle.std.specs.Prelude.{◌≡◌, [], ◌∷◌, IfOk, None, map};
 ghost use Rattle.std.specs.List.{flat_map, list_any};
 ghost use Rattle.cwl_types.specs.Types.{array_of};
 ghost use Rattle.cwl_types.specs.declared.types.MemberType.TheVariants.{Plain};
 ghost use Rattle.cwl_types.specs.declared.types.PlainType.TheVariants.{Null};
+ghost use Rattle.type_check.specs.Levels.{members_at};
 ghost use Rattle.type_check.specs.Overlaps.{has_lists, members_overlap, overlaps};
 ghost use Rattle.workflow_check.specs.Links.{may_carry};
 ghost use Rattle.workflow_check.specs.Scope.{file_type, gift};
@@ -14,7 +15,8 @@ use crate::scope::{Given, Scope, is_null, source_given};
 use cwl_process::{Links, Merge, Pick, Source};
 use cwl_types::{MemberType, PlainType};
 use plain_data::Items;
-use type_check::{member_overlaps, overlaps};
+use std::alloc::{AllocError, Global};
+use type_check::{Level, Levels};
 
 /// What merging and picking make of the types of sources.
 #[derive(Clone, Copy, Drop)]
@@ -49,20 +51,43 @@ pub(crate) fn form_of(merge: Option<Merge>, pick: Option<Pick>, is_one: bool) ->
 
 /// What links give a value to: a type, or where it is scattered a list of it.
 #[derive(Clone, Copy, Drop)]
-pub(crate) struct Sink<'p> {
-    pub scattered: bool,
-    pub kind: &'p Items<MemberType>,
+struct Sink<'l, 'p> {
+    scattered: bool,
+    kind: Level<'l, 'p>,
 }
 
 /// Whether what the links give may be what is asked for, where each of the sources is there.
+///
+/// Parts the type that is asked for into its levels, so that no source's members are compared with each of its members.
 pub(crate) fn links_overlap(
+    alloc: Global,
     scope: Scope<'_, '_>,
     links: &Links,
     sources: &[Source],
-    sink: Sink<'_>,
+    scattered: bool,
+    kind: &Items<MemberType>,
+) -> Result<bool, AllocError>
+    requires { scope.file.now ≡ file_type }
+    ensures { IfOk result (λ overlap. overlap ≡ may_carry (around scope.entry) links.now sources.now scattered kind.now) }
+{
+    let levels = Levels::of(alloc, kind)?;
+    let sink = Sink {
+        scattered,
+        kind: levels.first(),
+    };
+    let overlap = sources_overlap(scope, links, sources, sink);
+    drop(levels);
+    Ok(overlap)
+}
+
+fn sources_overlap(
+    scope: Scope<'_, '_>,
+    links: &Links,
+    sources: &[Source],
+    sink: Sink<'_, '_>,
 ) -> bool
     requires { scope.file.now ≡ file_type }
-    ensures { result ≡ may_carry (around scope.entry) links.now sources.now sink.entry.scattered sink.entry.kind.now }
+    ensures { result ≡ may_carry (around scope.entry) links.now sources.now sink.entry.scattered (members_at sink.entry.kind) }
 {
     let form = form_of(links.merge, links.pick, sources.len() == 1);
     if form.in_array {
@@ -79,7 +104,7 @@ pub(crate) fn links_overlap(
 }
 
 /// Whether what one of the sources gives may be of the type.
-fn union_overlaps(scope: Scope<'_, '_>, sources: &[Source], form: Form, sink: Sink<'_>) -> bool
+fn union_overlaps(scope: Scope<'_, '_>, sources: &[Source], form: Form, sink: Sink<'_, '_>) -> bool
     requires { scope.file.now ≡ file_type }
     ensures { result ≡ list_any (λ source. overlaps
         (part_of form (gift scope.entry.inputs.now scope.entry.steps.now source))
@@ -90,7 +115,7 @@ fn union_overlaps(scope: Scope<'_, '_>, sources: &[Source], form: Form, sink: Si
         .any(|source| source_overlaps(scope, source, form, sink))
 }
 
-fn source_overlaps(scope: Scope<'_, '_>, source: &Source, form: Form, sink: Sink<'_>) -> bool
+fn source_overlaps(scope: Scope<'_, '_>, source: &Source, form: Form, sink: Sink<'_, '_>) -> bool
     requires { scope.file.now ≡ file_type }
     ensures { result ≡ overlaps
         (part_of form (gift scope.entry.inputs.now scope.entry.steps.now source.now))
@@ -103,41 +128,23 @@ fn source_overlaps(scope: Scope<'_, '_>, source: &Source, form: Form, sink: Sink
 }
 
 /// Whether a list of what the sources give may be of the type.
-fn list_overlaps(
-    scope: Scope<'_, '_>,
-    sources: &[Source],
-    form: Form,
-    kind: &Items<MemberType>,
-) -> bool
+fn list_overlaps(scope: Scope<'_, '_>, sources: &[Source], form: Form, kind: Level<'_, '_>) -> bool
     requires { scope.file.now ≡ file_type }
     ensures { result ≡ list_any (members_overlap (array_of (flat_map (part_of form)
-        (map (gift scope.entry.inputs.now scope.entry.steps.now) sources.now)) None)) kind.now }
+        (map (gift scope.entry.inputs.now scope.entry.steps.now) sources.now)) None)) (members_at kind.entry) }
 {
-    kind.as_slice()
-        .iter()
-        .any(|member| list_meets(scope, sources, form, member))
-}
-
-fn list_meets(scope: Scope<'_, '_>, sources: &[Source], form: Form, member: &MemberType) -> bool
-    requires { scope.file.now ≡ file_type }
-    ensures { result ≡ members_overlap (array_of (flat_map (part_of form)
-        (map (gift scope.entry.inputs.now scope.entry.steps.now) sources.now)) None) member.now }
-{
-    match member {
-        MemberType::Plain(kind) => is_any(*kind),
-        MemberType::Enum(_) => false,
-        MemberType::Array(array) => {
-            let items = Sink {
-                scattered: false,
-                kind: &array.items,
-            };
-            union_overlaps(scope, sources, form, items)
-        }
+    if kind.has_lists() {
+        return true;
     }
+    let items = Sink {
+        scattered: false,
+        kind: kind.items(),
+    };
+    union_overlaps(scope, sources, form, items)
 }
 
 /// Whether what a source gives may be of the type.
-fn given_overlaps(given: Given<'_>, form: Form, sink: Sink<'_>) -> bool
+fn given_overlaps(given: Given<'_>, form: Form, sink: Sink<'_, '_>) -> bool
     ensures { result ≡ overlaps (part form (gift_type (gift_seen given.entry)))
         (sink_seen sink.entry) }
 {
@@ -154,8 +161,7 @@ fn given_overlaps(given: Given<'_>, form: Form, sink: Sink<'_>) -> bool
 }
 
 /// Whether what is in so many arrays may be of the type.
-#[cycle(arrays)]
-fn arrays_overlap(arrays: usize, given: Given<'_>, sink: Sink<'_>) -> bool
+fn arrays_overlap(arrays: usize, given: Given<'_>, sink: Sink<'_, '_>) -> bool
     ensures { result ≡ overlaps (in_arrays arrays (base (gift_seen given.entry)))
         (sink_seen sink.entry) }
 {
@@ -169,43 +175,18 @@ fn arrays_overlap(arrays: usize, given: Given<'_>, sink: Sink<'_>) -> bool
         };
         return arrays_overlap(arrays - 1, given, items);
     }
-    some_array_meets(arrays - 1, given, sink.kind)
-}
-
-#[cycle(arrays)]
-fn some_array_meets(arrays: usize, given: Given<'_>, kind: &Items<MemberType>) -> bool
-    ensures { result ≡ list_any (members_overlap
-        (array_of (in_arrays arrays (base (gift_seen given.entry))) None)) kind.now }
-{
-    for member in kind.as_slice() {
-        if array_meets(arrays, given, member) {
-            return true;
-        }
+    if sink.kind.has_lists() {
+        return true;
     }
-    false
-}
-
-/// Whether an array of what is in so many arrays may be of the type.
-#[cycle(arrays)]
-fn array_meets(arrays: usize, given: Given<'_>, member: &MemberType) -> bool
-    ensures { result ≡ members_overlap
-        (array_of (in_arrays arrays (base (gift_seen given.entry))) None) member.now }
-{
-    match member {
-        MemberType::Plain(kind) => is_any(*kind),
-        MemberType::Enum(_) => false,
-        MemberType::Array(array) => {
-            let items = Sink {
-                scattered: false,
-                kind: &array.items,
-            };
-            arrays_overlap(arrays, given, items)
-        }
-    }
+    let items = Sink {
+        scattered: false,
+        kind: sink.kind.items(),
+    };
+    arrays_overlap(arrays - 1, given, items)
 }
 
 /// Whether what is in no array may be of the type.
-fn base_overlaps(given: Given<'_>, opened: bool, without_null: bool, sink: Sink<'_>) -> bool
+fn base_overlaps(given: Given<'_>, opened: bool, without_null: bool, sink: Sink<'_, '_>) -> bool
     ensures { result ≡ overlaps (kept_type without_null
         (opened_type opened (base (gift_seen given.entry)))) (sink_seen sink.entry) }
 {
@@ -218,7 +199,7 @@ fn base_overlaps(given: Given<'_>, opened: bool, without_null: bool, sink: Sink<
     some_part_overlaps(given.members, opened, without_null, sink)
 }
 
-fn null_overlaps(opened: bool, without_null: bool, sink: Sink<'_>) -> bool
+fn null_overlaps(opened: bool, without_null: bool, sink: Sink<'_, '_>) -> bool
     ensures { result ≡ overlaps (kept_type without_null (opened_type opened (Plain Null ∷ [])))
         (sink_seen sink.entry) }
 {
@@ -230,7 +211,7 @@ fn some_part_overlaps(
     members: &Items<MemberType>,
     opened: bool,
     without_null: bool,
-    sink: Sink<'_>,
+    sink: Sink<'_, '_>,
 ) -> bool
     ensures { result ≡ list_any (λ member. overlaps (kept_type without_null
         (opened_type opened (member ∷ []))) (sink_seen sink.entry)) members.now }
@@ -241,7 +222,7 @@ fn some_part_overlaps(
         .any(|member| part_overlaps(member, opened, without_null, sink))
 }
 
-fn part_overlaps(member: &MemberType, opened: bool, without_null: bool, sink: Sink<'_>) -> bool
+fn part_overlaps(member: &MemberType, opened: bool, without_null: bool, sink: Sink<'_, '_>) -> bool
     ensures { result ≡ overlaps (kept_type without_null (opened_type opened (member.now ∷ [])))
         (sink_seen sink.entry) }
 {
@@ -255,7 +236,7 @@ fn part_overlaps(member: &MemberType, opened: bool, without_null: bool, sink: Si
     kept_overlaps(member, without_null, sink)
 }
 
-fn some_kept_overlaps(members: &Items<MemberType>, without_null: bool, sink: Sink<'_>) -> bool
+fn some_kept_overlaps(members: &Items<MemberType>, without_null: bool, sink: Sink<'_, '_>) -> bool
     ensures { result ≡ list_any (λ member. overlaps (kept_type without_null (member ∷ []))
         (sink_seen sink.entry)) members.now }
 {
@@ -265,7 +246,7 @@ fn some_kept_overlaps(members: &Items<MemberType>, without_null: bool, sink: Sin
         .any(|member| kept_overlaps(member, without_null, sink))
 }
 
-fn kept_overlaps(member: &MemberType, without_null: bool, sink: Sink<'_>) -> bool
+fn kept_overlaps(member: &MemberType, without_null: bool, sink: Sink<'_, '_>) -> bool
     ensures { result ≡ overlaps (kept_type without_null (member.now ∷ [])) (sink_seen sink.entry) }
 {
     if without_null && is_null(member) {
@@ -274,23 +255,23 @@ fn kept_overlaps(member: &MemberType, without_null: bool, sink: Sink<'_>) -> boo
     meets(member, sink)
 }
 
-fn meets(member: &MemberType, sink: Sink<'_>) -> bool
+fn meets(member: &MemberType, sink: Sink<'_, '_>) -> bool
     ensures { result ≡ overlaps (member.now ∷ []) (sink_seen sink.entry) }
 {
     if sink.scattered {
         meets_list(member, sink.kind)
     } else {
-        member_overlaps(member, sink.kind)
+        sink.kind.meets(member)
     }
 }
 
 /// Whether a member may be a list of such items.
-fn meets_list(member: &MemberType, items: &Items<MemberType>) -> bool
-    ensures { result ≡ members_overlap member.now (array_of items.now None) }
+fn meets_list(member: &MemberType, items: Level<'_, '_>) -> bool
+    ensures { result ≡ members_overlap member.now (array_of (members_at items.entry) None) }
 {
     match member {
         MemberType::Plain(kind) => is_any(*kind),
-        MemberType::Array(array) => overlaps(&array.items, items),
+        MemberType::Array(array) => items.overlaps(&array.items),
         MemberType::Enum(_) => false,
     }
 }

@@ -3,6 +3,7 @@ use Rattle.std.specs.Borrow.{Bor}
 use Rattle.std.specs.Prelude.{ℕ, List}
 use Rattle.cwl_types.specs.declared.types.MemberType.{MemberType}
 use Rattle.document_links.specs.declared.process.Step.{Step}
+use Rattle.type_check.specs.Levels.{members_at}
 use Rattle.workflow_check.specs.Links.{Around}
 use Rattle.workflow_check.specs.Scope.{Asked, Gift}
 use Rattle.workflow_check.specs.Types.{sink_type}
@@ -24,4 +25,4 @@ abbrev pub lent : Bor (List ℕ × Step) → List ℕ × Step
 lent e = e.now
 
 abbrev pub sink_seen : Sink → List MemberType
-sink_seen s = sink_type s.scattered s.kind.now
+sink_seen s = sink_type s.scattered (members_at s.kind)

@@ -1,4 +1,5 @@
 use Rattle.std.proofs.Common.{◌∙◌, ◌∷◌, [], ap, sym}
+use Rattle.type_check.specs.Levels.{members_at}
 use Rattle.type_check.specs.Overlaps.{overlaps}
 use Rattle.workflow_check.specs.Types.{sink_type}
 use Rattle.workflow_check.proofs.Overlap.{one, one_with_array}
@@ -6,10 +7,10 @@ use Rattle.workflow_check.proofs.overlapping.meets.Goals as goal
 
 pub returns-then-sink : goal.returns-then-sink
 returns-then-sink c =
-    c.meets_list.ensures ∙ sym (one_with_array c.args.member.now c.args.sink.kind.now)
-    ∙ sym (ap (λ s. overlaps (c.args.member.now ∷ []) (sink_type s c.args.sink.kind.now)) c.if-sink.true)
+    c.meets_list.ensures ∙ sym (one_with_array c.args.member.now (members_at c.args.sink.kind))
+    ∙ sym (ap (λ s. overlaps (c.args.member.now ∷ []) (sink_type s (members_at c.args.sink.kind))) c.if-sink.true)
 
 pub returns-else-sink : goal.returns-else-sink
 returns-else-sink c =
-    c.member_overlaps.ensures ∙ sym (one c.args.member.now c.args.sink.kind.now)
-    ∙ sym (ap (λ s. overlaps (c.args.member.now ∷ []) (sink_type s c.args.sink.kind.now)) c.if-sink.false)
+    c.meets.ensures ∙ sym (one c.args.member.now (members_at c.args.sink.kind))
+    ∙ sym (ap (λ s. overlaps (c.args.member.now ∷ []) (sink_type s (members_at c.args.sink.kind))) c.if-sink.false)

@@ -1,17 +1,18 @@
 use Rattle.std.proofs.Common.{◌∙◌, ap, sym, map}
 use Rattle.std.specs.List.{flat_map}
+use Rattle.type_check.specs.Levels.{members_at}
 use Rattle.type_check.specs.Overlaps.{overlaps}
 use Rattle.workflow_check.specs.Scope.{gift}
 use Rattle.workflow_check.specs.Types.{in_array, link_type, part_of, sink_type}
 use Rattle.workflow_check.specs.inner.Seen.{sink_seen}
 use Rattle.workflow_check.proofs.Overlap.{arrays_meet, listed, listed_in, not_listed, union_by_one}
-use Rattle.workflow_check.proofs.overlapping.links_overlap.Goals as goal
+use Rattle.workflow_check.proofs.overlapping.sources_overlap.Goals as goal
 
 pub returns-then-sink : goal.returns-then-sink
 returns-then-sink c =
     let g = gift c.args.scope.inputs.now c.args.scope.steps.now in
     let form = c.form_of-form.result in
-    let kind = c.args.sink.kind.now in
+    let kind = members_at c.args.sink.kind in
     let u = flat_map (part_of form) (map g c.args.sources.now) in
     c.union_overlaps.ensures ∙ sym (union_by_one form g kind c.args.sources.now)
     ∙ sym (arrays_meet u kind)
@@ -23,7 +24,7 @@ pub returns-then-form : goal.returns-then-form
 returns-then-form c =
     let g = gift c.args.scope.inputs.now c.args.scope.steps.now in
     let form = c.form_of-form.result in
-    let kind = c.args.sink.kind.now in
+    let kind = members_at c.args.sink.kind in
     let u = flat_map (part_of form) (map g c.args.sources.now) in
     c.list_overlaps.ensures ∙ listed_in u kind
     ∙ sym (ap (λ s. overlaps (in_array u) (sink_type s kind)) c.if-sink.false)
