@@ -11,13 +11,13 @@ install:
 
 # The minutes are of four shared processors of two cores.
 help:
-	@echo "make               prove and build the program, and print its path (about 45 minutes the first time, then seconds)"
+	@echo "make               prove and build the program, and print its path (about an hour the first time, then seconds)"
 	@echo "make install       put the proved program there as PREFIX/bin/deparohi, PREFIX=DIR names the place"
 	@echo "make demo          run the worked example, unproved, for a first look (about 2 minutes)"
 	@echo "make test          the whole gate: every proof from nothing, the tests, the programs, the wrong bodies in must-fail/"
-	@echo "                   (88 minutes beside other work)"
+	@echo "                   (94 minutes beside other work)"
 	@echo "make gate-cost     what the last gate cost, by crate and part (a second)"
-	@echo "make wrong-bodies  try all wrong bodies over what \`rt check\` keeps (about an hour); NAME=crate: those of one crate (3 to 8)"
+	@echo "make wrong-bodies  try all wrong bodies over what \`rt check\` keeps (several hours); NAME=crate: those of one crate (3 to 40 minutes)"
 
 demo:
 	@scripts/demo
