@@ -13,7 +13,7 @@ use Rattle.std.proofs.lemmas.List.Folds.{list_any-append}
 use Rattle.std.proofs.lemmas.Cmp.{nat_cmp_total, tied_itself}
 use Rattle.std.proofs.lemmas.Map.Lookups.{exact_unsigned}
 use Rattle.job_graph.specs.declared.made.Resolved.{Resolved as KeptResolved}
-use Rattle.job_graph.specs.Words.{Fields, JobPlace, is_same_place}
+use Rattle.job_graph.specs.Words.{JobPlace, is_same_place}
 use Rattle.job_graph.specs.Unfold.{Resolved, outputs_at}
 use Rattle.job_graph.specs.inner.Index.{IsFirst, IsIndexed, before, has_mark}
 use Rattle.job_graph.specs.inner.Marks.{mark_of}

@@ -3,6 +3,7 @@ mod Index
 mod Loops
 mod Marks
 mod MetMore
+mod OneOpen
 mod Outs
 mod Settling
 mod Tuples

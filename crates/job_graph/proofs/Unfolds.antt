@@ -1,8 +1,8 @@
 -- What is known once one more place is learned.
-use Rattle.std.proofs.Common.{◌≡◌, ◌∙◌, ℕ, List, [], ◌∷◌, ◌++◌, map, Option, Some, None, Ok, Err, refl, sym, ap, subst, reverse, option_map, length, take, arith}
+use Rattle.std.proofs.Common.{◌≡◌, ◌∙◌, ℕ, List, [], ◌∷◌, ◌++◌, map, Option, Some, None, true, Ok, Err, refl, sym, ap, subst, option_map, length, take, arith}
 use Rattle.std.specs.Prelude.{MatchOption}
 use Rattle.std.proofs.Math.Seq.{take-append_seam}
-use Rattle.std.proofs.lemmas.List.{length_push, map-append, reverse-append, reverse-reverse}
+use Rattle.std.proofs.lemmas.List.{length_push, map-append}
 use Rattle.document_links.specs.declared.process.Process.{Process}
 use Rattle.input_files.specs.Measured.{Measures}
 use Rattle.job_graph.specs.declared.fault.UnfoldError.{UnfoldError}
@@ -10,34 +10,15 @@ use Rattle.job_graph.specs.declared.growth.KnownJob.{KnownJob}
 use Rattle.job_graph.specs.declared.made.Resolved.{Resolved as KeptResolved}
 use Rattle.job_graph.specs.declared.unfolding.Unfolding.{Unfolding}
 use Rattle.job_graph.specs.Words.{Fields}
+use Rattle.job_graph.specs.Apart.{ids_differ}
 use Rattle.job_graph.specs.Jobs.{Job, Walk, Walker, result_in}
 use Rattle.job_graph.specs.Equations.{meaning_of}
-use Rattle.job_graph.specs.Unfold.{Resolved, Fault, made_by, with_met, first_fault, jobs_after, fault_after, met_after, or_else, unfolded, known_from, entries_from}
+use Rattle.job_graph.specs.Unfold.{Resolved, Fault, made_by, with_met, first_fault, Unfolded, unfolded, known_from, entries_from}
 use Rattle.job_graph.specs.Unfolding.{Blames, Knows, jobs_in, known_of, walks_of}
+use Rattle.job_graph.specs.Beside.{is_one_open}
 use Rattle.job_graph.specs.inner.Growth.{AreCounted, IsOfOneProcess, Unfolds, UnfoldsTo, walk_in}
 use Rattle.job_graph.specs.inner.Views.{resolved_of}
-
--- the one learned last comes first
-last_first : (learned : List Resolved) (one : Resolved) → reverse (learned ++ one ∷ []) ≡ one ∷ reverse learned
-last_first learned one = reverse-append learned (one ∷ [])
-
-in_order : (learned : List Resolved) (one : Resolved) → reverse (one ∷ reverse learned) ≡ learned ++ one ∷ []
-in_order learned one = ap reverse (sym (last_first learned one)) ∙ reverse-reverse (learned ++ one ∷ [])
-
-met_last : (walks : Walker) (learned : List Resolved) (one : Resolved) → met_after walks (one ∷ reverse learned) ≡ (walks (made_by (learned ++ one ∷ []))).met
-met_last walks learned one = ap (λ (places : List Resolved). (walks (made_by places)).met) (in_order learned one)
-
-pub more_jobs : (walks : Walker) (learned : List Resolved) (one : Resolved) →
-    (unfolded walks (learned ++ one ∷ [])).jobs ≡ with_met (unfolded walks learned).jobs (walks (made_by (learned ++ one ∷ []))).met
-more_jobs walks learned one =
-    ap (jobs_after walks) (last_first learned one) ∙ ap (with_met (jobs_after walks (reverse learned))) (met_last walks learned one)
-
-pub more_fault : (walks : Walker) (learned : List Resolved) (one : Resolved) → (unfolded walks learned).fault ≡ None →
-    (unfolded walks (learned ++ one ∷ [])).fault ≡ first_fault (unfolded walks learned).jobs (walks (made_by (learned ++ one ∷ []))).met
-more_fault walks learned one none =
-    ap (fault_after walks) (last_first learned one)
-    ∙ ap (λ (found : Option Fault). or_else found (first_fault (jobs_after walks (reverse learned)) (met_after walks (one ∷ reverse learned)))) none
-    ∙ ap (first_fault (jobs_after walks (reverse learned))) (met_last walks learned one)
+use Rattle.job_graph.proofs.laws_of_walks.Open.{more_jobs, more_fault, unfolded_same}
 
 -- the last one is taken off again
 pub popped : {X : Type 0} (before now after : List X) (x : X) (found : Option X) → now ≡ before ++ x ∷ [] →
@@ -155,3 +136,34 @@ knows_still walks learned old new more less error knows is unfolds = record {
   result = ap (option_map (λ outputs. outputs.items)) unfolds.alike.0.result ∙ knows.result;
   goes_on = unfolds.same.fault ∙ knows.goes_on;
 }
+
+-- once one more place is learned, while a job beside it is open
+
+still_knows : (walks : Walker) (learned : List Resolved) (old : Unfolding) (one : Resolved) (more : List KeptResolved) → map resolved_of more ≡ learned ++ one ∷ [] →
+    Knows walks learned old → unfolded walks (learned ++ one ∷ []) ≡ unfolded walks learned → Knows walks (learned ++ one ∷ []) (with_learned old more)
+still_knows walks learned old one more places knows same = record {
+  walker = knows.walker;
+  places = places;
+  jobs = knows.jobs ∙ sym (ap (λ (u : Unfolded). u.jobs) same);
+  parents = knows.parents ∙ sym (ap (λ (u : Unfolded). known_from [] u.jobs) same);
+  entries = knows.entries ∙ sym (ap (λ (u : Unfolded). entries_from 0 [] u.jobs) same);
+  fault = ap (λ (u : Unfolded). u.fault) same ∙ knows.fault;
+  result = knows.result ∙ sym (ap (λ (u : Unfolded). u.result) same);
+  goes_on = knows.goes_on;
+}
+
+pub knows_open : (walks : Walker) (learned : List Resolved) (old : Unfolding) (resolved : KeptResolved) (more : List KeptResolved) → Knows walks learned old →
+    more ≡ old.facts.learned ++ resolved ∷ [] → ids_differ old.process.now ≡ true →
+    is_one_open (map resolved_of old.facts.learned) (resolved_of resolved).place (jobs_in old.known.items) ≡ true →
+    Knows walks (learned ++ resolved_of resolved ∷ []) (with_learned old more)
+knows_open walks learned old resolved more knows is apart waits =
+    let one : Resolved = resolved_of resolved in
+    let through : walks_of old ≡ walks = knows.walker in
+    let here : is_one_open learned one.place (unfolded (walks_of old) learned).jobs ≡ true =
+    sym (ap (λ (found : List Resolved). is_one_open found one.place (jobs_in old.known.items)) knows.places
+    ∙ ap (λ (jobs : List Job). is_one_open learned one.place jobs) (knows.jobs ∙ ap (λ (w : Walker). (unfolded w learned).jobs) (sym through))) ∙ waits in
+    let none : (unfolded (walks_of old) learned).fault ≡ None = ap (λ (w : Walker). (unfolded w learned).fault) through ∙ knows.fault in
+    subst (λ (w : Walker). Knows w (learned ++ one ∷ []) (with_learned old more)) through
+    (still_knows (walks_of old) learned old one more (more_places learned old.facts.learned more resolved knows.places is)
+    (subst (λ (w : Walker). Knows w learned old) (sym through) knows)
+    (unfolded_same old.process.now old.fields old.facts.measures apart learned one here none))

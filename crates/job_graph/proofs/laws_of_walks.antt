@@ -1,8 +1,11 @@
+pub mod Beside
+pub mod BesideSteps
 pub mod Ended
 pub mod Gives
 pub mod Grown
 pub mod Known
 pub mod Learned
+pub mod Open
 pub mod Part
 pub mod Places
 pub mod Processes

@@ -1,5 +1,6 @@
 pub mod Agrees
 pub mod Apart
+pub mod Beside
 pub mod Codes
 pub mod Equations
 pub mod Eval

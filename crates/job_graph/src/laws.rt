@@ -1,5 +1,5 @@
 //! What follows from the definitions alone, for any process: each law is the contract of a function that does nothing.
-ghost use Rattle.std.specs.Prelude.{◌≡◌, ◌++◌, true, List, map, find, Some, None, is_some, IsSome, Contains};
+ghost use Rattle.std.specs.Prelude.{◌≡◌, ◌++◌, ◌∷◌, [], true, List, map, find, Some, None, is_some, IsSome, Contains};
 ghost use Rattle.std.specs.List.{IsDistinct};
 ghost use Rattle.cwl_process.specs.declared.tool.Tool.{Tool};
 ghost use Rattle.cwl_value.specs.Erased.{fields_erased};
@@ -14,6 +14,7 @@ ghost use Rattle.job_graph.specs.Unfold.{Fault, Resolved, fault_at, is_at, made_
 ghost use Rattle.job_graph.specs.Eval.{Key, World, eval};
 ghost use Rattle.job_graph.specs.Agrees.{Agrees, AgreesKnown};
 ghost use Rattle.job_graph.specs.Apart.{ids_differ};
+ghost use Rattle.job_graph.specs.Beside.{is_one_open};
 ghost use Rattle.job_graph.specs.More.{IsFront, IsGrown, StaysOn};
 
 /// Says that jobs which are known stay, in their order, when more is learned; of any walk.
@@ -26,6 +27,14 @@ pub fn known_jobs_stay()
 pub fn faults_stay()
     ensures { (walks : Walker) (learned later : List Resolved) (fault : Fault)
         → (unfolded walks learned).fault ≡ Some fault → (unfolded walks (learned ++ later)).fault ≡ Some fault }
+{}
+
+/// Says that nothing more is known when a job of a scattered step is learned while another job of the step is open.
+pub fn open_jobs_hold_back()
+    ensures { (process : Process) (given : Fields) (measures : Measures) (learned : List Resolved) (one : Resolved)
+        → ids_differ process ≡ true → (unfolded (walker process given measures) learned).fault ≡ None
+        → is_one_open learned one.place (unfolded (walker process given measures) learned).jobs ≡ true
+        → unfolded (walker process given measures) (learned ++ one ∷ []) ≡ unfolded (walker process given measures) learned }
 {}
 
 /// Says that a walk, where more is known of the jobs that it meets, meets no less, in the same order, and that the outputs

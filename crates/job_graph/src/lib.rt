@@ -4,8 +4,8 @@
 //! - `Unfolding::new` finds the jobs that can run at once; `learn` takes a job's outputs, and then more jobs are known.
 //! - `known` has the jobs in the order in which they came to be known, `result` the process's outputs once all are.
 //!
-//! What is known is one walk through the process (`specs/Equations.antt`), made anew each time. What computing every job
-//! gives (`specs/Eval.antt`) is the same walk where each job's outputs are known.
+//! What is known is one walk through the process (`specs/Equations.antt`), made anew where more may be known. What computing every
+//! job gives (`specs/Eval.antt`) is the same walk where each job's outputs are known.
 #![tactic(auto)]
 
 mod cause;
@@ -19,6 +19,7 @@ mod learned;
 mod links;
 mod made;
 mod mark;
+mod open;
 mod outcome;
 mod parents;
 mod partly;
@@ -38,7 +39,7 @@ pub use ids::see_ids;
 pub use laws::{
     accepted_processes_give_results, failed_jobs_fail_eval, faults_fail_eval, faults_stay,
     known_jobs_agree, known_jobs_are_met, known_jobs_stay, known_places_differ,
-    learned_results_stay, met_jobs_are_known, more_is_met, results_are_eval,
+    learned_results_stay, met_jobs_are_known, more_is_met, open_jobs_hold_back, results_are_eval,
     results_learned_each_job, results_stay,
 };
 pub use paths::input_paths;

@@ -2,6 +2,7 @@
 ghost use Rattle.std.specs.Prelude.{◌≡◌, IfOk};
 ghost use Rattle.job_graph.specs.Words.{is_same_place, segment_eq};
 ghost use Rattle.job_graph.specs.Equations.{step_place};
+ghost use Rattle.job_graph.specs.Beside.{are_at_end, is_beside};
 
 use cwl_value::{JobPlace, Segment, copy_job};
 use plain_data::{Items, Text};
@@ -29,6 +30,40 @@ fn is_same_segment(one: &Segment, other: &Segment) -> bool
     ensures { result ≡ segment_eq one.now other.now }
 {
     one.index.as_slice() == other.index.as_slice() && one.step.as_str() == other.step.as_str()
+}
+
+/// Whether two places differ in the tuple of their last segments alone: two jobs of one scattered step.
+pub(crate) fn is_beside(one: &[Segment], other: &[Segment]) -> bool
+    ensures { result ≡ is_beside one.now other.now }
+{
+    match one {
+        [] => false,
+        [first, rest @ ..] => match other {
+            [] => false,
+            [second, others @ ..] => {
+                if first.step.as_str() != second.step.as_str() {
+                    return false;
+                }
+                if first.index.as_slice() == second.index.as_slice() {
+                    is_beside(rest, others)
+                } else {
+                    are_at_end(rest, others)
+                }
+            }
+        },
+    }
+}
+
+fn are_at_end(one: &[Segment], other: &[Segment]) -> bool
+    ensures { result ≡ are_at_end one.now other.now }
+{
+    match one {
+        [] => match other {
+            [] => true,
+            [_, ..] => false,
+        },
+        [_, ..] => false,
+    }
 }
 
 /// The place of a step, at a tuple where it is scattered.

@@ -9,9 +9,11 @@ ghost use Rattle.job_graph.specs.inner.Views.{resolved_of};
 
 use crate::fault::{UnfoldError, UnfoldFault};
 use crate::growth::{KnownJob, grow};
+use crate::ids::see_ids;
 use crate::inputs::root_fields;
 use crate::learned::Learned;
 use crate::made::{Facts, Resolved};
+use crate::open::is_one_open;
 use crate::outcome::walk_from_root;
 use cwl_value::{JobPlace, Value};
 use document_links::Process;
@@ -20,7 +22,7 @@ use staging::Measure;
 use std::alloc::Global;
 use std::mem;
 
-/// What is known of a process on its inputs. It is made anew from all that was learned in each `learn`.
+/// What is known of a process on its inputs. It is made anew from all that was learned in each `learn` by which more may be known.
 #[derive(Drop)]
 pub struct Unfolding<'a> {
     alloc: Global,
@@ -101,14 +103,21 @@ impl<'a> Unfolding<'a> {
         }
     }
 
-    /// Adds what was learned, and what is known then. After an error nothing has changed.
+    /// Adds what was learned, and what is known then. No walk is made while another job of the same scattered step is open, since
+    /// nothing more is known then (`open_jobs_hold_back`). After an error nothing has changed.
     fn resolve(&mut self, resolved: Resolved) -> Result<(), UnfoldError>
         ensures resolves { (walks : Walker) (learned : List LearnedJob) → Knows walks learned self.old →
             Resolves walks learned (resolved_of resolved) self.new result }
         ensures ok { OnOk result (take (length self.old.known.items) self.new.known.items ≡ self.old.known.items) }
         ensures err { OnErr result (AnswersAlike self.old self.new) }
     {
+        let place = &resolved.at.place;
+        let is_open = is_one_open(&self.facts.learned, place, self.known.as_slice());
         self.facts.learned.push(resolved)?;
+        if is_open {
+            see_ids(self.process);
+            return Ok(());
+        }
         match self.unfold() {
             Ok(()) => Ok(()),
             Err(error) => {

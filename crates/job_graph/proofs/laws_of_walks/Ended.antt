@@ -38,7 +38,7 @@ none_later : (a b : Option Fault) → or_else a b ≡ None → b ≡ None
 none_later None b none = none
 none_later (Some fault) b none = absurd cc
 
-none_met : (walks : Walker) (place : JobPlace) (cause : Cause) (latest : List Resolved) → fault_after walks latest ≡ None → IsIn (met_fault place cause) (met_after walks latest) → ⊥
+pub none_met : (walks : Walker) (place : JobPlace) (cause : Cause) (latest : List Resolved) → fault_after walks latest ≡ None → IsIn (met_fault place cause) (met_after walks latest) → ⊥
 none_met walks place cause [] none at = none_first place cause [] (met_after walks []) none at
 none_met walks place cause (r ∷ earlier) none at =
     none_first place cause (jobs_after walks earlier) (met_after walks (r ∷ earlier))
@@ -69,7 +69,7 @@ module _ (process : Process) (given : Fields) (measures : Measures) (learned : L
     -- a job that is met is at the place of one that is known
     met_resolved : (job : Job) → IsIn (met_job job) (walks (made_by learned)).met → is_some (made_by learned job) ≡ true
     met_resolved job at =
-        let there : is_known known job ≡ true = after_known process given measures (reverse learned) job (subst (IsIn (met_job job)) (sym (in_order process given measures learned)) at) in
+        let there : is_known known job ≡ true = after_known process (root_fields process given measures) measures (reverse learned) job (subst (IsIn (met_job job)) (sym (in_order process (root_fields process given measures) measures learned)) at) in
         let found : Found (IsResolved learned) job.place _ = found_in (IsResolved learned) job.place known all_resolved there in
         some_map (fields_made job.place) (outputs_at learned job.place)
         (subst (λ (place : JobPlace). is_some (outputs_at learned place) ≡ true) (same_place found.0.place job.place found.3) found.2)
@@ -77,7 +77,7 @@ module _ (process : Process) (given : Fields) (measures : Measures) (learned : L
     all_well : (unfolded walks learned).fault ≡ None → AllWell (made_by learned) (walks (made_by learned)).met
     all_well none =
         each_well (made_by learned) (walks (made_by learned)).met met_resolved
-        (λ place cause at. none_met walks place cause (reverse learned) none (subst (IsIn (met_fault place cause)) (sym (in_order process given measures learned)) at))
+        (λ place cause at. none_met walks place cause (reverse learned) none (subst (IsIn (met_fault place cause)) (sym (in_order process (root_fields process given measures) measures learned)) at))
 
   pub has_result : fault_in process ≡ None → ids_differ process ≡ true → (unfolded walks learned).fault ≡ None → ((job : Job) → Contains known job → IsResolved learned job) → is_some (unfolded walks learned).result ≡ true
   has_result accepted apart none resolved =

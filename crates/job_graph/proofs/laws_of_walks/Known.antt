@@ -23,7 +23,7 @@ use Rattle.job_graph.specs.More.{Stays}
 use Rattle.job_graph.specs.Unfold.{Resolved, is_at, outputs_at, job_met, is_known, with_job, with_met, met_after, jobs_after, made_by, unfolded}
 use Rattle.job_graph.proofs.laws_of_walks.Part.{AllIn, and_left, and_right, neither_one, neither_other}
 use Rattle.job_graph.proofs.laws_of_walks.Places.{Apart, walk_places}
-use Rattle.job_graph.proofs.laws_of_walks.Learned.{IsIn, in_part, earlier_met, well_of, walk_grows, agrees_on}
+use Rattle.job_graph.proofs.laws_of_walks.Learned.{IsIn, walks_through, in_part, earlier_met, well_of, walk_grows, agrees_on}
 
 -- ---- places
 
@@ -200,12 +200,12 @@ by_well made met outs job at none true is =
     absurd cc
 by_well made met outs job at none false is = refl
 
-not_there : (made : Made) (met : List Met) (outs : Option Fields) (job : Job) → IsIn (met_job job) met → made job ≡ None → cond (list_all (is_well made) met) outs None ≡ None
+pub not_there : (made : Made) (met : List Met) (outs : Option Fields) (job : Job) → IsIn (met_job job) met → made job ≡ None → cond (list_all (is_well made) met) outs None ≡ None
 not_there made met outs job at none = by_well made met outs job at none (list_all (is_well made) met) refl
 
-module _ (process : Process) (given : Fields) (measures : Measures) where
+module _ (process : Process) (fields : Fields) (measures : Measures) where
   abbrev walks : Walker
-  walks = walker process given measures
+  walks = walks_through process fields measures
 
   abbrev IsMetAfter : List Resolved → Job → Type 0
   IsMetAfter latest job = IsIn (met_job job) (met_after walks latest)
@@ -216,7 +216,7 @@ module _ (process : Process) (given : Fields) (measures : Measures) where
   after_met (r ∷ earlier) =
       all_put (IsMetAfter (r ∷ earlier)) (filter_map job_met (met_after walks (r ∷ earlier))) (jobs_after walks earlier)
       (all_means (IsMetAfter earlier) (IsMetAfter (r ∷ earlier))
-      (λ job at. in_part (met_job job) (met_after walks earlier) (met_after walks (r ∷ earlier)) (earlier_met process given measures (made_by []) r earlier) at) (jobs_after walks earlier) (after_met earlier))
+      (λ job at. in_part (met_job job) (met_after walks earlier) (met_after walks (r ∷ earlier)) (earlier_met process fields measures (made_by []) r earlier) at) (jobs_after walks earlier) (after_met earlier))
       (listed (met_after walks (r ∷ earlier)) (met_after walks (r ∷ earlier)) (λ m at. at))
 
   -- each job that is met is known
@@ -236,7 +236,7 @@ module _ (process : Process) (given : Fields) (measures : Measures) where
       let known : is_known (unfolded walks learned).jobs job ≡ true = after_known (reverse learned) job (subst (IsIn (met_job job)) (sym (in_order learned)) at) in
       let found : Found (λ k. IsIn (met_job k) (walks (made_by learned)).met) job.place (find (is_at job.place) (unfolded walks learned).jobs) =
       found_in (λ k. IsIn (met_job k) (walks (made_by learned)).met) job.place (unfolded walks learned).jobs (known_met learned) known in
-      let one : found.0 ≡ job = one_at (walks (made_by learned)).met (walk_places measures (made_by learned) process apart [] (root_fields process given measures)).1 found.0 job found.2 at (same_place found.0.place job.place found.3) in
+      let one : found.0 ≡ job = one_at (walks (made_by learned)).met (walk_places measures (made_by learned) process apart [] fields).1 found.0 job found.2 at (same_place found.0.place job.place found.3) in
       found.1 ∙ ap Some one
 
   stays_as : (before : Option Fields) (given_by : Option Fields) → ((outputs : Fields) → before ≡ Some outputs → given_by ≡ Some outputs) → Stays before given_by
@@ -267,11 +267,19 @@ module _ (process : Process) (given : Fields) (measures : Measures) where
       known_some (outputs_at learned job.place) (fields_made job.place)
       (well_in (made_by learned) (walks (made_by learned)).met (well_of (list_all (is_well (made_by learned)) (walks (made_by learned)).met) (all_named (walks (made_by learned)).outs) outputs is).0 job (is_met learned job at))
 
-  pub job_fails : (key : Tool → Fields → Key) (world : World) (learned : List Resolved) (job : Job) → Agrees key world walks learned → Contains (unfolded walks learned).jobs job → world (key job.tool job.inputs) ≡ None
+-- computing every job fails where a known job does
+module _ (process : Process) (given : Fields) (measures : Measures) where
+  abbrev handed : Fields
+  handed = root_fields process given measures
+
+  abbrev the_walks : Walker
+  the_walks = walker process given measures
+
+  pub job_fails : (key : Tool → Fields → Key) (world : World) (learned : List Resolved) (job : Job) → Agrees key world the_walks learned → Contains (unfolded the_walks learned).jobs job → world (key job.tool job.inputs) ≡ None
       → eval key world process given measures ≡ None
   job_fails key world learned job rightly at fails =
       ap (option_map fields_erased)
-      (not_there (made_in key world) (walks (made_in key world)).met (all_named (walks (made_in key world)).outs) job
-      (in_part (met_job job) (walks (made_by learned)).met (walks (made_in key world)).met
-      (walk_grows process given measures (made_by learned) (made_in key world) (agrees_on key world process given measures learned rightly)).met (is_met learned job at))
+      (not_there (made_in key world) (the_walks (made_in key world)).met (all_named (the_walks (made_in key world)).outs) job
+      (in_part (met_job job) (the_walks (made_by learned)).met (the_walks (made_in key world)).met
+      (walk_grows process handed measures (made_by learned) (made_in key world) (agrees_on key world process given measures learned rightly)).met (is_met process handed measures learned job at))
       (ap (option_map (fields_made job.place)) fails))

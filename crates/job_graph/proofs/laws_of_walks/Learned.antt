@@ -15,7 +15,7 @@ use Rattle.job_graph.specs.Words.{Fields, JobPlace, is_same_place}
 use Rattle.job_graph.specs.Made.{fields_made}
 use Rattle.job_graph.specs.Jobs.{Job, Met, met_job, met_fault, Made, Walker, is_well, all_named, result_in, result}
 use Rattle.job_graph.specs.Inputs.{root_fields}
-use Rattle.job_graph.specs.Equations.{walker}
+use Rattle.job_graph.specs.Equations.{meaning_of, walker}
 use Rattle.job_graph.specs.Unfold.{Resolved, Fault, fault_at, too_many_jobs, outputs_at, made_by, is_known, is_within_limits, job_met, with_job, met_after, jobs_after, first_fault, or_else, fault_after, unfolded}
 use Rattle.job_graph.specs.Eval.{Key, World, made_in, eval}
 use Rattle.job_graph.specs.Agrees.{Agrees}
@@ -55,12 +55,16 @@ pub well_of : (well : Bool) (outs : Option Fields) (outputs : Fields) → cond w
 well_of true outs outputs is = (refl, is)
 well_of false outs outputs is = absurd cc
 
-module _ (process : Process) (given : Fields) (measures : Measures) where
+-- the walk through a process that is handed these fields
+abbrev pub walks_through : Process → Fields → Measures → Walker
+walks_through process fields measures made = meaning_of measures made process [] fields
+
+module _ (process : Process) (fields : Fields) (measures : Measures) where
   abbrev by_made : Walker
-  by_made = walker process given measures
+  by_made = walks_through process fields measures
 
   pub grows_in : (made more : Made) → AllIn (Later made more) (by_made made).met → IsGrown (by_made made) (by_made more)
-  grows_in made more stays = goes measures made more (Later made more) (λ job later. later) process [] (root_fields process given measures) stays
+  grows_in made more stays = goes measures made more (Later made more) (λ job later. later) process [] fields stays
 
   pub walk_grows : (made more : Made) → StaysOn made more (by_made made).met → IsGrown (by_made made) (by_made more)
   walk_grows made more stays = grows_in made more (all_met (Later made more) (by_made made).met stays)
@@ -69,7 +73,7 @@ module _ (process : Process) (given : Fields) (measures : Measures) where
   result_stays made more outputs stays is =
       let well : (list_all (is_well made) (by_made made).met ≡ true) × (all_named (by_made made).outs ≡ Some outputs) = well_of (list_all (is_well made) (by_made made).met) (all_named (by_made made).outs) outputs is in
       let both : AllIn (Alike made more) (by_made made).met × (list_all (is_well more) (by_made made).met ≡ true) = all_well made more (by_made made).met well.0 (all_met (Later made more) (by_made made).met stays) in
-      let one : by_made made ≡ by_made more = agrees measures made more (Alike made more) (λ job same. same) process [] (root_fields process given measures) both.0 in
+      let one : by_made made ≡ by_made more = agrees measures made more (Alike made more) (λ job same. same) process [] fields both.0 in
       ap (result_in more) (sym one) ∙ ap (λ (b : Bool). cond b (all_named (by_made made).outs) None) both.1 ∙ well.1
 
 -- ---- what was learned, and more
@@ -170,16 +174,16 @@ made_more : (r : Resolved) (earlier : List Resolved) (job : Job) → Stays (made
 made_more r earlier job =
     subst (λ (learned : List Resolved). Stays (made_by (reverse earlier) job) (made_by learned job)) (sym (reverse-append (r ∷ []) earlier)) (made_stays (reverse earlier) (reverse (r ∷ [])) job)
 
-module _ (process : Process) (given : Fields) (measures : Measures) (more : Made) where
+module _ (process : Process) (fields : Fields) (measures : Measures) (more : Made) where
   abbrev the_walks : Walker
-  the_walks = walker process given measures
+  the_walks = walks_through process fields measures
 
   abbrev IsLater : List Resolved → Type 0
   IsLater latest = AllIn (Later (made_by (reverse latest)) more) (met_after the_walks latest)
 
   pub earlier_met : (r : Resolved) (earlier : List Resolved) → IsPart (met_after the_walks earlier) (met_after the_walks (r ∷ earlier))
   earlier_met r earlier =
-      (grows_in process given measures (made_by (reverse earlier)) (made_by (reverse (r ∷ earlier)))
+      (grows_in process fields measures (made_by (reverse earlier)) (made_by (reverse (r ∷ earlier)))
       (all_met (Later (made_by (reverse earlier)) (made_by (reverse (r ∷ earlier)))) (met_after the_walks earlier) (λ job at. made_more r earlier job))).met
 
   -- what was learned before the last place stays where all does
@@ -192,7 +196,7 @@ module _ (process : Process) (given : Fields) (measures : Measures) (more : Made
   now_met : (latest : List Resolved) (jobs : List Job) (place : JobPlace) (cause : Cause) → IsLater latest → first_fault jobs (met_after the_walks latest) ≡ Some (fault_at place cause)
       → IsIn (met_fault place cause) (the_walks more).met
   now_met latest jobs place cause stays is =
-      in_part (met_fault place cause) (met_after the_walks latest) (the_walks more).met (grows_in process given measures (made_by (reverse latest)) more stays).met
+      in_part (met_fault place cause) (met_after the_walks latest) (the_walks more).met (grows_in process fields measures (made_by (reverse latest)) more stays).met
       (fault_in jobs (met_after the_walks latest) place cause is)
 
   fault_met : (latest : List Resolved) (place : JobPlace) (cause : Cause) → IsLater latest → fault_after the_walks latest ≡ Some (fault_at place cause) → IsIn (met_fault place cause) (the_walks more).met
@@ -221,14 +225,14 @@ module _ (key : Tool → Fields → Key) (world : World) (process : Process) (gi
   agrees_on rightly job at = stays_map (fields_made job.place) (outputs_at learned job.place) (world (key job.tool job.inputs)) (rightly job at)
 
   pub result_is_eval : Agrees key world known learned → (outputs : Fields) → (unfolded known learned).result ≡ Some outputs → eval key world process given measures ≡ Some (fields_erased outputs)
-  result_is_eval rightly outputs is = ap (option_map fields_erased) (result_stays process given measures (made_by learned) (made_in key world) outputs (agrees_on rightly) is)
+  result_is_eval rightly outputs is = ap (option_map fields_erased) (result_stays process (root_fields process given measures) measures (made_by learned) (made_in key world) outputs (agrees_on rightly) is)
 
   pub fault_is_eval : Agrees key world known learned → (place : JobPlace) (cause : Cause) → (unfolded known learned).fault ≡ Some (fault_at place cause) → eval key world process given measures ≡ None
-  fault_is_eval rightly place cause is = ap (option_map fields_erased) (no_result process given measures (made_in key world) learned place cause (agrees_on rightly) is)
+  fault_is_eval rightly place cause is = ap (option_map fields_erased) (no_result process (root_fields process given measures) measures (made_in key world) learned place cause (agrees_on rightly) is)
 
 -- ---- a result, when more is learned
 
 pub learned_result : (process : Process) (given : Fields) (measures : Measures) (learned later : List Resolved) (outputs : Fields) → (unfolded (walker process given measures) learned).result ≡ Some outputs
     → (unfolded (walker process given measures) (learned ++ later)).result ≡ Some outputs
 learned_result process given measures learned later outputs is =
-    result_stays process given measures (made_by learned) (made_by (learned ++ later)) outputs (λ job at. made_stays learned later job) is
+    result_stays process (root_fields process given measures) measures (made_by learned) (made_by (learned ++ later)) outputs (λ job at. made_stays learned later job) is

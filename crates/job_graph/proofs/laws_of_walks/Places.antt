@@ -41,17 +41,17 @@ Apart (met_job job ∷ met) = AllIn (λ other. other.place ≢ job.place) met ×
 Apart (met_fault place cause ∷ met) = Apart met
 
 -- the job is at a place that begins so
-abbrev IsUnder : JobPlace → Job → Type 0
+abbrev pub IsUnder : JobPlace → Job → Type 0
 IsUnder place job = (rest : JobPlace) × (job.place ≡ place ++ rest)
 
 abbrev pub IsAt : JobPlace → List Met → Type 0
 IsAt place met = AllIn (IsUnder place) met × Apart met
 
 -- and then has a segment of which Q holds
-abbrev IsBeyond : JobPlace → (Segment → Type 0) → Job → Type 0
+abbrev pub IsBeyond : JobPlace → (Segment → Type 0) → Job → Type 0
 IsBeyond place Q job = (segment : Segment) × (rest : JobPlace) × Q segment × (job.place ≡ place ++ segment ∷ rest)
 
-abbrev Fans : JobPlace → (Segment → Type 0) → List Met → Type 0
+abbrev pub Fans : JobPlace → (Segment → Type 0) → List Met → Type 0
 Fans place Q met = AllIn (IsBeyond place Q) met × Apart met
 
 beyond_differ : (place : JobPlace) (Q R : Segment → Type 0) → ((s t : Segment) → Q s → R t → s ≢ t) → (job other : Job) → IsBeyond place Q job → IsBeyond place R other → other.place ≢ job.place
@@ -79,7 +79,7 @@ fans_append place Q R S apart left right xs ys one other =
 
 -- ---- faults are no jobs
 
-abbrev no_job : Job → Type 0
+abbrev pub no_job : Job → Type 0
 no_job job = ⊥
 
 fault_none : (place : JobPlace) (p : Partly) → AllIn no_job (fault_at place p)
@@ -87,7 +87,7 @@ fault_none place Waits = tt
 fault_none place (Gives value) = tt
 fault_none place (Fails cause) = (tt, tt)
 
-faults_none : {X : Type 0} (place : JobPlace) (f : X → Partly) (xs : List X) → AllIn no_job (flat_map (λ x. fault_at place (f x)) xs)
+pub faults_none : {X : Type 0} (place : JobPlace) (f : X → Partly) (xs : List X) → AllIn no_job (flat_map (λ x. fault_at place (f x)) xs)
 faults_none place f [] = tt
 faults_none place f (x ∷ xs) = each_both no_job (fault_at place (f x)) (flat_map (λ x. fault_at place (f x)) xs) (fault_none place (f x)) (faults_none place f xs)
 
@@ -98,10 +98,10 @@ faults_fan place Q (met_fault at cause ∷ met) none = let rest : Fans place Q m
 
 -- ---- a step
 
-abbrev segment : Name → List ℕ → Segment
+abbrev pub segment : Name → List ℕ → Segment
 segment id tuple = record { step = id; index = tuple }
 
-beyond : (place : JobPlace) (id : Name) (tuple : List ℕ) (met : List Met) → IsAt (step_place place id tuple) met → Fans place (λ s. s ≡ segment id tuple) met
+pub beyond : (place : JobPlace) (id : Name) (tuple : List ℕ) (met : List Met) → IsAt (step_place place id tuple) met → Fans place (λ s. s ≡ segment id tuple) met
 beyond place id tuple met at =
     (weaker (IsUnder (step_place place id tuple)) (IsBeyond place (λ s. s ≡ segment id tuple)) (λ job under. (segment id tuple, under.0, refl, under.1 ∙ append_assoc place (segment id tuple ∷ []) under.0)) met at.0, at.1)
 
@@ -109,7 +109,7 @@ abbrev pub IsAmong : List ℕ → List (List ℕ) → Type 0
 IsAmong name [] = ⊥
 IsAmong name (other ∷ others) = (name ≡ other) ⊎ IsAmong name others
 
-not_among : (t u : List ℕ) (ts : List (List ℕ)) → AllByRecursion (IsBefore t) ts → IsAmong u ts → u ≡ t → ⊥
+pub not_among : (t u : List ℕ) (ts : List (List ℕ)) → AllByRecursion (IsBefore t) ts → IsAmong u ts → u ≡ t → ⊥
 not_among t u [] all among is = among
 not_among t u (v ∷ vs) all (inl same) is =
     let equal : bytes_eq t v ≡ true = (bytes_eq-Decides t v).1 (sym is ∙ same) in
@@ -117,10 +117,10 @@ not_among t u (v ∷ vs) all (inl same) is =
     cc
 not_among t u (v ∷ vs) all (inr later) is = not_among t u vs all.1 later is
 
-abbrev OfTuples : Name → List (List ℕ) → Segment → Type 0
+abbrev pub OfTuples : Name → List (List ℕ) → Segment → Type 0
 OfTuples id tuples s = (s.step ≡ id) × IsAmong s.index tuples
 
-abbrev OfStep : Name → Segment → Type 0
+abbrev pub OfStep : Name → Segment → Type 0
 OfStep id s = s.step ≡ id
 
 module _ (step : StepLevel) (meaning : Meaning) (places : (place : JobPlace) (fields : Fields) → IsAt place (meaning place fields).met) where
@@ -136,14 +136,14 @@ module _ (step : StepLevel) (meaning : Meaning) (places : (place : JobPlace) (fi
   from_at place (Err cause) = ((tt, tt), tt)
   from_at place (Ok fields) = run_at place fields (goes_on step.when fields)
 
-  instance_at : (place : JobPlace) (fields : Fields) → IsAt place (instance s place fields).met
+  pub instance_at : (place : JobPlace) (fields : Fields) → IsAt place (instance s place fields).met
   instance_at place fields = from_at place (by_link (value_froms step.inputs fields))
 
   module _ (id : Name) (place : JobPlace) (fields : Fields) where
     abbrev of : List ℕ → Walk
     of tuple = instance s (step_place place id tuple) (at_tuple step.scatter tuple fields)
 
-    tuples_fan : (tuples : List (List ℕ)) → Rises tuples → Fans place (OfTuples id tuples) (flat_map (λ w. w.met) (map of tuples))
+    pub tuples_fan : (tuples : List (List ℕ)) → Rises tuples → Fans place (OfTuples id tuples) (flat_map (λ w. w.met) (map of tuples))
     tuples_fan [] rises = (tt, tt)
     tuples_fan (t ∷ ts) rises =
         fans_append place (λ s. s ≡ segment id t) (OfTuples id ts) (OfTuples id (t ∷ ts))
@@ -176,14 +176,14 @@ module _ (step : StepLevel) (meaning : Meaning) (places : (place : JobPlace) (fi
   enter_fan id place faults None none = faults_fan place (OfStep id) faults none
   enter_fan id place faults (Some fields) none = scatter_fan id place fields step.scatter
 
-  step_fan : (measures : Measures) (id : Name) (place : JobPlace) (inputs : Fields) (env : Env) → Fans place (OfStep id) (step_meaning measures s id place inputs env).met
+  pub step_fan : (measures : Measures) (id : Name) (place : JobPlace) (inputs : Fields) (env : Env) → Fans place (OfStep id) (step_meaning measures s id place inputs env).met
   step_fan measures id place inputs env =
       enter_fan id place (faults_in (step_place place id []) (entries_of measures step.inputs inputs env)) (all_given (entries_of measures step.inputs inputs env))
       (faults_none (step_place place id []) (λ (e : Name × Partly). e.1) (entries_of measures step.inputs inputs env))
 
 -- ---- a workflow
 
-abbrev StepFans : StepMeaning → Type 0
+abbrev pub StepFans : StepMeaning → Type 0
 StepFans one = (id : Name) (place : JobPlace) (inputs : Fields) (env : Env) → Fans place (OfStep id) (one id place inputs env).met
 
 abbrev pub ids_of : List (Name × Step) → List Name
@@ -193,20 +193,20 @@ or_right : (a b : Bool) → b ≡ true → (a || b) ≡ true
 or_right true b is = refl
 or_right false b is = is
 
-among_any : (name other : List ℕ) (names : List (List ℕ)) → IsAmong other names → name ≡ other → list_any (bytes_eq name) names ≡ true
+pub among_any : (name other : List ℕ) (names : List (List ℕ)) → IsAmong other names → name ≡ other → list_any (bytes_eq name) names ≡ true
 among_any name other [] among is = absurd among
 among_any name other (n ∷ ns) (inl same) is = ap (λ b. b || list_any (bytes_eq name) ns) ((bytes_eq-Decides name n).1 (is ∙ same))
 among_any name other (n ∷ ns) (inr later) is = or_right (bytes_eq name n) (list_any (bytes_eq name) ns) (among_any name other ns later is)
 
-not_both : (b : Bool) → not b ≡ true → b ≡ true → ⊥
+pub not_both : (b : Bool) → not b ≡ true → b ≡ true → ⊥
 not_both true one other = cc
 not_both false one other = cc
 
 module _ (F : Step → StepMeaning) (place : JobPlace) (inputs : Fields) (env : Env) where
-  abbrev met_of : List (Name × Step) → List Met
+  abbrev pub met_of : List (Name × Step) → List Met
   met_of steps = flat_map (λ s. (step_walk place inputs env s).met) (map_values F steps)
 
-  steps_fan : (steps : List (Name × Step)) → differ (ids_of steps) ≡ true → AllByRecursion (λ (e : Name × Step). StepFans (F e.1)) steps → Fans place (λ s. IsAmong s.step (ids_of steps)) (met_of steps)
+  pub steps_fan : (steps : List (Name × Step)) → differ (ids_of steps) ≡ true → AllByRecursion (λ (e : Name × Step). StepFans (F e.1)) steps → Fans place (λ s. IsAmong s.step (ids_of steps)) (met_of steps)
   steps_fan [] apart fans = (tt, tt)
   steps_fan (e ∷ es) apart fans =
       fans_append place (OfStep e.0) (λ s. IsAmong s.step (ids_of es)) (λ s. IsAmong s.step (ids_of (e ∷ es)))
@@ -216,17 +216,22 @@ module _ (F : Step → StepMeaning) (place : JobPlace) (inputs : Fields) (env : 
       (F e.1 e.0 place inputs env).met (met_of es) (fans.0 e.0 place inputs env)
       (steps_fan es (and_right (not (list_any (bytes_eq e.0) (ids_of es))) (differ (ids_of es)) apart) fans.1)
 
-workflow_places : (F : Step → StepMeaning) (workflow : WorkflowLevel) → differ (ids_of workflow.steps) ≡ true → AllByRecursion (λ (e : Name × Step). StepFans (F e.1)) workflow.steps
-    → (place : JobPlace) (found : Result Fields Cause) → IsAt place (workflow_at (workflow_of workflow (map_values F workflow.steps)) place found).met
-workflow_places F workflow apart fans place (Err cause) = ((tt, tt), tt)
-workflow_places F workflow apart fans place (Ok inputs) =
+pub workflow_fans : (F : Step → StepMeaning) (workflow : WorkflowLevel) → differ (ids_of workflow.steps) ≡ true → AllByRecursion (λ (e : Name × Step). StepFans (F e.1)) workflow.steps
+    → (place : JobPlace) (found : Result Fields Cause) → Fans place (λ s. Unit {0}) (workflow_at (workflow_of workflow (map_values F workflow.steps)) place found).met
+workflow_fans F workflow apart fans place (Err cause) = ((tt, tt), tt)
+workflow_fans F workflow apart fans place (Ok inputs) =
     let env : Env = env_after (length (map_values F workflow.steps)) (map_values F workflow.steps) place inputs in
     let outputs : List Met = flat_map (λ o. fault_at place (output_value inputs env o.1.links)) workflow.outputs in
     let none : AllIn no_job outputs = faults_none place (λ (o : Name × WorkflowOutput). output_value inputs env o.1.links) workflow.outputs in
-    let all : Fans place (λ s. Unit {0}) (met_of F place inputs env workflow.steps ++ outputs) =
     fans_append place (λ s. IsAmong s.step (ids_of workflow.steps)) (λ s. ⊥) (λ s. Unit {0}) (λ one other among no same. no) (λ one among. tt) (λ one no. tt)
-    (met_of F place inputs env workflow.steps) outputs (steps_fan F place inputs env workflow.steps apart fans) (faults_fan place (λ s. ⊥) outputs none) in
-    (weaker (IsBeyond place (λ s. Unit {0})) (IsUnder place) (λ job at. (at.0 ∷ at.1, at.3)) (met_of F place inputs env workflow.steps ++ outputs) all.0, all.1)
+    (met_of F place inputs env workflow.steps) outputs (steps_fan F place inputs env workflow.steps apart fans) (faults_fan place (λ s. ⊥) outputs none)
+
+workflow_places : (F : Step → StepMeaning) (workflow : WorkflowLevel) → differ (ids_of workflow.steps) ≡ true → AllByRecursion (λ (e : Name × Step). StepFans (F e.1)) workflow.steps
+    → (place : JobPlace) (found : Result Fields Cause) → IsAt place (workflow_at (workflow_of workflow (map_values F workflow.steps)) place found).met
+workflow_places F workflow apart fans place found =
+    let met : List Met = (workflow_at (workflow_of workflow (map_values F workflow.steps)) place found).met in
+    let all : Fans place (λ s. Unit {0}) met = workflow_fans F workflow apart fans place found in
+    (weaker (IsBeyond place (λ s. Unit {0})) (IsUnder place) (λ job at. (at.0 ∷ at.1, at.3)) met all.0, all.1)
 
 -- ---- any process
 

@@ -22,10 +22,10 @@ use Rattle.job_graph.proofs.laws_of_walks.Rounds.{StepRises, met_before, met_in,
 use Rattle.job_graph.proofs.laws_of_walks.Grown.{steps_rise}
 
 module _ (G : Job → Type 0) where
-  abbrev Agree : Meaning → Meaning → Type 0
+  abbrev pub Agree : Meaning → Meaning → Type 0
   Agree one other = (place : JobPlace) (fields : Fields) → AllIn G (one place fields).met → one place fields ≡ other place fields
 
-  abbrev StepAgrees : StepMeaning → StepMeaning → Type 0
+  abbrev pub StepAgrees : StepMeaning → StepMeaning → Type 0
   StepAgrees one other = (id : Name) (place : JobPlace) (inputs : Fields) (env : Env) → AllIn G (one id place inputs env).met → one id place inputs env ≡ other id place inputs env
 
   -- ---- a step
@@ -46,7 +46,7 @@ module _ (G : Job → Type 0) where
     from_agrees place (Err cause) all = refl
     from_agrees place (Ok fields) all = run_agrees place fields (goes_on step.when fields) all
 
-    instance_agrees : (place : JobPlace) (fields : Fields) → AllIn G (instance s place fields).met → instance s place fields ≡ instance t place fields
+    pub instance_agrees : (place : JobPlace) (fields : Fields) → AllIn G (instance s place fields).met → instance s place fields ≡ instance t place fields
     instance_agrees place fields all = from_agrees place (by_link (value_froms step.inputs fields)) all
 
     module _ (id : Name) (place : JobPlace) (fields : Fields) where
@@ -56,7 +56,7 @@ module _ (G : Job → Type 0) where
       abbrev of_t : List ℕ → Walk
       of_t tuple = instance t (step_place place id tuple) (at_tuple step.scatter tuple fields)
 
-      all_agree : (tuples : List (List ℕ)) → AllIn G (flat_map (λ w. w.met) (map of_s tuples)) → map of_s tuples ≡ map of_t tuples
+      pub all_agree : (tuples : List (List ℕ)) → AllIn G (flat_map (λ w. w.met) (map of_s tuples)) → map of_s tuples ≡ map of_t tuples
       all_agree [] all = refl
       all_agree (x ∷ xs) all =
           ap₂ (λ (w : Walk) (ws : List Walk). w ∷ ws)
@@ -80,7 +80,7 @@ module _ (G : Job → Type 0) where
     enter_agrees id place faults None all = refl
     enter_agrees id place faults (Some fields) all = scatter_agrees id place fields step.scatter all
 
-    step_agrees : (measures : Measures) → StepAgrees (step_meaning measures s) (step_meaning measures t)
+    pub step_agrees : (measures : Measures) → StepAgrees (step_meaning measures s) (step_meaning measures t)
     step_agrees measures id place inputs env all =
         enter_agrees id place (faults_in (step_place place id []) (entries_of measures step.inputs inputs env)) (all_given (entries_of measures step.inputs inputs env)) all
 
@@ -93,14 +93,14 @@ module _ (G : Job → Type 0) where
     abbrev at : (Step → StepMeaning) → List (Name × Step) → ℕ → Env
     at means steps n = round G F H place inputs means steps n
 
-    outs_agree : (env : Env) (steps : List (Name × Step)) → AllByRecursion (λ (e : Name × Step). StepAgrees (F e.1) (H e.1)) steps → AllIn G (met env steps)
+    pub outs_agree : (env : Env) (steps : List (Name × Step)) → AllByRecursion (λ (e : Name × Step). StepAgrees (F e.1) (H e.1)) steps → AllIn G (met env steps)
         → outs_in G F H place inputs F env steps ≡ outs_in G F H place inputs H env steps
     outs_agree env [] agree all = refl
     outs_agree env (e ∷ es) agree all =
         ap₂ (λ (w : Walk) (rest : Env). (e.0, w.outs) ∷ rest) (agree.0 e.0 place inputs env (each_left G (F e.1 e.0 place inputs env).met (met env es) all))
         (outs_agree env es agree.1 (each_right G (F e.1 e.0 place inputs env).met (met env es) all))
 
-    met_agree : (env : Env) (steps : List (Name × Step)) → AllByRecursion (λ (e : Name × Step). StepAgrees (F e.1) (H e.1)) steps → AllIn G (met env steps)
+    pub met_agree : (env : Env) (steps : List (Name × Step)) → AllByRecursion (λ (e : Name × Step). StepAgrees (F e.1) (H e.1)) steps → AllIn G (met env steps)
         → met env steps ≡ met_in G F H place inputs H env steps
     met_agree env [] agree all = refl
     met_agree env (e ∷ es) agree all =
@@ -125,7 +125,7 @@ module _ (G : Job → Type 0) where
           }) (met_agree (at F steps n) steps agree of_steps)
           ∙ ap (workflow_walk (workflow_of workflow (map_values H steps)) place inputs) (round_agrees n of_steps)
 
-  workflow_agrees : (F H : Step → StepMeaning) (workflow : WorkflowLevel) → AllByRecursion (λ (e : Name × Step). StepRises (F e.1)) workflow.steps
+  pub workflow_agrees : (F H : Step → StepMeaning) (workflow : WorkflowLevel) → AllByRecursion (λ (e : Name × Step). StepRises (F e.1)) workflow.steps
       → AllByRecursion (λ (e : Name × Step). StepAgrees (F e.1) (H e.1)) workflow.steps
       → (place : JobPlace) (found : Result Fields Cause) → AllIn G (workflow_at (workflow_of workflow (map_values F workflow.steps)) place found).met
       → workflow_at (workflow_of workflow (map_values F workflow.steps)) place found ≡ workflow_at (workflow_of workflow (map_values H workflow.steps)) place found
@@ -138,7 +138,7 @@ module _ (G : Job → Type 0) where
 -- ---- any process
 
 module _ (measures : Measures) (made other : Made) (G : Job → Type 0) (same : (job : Job) → G job → made job ≡ other job) where
-  tool_agrees : (tool : Tool) (place : JobPlace) (found : Result Fields Cause) → AllIn G (tool_walk tool place found made).met → tool_walk tool place found made ≡ tool_walk tool place found other
+  pub tool_agrees : (tool : Tool) (place : JobPlace) (found : Result Fields Cause) → AllIn G (tool_walk tool place found made).met → tool_walk tool place found made ≡ tool_walk tool place found other
   tool_agrees tool place (Err cause) all = refl
   tool_agrees tool place (Ok inputs) all =
       let job : Job = record { place = place; tool = tool; inputs = inputs } in

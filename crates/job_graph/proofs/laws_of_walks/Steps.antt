@@ -77,7 +77,7 @@ module _ (inputs : Fields) (env later : Env) (grows : EnvGrows env later) where
   pub linked_stays : (sources : List Source) → Stays (linked_values inputs env sources) (linked_values inputs later sources)
   linked_stays sources = stays_all (source_value inputs env) (source_value inputs later) (λ source. from_stays source.step source.name) sources
 
-  entry_settles : (measures : Measures) (input : StepInput) → Settles (entry_value measures inputs env input) (entry_value measures inputs later input)
+  pub entry_settles : (measures : Measures) (input : StepInput) → Settles (entry_value measures inputs env input) (entry_value measures inputs later input)
   entry_settles measures input = settles_once _ (linked_values inputs env (unwrap_or input.links.sources [])) (linked_values inputs later (unwrap_or input.links.sources [])) (linked_stays (unwrap_or input.links.sources []))
 
   output_settles : (links : Links) (sources : Option (List Source)) → Settles (output_from inputs env links sources) (output_from inputs later links sources)
@@ -95,7 +95,7 @@ with_stays (Some fields) later name Waits q stays settles = tt
 with_stays (Some fields) later name (Gives value) q stays settles = ap₂ (λ (o : Option Fields) (r : Partly). with_entry o (name, r)) stays settles
 with_stays (Some fields) later name (Fails cause) q stays settles = tt
 
-all_stay : {X : Type 0} (named : X → Name) (f g : X → Partly) → ((x : X) → Settles (f x) (g x)) → (o later : Option Fields) → Stays o later → (xs : List X)
+pub all_stay : {X : Type 0} (named : X → Name) (f g : X → Partly) → ((x : X) → Settles (f x) (g x)) → (o later : Option Fields) → Stays o later → (xs : List X)
     → Stays (fold with_entry o (map (λ x. (named x, f x)) xs)) (fold with_entry later (map (λ x. (named x, g x)) xs))
 all_stay named f g settles o later stays [] = stays
 all_stay named f g settles o later stays (x ∷ xs) =

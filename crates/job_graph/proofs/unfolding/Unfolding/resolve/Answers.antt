@@ -1,6 +1,16 @@
-use Rattle.job_graph.proofs.Unfolds.{blames_more, knows_more, knows_still, popped}
-use Rattle.std.proofs.Common.{◌∙◌}
+use Rattle.job_graph.proofs.Unfolds.{blames_more, knows_more, knows_open, knows_still, popped}
+use Rattle.std.proofs.Common.{◌∙◌, List, map, ap, sym}
+use Rattle.job_graph.specs.declared.growth.KnownJob.{KnownJob}
+use Rattle.job_graph.specs.Beside.{is_one_open}
+use Rattle.job_graph.specs.Unfolding.{jobs_in}
+use Rattle.job_graph.specs.inner.Views.{resolved_of}
 use Rattle.job_graph.proofs.unfolding.Unfolding.resolve.Goals as goal
+
+pub returns-then-is_open-clause-resolves : goal.returns-then-is_open-clause-resolves
+returns-then-is_open-clause-resolves c =
+    λ walks learned knows. knows_open walks learned c.args.self.now c.args.resolved c.push.new.self knows c.in_ok-push.ensures.ok c.see_ids.ensures
+    (ap (λ (known : List KnownJob). is_one_open (map resolved_of c.args.self.now.facts.learned) c.args.resolved.at.place (jobs_in known)) (sym c.as_slice.ensures.value)
+    ∙ sym c.is_one_open-is_open.ensures ∙ c.if-is_open.true)
 
 pub returns-in-Ok-clause-resolves : goal.returns-in-Ok-clause-resolves
 returns-in-Ok-clause-resolves c =
