@@ -1,9 +1,13 @@
 pub mod Certificates
 pub mod CommandLine
 pub mod Flags
+pub mod JobLines
+pub mod Paths
 pub mod RecordWords
 pub mod RunWords
 pub mod Runs
+pub mod ShellWords
 pub mod Status
 pub mod Tells
+pub mod Terminal
 pub mod Words

@@ -15,7 +15,6 @@ use Rattle.file_values.specs.Location as location
 use Rattle.file_values.specs.Resolved as files
 use Rattle.file_values.specs.declared.refusal.FileError.TheVariants as file_errors
 use Rattle.file_values.specs.declared.refusal.FileFault.{FileFault}
-use Rattle.file_values.specs.declared.refusal.FileFault.TheVariants.{NotAFileUrl}
 use Rattle.cwl_value.specs.Texts.{ReadsAs}
 use Rattle.cwl_value.specs.declared.refusal.ValueRefusal.{ValueRefusal}
 use Rattle.cwl_value.specs.declared.value.Value.{Value}
@@ -117,8 +116,6 @@ pub data IsStopExit : Exit → Type 0 where
   no_path : (bytes : List ℕ) (base : Parts) (value : Value) (fault : FileFault) → ReadsAs bytes (Ok value) →
       location.Refuses (files.resolved base value) (files.has_long base value) (file_errors.Refused fault) →
       IsStopExit (exits.Refused (refusals.Location fault))
-  -- the name of a file has no URL
-  no_url : IsStopExit (exits.Refused (refusals.Location NotAFileUrl))
   -- a file can't be read, or the inputs are no object
   no_input : IsStopExit (exits.Fault faults.Input)
   -- the work folder can't be made

@@ -17,6 +17,7 @@ mod exit;
 mod explaining;
 mod flags;
 mod inputs;
+mod laws;
 mod paths;
 mod record_words;
 mod report;
@@ -29,3 +30,4 @@ mod telling;
 mod terminal;
 
 pub use entry::{main_run, program};
+pub use laws::{line_is_one_command, text_is_one_word};

@@ -1,45 +1,64 @@
 //! Names of files and folders, as paths and URLs.
-ghost use Rattle.std.specs.Prelude.{IfErr};
-ghost use Rattle.cwl_program.specs.Runs.{IsStop};
+ghost use Rattle.std.specs.Prelude.{◌≡◌, None, Ok, if◌then◌else◌, [], ◌∷◌, ◌++◌, IfOk, IfErr, OnOk, string_bytes};
+ghost use Rattle.file_values.specs.Location.{is_absolute, location_of};
+ghost use Rattle.url.specs.Parser.{parse_url};
+ghost use Rattle.cwl_program.specs.Paths as spec;
+ghost use Rattle.cwl_program.specs.declared.stop.Stop.TheVariants.{OutOfMemory};
 
-use crate::exit::{Exit, Refusal};
 use crate::stop::Stop;
-use file_values::{FileFault, path_to_location};
+use file_values::path_to_location;
 use plain_data::Text;
 use std::alloc::{AllocError, Global};
-use url::{ParseError, Url};
+use url::Url;
 
 /// A name as a path from the root: joined to the folder `here` where it does not begin with `/`, without empty
 /// components and components `.`.
-pub fn from_root(alloc: Global, here: &str, name: &str) -> Result<Text, AllocError> {
+pub fn from_root(alloc: Global, here: &str, name: &str) -> Result<Text, AllocError>
+    ensures { IfOk result (λ path. path ≡ spec.from_root here.now name.now) }
+{
     let mut path = String::new(alloc);
-    if !name.starts_with('/') {
-        add_components(&mut path, here)?;
+    if !is_absolute(name) {
+        add_steps(&mut path, here)?;
     }
-    add_components(&mut path, name)?;
+    add_steps(&mut path, name)?;
     Ok(Text::from_string(path))
 }
 
-fn add_components(path: &mut String, name: &str) -> Result<(), AllocError> {
+fn is_absolute(name: &str) -> bool
+    ensures { result ≡ is_absolute name.now }
+{
+    matches!(name.as_bytes(), [b'/', ..])
+}
+
+fn add_steps(path: &mut String, name: &str) -> Result<(), AllocError>
+    ensures { OnOk result (string_bytes path.new ≡ string_bytes path.old ++ spec.rooted (spec.steps name.now)) }
+{
     for component in name.split('/') {
-        if !component.is_empty() && component != "." {
-            path.push('/')?;
-            path.push_str(component)?;
-        }
+        add_step(path, component)?;
     }
     Ok(())
 }
 
-/// The URL of a file of this name, on which the locations in it are.
-#[tactic(auto, using(crate::specs::Runs::no_url))]
+fn add_step(path: &mut String, component: &str) -> Result<(), AllocError>
+    ensures { OnOk result (string_bytes path.new ≡ string_bytes path.old ++ (if spec.leads_on component.now then 47 ∷ component.now else [])) }
+{
+    if component.is_empty() || component == "." {
+        return Ok(());
+    }
+    path.push('/')?;
+    path.push_str(component)
+}
+
+/// The URL of a file of this name, on which the locations in it are. Each name has one, so only room for it can be wanting.
 pub fn base_of(alloc: Global, here: &str, name: &str) -> Result<Url, Stop>
-    ensures { IfErr result IsStop }
+    ensures ok { IfOk result (λ url. parse_url None (location_of (spec.from_root here.now name.now)) ≡ Ok url) }
+    ensures is_url { spec.HasUrl (spec.from_root here.now name.now) }
+    ensures err { IfErr result (λ stop. stop ≡ OutOfMemory) }
 {
     let path = from_root(alloc, here, name)?;
     let location = path_to_location(alloc, path.as_str())?;
     match Url::parse(alloc, location.as_str()) {
         Ok(url) => Ok(url),
-        Err(ParseError::OutOfMemory) => Err(Stop::OutOfMemory),
-        Err(_) => Err(Stop::Early(Exit::Refused(Refusal::Location(FileFault::NotAFileUrl)))),
+        Err(_) => Err(Stop::OutOfMemory),
     }
 }

@@ -1,4 +1,9 @@
 //! Commands as a shell would take them.
+ghost use Rattle.std.specs.Prelude.{◌≡◌, true, ◌<◌, ◌+◌, ◌==◌, if◌then◌else◌, ◌∷◌, [], ◌++◌, codes, IfOk, OnOk, string_bytes};
+ghost use Rattle.std.specs.Char.{encode_utf8};
+ghost use Rattle.std.specs.List.{list_any, list_all};
+ghost use Rattle.std.specs.Str.{chars};
+ghost use Rattle.cwl_program.specs.ShellWords as spec;
 
 use command_line::Launch;
 use plain_data::Text;
@@ -6,21 +11,35 @@ use std::alloc::{AllocError, Global};
 
 /// Returns the words of a launch in one line, with the files of its streams. A word with another character than letters, digits and
 /// `%+,-./:=@_` is in single quotes; one with a control character is in `$'..'`, so that the line stays one.
-pub fn line_of(alloc: Global, launch: &Launch) -> Result<String, AllocError> {
-    let mut line = String::new(alloc);
-    for word in launch.words.as_slice() {
-        if !line.is_empty() {
-            line.push(' ')?;
-        }
-        add_word(&mut line, word.as_str())?;
-    }
+pub fn line_of(alloc: Global, launch: &Launch) -> Result<String, AllocError>
+    ensures read { IfOk result (λ line. spec.IsLineOf launch.now (string_bytes line)) }
+    ensures shown { IfOk result (λ line. spec.IsShown (string_bytes line)) }
+{
+    let mut line = words_of(alloc, launch.words.as_slice())?;
     add_stream(&mut line, " <", &launch.stdin)?;
     add_stream(&mut line, " >", &launch.stdout)?;
     add_stream(&mut line, " 2>", &launch.stderr)?;
     Ok(line)
 }
 
-fn add_stream(line: &mut String, arrow: &str, name: &Option<Text>) -> Result<(), AllocError> {
+fn words_of(alloc: Global, words: &[Text]) -> Result<String, AllocError>
+    ensures read { IfOk result (λ line. spec.AreRead words.now (string_bytes line)) }
+    ensures shown { IfOk result (λ line. spec.IsShown (string_bytes line)) }
+{
+    let mut line = String::new(alloc);
+    for (index, word) in words.iter().enumerate() {
+        if index > 0 {
+            line.push(' ')?;
+        }
+        add_word(&mut line, word.as_str())?;
+    }
+    Ok(line)
+}
+
+fn add_stream(line: &mut String, arrow: &str, name: &Option<Text>) -> Result<(), AllocError>
+    requires { spec.IsShown arrow.now }
+    ensures { OnOk result (spec.Adds (λ text. spec.IsRedirection arrow.now name.now text × spec.IsShown text) (string_bytes line.old) (string_bytes line.new)) }
+{
     match name {
         None => Ok(()),
         Some(name) => {
@@ -30,70 +49,118 @@ fn add_stream(line: &mut String, arrow: &str, name: &Option<Text>) -> Result<(),
     }
 }
 
-fn add_word(line: &mut String, word: &str) -> Result<(), AllocError> {
-    if word.chars().any(is_control) {
+fn add_word(line: &mut String, word: &str) -> Result<(), AllocError>
+    ensures { OnOk result (spec.Adds (spec.IsTextOf word.now) (string_bytes line.old) (string_bytes line.new)) }
+{
+    if has_control(word) {
         return add_escaped(line, word);
     }
-    if !word.is_empty() && word.chars().all(is_plain) {
+    if !word.is_empty() && is_bare(word) {
         return line.push_str(word);
     }
     add_quoted(line, word)
 }
 
-fn is_plain(c: char) -> bool {
-    c.is_ascii_alphanumeric() || "%+,-./:=@_".contains(c)
+fn has_control(word: &str) -> bool
+    ensures { result ≡ list_any spec.is_control (chars word.now) }
+{
+    word.chars().any(is_control)
 }
 
-fn is_control(c: char) -> bool {
+fn is_bare(word: &str) -> bool
+    ensures { result ≡ list_all spec.is_bare word.now }
+{
+    word.as_bytes().iter().all(|byte| is_plain(*byte))
+}
+
+fn is_plain(byte: u8) -> bool
+    ensures { result ≡ spec.is_bare byte }
+{
+    byte.is_ascii_alphanumeric() || matches!(byte, b'%' | b'+'..=b'/' | b':' | b'=' | b'@' | b'_')
+}
+
+fn is_control(c: char) -> bool
+    ensures { result ≡ spec.is_control c }
+{
     c < ' ' || ('\u{7f}' <= c && c <= '\u{9f}')
 }
 
-// Adds a word in single quotes, and each of its own single quotes behind a backslash outside of them.
-fn add_quoted(line: &mut String, word: &str) -> Result<(), AllocError> {
+// Adds a word in single quotes.
+fn add_quoted(line: &mut String, word: &str) -> Result<(), AllocError>
+    requires { spec.IsShown word.now }
+    ensures { OnOk result (spec.Adds (spec.IsTextOf word.now) (string_bytes line.old) (string_bytes line.new)) }
+{
     line.push('\'')?;
     for c in word.chars() {
-        match c {
-            '\'' => line.push_str("'\\''")?,
-            other => line.push(other)?,
-        }
+        add_in_quotes(line, c)?;
     }
     line.push('\'')
 }
 
-// Adds a word in `$'..'`, its control characters by their bytes.
-fn add_escaped(line: &mut String, word: &str) -> Result<(), AllocError> {
+// Adds a character inside single quotes; a single quote ends them, stands behind a backslash, and begins them anew.
+fn add_in_quotes(line: &mut String, c: char) -> Result<(), AllocError>
+    ensures { OnOk result (string_bytes line.new ≡ string_bytes line.old ++ (if c == 39 then codes "'\\''" else encode_utf8 c)) }
+{
+    if c == '\'' {
+        line.push_str("'\\''")
+    } else {
+        line.push(c)
+    }
+}
+
+// Adds a word in `$'..'`.
+fn add_escaped(line: &mut String, word: &str) -> Result<(), AllocError>
+    ensures { OnOk result (spec.Adds (spec.IsTextOf word.now) (string_bytes line.old) (string_bytes line.new)) }
+{
     line.push_str("$'")?;
     for c in word.chars() {
-        match c {
-            '\'' => line.push_str("\\'")?,
-            '\\' => line.push_str("\\\\")?,
-            other if is_control(other) => add_control(line, other)?,
-            other => line.push(other)?,
-        }
+        add_in_dollar_quotes(line, c)?;
     }
     line.push('\'')
 }
 
-fn add_control(line: &mut String, c: char) -> Result<(), AllocError> {
-    if '\u{7f}' < c {
-        line.push_str("\\302")?;
+// Adds a character inside `$'..'`, a control character by its bytes.
+fn add_in_dollar_quotes(line: &mut String, c: char) -> Result<(), AllocError>
+    ensures { OnOk result (spec.Adds (spec.IsWritten (encode_utf8 c)) (string_bytes line.old) (string_bytes line.new)) }
+{
+    if c == '\'' {
+        return line.push_str("\\'");
     }
-    let code = c as u32;
-    line.push('\\')?;
-    add_octal(line, code / 64 % 8)?;
-    add_octal(line, code / 8 % 8)?;
-    add_octal(line, code % 8)
+    if c == '\\' {
+        return line.push_str("\\\\");
+    }
+    if is_control(c) {
+        return add_control(line, c);
+    }
+    line.push(c)
 }
 
-fn add_octal(line: &mut String, digit: u32) -> Result<(), AllocError> {
-    match digit {
-        0 => line.push('0'),
-        1 => line.push('1'),
-        2 => line.push('2'),
-        3 => line.push('3'),
-        4 => line.push('4'),
-        5 => line.push('5'),
-        6 => line.push('6'),
-        _ => line.push('7'),
+// Adds a control character by the one or two bytes that it has.
+fn add_control(line: &mut String, c: char) -> Result<(), AllocError>
+    requires { spec.is_control c ≡ true }
+    ensures { OnOk result (spec.Adds (spec.IsWritten (encode_utf8 c)) (string_bytes line.old) (string_bytes line.new)) }
+{
+    let code = c as u8;
+    if c < '\u{80}' {
+        return add_byte(line, code);
     }
+    add_byte(line, 0o302)?;
+    add_byte(line, code)
+}
+
+// Adds a byte by three octal digits.
+fn add_byte(line: &mut String, byte: u8) -> Result<(), AllocError>
+    ensures { OnOk result (spec.Adds (spec.IsWritten (byte ∷ [])) (string_bytes line.old) (string_bytes line.new)) }
+{
+    line.push('\\')?;
+    add_digit(line, byte / 64)?;
+    add_digit(line, byte / 8 % 8)?;
+    add_digit(line, byte % 8)
+}
+
+fn add_digit(line: &mut String, digit: u8) -> Result<(), AllocError>
+    requires { digit < 8 }
+    ensures { OnOk result (string_bytes line.new ≡ string_bytes line.old ++ (48 + digit) ∷ []) }
+{
+    line.push(char::from(b'0' + digit))
 }

@@ -1,4 +1,7 @@
 //! What a run tells of its jobs on standard error while it goes on.
+ghost use Rattle.std.specs.Prelude.{◌≡◌, ◌≢◌, List, ℕ, ◌++◌, length, vec_len, codes, IfOk, OnOk, string_bytes};
+ghost use Rattle.std.specs.Io.KnownBytes.{Appends};
+ghost use Rattle.cwl_program.specs.JobLines as spec;
 
 use crate::report::place_in;
 use crate::shell_words::line_of;
@@ -44,7 +47,10 @@ pub struct Teller<'a, E: Write> {
 }
 
 impl<'a, E: Write> Teller<'a, E> {
-    pub fn new(alloc: Global, err: &'a mut E, telling: Telling) -> Teller<'a, E> {
+    pub fn new(alloc: Global, err: &'a mut E, telling: Telling) -> Teller<'a, E>
+        ensures told { result.telling ≡ telling }
+        ensures err { E.contents result.err.now ≡ E.contents err.old }
+    {
         Teller {
             alloc,
             err,
@@ -56,13 +62,18 @@ impl<'a, E: Write> Teller<'a, E> {
     }
 
     /// Erases the line that was rewritten.
-    pub fn finish(&mut self) {
+    pub fn finish(&mut self)
+        ensures { self.old.telling ≢ Telling.OneLine → E.contents self.new.err.now ≡ E.contents self.old.err.now }
+    {
         if matches!(self.telling, Telling::OneLine) {
             let _told = write!(self.err, "{ERASE}");
         }
     }
 
-    fn tell_start(&mut self, place: &JobPlace, launch: &Launch) -> io::Result<()> {
+    fn tell_start(&mut self, place: &JobPlace, launch: &Launch) -> io::Result<()>
+        ensures silent { self.old.telling ≢ Telling.Lines → E.contents self.new.err.now ≡ E.contents self.old.err.now }
+        ensures told { OnOk result (self.old.telling ≡ Telling.Lines → (line : List ℕ) × spec.IsStartLine place.now launch.now (length self.old.ended) self.old.known line × Appends (E.contents self.old.err.now) (E.contents self.new.err.now) (line ++ codes "\n")) }
+    {
         if !matches!(self.telling, Telling::Lines) {
             return Ok(());
         }
@@ -97,30 +108,34 @@ impl<'a, E: Write> Teller<'a, E> {
         Some(place)
     }
 
-    fn tell_end(&mut self, place: &Text, end: &ChildEnd) -> io::Result<()> {
+    fn tell_end(&mut self, place: &Text, end: &ChildEnd) -> io::Result<()>
+        ensures silent { self.old.telling ≢ Telling.Lines → E.contents self.new.err.now ≡ E.contents self.old.err.now }
+        ensures told { OnOk result (self.old.telling ≡ Telling.Lines → Appends (E.contents self.old.err.now) (E.contents self.new.err.now) (spec.end_line place.now (length self.old.ended) self.old.known end.now ++ codes "\n")) }
+    {
         if !matches!(self.telling, Telling::Lines) {
             return Ok(());
         }
-        let (done, known, millis) = (self.ended.len(), self.known, end.millis);
-        match end.code {
-            Some(code) => writeln!(
-                self.err,
-                "end {place} [{done}/{known}] exit {code}, {millis} ms"
-            ),
-            None => writeln!(self.err, "end {place} [{done}/{known}] signal, {millis} ms"),
-        }
+        let line = end_line(self.alloc, place, end, self.ended.len(), self.known)?;
+        writeln!(self.err, "{line}")
     }
 
-    fn rewrite(&mut self) -> io::Result<()> {
+    fn rewrite(&mut self) -> io::Result<()>
+        ensures silent { self.old.telling ≢ Telling.OneLine → E.contents self.new.err.now ≡ E.contents self.old.err.now }
+        ensures told { OnOk result (self.old.telling ≡ Telling.OneLine → Appends (E.contents self.old.err.now) (E.contents self.new.err.now) (spec.erase ++ spec.progress_line (length self.old.ended) self.old.known (vec_len self.old.running))) }
+    {
         if !matches!(self.telling, Telling::OneLine) {
             return Ok(());
         }
-        let (done, known, running) = (self.ended.len(), self.known, self.running.len());
-        write!(
-            self.err,
-            "{ERASE}{done} of {known} jobs done, {running} running"
-        )?;
+        self.write_progress()?;
         self.err.flush()
+    }
+
+    fn write_progress(&mut self) -> io::Result<()>
+        ensures { OnOk result (Appends (E.contents self.old.err.now) (E.contents self.new.err.now) (spec.erase ++ spec.progress_line (length self.old.ended) self.old.known (vec_len self.old.running))) }
+    {
+        let (done, known, running) = (self.ended.len(), self.known, self.running.len());
+        let line = progress_line(self.alloc, done, known, running)?;
+        write!(self.err, "{ERASE}{line}")
     }
 }
 
@@ -147,8 +162,45 @@ fn start_line(
     launch: &Launch,
     done: usize,
     known: usize,
-) -> Result<String, AllocError> {
+) -> Result<String, AllocError>
+    ensures { IfOk result (λ line. spec.IsStartLine place.now launch.now done known (string_bytes line)) }
+{
     let place = place_in(alloc, place)?;
     let words = line_of(alloc, launch)?;
     format!(in alloc; "start {place} [{done}/{known}] {words}")
+}
+
+fn end_line(
+    alloc: Global,
+    place: &Text,
+    end: &ChildEnd,
+    done: usize,
+    known: usize,
+) -> Result<String, AllocError>
+    ensures { IfOk result (λ line. string_bytes line ≡ spec.end_line place.now done known end.now) }
+{
+    let how = ending(alloc, end.code)?;
+    let millis = end.millis;
+    format!(in alloc; "end {place} [{done}/{known}] {how}, {millis} ms")
+}
+
+// How a command ended: by a code, or by a signal.
+fn ending(alloc: Global, code: Option<i32>) -> Result<String, AllocError>
+    ensures { IfOk result (λ text. string_bytes text ≡ spec.ending code) }
+{
+    match code {
+        Some(code) => format!(in alloc; "exit {code}"),
+        None => String::from_str(alloc, "signal"),
+    }
+}
+
+fn progress_line(
+    alloc: Global,
+    done: usize,
+    known: usize,
+    running: usize,
+) -> Result<String, AllocError>
+    ensures { IfOk result (λ line. string_bytes line ≡ spec.progress_line done known running) }
+{
+    format!(in alloc; "{done} of {known} jobs done, {running} running")
 }
