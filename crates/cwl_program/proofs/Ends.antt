@@ -14,18 +14,18 @@ use Rattle.cwl_program.specs.declared.exit.Fault.TheVariants as faults
 use Rattle.cwl_program.specs.declared.telling.Telling.{Telling}
 
 -- what a choice comes to, or the fault where memory was short
-pub chosen_or_fault : (words : List Text) (choice : Choice) (answer : Result Exit AllocError) (exit : Exit) (why : Bool) (telling : Telling)
-    → Asks words (wish_of choice) → IfOk answer (IsEndOf choice)
+pub chosen_or_fault : (words : List Text) (path : Text) (choice : Choice) (answer : Result Exit AllocError) (exit : Exit) (why : Bool) (telling : Telling)
+    → Asks words (wish_of choice) → IfOk answer (IsEndOf path choice)
     → exit ≡ result_unwrap_or answer (Fault faults.OutOfMemory) → why ≡ asks_why choice → telling ≡ telling_of choice
-    → LeadsTo words exit why telling
-chosen_or_fault words choice (Ok x) exit why telling asked end is_it same told =
-    subst (λ (t : Telling). LeadsTo words exit why t) (sym told)
-    (subst (λ (b : Bool). LeadsTo words exit b (telling_of choice)) (sym same)
-    (subst (λ (e : Exit). LeadsTo words e (asks_why choice) (telling_of choice)) (sym is_it) (chooses choice asked end)))
-chosen_or_fault words choice (Err error) exit why telling asked end is_it same told =
-    subst (λ (t : Telling). LeadsTo words exit why t) (sym told)
-    (subst (λ (b : Bool). LeadsTo words exit b (telling_of choice)) (sym same)
-    (subst (λ (e : Exit). LeadsTo words e (asks_why choice) (telling_of choice)) (sym is_it) (out_of_memory choice asked)))
+    → LeadsTo words path exit why telling
+chosen_or_fault words path choice (Ok x) exit why telling asked end is_it same told =
+    subst (λ (t : Telling). LeadsTo words path exit why t) (sym told)
+    (subst (λ (b : Bool). LeadsTo words path exit b (telling_of choice)) (sym same)
+    (subst (λ (e : Exit). LeadsTo words path e (asks_why choice) (telling_of choice)) (sym is_it) (chooses choice asked end)))
+chosen_or_fault words path choice (Err error) exit why telling asked end is_it same told =
+    subst (λ (t : Telling). LeadsTo words path exit why t) (sym told)
+    (subst (λ (b : Bool). LeadsTo words path exit b (telling_of choice)) (sym same)
+    (subst (λ (e : Exit). LeadsTo words path e (asks_why choice) (telling_of choice)) (sym is_it) (out_of_memory choice asked)))
 
 pub told_alone : (exit : Exit) (out out_new err err_new : Held) (why : Bool)
     → why ≡ false → Prints exit out out_new err err_new → IsTold exit out out_new err err_new why
@@ -39,10 +39,10 @@ told_with_words exit out out_new err err_told err_new why asked line words =
     subst (λ (b : Bool). IsTold exit out out_new err err_new b) (sym asked) (and_words err_told line words)
 
 -- `clap`'s error is said, where nothing was told before
-pub explained : (words : List Text) (out out_new err err_told err_new : Held) (error : Error) (status : ℕ)
+pub explained : (words : List Text) (path : Text) (out out_new err err_told err_new : Held) (error : Error) (status : ℕ)
     → kind_of error ≢ OutOfMemory → HasKind (fault_of command_line words) error → err_told ≡ err
     → Explains (kind_of error) out out_new err_told err_new status
-    → Tells words out out_new err err_new status
-explained words out out_new err err_told err_new error status other (inl memory) untold explaining = absurd (other memory)
-explained words out out_new err err_told err_new error status other (inr among) untold explaining =
+    → Tells words path out out_new err err_new status
+explained words path out out_new err err_told err_new error status other (inl memory) untold explaining = absurd (other memory)
+explained words path out out_new err err_told err_new error status other (inr among) untold explaining =
     explains (kind_of error) among (subst (λ (e : Held). Explains (kind_of error) out out_new e err_new status) untold explaining)

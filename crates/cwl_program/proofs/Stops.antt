@@ -1,5 +1,6 @@
 -- What is wrong before anything is run ends the program.
-use Rattle.std.proofs.Common.{◌≡◌, ◌≤◌, ℕ, List, length, subst, sym, Option, Result, Ok, Err, IfOk}
+use Rattle.std.proofs.Common.{◌≡◌, ◌≢◌, ◌≤◌, ℕ, List, length, Option, Some, subst, sym, Result, Ok, Err, IfOk, IfErr, OnErr}
+use Rattle.std.proofs.lemmas.Result.{IfOk-weaker}
 use Rattle.std.specs.declared.alloc.AllocError.{AllocError}
 use Rattle.clap.specs.Words.{Text}
 use Rattle.url.specs.Parts.{Parts}
@@ -8,27 +9,134 @@ use Rattle.document_links.specs.Library.{Documents}
 use Rattle.document_links.specs.declared.bounds.TheConstants.{MOST_PROCESSES}
 use Rattle.document_links.specs.declared.fault.LinkError.TheVariants as link_errors
 use Rattle.document_links.specs.declared.fault.LinkFault.{LinkFault}
-use Rattle.document_links.specs.declared.fault.LinkFault.TheVariants as link_faults
-use Rattle.cwl_program.specs.Runs.{IsOfDocuments, IsRunExit, IsStop, IsStopExit, bad_document, stops, too_many}
+use Rattle.document_links.specs.declared.process.Process.{Process}
+use Rattle.cwl_value.specs.Texts.{ReadsAs}
+use Rattle.cwl_value.specs.declared.value.Value.{Value}
+use Rattle.cwl_value.specs.declared.value.Value.TheVariants as values
+use Rattle.file_values.specs.Resolved.{resolved}
+use Rattle.job_graph.specs.Words.{Fields}
+use Rattle.cwl_program.specs.Demo as demo
+use Rattle.cwl_program.specs.RunWords.{RunWish}
+use Rattle.cwl_program.specs.Paths.{IsAt, from_root}
+use Rattle.cwl_program.specs.Runs.{IsInputsText, IsInputsUnread, IsInputsUrl, IsNamedInputs, IsNamedProcess, IsNoInputs, IsNoProcess, IsReady, IsRunExit, document_unread, document_wrong, inputs_unread, inputs_wrong, lost, no_inputs, no_process, no_work, stops}
+use Rattle.cwl_program.specs.Certificates.{IsCheck, unread}
+use Rattle.cwl_program.specs.Sources.{IsAbsent, IsAccepted, IsDocumentStop, IsInputs, IsInputsStop, IsOfDocuments, bad_document, no_object, too_many}
+use Rattle.cwl_program.specs.Stops.{IsStop, IsUnread}
 use Rattle.cwl_program.specs.declared.exit.Exit.{Exit}
 use Rattle.cwl_program.specs.declared.exit.Exit.TheVariants as exits
+use Rattle.cwl_program.specs.declared.exit.Fault.TheVariants as faults
 use Rattle.cwl_program.specs.declared.exit.Refusal.TheVariants as refusals
+use Rattle.document_links.specs.declared.fault.LinkFault.TheVariants as link_faults
+use Rattle.cwl_program.specs.declared.run.Given.{Given}
 use Rattle.cwl_program.specs.declared.stop.Stop.{Stop}
-use Rattle.cwl_program.specs.declared.stop.Stop.TheVariants.{Early}
+use Rattle.cwl_program.specs.declared.stop.Stop.TheVariants.{Early, OutOfMemory}
 
 pub wrong_document : (bytes : List ℕ) (base : Parts) (docs : Documents) (fault : LinkFault) (stop : Stop)
     → IsRefused (link_errors.Refused fault) bytes base docs → IsOfDocuments fault
-    → stop ≡ Early (exits.Refused (refusals.Document fault)) → IsStop stop
+    → stop ≡ Early (exits.Refused (refusals.Document fault)) → IsStop (IsDocumentStop bytes base docs) stop
 wrong_document bytes base docs fault stop is_wrong of_documents is_it =
-    subst (λ (s : Stop). IsStop s) (sym is_it) (bad_document base docs fault (bytes, is_wrong) of_documents)
+    subst (λ (s : Stop). IsStop (IsDocumentStop bytes base docs) s) (sym is_it) (bad_document fault is_wrong of_documents)
 
 pub too_many_documents : (bytes : List ℕ) (base : Parts) (docs : Documents) (url : List ℕ) (stop : Stop)
-    → IsRefused (link_errors.Refused (link_faults.NotLoaded url)) bytes base docs → MOST_PROCESSES ≤ length docs
-    → stop ≡ Early (exits.Refused (refusals.Document link_faults.TooMany)) → IsStop stop
-too_many_documents bytes base docs url stop is_wrong are_many is_it =
-    subst (λ (s : Stop). IsStop s) (sym is_it) (too_many base docs url (bytes, is_wrong) are_many)
+    → IsAbsent bytes base docs url → MOST_PROCESSES ≤ length docs
+    → stop ≡ Early (exits.Refused (refusals.Document link_faults.TooMany)) → IsStop (IsDocumentStop bytes base docs) stop
+too_many_documents bytes base docs url stop is_absent are_many is_it =
+    subst (λ (s : Stop). IsStop (IsDocumentStop bytes base docs) s) (sym is_it) (too_many url is_absent are_many)
 
--- an early end is an end of a run with any numbers
-pub stops_so : (slots retries : Option Text) (answer : Result Exit AllocError) → IfOk answer IsStopExit → IfOk answer (IsRunExit slots retries)
-stops_so slots retries (Ok exit) stop = stops stop
-stops_so slots retries (Err error) stop = stop
+-- no object among these inputs
+pub not_an_object : {T : Type 0} (bytes : List ℕ) (base : Parts) (value found : Value) (answer : Result T Stop)
+    → ReadsAs bytes (Ok value) → resolved base value ≡ Ok found
+    → IfErr answer (λ stop. stop ≡ Early (exits.Fault faults.NoObject)) → OnErr answer ((inputs : Fields) → found ≢ values.Fields inputs)
+    → IfErr answer (IsStop (IsInputsStop bytes base))
+not_an_object bytes base value found (Ok x) reads there is_it is_other = is_it
+not_an_object bytes base value found (Err stop) reads there is_it is_other =
+    subst (λ (s : Stop). IsStop (IsInputsStop bytes base) s) (sym is_it) (no_object value found reads there is_other)
+
+-- ---- from one stop to another
+
+-- where each of these ends is one of those
+pub stop_so : (IsOne IsOther : Exit → Type 0) → ((exit : Exit) → IsOne exit → IsOther exit) → (stop : Stop) → IsStop IsOne stop → IsStop IsOther stop
+stop_so IsOne IsOther to (Early exit) is = to exit is
+stop_so IsOne IsOther to OutOfMemory is = is
+
+pub stops_so : {T : Type 0} (IsOne IsOther : Exit → Type 0) → ((exit : Exit) → IsOne exit → IsOther exit)
+    → (answer : Result T Stop) → IfErr answer (IsStop IsOne) → IfErr answer (IsStop IsOther)
+stops_so IsOne IsOther to (Ok x) is = is
+stops_so IsOne IsOther to (Err stop) is = stop_so IsOne IsOther to stop is
+
+-- ---- what is read of the files that are named
+
+pub unread_document : {T : Type 0} (here : Text) (words : RunWish) (answer : Result T Stop)
+    → IfErr answer (IsStop (IsUnread words.document)) → IfErr answer (IsStop (IsNoProcess here words))
+unread_document here words answer is = stops_so _ _ (λ exit end. document_unread end) answer is
+
+pub unread_inputs : {T : Type 0} (here : Text) (words : RunWish) (name : Text) (answer : Result T Stop)
+    → words.inputs ≡ Some name → IfErr answer (IsStop (IsUnread name)) → IfErr answer (IsStop (IsNoInputs here words))
+unread_inputs here words name answer named is =
+    stops_so _ _ (λ exit end. inputs_unread (subst (λ (n : Option Text). IsInputsUnread n exit) (sym named) end)) answer is
+
+pub named_process : (here : Text) (words : RunWish) (bytes : List ℕ) (base : Parts) (answer : Result Process Stop)
+    → IsAt here words.document base → IfOk answer (λ process. (docs : Documents) × IsAccepted bytes base docs process)
+    → IfOk answer (IsNamedProcess here words)
+named_process here words bytes base answer at accepted = IfOk-weaker answer _ _ (λ process p. (bytes, base, p.0, at, p.1)) accepted
+
+pub no_named_process : {T : Type 0} (here : Text) (words : RunWish) (bytes : List ℕ) (base : Parts) (answer : Result T Stop)
+    → IsAt here words.document base → IfErr answer (IsStop (λ exit. (docs : Documents) × IsDocumentStop bytes base docs exit))
+    → IfErr answer (IsStop (IsNoProcess here words))
+no_named_process here words bytes base answer at is = stops_so _ _ (λ exit end. document_wrong bytes base end.0 at end.1) answer is
+
+pub named_inputs : (here : Text) (words : RunWish) (bytes : List ℕ) (base : Parts) (answer : Result Fields Stop)
+    → IsInputsText words.inputs bytes → IsInputsUrl here words base → IfOk answer (IsInputs bytes base) → IfOk answer (IsNamedInputs here words)
+named_inputs here words bytes base answer text at are = IfOk-weaker answer _ _ (λ inputs i. (bytes, base, text, at, i)) are
+
+pub no_named_inputs : {T : Type 0} (here : Text) (words : RunWish) (bytes : List ℕ) (base : Parts) (answer : Result T Stop)
+    → IsInputsText words.inputs bytes → IsInputsUrl here words base → IfErr answer (IsStop (IsInputsStop bytes base))
+    → IfErr answer (IsStop (IsNoInputs here words))
+no_named_inputs here words bytes base answer text at is = stops_so _ _ (λ exit end. inputs_wrong bytes base text at end) answer is
+
+-- ---- how the program ends
+
+-- the end is the stop's
+ends_so : (IsEnd : Exit → Type 0) (stop : Stop) (answer : Result Exit AllocError)
+    → IsStop IsEnd stop → IfOk answer (λ exit. stop ≡ Early exit) → IfOk answer IsEnd
+ends_so IsEnd stop (Ok exit) is same = subst (λ (s : Stop). IsStop IsEnd s) same is
+ends_so IsEnd stop (Err error) is same = same
+
+pub check_stops : (file : Text) (stop : Stop) (answer : Result Exit AllocError)
+    → IsStop (IsUnread file) stop → IfOk answer (λ exit. stop ≡ Early exit) → IfOk answer (IsCheck file)
+check_stops file stop answer is same = IfOk-weaker answer _ _ (λ exit end. unread end) (ends_so _ stop answer is same)
+
+pub without_folder : (words : RunWish) (path : Text) (answer : Result Exit AllocError)
+    → IfOk answer (λ exit. exit ≡ exits.Fault faults.Folder) → IfOk answer (IsRunExit words path)
+without_folder words path answer is =
+    IfOk-weaker answer _ _ (λ exit end. subst (λ (e : Exit). IsRunExit words path e) (sym end) lost) is
+
+pub without_process : (here : Text) (words : RunWish) (path : Text) (stop : Stop) (answer : Result Exit AllocError)
+    → IsStop (IsNoProcess here words) stop → IfOk answer (λ exit. stop ≡ Early exit) → IfOk answer (IsRunExit words path)
+without_process here words path stop answer is same =
+    IfOk-weaker answer _ _ (λ exit end. stops here (no_process end)) (ends_so _ stop answer is same)
+
+pub without_inputs : (here : Text) (words : RunWish) (path : Text) (process : Process) (stop : Stop) (answer : Result Exit AllocError)
+    → IsNamedProcess here words process → IsStop (IsNoInputs here words) stop
+    → IfOk answer (λ exit. stop ≡ Early exit) → IfOk answer (IsRunExit words path)
+without_inputs here words path process stop answer named is same =
+    IfOk-weaker answer _ _ (λ exit end. stops here (no_inputs process named end)) (ends_so _ stop answer is same)
+
+pub without_work : (here : Text) (words : RunWish) (path : Text) (given : Given) (work : Text) (answer : Result Exit AllocError)
+    → IsReady here words given → work ≡ from_root here words.work
+    → IfOk answer (λ exit. exit ≡ exits.Fault (faults.Work work)) → IfOk answer (IsRunExit words path)
+without_work here words path given work answer ready named is =
+    let end : IsRunExit words path (exits.Fault (faults.Work work)) =
+    subst (λ (w : Text). IsRunExit words path (exits.Fault (faults.Work w))) (sym named) (stops here (no_work given ready)) in
+    IfOk-weaker answer _ _ (λ exit same. subst (λ (e : Exit). IsRunExit words path e) (sym same) end) is
+
+pub demo_without_process : (path : Text) (stop : Stop) (answer : Result Exit AllocError)
+    → IsStop demo.IsNoDemoProcess stop → IfOk answer (λ exit. stop ≡ Early exit) → IfOk answer (demo.IsDemoExit path)
+demo_without_process path stop answer is same =
+    IfOk-weaker answer _ _ (λ exit end. demo.no_process end) (ends_so _ stop answer is same)
+
+pub demo_without_inputs : (path : Text) (process : Process) (stop : Stop) (answer : Result Exit AllocError)
+    → demo.IsDemoProcess process → IsStop demo.IsNoDemoInputs stop
+    → IfOk answer (λ exit. stop ≡ Early exit) → IfOk answer (demo.IsDemoExit path)
+demo_without_inputs path process stop answer named is same =
+    IfOk-weaker answer _ _ (λ exit end. demo.no_inputs process named end) (ends_so _ stop answer is same)

@@ -8,9 +8,9 @@ use Rattle.plan_checker.specs.Broken.{IsFirstBroken}
 use Rattle.plan_checker.specs.Certificate.{IsCertificate}
 use Rattle.plan_checker.specs.Format.{IsTextOf, IsFirstBad}
 use Rattle.plan_checker.specs.Plan.{cost}
+use Rattle.cwl_program.specs.Stops.{IsUnread}
 use Rattle.cwl_program.specs.declared.exit.Exit.{Exit}
-use Rattle.cwl_program.specs.declared.exit.Exit.TheVariants.{Output, Broken, Refused, Fault}
-use Rattle.cwl_program.specs.declared.exit.Fault.TheVariants as faults
+use Rattle.cwl_program.specs.declared.exit.Exit.TheVariants.{Output, Broken, Refused}
 use Rattle.cwl_program.specs.declared.exit.Refusal.TheVariants as refusals
 
 -- the line for a certificate of this cost
@@ -29,6 +29,6 @@ pub data IsVerdict (bytes : List ℕ) : Exit → Type 0 where
   unreadable : (line : ℕ) → IsFirstBad bytes line → IsVerdict bytes (Refused (refusals.Certificate line))
 
 -- what is said of a certificate's file
-pub data IsCheck : Exit → Type 0 where
-  read : {exit : Exit} (bytes : List ℕ) → IsVerdict bytes exit → IsCheck exit
-  unread : IsCheck (Fault faults.Input)
+pub data IsCheck (file : List ℕ) : Exit → Type 0 where
+  read : {exit : Exit} (bytes : List ℕ) → IsVerdict bytes exit → IsCheck file exit
+  unread : {exit : Exit} → IsUnread file exit → IsCheck file exit

@@ -1,5 +1,7 @@
 pub mod Certificates
 pub mod CommandLine
+pub mod Demo
+pub mod FailedCalls
 pub mod Flags
 pub mod JobLines
 pub mod Paths
@@ -7,7 +9,9 @@ pub mod RecordWords
 pub mod RunWords
 pub mod Runs
 pub mod ShellWords
+pub mod Sources
 pub mod Status
+pub mod Stops
 pub mod Tells
 pub mod Terminal
 pub mod Words

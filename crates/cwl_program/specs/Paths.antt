@@ -22,6 +22,14 @@ rooted components = flat_map (λ component. 47 ∷ component) components
 abbrev pub from_root : (here name : List ℕ) → List ℕ
 from_root here name = rooted ((if is_absolute name then [] else steps here) ++ steps name)
 
--- the path's location is the text of a URL
+-- the path's location is the text of this URL
+abbrev pub IsUrlOf : List ℕ → Parts → Type 0
+IsUrlOf path url = parse_url None (location_of path) ≡ Ok url
+
+-- or of some URL
 abbrev pub HasUrl : List ℕ → Type 0
-HasUrl path = (url : Parts) × (parse_url None (location_of path) ≡ Ok url)
+HasUrl path = (url : Parts) × IsUrlOf path url
+
+-- a file of this name, for a program that is called in the folder `here`, is at this URL
+abbrev pub IsAt : (here name : List ℕ) → Parts → Type 0
+IsAt here name url = IsUrlOf (from_root here name) url

@@ -1,23 +1,10 @@
 -- How a run of a document on inputs ends the program.
-use Rattle.std.specs.Prelude.{◌≡◌, ◌≤◌, ⊤, ℕ, List, length, Option, Some, None, Result, Ok, Err}
+use Rattle.std.specs.Prelude.{◌≡◌, ⊤, ℕ, false, List, codes, Option, Some, None, unwrap_or, Result, Ok, Err, IfErr}
 use Rattle.serde_json.specs.Written.{compact_text}
+use Rattle.clap.specs.Words.{Text}
 use Rattle.url.specs.Parts.{Parts}
-use Rattle.document_links.specs.Documents.{IsLinked, IsRefused}
 use Rattle.document_links.specs.Library.{Documents}
-use Rattle.document_links.specs.declared.bounds.TheConstants.{MOST_PROCESSES}
-use Rattle.document_links.specs.declared.fault.LinkError.TheVariants as link_errors
-use Rattle.document_links.specs.declared.fault.LinkFault.{LinkFault}
-use Rattle.document_links.specs.declared.fault.LinkFault.TheVariants as link_faults
 use Rattle.document_links.specs.declared.process.Process.{Process}
-use Rattle.workflow_check.specs.Checked.{fault_in}
-use Rattle.workflow_check.specs.declared.fault.LinkCheckFault.{LinkCheckFault}
-use Rattle.file_values.specs.Location as location
-use Rattle.file_values.specs.Resolved as files
-use Rattle.file_values.specs.declared.refusal.FileError.TheVariants as file_errors
-use Rattle.file_values.specs.declared.refusal.FileFault.{FileFault}
-use Rattle.cwl_value.specs.Texts.{ReadsAs}
-use Rattle.cwl_value.specs.declared.refusal.ValueRefusal.{ValueRefusal}
-use Rattle.cwl_value.specs.declared.value.Value.{Value}
 use Rattle.cwl_value.specs.Json.{json_of}
 use Rattle.cwl_value.specs.Places.{job_text}
 use Rattle.cwl_value.specs.declared.value.Value.TheVariants as values
@@ -30,17 +17,19 @@ use Rattle.run_rules.specs.declared.outcome.Report.{Report}
 use Rattle.run_rules.specs.declared.outcome.RunFault.{RunFault}
 use Rattle.run_rules.specs.declared.outcome.RunFault.TheVariants as run_faults
 use Rattle.run_rules.specs.declared.setting.Options.{Options}
+use Rattle.workflow_engine.specs.Blame.{IsHostsFault}
 use Rattle.workflow_engine.specs.Gains.{RunsOn}
+use Rattle.cwl_program.specs.FailedCalls.{failed_on}
+use Rattle.cwl_program.specs.Paths.{IsAt, from_root}
+use Rattle.cwl_program.specs.RunWords.{IsChosen, RunWish}
+use Rattle.cwl_program.specs.Sources.{IsAccepted, IsDocumentStop, IsInputs, IsInputsStop}
+use Rattle.cwl_program.specs.Stops.{IsUnread}
 use Rattle.cwl_program.specs.declared.exit.Exit.{Exit}
 use Rattle.cwl_program.specs.declared.exit.Exit.TheVariants as exits
 use Rattle.cwl_program.specs.declared.exit.Fault.{Fault}
 use Rattle.cwl_program.specs.declared.exit.Fault.TheVariants as faults
-use Rattle.cwl_program.specs.declared.exit.Refusal.TheVariants as refusals
-use Rattle.cwl_program.specs.RunWords.{IsChosen}
-use Rattle.clap.specs.Words.{Text}
 use Rattle.cwl_program.specs.declared.run.Given.{Given}
-use Rattle.cwl_program.specs.declared.stop.Stop.{Stop}
-use Rattle.cwl_program.specs.declared.stop.Stop.TheVariants.{Early, OutOfMemory}
+use Rattle.cwl_program.specs.declared.run.Places.{Places}
 
 -- the place of a job as JSON text, as `"main/step[0]"`
 abbrev pub place_json : List Segment → List ℕ
@@ -52,92 +41,93 @@ outcome_exit (outcomes.Success outputs) = exits.Output (compact_text (json_of ou
 outcome_exit (outcomes.PermanentFail place cause) = exits.Permanent (place_json place) cause
 outcome_exit (outcomes.TemporaryFail place) = exits.Temporary (place_json place)
 
--- a run that has no outcome is a fault
-abbrev pub fault_of : RunFault → Fault
-fault_of (run_faults.Host fault running) = faults.Host fault
-fault_of run_faults.TooManyJobs = faults.TooManyJobs
-fault_of run_faults.OutOfMemory = faults.OutOfMemory
+-- a run that has no outcome is a fault; of the host's one it is told what the call was about
+abbrev pub fault_of : (log : List Entry) → RunFault → Fault
+fault_of log (run_faults.Host fault running) = faults.Host fault (failed_on log fault)
+fault_of log run_faults.TooManyJobs = faults.TooManyJobs
+fault_of log run_faults.OutOfMemory = faults.OutOfMemory
 
-abbrev pub run_exit : Result Report RunFault → Exit
-run_exit (Ok report) = outcome_exit report.outcome
-run_exit (Err fault) = exits.Fault (fault_of fault)
+abbrev pub run_exit : (log : List Entry) → Result Report RunFault → Exit
+run_exit log (Ok report) = outcome_exit report.outcome
+run_exit log (Err fault) = exits.Fault (fault_of log fault)
 
--- ---- what is run
+-- a host's log gained a run of this process on these inputs, where a fault is the host's only if a call of it failed so, and the program
+-- ends as that run
+pub data IsRan (process : Process) (inputs : Fields) (options : Options) : Exit → Type 0 where
+  ran : (before after : List Entry) (result : Result Report RunFault) → RunsOn before after process inputs options result →
+      IfErr result (IsHostsFault before after) → IsRan process inputs options (run_exit after result)
 
--- the process of some document, with the documents that it leads to
-abbrev pub IsDocument : Process → Type 0
-IsDocument process = (bytes : List ℕ) × (base : Parts) × (docs : Documents) × IsLinked bytes base docs process
+-- ---- what the words of `run` name, for a program that is called in the folder `here`
 
--- and its links are right
-abbrev pub IsAccepted : Process → Type 0
-IsAccepted process = IsDocument process × (fault_in process ≡ None)
+-- the process of the document that is named: of some text at its URL, with some documents
+abbrev pub IsNamedProcess : (here : Text) (words : RunWish) → Process → Type 0
+IsNamedProcess here words process =
+    (bytes : List ℕ) × (base : Parts) × (docs : Documents) × IsAt here words.document base × IsAccepted bytes base docs process
 
--- the value of some text, each of its files at the path that its location has on the text's URL
-abbrev pub IsLocated : Value → Type 0
-IsLocated value = (bytes : List ℕ) × (base : Parts) × (read : Value) × ReadsAs bytes (Ok read) × (files.resolved base read ≡ Ok value)
+-- the text of the inputs, where no file is named
+abbrev pub IsInputsText : Option Text → List ℕ → Type 0
+IsInputsText None bytes = bytes ≡ codes "{}"
+IsInputsText (Some name) bytes = ⊤
 
-abbrev pub IsInputs : Fields → Type 0
-IsInputs inputs = IsLocated (values.Fields inputs)
+-- its URL is that of its file, or the document's
+abbrev pub IsInputsUrl : (here : Text) (words : RunWish) → Parts → Type 0
+IsInputsUrl here words base = IsAt here (unwrap_or words.inputs words.document) base
 
--- an accepted process, and the inputs of some text
-pub record IsReady (given : Given) : Type 0 where
-  pub process : IsAccepted given.process
-  pub inputs : IsInputs given.inputs
+-- the inputs that are named: those of some text at their URL
+abbrev pub IsNamedInputs : (here : Text) (words : RunWish) → Fields → Type 0
+IsNamedInputs here words inputs =
+    (bytes : List ℕ) × (base : Parts) × IsInputsText words.inputs bytes × IsInputsUrl here words base × IsInputs bytes base inputs
 
--- ---- what is not run
+pub record IsReady (here : Text) (words : RunWish) (given : Given) : Type 0 where
+  pub process : IsNamedProcess here words given.process
+  pub inputs : IsNamedInputs here words given.inputs
 
--- this is wrong first with some document that is at `base`, among these documents
-abbrev pub IsWrong : Parts → Documents → LinkFault → Type 0
-IsWrong base docs fault = (bytes : List ℕ) × IsRefused (link_errors.Refused fault) bytes base docs
+-- there is no such process, and the program ends so: the document's file can't be read, or its text is wrong
+pub data IsNoProcess (here : Text) (words : RunWish) : Exit → Type 0 where
+  document_unread : {exit : Exit} → IsUnread words.document exit → IsNoProcess here words exit
+  document_wrong : {exit : Exit} (bytes : List ℕ) (base : Parts) (docs : Documents) → IsAt here words.document base →
+      IsDocumentStop bytes base docs exit → IsNoProcess here words exit
 
--- the fault is another one than that a document is not there
-abbrev pub IsOfDocuments : LinkFault → Type 0
-IsOfDocuments (link_faults.NotLoaded url) = ⊥
-IsOfDocuments fault = ⊤
+-- their file can't be read, where one is named
+abbrev pub IsInputsUnread : Option Text → Exit → Type 0
+IsInputsUnread None exit = ⊥
+IsInputsUnread (Some name) exit = IsUnread name exit
 
--- there is nothing to run, and the program ends so
-pub data IsStopExit : Exit → Type 0 where
-  -- a document has a fault
-  bad_document : (base : Parts) (docs : Documents) (fault : LinkFault) → IsWrong base docs fault → IsOfDocuments fault →
-      IsStopExit (exits.Refused (refusals.Document fault))
-  -- a document is not there, since as many were read as may be
-  too_many : (base : Parts) (docs : Documents) (url : List ℕ) → IsWrong base docs (link_faults.NotLoaded url) →
-      MOST_PROCESSES ≤ length docs → IsStopExit (exits.Refused (refusals.Document link_faults.TooMany))
-  -- a document is not there, since its URL is no file's
-  no_file : (base : Parts) (docs : Documents) (url : List ℕ) (fault : FileFault) → IsWrong base docs (link_faults.NotLoaded url) →
-      location.Refuses (location.located base url) (location.is_long base url) (file_errors.Refused fault) →
-      IsStopExit (exits.Refused (refusals.Location fault))
-  -- a link of the process is wrong, and this one first
-  bad_links : (process : Process) (fault : LinkCheckFault) → IsDocument process → fault_in process ≡ Some fault →
-      IsStopExit (exits.Refused (refusals.Links fault))
-  -- the text of the inputs has no value
-  bad_inputs : (bytes : List ℕ) (refusal : ValueRefusal) → ReadsAs bytes (Err refusal) → IsStopExit (exits.Refused (refusals.Inputs refusal))
-  -- a file of the inputs has no path
-  no_path : (bytes : List ℕ) (base : Parts) (value : Value) (fault : FileFault) → ReadsAs bytes (Ok value) →
-      location.Refuses (files.resolved base value) (files.has_long base value) (file_errors.Refused fault) →
-      IsStopExit (exits.Refused (refusals.Location fault))
-  -- a file can't be read, or the inputs are no object
-  no_input : IsStopExit (exits.Fault faults.Input)
-  -- the work folder can't be made
-  no_work : IsStopExit (exits.Fault faults.Work)
+-- there are no such inputs
+pub data IsNoInputs (here : Text) (words : RunWish) : Exit → Type 0 where
+  inputs_unread : {exit : Exit} → IsInputsUnread words.inputs exit → IsNoInputs here words exit
+  inputs_wrong : {exit : Exit} (bytes : List ℕ) (base : Parts) → IsInputsText words.inputs bytes → IsInputsUrl here words base →
+      IsInputsStop bytes base exit → IsNoInputs here words exit
 
--- why there is nothing to run; of out of memory nothing is said
-abbrev pub IsStop : Stop → Type 0
-IsStop (Early exit) = IsStopExit exit
-IsStop OutOfMemory = ⊤
+-- there is nothing to run: the document is looked at first, then the inputs, and last the work folder is made
+pub data IsStopExit (here : Text) (words : RunWish) : Exit → Type 0 where
+  no_process : {exit : Exit} → IsNoProcess here words exit → IsStopExit here words exit
+  no_inputs : {exit : Exit} (process : Process) → IsNamedProcess here words process → IsNoInputs here words exit → IsStopExit here words exit
+  no_work : (given : Given) → IsReady here words given → IsStopExit here words (exits.Fault (faults.Work (from_root here words.work)))
 
--- ---- how a run of a document on inputs ends the program
+-- ---- how the words of `run` end the program
 
--- a host's log gained a run of an accepted process with these options, and the program ends as that run
-pub data IsRan (options : Options) : Exit → Type 0 where
-  ran : (before after : List Entry) (process : Process) (inputs : Fields) (result : Result Report RunFault) →
-      IsAccepted process → IsInputs inputs → RunsOn before after process inputs options result → IsRan options (run_exit result)
+-- the folders of a run are those that are named
+pub record AreNamed (here : Text) (words : RunWish) (places : Places) : Type 0 where
+  pub work : places.work ≡ from_root here words.work
+  pub outdir : places.outdir ≡ from_root here words.outdir
 
--- the slots and the retries are those that these texts give, else 1 and 0
-pub record HasNumbers (slots retries : Option Text) (options : Options) : Type 0 where
-  pub side_by_side : IsChosen 1 64 1 slots options.slots
-  pub started_again : IsChosen 0 10 0 retries options.retries
+-- what a run may use, and where, with this `PATH`: the slots and the retries are those that the words give, else 1 and 0; a load costs 1
+-- and 1 more for each 100,000 bytes, and no archive is kept
+pub record IsAsked (here : Text) (words : RunWish) (path : Text) (options : Options) : Type 0 where
+  pub work : options.work ≡ from_root here words.work
+  pub outdir : options.outdir ≡ from_root here words.outdir
+  pub path_env : options.path_env ≡ path
+  pub slots : IsChosen 1 64 1 words.slots options.slots
+  pub retries : IsChosen 0 10 0 words.retries options.retries
+  pub base : options.base ≡ 1
+  pub rate : options.rate ≡ 100000
+  pub keep : options.keep ≡ false
 
-pub data IsRunExit (slots retries : Option Text) : Exit → Type 0 where
-  runs : {exit : Exit} (options : Options) → HasNumbers slots retries options → IsRan options exit → IsRunExit slots retries exit
-  stops : {exit : Exit} → IsStopExit exit → IsRunExit slots retries exit
+-- a run of the named process on the named inputs, or nothing to run
+pub data IsRunExit (words : RunWish) (path : Text) : Exit → Type 0 where
+  runs : {exit : Exit} (here : Text) (given : Given) (options : Options) → IsReady here words given → IsAsked here words path options →
+      IsRan given.process given.inputs options exit → IsRunExit words path exit
+  stops : {exit : Exit} (here : Text) → IsStopExit here words exit → IsRunExit words path exit
+  -- the folder that the program is called in can't be told
+  lost : IsRunExit words path (exits.Fault faults.Folder)

@@ -1,5 +1,5 @@
--- What the program writes to its two writers for these words, and the status that it then answers.
-use Rattle.std.specs.Prelude.{◌≡◌, ◌≢◌, ⊤, ℕ, List, ◌++◌, Bool, true, false, Option, None, codes, option_map}
+-- What the program writes to its two writers for these words and this `PATH`, and the status that it then answers.
+use Rattle.std.specs.Prelude.{◌≡◌, ◌≢◌, ⊤, ℕ, List, ◌++◌, Bool, true, false, Option, codes}
 use Rattle.std.specs.Io.KnownBytes.{Appends}
 use Rattle.clap.specs.Words.{IsAmong, Text, fault_of}
 use Rattle.clap.specs.declared.error.ErrorKind.{ErrorKind}
@@ -9,6 +9,8 @@ use Rattle.record_program.specs.declared.ending.Ending.{Ending}
 use Rattle.record_program.specs.declared.ending.Ending.TheVariants.{Rows}
 use Rattle.cwl_program.specs.Certificates.{IsCheck}
 use Rattle.cwl_program.specs.CommandLine.{Asks, command_line, wish_of}
+use Rattle.cwl_program.specs.Demo.{IsDemoExit}
+use Rattle.cwl_program.specs.RunWords.{wish_of_run}
 use Rattle.cwl_program.specs.Runs.{IsRunExit}
 use Rattle.cwl_program.specs.Status.{status_of}
 use Rattle.cwl_program.specs.Words.{name_of, word_of, refusal_code}
@@ -42,12 +44,12 @@ Prints (Fault fault) out out_new err err_new = IsGiven (codes "fault: " ++ word_
 pub data IsRecordExit : Exit → Type 0 where
   shows : (ending : Ending) → record_program.IsEnding ending → IsRecordExit (Shows ending)
 
--- what the choice comes to
-abbrev pub IsEndOf : Choice → Exit → Type 0
-IsEndOf (Demo explains) exit = IsRunExit None None exit
-IsEndOf (Check file explains) exit = IsCheck exit
-IsEndOf (Run words) exit = IsRunExit (option_map (λ s. s.now) words.slots) (option_map (λ s. s.now) words.retries) exit
-IsEndOf (Record words) exit = IsRecordExit exit
+-- what the choice comes to, with this `PATH`
+abbrev pub IsEndOf : (path : Text) → Choice → Exit → Type 0
+IsEndOf path (Demo explains) exit = IsDemoExit path exit
+IsEndOf path (Check file explains) exit = IsCheck file.now exit
+IsEndOf path (Run words) exit = IsRunExit (wish_of_run words) path exit
+IsEndOf path (Record words) exit = IsRecordExit exit
 
 -- whether the choice asks for words on what went wrong
 abbrev pub asks_why : Choice → Bool
@@ -61,15 +63,15 @@ abbrev pub telling_of : Choice → Telling
 telling_of (Run words) = words.telling
 telling_of choice = Nothing
 
--- the end that these words lead to, whether it is to be explained, and how jobs are told of on the way
-pub data LeadsTo (words : List Text) : Exit → Bool → Telling → Type 0 where
-  chooses : {exit : Exit} (choice : Choice) → Asks words (wish_of choice) → IsEndOf choice exit →
-      LeadsTo words exit (asks_why choice) (telling_of choice)
+-- the end that these words lead to with this `PATH`, whether it is to be explained, and how jobs are told of on the way
+pub data LeadsTo (words : List Text) (path : Text) : Exit → Bool → Telling → Type 0 where
+  chooses : {exit : Exit} (choice : Choice) → Asks words (wish_of choice) → IsEndOf path choice exit →
+      LeadsTo words path exit (asks_why choice) (telling_of choice)
   -- memory ran out on the way to that end
   out_of_memory : (choice : Choice) → Asks words (wish_of choice) →
-      LeadsTo words (Fault faults.OutOfMemory) (asks_why choice) (telling_of choice)
+      LeadsTo words path (Fault faults.OutOfMemory) (asks_why choice) (telling_of choice)
   -- or before the words were read
-  unread : LeadsTo words (Fault faults.OutOfMemory) false Nothing
+  unread : LeadsTo words path (Fault faults.OutOfMemory) false Nothing
 
 -- what the errors take before the end is said: nothing where no words want the jobs to be told of
 abbrev pub IsRunTold : Telling → (err err_run : Held) → Type 0
@@ -115,11 +117,11 @@ pub data Says (exit : Exit) (explains : Bool) (out out_new err err_new : Held) :
   -- a write failed
   fails : Says exit explains out out_new err err_new 3
 
--- what is written and answered for these words
-pub data Tells (words : List Text) (out out_new err err_new : Held) (status : ℕ) : Type 0 where
+-- what is written and answered for these words and this `PATH`
+pub data Tells (words : List Text) (path : Text) (out out_new err err_new : Held) (status : ℕ) : Type 0 where
   -- the words lead to this end, before which a run may have told of its jobs
-  ends : (exit : Exit) (explains : Bool) (telling : Telling) (err_run : Held) → LeadsTo words exit explains telling →
-      IsRunTold telling err err_run → Says exit explains out out_new err_run err_new status → Tells words out out_new err err_new status
+  ends : (exit : Exit) (explains : Bool) (telling : Telling) (err_run : Held) → LeadsTo words path exit explains telling →
+      IsRunTold telling err err_run → Says exit explains out out_new err_run err_new status → Tells words path out out_new err err_new status
   -- the words ask for help, or are refused, by a kind that they may be refused by
   explains : (kind : ErrorKind) → IsAmong kind (fault_of command_line words) →
-      Explains kind out out_new err err_new status → Tells words out out_new err err_new status
+      Explains kind out out_new err err_new status → Tells words path out out_new err err_new status

@@ -33,8 +33,10 @@ refusal_code (refusals.Location fault) = file_code fault
 refusal_code (refusals.Certificate line) = codes "X1"
 
 abbrev pub word_of : Fault → List ℕ
-word_of (faults.Host fault) = host_code fault
-word_of faults.Input = codes "input"
-word_of faults.Work = codes "work"
+word_of (faults.Host fault name) = host_code fault
+word_of faults.Folder = codes "input"
+word_of (faults.Unread name why) = codes "input"
+word_of faults.NoObject = codes "input"
+word_of (faults.Work path) = codes "work"
 word_of faults.TooManyJobs = codes "TooManyJobs"
 word_of faults.OutOfMemory = codes "OutOfMemory"

@@ -1,30 +1,22 @@
 ghost use Rattle.std.specs.Prelude.{◌≡◌, IfOk, decimal};
 ghost use Rattle.cwl_program.specs.Certificates.{IsCheck, IsJudgement, IsVerdict, ok_line};
 
-use crate::exit::{Exit, Fault, Refusal};
+use crate::exit::{Exit, Refusal};
+use crate::stop::{stopped, unread};
 use plain_data::Text;
 use plan_checker::{CertificateError, Charges, Graph, Plan, check, read_certificate};
 use std::alloc::{AllocError, Global};
+use std::fs;
 use std::rt::Files;
-use std::{fs, io};
 
 /// Says what the certificate in a file shows.
+#[tactic(auto, using(crate::proofs::Stops::check_stops))]
 pub fn exit_of_check<R: AllocGlobal + Files>(rt: &R, file: &str) -> Result<Exit, AllocError>
-    ensures { IfOk result IsCheck }
+    ensures { IfOk result (IsCheck file.now) }
 {
     match fs::read(rt, file) {
         Ok(bytes) => verdict(rt.alloc(), bytes.as_slice()),
-        Err(error) => unread(&error),
-    }
-}
-
-/// A file that can't be read is a fault of the input, except for a read that was out of memory.
-fn unread(error: &io::Error) -> Result<Exit, AllocError>
-    ensures { IfOk result (λ exit. exit ≡ Exit.Fault Fault.Input) }
-{
-    match error.kind() {
-        io::ErrorKind::OutOfMemory => Err(AllocError),
-        _ => Ok(Exit::Fault(Fault::Input)),
+        Err(error) => stopped(unread(rt.alloc(), &error, file)),
     }
 }
 

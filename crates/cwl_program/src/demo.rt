@@ -1,7 +1,10 @@
 //! The worked example.
-ghost use Rattle.std.specs.Prelude.{IfOk, IfErr, None};
+ghost use Rattle.std.specs.Prelude.{◌≡◌, IfOk, IfErr, None};
 ghost use Rattle.run_core.specs.Limits.{IsWithinLimits};
-ghost use Rattle.cwl_program.specs.Runs.{HasNumbers, IsAccepted, IsInputs, IsRan, IsReady, IsRunExit, IsStop};
+ghost use Rattle.workflow_check.specs.Checked.{fault_in};
+ghost use Rattle.cwl_program.specs.Demo as spec;
+ghost use Rattle.cwl_program.specs.Runs.{IsRan};
+ghost use Rattle.cwl_program.specs.Stops.{IsStop};
 
 use crate::documents::accepted_of;
 use crate::exit::Exit;
@@ -33,9 +36,8 @@ const INPUTS: &str = "{\"t\":\"abc\"}";
 const SUM: &str = "a9993e364706816aba3e25717850c26c9cd0d89d";
 
 /// Runs the worked example over a host that answers from a script.
-#[tactic(auto, using(crate::proofs::Stops::stops_so))]
 pub fn exit_of_demo(alloc: Global, path: &str) -> Result<Exit, AllocError>
-    ensures { IfOk result (IsRunExit None None) }
+    ensures { IfOk result (spec.IsDemoExit path.now) }
 {
     match process_of(alloc) {
         Ok(process) => on_process(alloc, process, path),
@@ -44,17 +46,16 @@ pub fn exit_of_demo(alloc: Global, path: &str) -> Result<Exit, AllocError>
 }
 
 fn process_of(alloc: Global) -> Result<Process, Stop>
-    ensures ok { IfOk result IsAccepted }
-    ensures err { IfErr result IsStop }
+    ensures ok { IfOk result spec.IsDemoProcess }
+    ensures err { IfErr result (IsStop spec.IsNoDemoProcess) }
 {
     let base = base_of(alloc, ROOT, "hello.json")?;
     accepted_of(alloc, DOCUMENT.as_bytes(), &base, &Docs::new(alloc))
 }
 
-#[tactic(auto, using(crate::proofs::Stops::stops_so))]
 fn on_process(alloc: Global, process: Process, path: &str) -> Result<Exit, AllocError>
-    requires { IsAccepted process }
-    ensures { IfOk result (IsRunExit None None) }
+    requires { spec.IsDemoProcess process }
+    ensures { IfOk result (spec.IsDemoExit path.now) }
 {
     match inputs_of(alloc) {
         Ok(inputs) => {
@@ -71,25 +72,26 @@ fn on_process(alloc: Global, process: Process, path: &str) -> Result<Exit, Alloc
 }
 
 fn inputs_of(alloc: Global) -> Result<Keyed<Value>, Stop>
-    ensures ok { IfOk result IsInputs }
-    ensures err { IfErr result IsStop }
+    ensures ok { IfOk result spec.IsDemoInputs }
+    ensures err { IfErr result (IsStop spec.IsNoDemoInputs) }
 {
     let base = base_of(alloc, ROOT, "inputs.json")?;
     inputs_at(alloc, INPUTS.as_bytes(), &base)
 }
 
 fn in_world(alloc: Global, given: &Given, path: &str) -> Result<Exit, AllocError>
-    requires { IsReady given.now }
-    ensures { IfOk result (IsRunExit None None) }
+    requires process { spec.IsDemoProcess given.now.process }
+    requires inputs { spec.IsDemoInputs given.now.inputs }
+    ensures { IfOk result (spec.IsDemoExit path.now) }
 {
     let world = world_of(alloc, path)?;
     ended(alloc, given, world)
 }
 
 fn ended(alloc: Global, given: &Given, world: World) -> Result<Exit, AllocError>
-    requires ready { IsReady given.now }
+    requires accepted { fault_in given.now.process ≡ None }
     requires limits { IsWithinLimits world.options }
-    ensures { IfOk result (IsRan world.options) }
+    ensures { IfOk result (IsRan given.now.process given.now.inputs world.options) }
 {
     let World { options, script } = world;
     let mut host = Scripted::new(alloc, script, 0);
@@ -101,8 +103,9 @@ fn ended(alloc: Global, given: &Given, world: World) -> Result<Exit, AllocError>
         options,
         &mut Unwatched,
     );
+    let exit = exit_of_run(alloc, host.log(), report);
     mem::drop(host);
-    exit_of_run(alloc, report)
+    exit
 }
 
 /// What the example's run is done with.
@@ -114,7 +117,7 @@ struct World {
 
 fn world_of(alloc: Global, path: &str) -> Result<World, AllocError>
     ensures limits { IfOk result (λ world. IsWithinLimits world.options) }
-    ensures numbers { IfOk result (λ world. HasNumbers None None world.options) }
+    ensures options { IfOk result (λ world. world.options ≡ spec.demo_options path.now) }
 {
     let options = options(alloc, path)?;
     let script = script(alloc)?;
@@ -145,7 +148,7 @@ fn script(alloc: Global) -> Result<Items<Reply>, AllocError> {
 
 fn options(alloc: Global, path: &str) -> Result<Options, AllocError>
     ensures limits { IfOk result IsWithinLimits }
-    ensures numbers { IfOk result (HasNumbers None None) }
+    ensures options { IfOk result (λ options. options ≡ spec.demo_options path.now) }
 {
     Ok(Options {
         work: Text::from_text(alloc, "cwl-work")?,

@@ -1,10 +1,11 @@
 //! The process of a document, with all that it leads to, whose links are right.
 ghost use Rattle.std.specs.Prelude.{◌≡◌, IfOk, IfErr};
-ghost use Rattle.document_links.specs.Documents.{IsRefused};
-ghost use Rattle.cwl_program.specs.Runs.{IsAccepted, IsDocument, IsStop};
+ghost use Rattle.document_links.specs.Documents.{IsLinked, IsRefused};
+ghost use Rattle.cwl_program.specs.Sources.{IsAbsent, IsAccepted, IsDocumentStop};
+ghost use Rattle.cwl_program.specs.Stops.{IsStop};
 
-use crate::exit::{Exit, Fault, Refusal};
-use crate::stop::Stop;
+use crate::exit::{Exit, Refusal};
+use crate::stop::{Stop, not_there};
 use document_links::{Docs, LinkError, LinkFault, MOST_PROCESSES, Process, read_process};
 use file_values::{FileError, location_to_path};
 use plain_data::Text;
@@ -15,17 +16,17 @@ use workflow_check::{AcceptError, accept};
 
 /// The process of a document at a URL, with those that its steps name, where its links are right.
 pub fn accepted_of(alloc: Global, document: &[u8], base: &Url, docs: &Docs) -> Result<Process, Stop>
-    ensures ok { IfOk result IsAccepted }
-    ensures err { IfErr result IsStop }
+    ensures ok { IfOk result (IsAccepted document.now base.now docs.now) }
+    ensures err { IfErr result (IsStop (IsDocumentStop document.now base.now docs.now)) }
 {
     let process = linked(alloc, document, base, docs)?;
-    accepted(alloc, process)
+    accepted(alloc, document, base, docs, process)
 }
 
 /// Puts a document and those that it leads to together.
 fn linked(alloc: Global, document: &[u8], base: &Url, docs: &Docs) -> Result<Process, Stop>
-    ensures ok { IfOk result IsDocument }
-    ensures err { IfErr result IsStop }
+    ensures ok { IfOk result (IsLinked document.now base.now docs.now) }
+    ensures err { IfErr result (IsStop (IsDocumentStop document.now base.now docs.now)) }
 {
     match read_process(alloc, document, base, docs) {
         Ok(process) => Ok(process),
@@ -37,7 +38,7 @@ fn linked(alloc: Global, document: &[u8], base: &Url, docs: &Docs) -> Result<Pro
 /// Says what is wrong with a document, or with those that it leads to.
 fn faulty(alloc: Global, _document: &[u8], base: &Url, docs: &Docs, fault: LinkFault) -> Stop
     requires { IsRefused (LinkError.Refused fault) _document.now base.now docs.now }
-    ensures { IsStop result }
+    ensures { IsStop (IsDocumentStop _document.now base.now docs.now) result }
 {
     match fault {
         LinkFault::NotLoaded(url) => {
@@ -58,18 +59,18 @@ fn wrong(fault: LinkFault) -> Stop
 }
 
 /// Says why a document is not there: there are too many of them, its URL is no file's, or its file can't be read.
-#[tactic(auto, using(crate::specs::Runs::no_input))]
 fn not_loaded(alloc: Global, _document: &[u8], base: &Url, docs: &Docs, url: &Text) -> Stop
-    requires { IsRefused (LinkError.Refused (LinkFault.NotLoaded url.now)) _document.now base.now docs.now }
-    ensures { IsStop result }
+    requires { IsAbsent _document.now base.now docs.now url.now }
+    ensures { IsStop (IsDocumentStop _document.now base.now docs.now) result }
 {
     if docs.len() >= MOST_PROCESSES {
         return wrong(LinkFault::TooMany);
     }
     match location_to_path(alloc, url.as_str(), base) {
         Ok(path) => {
+            let stop = not_there(alloc, path.as_str());
             mem::drop(path);
-            Stop::Early(Exit::Fault(Fault::Input))
+            stop
         }
         Err(FileError::Refused(fault)) => Stop::Early(Exit::Refused(Refusal::Location(fault))),
         Err(FileError::OutOfMemory) => Stop::OutOfMemory,
@@ -77,10 +78,16 @@ fn not_loaded(alloc: Global, _document: &[u8], base: &Url, docs: &Docs, url: &Te
 }
 
 /// Looks at the links of a process.
-fn accepted(alloc: Global, process: Process) -> Result<Process, Stop>
-    requires { IsDocument process }
-    ensures ok { IfOk result IsAccepted }
-    ensures err { IfErr result IsStop }
+fn accepted(
+    alloc: Global,
+    _document: &[u8],
+    _base: &Url,
+    _docs: &Docs,
+    process: Process,
+) -> Result<Process, Stop>
+    requires { IsLinked _document.now _base.now _docs.now process }
+    ensures ok { IfOk result (IsAccepted _document.now _base.now _docs.now) }
+    ensures err { IfErr result (IsStop (IsDocumentStop _document.now _base.now _docs.now)) }
 {
     match accept(alloc, process) {
         Ok(accepted) => Ok(accepted.into_process()),

@@ -73,7 +73,7 @@ pub fn main_run<R: World + Env + Records, O: Write, E: Write>(
 ) -> u8
 where
     R::File: Into<Stdio>,
-    ensures { Tells (map (λ word. string_bytes word) words.now) (O.contents out.old) (O.contents out.new) (E.contents err.old) (E.contents err.new) result }
+    ensures { Tells (map (λ word. string_bytes word) words.now) path.now (O.contents out.old) (O.contents out.new) (E.contents err.old) (E.contents err.new) result }
 {
     match end_of(rt, words, path, err) {
         Ok(end) => {
@@ -110,7 +110,7 @@ fn tell<O: Write, E: Write>(alloc: Global, end: &End, out: &mut O, err: &mut E) 
 {
     end.exit.print(out, err)?;
     if end.explains {
-        return explain_exit(alloc, &end.exit, err);
+        return explain_exit(alloc, &end.exit, end.telling, err);
     }
     Ok(())
 }
@@ -125,7 +125,7 @@ fn end_of<R: World + Env + Records, E: Write>(
 ) -> Result<End, Error>
 where
     R::File: Into<Stdio>,
-    ensures ok { IfOk result (λ end. LeadsTo (map (λ word. string_bytes word) words.now) end.exit end.explains end.telling) }
+    ensures ok { IfOk result (λ end. LeadsTo (map (λ word. string_bytes word) words.now) path.now end.exit end.explains end.telling) }
     ensures told { IfOk result (λ end. IsRunTold end.telling (E.contents err.old) (E.contents err.new)) }
     ensures untold { OnErr result (E.contents err.new ≡ E.contents err.old) }
     ensures other { IfErr result (λ e. kind_of e ≢ ErrorKind.OutOfMemory) }
@@ -154,7 +154,7 @@ fn end_of_choice<R: World + Env + Records, E: Write>(
 ) -> Result<Exit, AllocError>
 where
     R::File: Into<Stdio>,
-    ensures end { IfOk result (IsEndOf choice.now) }
+    ensures end { IfOk result (IsEndOf path.now choice.now) }
     ensures told { IsRunTold (telling_of choice.now) (E.contents err.old) (E.contents err.new) }
 {
     match choice {

@@ -49,16 +49,30 @@ pub enum Refusal {
 }
 
 /// What went wrong outside documents and jobs.
-#[derive(Clone, Copy, Debug, PartialEq, Eq)]
+#[derive(Drop)]
 pub enum Fault {
-    Host(HostFault),
-    /// A file can't be read, or the inputs are no object.
-    Input,
-    /// The work folder is there already, or can't be made.
-    Work,
+    /// A call of the host failed: which, and the path or the program that it was about.
+    Host(HostFault, Option<Text>),
+    /// The folder that the program is called in can't be told.
+    Folder,
+    /// The file of this name can't be read, and why.
+    Unread(Text, Unreadable),
+    /// The value of the inputs' text is no object.
+    NoObject,
+    /// The work folder of this path is there already, or can't be made.
+    Work(Text),
     /// A run has more jobs than the limits allow.
     TooManyJobs,
     OutOfMemory,
+}
+
+/// Why a file can't be read.
+#[derive(Clone, Copy, Debug, PartialEq, Eq)]
+pub enum Unreadable {
+    Absent,
+    Forbidden,
+    IsFolder,
+    Other,
 }
 
 impl Refusal {
@@ -78,13 +92,13 @@ impl Refusal {
 
 impl Fault {
     /// The word for it on standard error.
-    pub fn word(self) -> &'static str
-        ensures { result.now ≡ word_of self }
+    pub fn word(&self) -> &'static str
+        ensures { result.now ≡ word_of self.now }
     {
         match self {
-            Fault::Host(fault) => fault.code(),
-            Fault::Input => "input",
-            Fault::Work => "work",
+            Fault::Host(fault, _) => fault.code(),
+            Fault::Folder | Fault::Unread(_, _) | Fault::NoObject => "input",
+            Fault::Work(_) => "work",
             Fault::TooManyJobs => "TooManyJobs",
             Fault::OutOfMemory => "OutOfMemory",
         }

@@ -2,7 +2,8 @@
 ghost use Rattle.std.specs.Prelude.{OnOk};
 ghost use Rattle.cwl_program.specs.Tells.{HasLine, IsEndingExplained, IsExplained};
 
-use crate::exit::{Exit, Fault, Refusal};
+use crate::exit::{Exit, Fault, Refusal, Unreadable};
+use crate::telling::Telling;
 use job_graph::Cause as NoValue;
 use plain_data::Text;
 use plan_checker::Broken;
@@ -13,8 +14,14 @@ use std::alloc::{AllocError, Global};
 use std::io;
 use std::io::Write;
 
-/// Writes a line that says what went wrong and where; nothing of an end in which nothing did.
-pub fn explain_exit<E: Write>(alloc: Global, exit: &Exit, err: &mut E) -> io::Result<()>
+/// Writes a line that says what went wrong and where; nothing of an end in which nothing did. Of a command that failed it says how
+/// to see its messages, unless they were shown.
+pub fn explain_exit<E: Write>(
+    alloc: Global,
+    exit: &Exit,
+    telling: Telling,
+    err: &mut E,
+) -> io::Result<()>
     ensures { OnOk result (IsExplained exit.now (E.contents err.old) (E.contents err.new)) }
 {
     match exit {
@@ -22,11 +29,15 @@ pub fn explain_exit<E: Write>(alloc: Global, exit: &Exit, err: &mut E) -> io::Re
         Exit::Broken(broken) => put_line(broken_words(alloc, *broken)?.as_str(), err),
         Exit::Record(ending) => explain_ending(alloc, ending, err),
         Exit::Refused(refusal) => put_line(refusal_words(alloc, refusal)?.as_str(), err),
-        Exit::Permanent(place, cause) => {
-            put_line(cause_words(alloc, place, cause)?.as_str(), err)
-        }
-        Exit::Temporary(place) => put_line(temporary_words(alloc, place)?.as_str(), err),
-        Exit::Fault(fault) => put_line(fault_words(*fault), err),
+        Exit::Permanent(place, cause) => put_line(
+            cause_words(alloc, place, cause, hint_of(telling))?.as_str(),
+            err,
+        ),
+        Exit::Temporary(place) => put_line(
+            temporary_words(alloc, place, hint_of(telling))?.as_str(),
+            err,
+        ),
+        Exit::Fault(fault) => put_line(fault_words(alloc, fault)?.as_str(), err),
     }
 }
 
@@ -113,21 +124,34 @@ fn line_of(vertex: usize) -> usize {
     vertex.saturating_add(3)
 }
 
-fn temporary_words(alloc: Global, place: &Text) -> Result<String, AllocError> {
+// How to see what a command says, where that was not shown.
+fn hint_of(telling: Telling) -> &'static str {
+    match telling {
+        Telling::Lines => "",
+        Telling::Nothing | Telling::OneLine => "; `--verbose` shows its messages",
+    }
+}
+
+fn temporary_words(alloc: Global, place: &Text, hint: &str) -> Result<String, AllocError> {
     format!(in alloc;
-        "the command of {place} ended by a signal, or with a code of `temporaryFailCodes`"
+        "the command of {place} ended by a signal, or with a code of `temporaryFailCodes`{hint}"
     )
 }
 
-fn cause_words(alloc: Global, place: &Text, cause: &Cause) -> Result<String, AllocError> {
+fn cause_words(
+    alloc: Global,
+    place: &Text,
+    cause: &Cause,
+    hint: &str,
+) -> Result<String, AllocError> {
     match cause {
         Cause::Equation(cause) => equation_words(alloc, cause),
         Cause::Contents(fault) => format!(in alloc; "{fault}"),
         Cause::Build(fault) => format!(in alloc; "no command: {fault}"),
         Cause::Exit(Some(code)) => {
-            format!(in alloc; "the command of {place} ended with code {code}")
+            format!(in alloc; "the command of {place} ended with code {code}{hint}")
         }
-        Cause::Exit(None) => format!(in alloc; "the command of {place} ended by a signal"),
+        Cause::Exit(None) => format!(in alloc; "the command of {place} ended by a signal{hint}"),
         Cause::Collect(fault) => format!(in alloc; "no outputs: {fault}"),
     }
 }
@@ -153,15 +177,44 @@ fn equation_words(alloc: Global, cause: &NoValue) -> Result<String, AllocError> 
     }
 }
 
-fn fault_words(fault: Fault) -> &'static str {
+fn fault_words(alloc: Global, fault: &Fault) -> Result<String, AllocError> {
     match fault {
-        Fault::Host(fault) => host_words(fault),
-        Fault::Input =>
-            "a document or the file of the input object can't be read, or the input object is no object",
-        Fault::Work => "the work folder is there already, or can't be made",
-        Fault::TooManyJobs =>
-            "there are more jobs, or more links between them, than a run may have",
-        Fault::OutOfMemory => "out of memory",
+        Fault::Host(fault, name) => call_words(alloc, host_words(*fault), name.as_ref()),
+        Fault::Folder => {
+            String::from_str(
+                alloc,
+                "the folder that the program is called in can't be told",
+            )
+        }
+        Fault::Unread(name, why) => unread_words(alloc, name, *why),
+        Fault::NoObject => String::from_str(alloc, "the value of the input file is no object"),
+        Fault::Work(path) => {
+            format!(in alloc; "the work folder {path} is there already, or can't be made")
+        }
+        Fault::TooManyJobs => {
+            String::from_str(
+                alloc,
+                "there are more jobs, or more links between them, than a run may have",
+            )
+        }
+        Fault::OutOfMemory => String::from_str(alloc, "out of memory"),
+    }
+}
+
+// Which call failed, and on what.
+fn call_words(alloc: Global, words: &str, name: Option<&Text>) -> Result<String, AllocError> {
+    match name {
+        Some(name) => format!(in alloc; "{words}: {name}"),
+        None => String::from_str(alloc, words),
+    }
+}
+
+fn unread_words(alloc: Global, name: &Text, why: Unreadable) -> Result<String, AllocError> {
+    match why {
+        Unreadable::Absent => format!(in alloc; "there is no file {name}"),
+        Unreadable::Forbidden => format!(in alloc; "the file {name} may not be read"),
+        Unreadable::IsFolder => format!(in alloc; "{name} is a folder"),
+        Unreadable::Other => format!(in alloc; "the file {name} is not there, or can't be read"),
     }
 }
 

@@ -1,8 +1,9 @@
 //! The input object of a run.
-ghost use Rattle.std.specs.Prelude.{◌≢◌, IfOk, IfErr, Ok, Err};
+ghost use Rattle.std.specs.Prelude.{◌≡◌, ◌≢◌, ℕ, List, IfOk, IfErr, OnErr, Ok, Err};
 ghost use Rattle.cwl_value.specs.Texts.{ReadsAs};
 ghost use Rattle.cwl_value.specs.declared.refusal.ValueRefusal.TheVariants.{OutOfMemory};
-ghost use Rattle.cwl_program.specs.Runs.{IsInputs, IsStop};
+ghost use Rattle.cwl_program.specs.Sources.{IsInputs, IsInputsStop};
+ghost use Rattle.cwl_program.specs.Stops.{IsStop};
 
 use crate::exit::{Exit, Fault, Refusal};
 use crate::stop::Stop;
@@ -15,18 +16,18 @@ use url::Url;
 
 /// The input object that the bytes of a file at a URL have, each of its files at a path.
 pub fn inputs_at(alloc: Global, bytes: &[u8], base: &Url) -> Result<Keyed<Value>, Stop>
-    ensures ok { IfOk result IsInputs }
-    ensures err { IfErr result IsStop }
+    ensures ok { IfOk result (IsInputs bytes.now base.now) }
+    ensures err { IfErr result (IsStop (IsInputsStop bytes.now base.now)) }
 {
     match read_value(alloc, bytes) {
         Ok(value) => located(alloc, bytes, value, base),
-        Err(refusal) => Err(refused(bytes, refusal)),
+        Err(refusal) => Err(refused(bytes, base, refusal)),
     }
 }
 
-fn refused(_bytes: &[u8], refusal: ValueRefusal) -> Stop
+fn refused(_bytes: &[u8], _base: &Url, refusal: ValueRefusal) -> Stop
     requires { refusal ≢ OutOfMemory → ReadsAs _bytes.now (Err refusal) }
-    ensures { IsStop result }
+    ensures { IsStop (IsInputsStop _bytes.now _base.now) result }
 {
     match refusal {
         ValueRefusal::OutOfMemory => Stop::OutOfMemory,
@@ -34,19 +35,28 @@ fn refused(_bytes: &[u8], refusal: ValueRefusal) -> Stop
     }
 }
 
-#[tactic(auto, using(crate::specs::Runs::no_input))]
 fn located(alloc: Global, _bytes: &[u8], value: Value, base: &Url) -> Result<Keyed<Value>, Stop>
     requires { ReadsAs _bytes.now (Ok value) }
-    ensures ok { IfOk result IsInputs }
-    ensures err { IfErr result IsStop }
+    ensures ok { IfOk result (IsInputs _bytes.now base.now) }
+    ensures err { IfErr result (IsStop (IsInputsStop _bytes.now base.now)) }
 {
     match resolve(alloc, value, base) {
-        Ok(Value::Fields(inputs)) => Ok(inputs),
-        Ok(other) => {
-            mem::drop(other);
-            Err(Stop::Early(Exit::Fault(Fault::Input)))
-        }
+        Ok(value) => object_in(value),
         Err(FileError::Refused(fault)) => Err(Stop::Early(Exit::Refused(Refusal::Location(fault)))),
         Err(FileError::OutOfMemory) => Err(Stop::OutOfMemory),
+    }
+}
+
+fn object_in(value: Value) -> Result<Keyed<Value>, Stop>
+    ensures ok { IfOk result (λ inputs. value ≡ Value.Fields inputs) }
+    ensures err { IfErr result (λ stop. stop ≡ Stop.Early (Exit.Fault Fault.NoObject)) }
+    ensures other { OnErr result ((inputs : List (List ℕ × Value)) → value ≢ Value.Fields inputs) }
+{
+    match value {
+        Value::Fields(inputs) => Ok(inputs),
+        other => {
+            mem::drop(other);
+            Err(Stop::Early(Exit::Fault(Fault::NoObject)))
+        }
     }
 }

@@ -15,6 +15,7 @@ mod documents;
 mod entry;
 mod exit;
 mod explaining;
+mod failed_call;
 mod flags;
 mod inputs;
 mod laws;

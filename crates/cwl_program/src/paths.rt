@@ -51,7 +51,7 @@ fn add_step(path: &mut String, component: &str) -> Result<(), AllocError>
 
 /// The URL of a file of this name, on which the locations in it are. Each name has one, so only room for it can be wanting.
 pub fn base_of(alloc: Global, here: &str, name: &str) -> Result<Url, Stop>
-    ensures ok { IfOk result (λ url. parse_url None (location_of (spec.from_root here.now name.now)) ≡ Ok url) }
+    ensures ok { IfOk result (λ url. spec.IsAt here.now name.now url) }
     ensures is_url { spec.HasUrl (spec.from_root here.now name.now) }
     ensures err { IfErr result (λ stop. stop ≡ OutOfMemory) }
 {

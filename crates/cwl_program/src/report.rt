@@ -2,15 +2,21 @@ ghost use Rattle.std.specs.Prelude.{◌≡◌, IfOk};
 ghost use Rattle.cwl_program.specs.Runs.{fault_of, outcome_exit, place_json, run_exit};
 
 use crate::exit::{Exit, Fault};
+use crate::failed_call::failed_on;
 use cwl_value::{JobPlace, Value, canonical_text, place_text};
 use plain_data::Text;
+use proc_host::Entry;
 use run_core::{Cause, Outcome, Report, RunFault};
 use std::alloc::{AllocError, Global};
 use std::mem;
 
-/// Says how a run ends the program.
-pub fn exit_of_run(alloc: Global, run: Result<Report, RunFault>) -> Result<Exit, AllocError>
-    ensures { IfOk result (λ exit. exit ≡ run_exit run) }
+/// Says how a run ends the program, over whose host this is the log.
+pub fn exit_of_run(
+    alloc: Global,
+    log: &[Entry],
+    run: Result<Report, RunFault>,
+) -> Result<Exit, AllocError>
+    ensures { IfOk result (λ exit. exit ≡ run_exit log.now run) }
 {
     match run {
         Ok(report) => {
@@ -24,9 +30,9 @@ pub fn exit_of_run(alloc: Global, run: Result<Report, RunFault>) -> Result<Exit,
             of_outcome(alloc, outcome)
         }
         Err(fault) => {
-            let exit = Exit::Fault(of_fault(&fault));
+            let told = of_fault(alloc, log, &fault);
             mem::drop(fault);
-            Ok(exit)
+            Ok(Exit::Fault(told?))
         }
     }
 }
@@ -74,12 +80,12 @@ pub fn place_in(alloc: Global, place: &JobPlace) -> Result<Text, AllocError>
     canonical_text(alloc, &Value::Text(place_text(alloc, place)?))
 }
 
-fn of_fault(fault: &RunFault) -> Fault
-    ensures { result ≡ fault_of fault.now }
+fn of_fault(alloc: Global, log: &[Entry], fault: &RunFault) -> Result<Fault, AllocError>
+    ensures { IfOk result (λ told. told ≡ fault_of log.now fault.now) }
 {
     match fault {
-        RunFault::Host(fault, _) => Fault::Host(*fault),
-        RunFault::TooManyJobs => Fault::TooManyJobs,
-        RunFault::OutOfMemory => Fault::OutOfMemory,
+        RunFault::Host(fault, _) => Ok(Fault::Host(*fault, failed_on(alloc, log, *fault)?)),
+        RunFault::TooManyJobs => Ok(Fault::TooManyJobs),
+        RunFault::OutOfMemory => Ok(Fault::OutOfMemory),
     }
 }

@@ -1,7 +1,12 @@
 //! A run of the user's own process, over real processes and files.
-ghost use Rattle.std.specs.Prelude.{◌≡◌, [], IfOk, IfErr, option_map};
+ghost use Rattle.std.specs.Prelude.{◌≡◌, [], None, IfOk, IfErr};
 ghost use Rattle.run_core.specs.Limits.{IsWithinLimits};
-ghost use Rattle.cwl_program.specs.Runs.{HasNumbers, IsAccepted, IsInputs, IsRan, IsReady, IsRunExit, IsStop};
+ghost use Rattle.document_links.specs.Library.{Documents};
+ghost use Rattle.workflow_check.specs.Checked.{fault_in};
+ghost use Rattle.cwl_program.specs.RunWords.{wish_of_run};
+ghost use Rattle.cwl_program.specs.Runs.{AreNamed, IsAsked, IsInputsText, IsNamedInputs, IsNamedProcess, IsNoInputs, IsNoProcess, IsRan, IsReady, IsRunExit};
+ghost use Rattle.cwl_program.specs.Sources.{IsAccepted, IsDocumentStop};
+ghost use Rattle.cwl_program.specs.Stops.{IsStop, IsUnread};
 ghost use Rattle.cwl_program.specs.Tells.{IsRunTold};
 
 use crate::documents::accepted_of;
@@ -60,7 +65,6 @@ impl Places {
 }
 
 /// Runs the process of a document on an input object, in a work folder that is made for it and removed again.
-#[tactic(auto, using(crate::proofs::Stops::stops_so))]
 pub fn exit_of_process<R: World + Env, E: Write>(
     rt: &R,
     words: &RunWords,
@@ -70,7 +74,7 @@ pub fn exit_of_process<R: World + Env, E: Write>(
 where
     R::File: Into<Stdio>,
     ensures told { IsRunTold words.now.telling (E.contents err.old) (E.contents err.new) }
-    ensures exit { IfOk result (IsRunExit (option_map (λ s. s.now) words.now.slots) (option_map (λ s. s.now) words.now.retries)) }
+    ensures exit { IfOk result (IsRunExit (wish_of_run words.now) path.now) }
 {
     match here_of(rt) {
         Ok(here) => {
@@ -83,7 +87,7 @@ where
             mem::drop(here);
             exit
         }
-        Err(error) => stopped(unread(&error)),
+        Err(error) => without_folder(&error),
     }
 }
 
@@ -92,7 +96,17 @@ fn here_of<R: World + Env>(rt: &R) -> io::Result<String> {
     Ok(String::from_str(rt.alloc(), here.as_path().as_str())?)
 }
 
-#[tactic(auto, using(crate::proofs::Stops::stops_so))]
+/// The end of a program that can't tell the folder that it is called in.
+fn without_folder(error: &io::Error) -> Result<Exit, AllocError>
+    ensures { IfOk result (λ exit. exit ≡ Exit.Fault Fault.Folder) }
+{
+    match error.kind() {
+        io::ErrorKind::OutOfMemory => Err(AllocError),
+        _ => Ok(Exit::Fault(Fault::Folder)),
+    }
+}
+
+#[tactic(auto, using(crate::proofs::Stops::without_process))]
 fn exit_of_call<R: World, E: Write>(
     rt: &R,
     call: &Call<'_>,
@@ -101,7 +115,7 @@ fn exit_of_call<R: World, E: Write>(
 where
     R::File: Into<Stdio>,
     ensures told { IsRunTold call.now.words.now.telling (E.contents err.old) (E.contents err.new) }
-    ensures exit { IfOk result (IsRunExit (option_map (λ s. s.now) call.now.words.now.slots) (option_map (λ s. s.now) call.now.words.now.retries)) }
+    ensures exit { IfOk result (IsRunExit (wish_of_run call.now.words.now) call.now.path.now) }
 {
     match process_of(rt, call) {
         Ok(process) => on_process(rt, process, call, err),
@@ -111,17 +125,17 @@ where
 
 /// Reads the document with all that it leads to.
 fn process_of<R: World>(rt: &R, call: &Call<'_>) -> Result<Process, Stop>
-    ensures ok { IfOk result IsAccepted }
-    ensures err { IfErr result IsStop }
+    ensures ok { IfOk result (IsNamedProcess call.now.here.now (wish_of_run call.now.words.now)) }
+    ensures err { IfErr result (IsStop (IsNoProcess call.now.here.now (wish_of_run call.now.words.now))) }
 {
-    let document = file_bytes(rt, call.words.document)?;
+    let document = document_bytes(rt, call)?;
     let base = base_of(rt.alloc(), call.here, call.words.document)?;
     process_at(rt, document.as_slice(), &base)
 }
 
 fn process_at<R: World>(rt: &R, document: &[u8], base: &Url) -> Result<Process, Stop>
-    ensures ok { IfOk result IsAccepted }
-    ensures err { IfErr result IsStop }
+    ensures ok { IfOk result (λ process. (docs : Documents) × IsAccepted document.now base.now docs process) }
+    ensures err { IfErr result (IsStop (λ exit. (docs : Documents) × IsDocumentStop document.now base.now docs exit)) }
 {
     let docs = docs_of(rt, document, base)?;
     let process = accepted_of(rt.alloc(), document, base, &docs);
@@ -129,16 +143,21 @@ fn process_at<R: World>(rt: &R, document: &[u8], base: &Url) -> Result<Process, 
     process
 }
 
+fn document_bytes<R: World>(rt: &R, call: &Call<'_>) -> Result<Vec<u8>, Stop>
+    ensures { IfErr result (IsStop (IsNoProcess call.now.here.now (wish_of_run call.now.words.now))) }
+{
+    file_bytes(rt, call.words.document)
+}
+
 fn file_bytes<R: World>(rt: &R, file: &str) -> Result<Vec<u8>, Stop>
-    ensures { IfErr result IsStop }
+    ensures { IfErr result (IsStop (IsUnread file.now)) }
 {
     match fs::read(rt, file) {
         Ok(bytes) => Ok(bytes),
-        Err(error) => Err(unread(&error)),
+        Err(error) => Err(unread(rt.alloc(), &error, file)),
     }
 }
 
-#[tactic(auto, using(crate::proofs::Stops::stops_so))]
 fn on_process<R: World, E: Write>(
     rt: &R,
     process: Process,
@@ -147,9 +166,9 @@ fn on_process<R: World, E: Write>(
 ) -> Result<Exit, AllocError>
 where
     R::File: Into<Stdio>,
-    requires { IsAccepted process }
+    requires { IsNamedProcess call.now.here.now (wish_of_run call.now.words.now) process }
     ensures told { IsRunTold call.now.words.now.telling (E.contents err.old) (E.contents err.new) }
-    ensures exit { IfOk result (IsRunExit (option_map (λ s. s.now) call.now.words.now.slots) (option_map (λ s. s.now) call.now.words.now.retries)) }
+    ensures exit { IfOk result (IsRunExit (wish_of_run call.now.words.now) call.now.path.now) }
 {
     match inputs_of(rt, call) {
         Ok(inputs) => {
@@ -167,26 +186,26 @@ where
 
 /// Reads the input object. Its locations are on the URL of its own file.
 fn inputs_of<R: World>(rt: &R, call: &Call<'_>) -> Result<Keyed<Value>, Stop>
-    ensures ok { IfOk result IsInputs }
-    ensures err { IfErr result IsStop }
+    ensures ok { IfOk result (IsNamedInputs call.now.here.now (wish_of_run call.now.words.now)) }
+    ensures err { IfErr result (IsStop (IsNoInputs call.now.here.now (wish_of_run call.now.words.now))) }
 {
     let name = call.words.inputs.unwrap_or(call.words.document);
     let base = base_of(rt.alloc(), call.here, name)?;
-    let bytes = inputs_bytes(rt, call.words)?;
+    let bytes = inputs_bytes(rt, call)?;
     inputs_at(rt.alloc(), bytes.as_slice(), &base)
 }
 
-fn inputs_bytes<R: World>(rt: &R, words: &RunWords) -> Result<Vec<u8>, Stop>
-    ensures { IfErr result IsStop }
+fn inputs_bytes<R: World>(rt: &R, call: &Call<'_>) -> Result<Vec<u8>, Stop>
+    ensures ok { IfOk result (λ bytes. IsInputsText (wish_of_run call.now.words.now).inputs bytes.items) }
+    ensures err { IfErr result (IsStop (IsNoInputs call.now.here.now (wish_of_run call.now.words.now))) }
 {
-    match words.inputs {
+    match call.words.inputs {
         Some(file) => file_bytes(rt, file),
         None => Ok(NO_INPUTS.to_vec(rt.alloc())?),
     }
 }
 
-/// Makes the work folder, runs, and removes the folder where that is possible.
-#[tactic(auto, using(crate::specs::Runs::no_work, crate::specs::Runs::stops))]
+/// Runs in the folders that are named.
 fn in_places<R: World, E: Write>(
     rt: &R,
     given: &Given,
@@ -195,32 +214,58 @@ fn in_places<R: World, E: Write>(
 ) -> Result<Exit, AllocError>
 where
     R::File: Into<Stdio>,
-    requires { IsReady given.now }
+    requires { IsReady call.now.here.now (wish_of_run call.now.words.now) given.now }
     ensures told { IsRunTold call.now.words.now.telling (E.contents err.old) (E.contents err.new) }
-    ensures exit { IfOk result (IsRunExit (option_map (λ s. s.now) call.now.words.now.slots) (option_map (λ s. s.now) call.now.words.now.retries)) }
+    ensures exit { IfOk result (IsRunExit (wish_of_run call.now.words.now) call.now.path.now) }
 {
-    match places_of(rt, call) {
-        Ok(places) => {
-            let exit = in_work(rt, given, &places, call, err);
-            let _removed = fs::remove_dir_all(rt, places.work.as_str());
-            mem::drop(places);
-            exit
-        }
-        Err(_) => Ok(Exit::Fault(Fault::Work)),
-    }
+    let places = places_of(rt.alloc(), call)?;
+    let exit = on_disk(rt, given, &places, call, err);
+    mem::drop(places);
+    exit
 }
 
-/// The folders from the root; the work folder is made.
-fn places_of<R: World>(rt: &R, call: &Call<'_>) -> io::Result<Places> {
-    let places = places_from(rt.alloc(), call)?;
-    fs::create_dir(rt, places.work.as_str())?;
-    Ok(places)
-}
-
-fn places_from(alloc: Global, call: &Call<'_>) -> Result<Places, AllocError> {
+/// The folders as paths from the root.
+fn places_of(alloc: Global, call: &Call<'_>) -> Result<Places, AllocError>
+    ensures { IfOk result (AreNamed call.now.here.now (wish_of_run call.now.words.now)) }
+{
     let work = from_root(alloc, call.here, call.words.work)?;
     let outdir = from_root(alloc, call.here, call.words.outdir)?;
     Ok(Places { work, outdir })
+}
+
+/// Makes the work folder, runs, and removes the folder where that is possible.
+fn on_disk<R: World, E: Write>(
+    rt: &R,
+    given: &Given,
+    places: &Places,
+    call: &Call<'_>,
+    err: &mut E,
+) -> Result<Exit, AllocError>
+where
+    R::File: Into<Stdio>,
+    requires ready { IsReady call.now.here.now (wish_of_run call.now.words.now) given.now }
+    requires named { AreNamed call.now.here.now (wish_of_run call.now.words.now) places.now }
+    ensures told { IsRunTold call.now.words.now.telling (E.contents err.old) (E.contents err.new) }
+    ensures exit { IfOk result (IsRunExit (wish_of_run call.now.words.now) call.now.path.now) }
+{
+    match fs::create_dir(rt, places.work.as_str()) {
+        Ok(()) => {
+            let exit = in_work(rt, given, places, call, err);
+            let _removed = fs::remove_dir_all(rt, places.work.as_str());
+            exit
+        }
+        Err(error) => without_work(rt.alloc(), &error, &places.work),
+    }
+}
+
+/// The end of a program that can't make its work folder.
+fn without_work(alloc: Global, error: &io::Error, work: &Text) -> Result<Exit, AllocError>
+    ensures { IfOk result (λ exit. exit ≡ Exit.Fault (Fault.Work work.now)) }
+{
+    match error.kind() {
+        io::ErrorKind::OutOfMemory => Err(AllocError),
+        _ => Ok(Exit::Fault(Fault::Work(work.copied(alloc)?))),
+    }
 }
 
 fn in_work<R: World, E: Write>(
@@ -232,17 +277,19 @@ fn in_work<R: World, E: Write>(
 ) -> Result<Exit, AllocError>
 where
     R::File: Into<Stdio>,
-    requires { IsReady given.now }
+    requires ready { IsReady call.now.here.now (wish_of_run call.now.words.now) given.now }
+    requires named { AreNamed call.now.here.now (wish_of_run call.now.words.now) places.now }
     ensures told { IsRunTold call.now.words.now.telling (E.contents err.old) (E.contents err.new) }
-    ensures exit { IfOk result (IsRunExit (option_map (λ s. s.now) call.now.words.now.slots) (option_map (λ s. s.now) call.now.words.now.retries)) }
+    ensures exit { IfOk result (IsRunExit (wish_of_run call.now.words.now) call.now.path.now) }
 {
     let options = options_of(rt.alloc(), places, call)?;
     with_options(rt, given, options, places, call.words.telling, err)
 }
 
 fn options_of(alloc: Global, places: &Places, call: &Call<'_>) -> Result<Options, AllocError>
+    requires { AreNamed call.now.here.now (wish_of_run call.now.words.now) places.now }
     ensures limits { IfOk result IsWithinLimits }
-    ensures numbers { IfOk result (HasNumbers (option_map (λ s. s.now) call.now.words.now.slots) (option_map (λ s. s.now) call.now.words.now.retries)) }
+    ensures asked { IfOk result (IsAsked call.now.here.now (wish_of_run call.now.words.now) call.now.path.now) }
 {
     Ok(Options {
         work: places.work.copied(alloc)?,
@@ -266,10 +313,10 @@ fn with_options<R: World, E: Write>(
 ) -> Result<Exit, AllocError>
 where
     R::File: Into<Stdio>,
-    requires ready { IsReady given.now }
+    requires accepted { fault_in given.now.process ≡ None }
     requires limits { IsWithinLimits options }
     ensures told { IsRunTold telling (E.contents err.old) (E.contents err.new) }
-    ensures exit { IfOk result (IsRan options) }
+    ensures exit { IfOk result (IsRan given.now.process given.now.inputs options) }
 {
     match machine_of(rt, places) {
         Ok(host) => told_of(rt.alloc(), host, given, options, telling, err),
@@ -306,10 +353,10 @@ fn told_of<R: World, E: Write>(
 where
     R::File: Into<Stdio>,
     requires idle { host.running ≡ [] }
-    requires ready { IsReady given.now }
+    requires accepted { fault_in given.now.process ≡ None }
     requires limits { IsWithinLimits options }
     ensures told { IsRunTold telling (E.contents err.old) (E.contents err.new) }
-    ensures exit { IfOk result (IsRan options) }
+    ensures exit { IfOk result (IsRan given.now.process given.now.inputs options) }
 {
     match telling {
         Telling::Nothing => ended(alloc, host, given, options, &mut Unwatched),
@@ -343,9 +390,9 @@ fn told_by<R: World, E: Write>(
 where
     R::File: Into<Stdio>,
     requires idle { host.running ≡ [] }
-    requires ready { IsReady given.now }
+    requires accepted { fault_in given.now.process ≡ None }
     requires limits { IsWithinLimits options }
-    ensures { IfOk result (IsRan options) }
+    ensures { IfOk result (IsRan given.now.process given.now.inputs options) }
 {
     let exit = ended(alloc, host, given, options, &mut teller);
     teller.finish();
@@ -363,9 +410,9 @@ fn ended<R: World, W: Watch>(
 where
     R::File: Into<Stdio>,
     requires idle { host.running ≡ [] }
-    requires ready { IsReady given.now }
+    requires accepted { fault_in given.now.process ≡ None }
     requires limits { IsWithinLimits options }
-    ensures { IfOk result (IsRan options) }
+    ensures { IfOk result (IsRan given.now.process given.now.inputs options) }
 {
     let report = run(
         alloc,
@@ -375,6 +422,7 @@ where
         options,
         watcher,
     );
+    let exit = exit_of_run(alloc, host.log(), report);
     mem::drop(host);
-    exit_of_run(alloc, report)
+    exit
 }

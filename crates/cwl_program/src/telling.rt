@@ -1,5 +1,5 @@
 //! What a run tells of its jobs on standard error while it goes on.
-ghost use Rattle.std.specs.Prelude.{◌≡◌, ◌≢◌, List, ℕ, ◌++◌, length, vec_len, codes, IfOk, OnOk, string_bytes};
+ghost use Rattle.std.specs.Prelude.{◌≡◌, ◌≢◌, List, [], ℕ, ◌++◌, length, vec_len, codes, IfOk, OnOk, string_bytes};
 ghost use Rattle.std.specs.Io.KnownBytes.{Appends};
 ghost use Rattle.cwl_program.specs.JobLines as spec;
 
@@ -50,6 +50,7 @@ impl<'a, E: Write> Teller<'a, E> {
     pub fn new(alloc: Global, err: &'a mut E, telling: Telling) -> Teller<'a, E>
         ensures told { result.telling ≡ telling }
         ensures err { E.contents result.err.now ≡ E.contents err.old }
+        ensures empty { (result.ended ≡ []) × (result.known ≡ 0) × (vec_len result.running ≡ 0) }
     {
         Teller {
             alloc,

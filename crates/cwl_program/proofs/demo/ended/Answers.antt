@@ -6,6 +6,6 @@ use Rattle.cwl_program.proofs.demo.ended.Goals as goal
 
 pub returns : goal.returns
 returns c =
-    IfOk-weaker c.exit_of_run.result _ _
-    (λ exit h. subst (λ (e : Exit). IsRan c.args.world.options e) (sym h) (ran _ _ _ _ _ c.requires.ready.process c.requires.ready.inputs c.run-report.ensures.run))
-    c.exit_of_run.ensures
+    IfOk-weaker c.exit_of_run-exit.result _ _
+    (λ exit h. subst (λ (e : Exit). IsRan c.args.given.now.process c.args.given.now.inputs c.args.world.options e) (sym (rw c.log.ensures at h)) (ran _ _ _ c.run-report.ensures.run c.run-report.ensures.fault))
+    c.exit_of_run-exit.ensures

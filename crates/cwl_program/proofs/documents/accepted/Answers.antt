@@ -1,4 +1,4 @@
-use Rattle.cwl_program.specs.Runs.{bad_links}
+use Rattle.cwl_program.specs.Sources.{bad_links}
 use Rattle.cwl_program.proofs.documents.accepted.Goals as goal
 
 pub returns-in-Err-Refused-clause-err : goal.returns-in-Err-Refused-clause-err
