@@ -1,5 +1,5 @@
 # Needs bash, make, python3 (3.8 or later) and the Rattle toolchain, whose command is rt.
-.PHONY: build install help demo test gate-cost wrong-bodies
+.PHONY: build install help demo try examples test gate-cost wrong-bodies
 
 # Proves and builds the program, and prints its path.
 build:
@@ -14,6 +14,8 @@ help:
 	@echo "make               prove and build the program, and print its path (about an hour the first time, then seconds)"
 	@echo "make install       put the proved program there as PREFIX/bin/deparohi, PREFIX=DIR names the place"
 	@echo "make demo          run the worked example, unproved, for a first look (about 2 minutes)"
+	@echo "make try           run the program on your own files, unproved: ARGS=\"run DOCUMENT INPUTS\" has its words (5 minutes the first time, then a second)"
+	@echo "make examples      run each of examples/ by the unproved program, and compare its answer (as make try)"
 	@echo "make test          the whole gate: every proof from nothing, the tests, the programs, the wrong bodies in must-fail/"
 	@echo "                   (94 minutes beside other work)"
 	@echo "make gate-cost     what the last gate cost, by crate and part (a second)"
@@ -21,6 +23,13 @@ help:
 
 demo:
 	@scripts/demo
+
+# Runs the unproved program in the folder that make was called from, also by make -C.
+try:
+	@cd "$(or $(PWD),$(CURDIR))" && "$(CURDIR)/scripts/try" $(ARGS)
+
+examples:
+	@scripts/examples scripts/try
 
 test:
 	@scripts/gate
