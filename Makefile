@@ -13,7 +13,7 @@ install:
 help:
 	@echo "make               prove and build the program, and print its path (about an hour the first time, then seconds)"
 	@echo "make install       put the proved program there as PREFIX/bin/deparohi, PREFIX=DIR names the place"
-	@echo "make demo          run the worked example, unproved, for a first look (about 2 minutes)"
+	@echo "make demo          run the worked example, unproved, for a first look (5 minutes the first time, then a second)"
 	@echo "make try           run the program on your own files, unproved: ARGS=\"run DOCUMENT INPUTS\" has its words (5 minutes the first time, then a second)"
 	@echo "make examples      run each of examples/ by the unproved program, and compare its answer (as make try)"
 	@echo "make test          the whole gate: every proof from nothing, the tests, the programs, the wrong bodies in must-fail/"
