@@ -1,5 +1,5 @@
 # Needs bash, make, python3 (3.8 or later) and the Rattle toolchain, whose command is rt.
-.PHONY: build install help demo try examples test gate-cost wrong-bodies
+.PHONY: build install help demo try examples check rows since new test gate-cost wrong-bodies
 
 # Proves and builds the program, and prints its path.
 build:
@@ -16,6 +16,10 @@ help:
 	@echo "make demo          run the worked example, unproved, for a first look (5 minutes the first time, then a second)"
 	@echo "make try           run the program on your own files, unproved: ARGS=\"run DOCUMENT INPUTS\" has its words (5 minutes the first time, then a second)"
 	@echo "make examples      run each of examples/ by the unproved program, and compare its answer (as make try)"
+	@echo "make check         prove a crate and those below it over kept work: NAME=crate (10 seconds to minutes)"
+	@echo "make rows          answer a crate's worked rows by the unproved program, and show what differs: NAME=value_rows"
+	@echo "make since         which crates changed since a revision, what stands above them, what to run: REV=commit (a second)"
+	@echo "make new           begin a crate: NAME=name, ON=\"crate ..\" are those that it stands on (a second)"
 	@echo "make test          the whole gate: every proof from nothing, the tests, the programs, the wrong bodies in must-fail/"
 	@echo "                   (94 minutes beside other work)"
 	@echo "make gate-cost     what the last gate cost, by crate and part (a second)"
@@ -30,6 +34,18 @@ try:
 
 examples:
 	@scripts/examples scripts/try
+
+check:
+	@scripts/check "$(NAME)"
+
+rows:
+	@scripts/rows "$(NAME)"
+
+since:
+	@scripts/since "$(REV)"
+
+new:
+	@scripts/new "$(NAME)" $(ON)
 
 test:
 	@scripts/gate

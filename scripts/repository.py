@@ -1,5 +1,6 @@
 """What the scripts of this folder share: the crates of crates.txt, their lines and their order."""
 
+import hashlib
 import os
 import re
 
@@ -54,3 +55,18 @@ def edits(folder):
     if not os.path.isdir(folder):
         return []
     return [f"{folder}/{it}" for it in sorted(os.listdir(folder)) if it.endswith(".edit")]
+
+
+def text_sum(name):
+    """Returns a short hash of the crate's code and definitions: of src/ and specs/."""
+    held, top = hashlib.sha256(), f"{TOP}/crates/{name}"
+    for path in sorted(os.path.relpath(it, top) for it in files(name, ".rt", ".antt")):
+        if not path.startswith("proofs/"):
+            held.update(f"{path}\n{text_of(f'{top}/{path}')}".encode())
+    return held.hexdigest()[:12]
+
+
+def why_of(edit):
+    """Returns what the edit is, in words: its line `why:`, or nothing."""
+    held = re.search(r"(?m)^why: (.*)$", text_of(edit))
+    return held[1].strip() if held else ""
