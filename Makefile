@@ -1,5 +1,5 @@
 # Needs bash, make, python3 (3.8 or later) and the Rattle toolchain, whose command is rt.
-.PHONY: build install help demo try examples check rows since new test gate-cost wrong-bodies
+.PHONY: build install package help demo try examples check rows since new test gate-cost wrong-bodies
 
 # Proves and builds the program, and prints its path.
 build:
@@ -9,10 +9,15 @@ build:
 install:
 	@scripts/install "$(PREFIX)"
 
+# Puts the proved program into a Debian package, with its manual page, completions and licence, and tests that it installs.
+package:
+	@package=$$(scripts/package) && scripts/test-package "$$package" >&2 && echo "$$package"
+
 # The minutes are of four shared processors of two cores.
 help:
 	@echo "make               prove and build the program, and print its path (about an hour the first time, then seconds)"
 	@echo "make install       put the proved program there as PREFIX/bin/deparohi, PREFIX=DIR names the place"
+	@echo "make package       put the proved program into a Debian package in out/, and try to install it there (as make)"
 	@echo "make demo          run the worked example, unproved, for a first look (5 minutes the first time, then a second)"
 	@echo "make try           run the program on your own files, unproved: ARGS=\"run DOCUMENT INPUTS\" has its words (5 minutes the first time, then a second)"
 	@echo "make examples      run each of examples/ by the unproved program, and compare its answer (as make try)"

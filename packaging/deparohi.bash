@@ -1,0 +1,29 @@
+# Completions of deparohi for bash.
+_deparohi() {
+    local word=${COMP_WORDS[COMP_CWORD]} before=${COMP_WORDS[COMP_CWORD - 1]} command=${COMP_WORDS[1]} every="--explain --quiet --help"
+    if [ "$COMP_CWORD" -eq 1 ]; then
+        COMPREPLY=($(compgen -W "run check record demo help --help" -- "$word"))
+        return
+    fi
+    case $before in
+    --work | --outdir)
+        mapfile -t COMPREPLY < <(compgen -d -- "$word")
+        return
+        ;;
+    --slots | --retries | --forget)
+        COMPREPLY=()
+        return
+        ;;
+    esac
+    if [ "${word#-}" = "$word" ]; then
+        mapfile -t COMPREPLY < <(compgen -f -- "$word")
+        return
+    fi
+    case $command in
+    run) every="--work --outdir --slots --retries --verbose --progress $every" ;;
+    record) every="--forget $every" ;;
+    help) every="" ;;
+    esac
+    COMPREPLY=($(compgen -W "$every" -- "$word"))
+}
+complete -o filenames -F _deparohi deparohi
