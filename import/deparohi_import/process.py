@@ -6,7 +6,8 @@ from .findings import LEFT, REWRITTEN, WRONG, Findings
 from .marked import Fields, Items
 from .names import class_name, short, source_name
 from .references import faults, has_expression
-from .requirements import SHELL, Asked, Requirements, ToolTexts, entries
+from .requirements import Asked, Requirements, ToolTexts, entries
+from .shell import command_of
 from .types import Types
 from .values import Values
 
@@ -223,11 +224,7 @@ class Rewriter:
                 listed.add(self.binding(it), arguments.line_at(at))
             made.put("arguments", listed, raw.line_of("arguments"))
         if shell:
-            base = raw.get("baseCommand")
-            words = Items(raw.file, raw.line)
-            for it in [*SHELL, *(base if isinstance(base, Items) else [] if base is None else [base])]:
-                words.add(it)
-            made.put("baseCommand", words, raw.line_of("baseCommand"))
+            command_of(made, raw)
 
     # ---- workflows
 

@@ -11,6 +11,7 @@ from .findings import IGNORED, LEFT, REWRITTEN, Findings
 from .marked import Fields, Items
 from .names import class_name
 from .references import has_expression
+from .shell import why_left
 
 # What the runner meets by being what it is.
 PLAIN = (
@@ -35,7 +36,6 @@ FORCED = {
     "NetworkAccess": "--force-network-access-as-hint",
 }
 CARRIED = tuple(FORCED)
-SHELL = ["/bin/sh", "-c", '"$0" "$@"']
 
 
 class Asked(NamedTuple):
@@ -115,7 +115,7 @@ class Requirements:
             why_not = self.changes(name, it, tool)
             if name == "ShellCommandRequirement" and why_not is None:
                 shell = True
-                self.findings.add(REWRITTEN, it.fields, "class", name, "each argument is quoted, so the shell is asked for by baseCommand")
+                self.findings.add(REWRITTEN, it.fields, "class", name, "the shell is asked for by baseCommand, with the same words")
             elif why_not is None or name in self.forced:
                 self.tell_moved(name, it, why_not)
                 hints.add(it.fields, it.fields.line)
@@ -137,7 +137,7 @@ class Requirements:
         """Returns how this changes what the tool does, or None where it doesn't."""
         fields = it.fields
         if name == "ShellCommandRequirement":
-            return "an argument is not quoted, so the shell reads it" if tool.has_unquoted else None
+            return tool.shell
         if name == "ResourceRequirement":
             return "runtime.cores is used, which is 1 in this runner" if tool.mentions(r"runtime\.cores") and {"coresMin", "coresMax"} & set(fields) else None
         if name == "InitialWorkDirRequirement":
@@ -160,12 +160,11 @@ class ToolTexts:
 
     def __init__(self, raw: Fields) -> None:
         self.texts: List[str] = []
-        self.has_unquoted = False
+        self.shell = why_left(raw)
         self.gather(raw)
 
     def gather(self, value: Any) -> None:
         if isinstance(value, Fields):
-            self.has_unquoted |= value.get("shellQuote") is False
             for key, it in value.items():
                 if key not in ("doc", "label", "hints", "requirements", "default"):
                     self.gather(it)
