@@ -52,10 +52,10 @@ class Import:
         """Writes a process of a document, once for each set of requirements around it. Returns the name of its file."""
         around = tuple((name, id(it.fields), it.is_hint) for name, it in sorted(scope.carried.items()))
         asked = (path, fragment, around, tuple(sorted(scope.names)))
-        if asked in self.written:
-            return self.written[asked]
         if (path, fragment) in self.open:
             raise fault_at(f"{os.path.basename(path)}{'#' + fragment if fragment else ''} runs itself", node, key)
+        if asked in self.written:
+            return self.written[asked]
         if len(self.open) >= MOST_NESTED:
             raise fault_at(f"more than {MOST_NESTED} workflows are inside one another", node, key)
         raw, scope = self.chosen(path, fragment, scope, node, key)

@@ -19,6 +19,8 @@ class Library:
         self.files: Dict[str, Any] = {}
         self.texts: Dict[str, str] = {}
         self.reading: Dict[str, None] = {}
+        # How many values are in a file with all that it imports, and how many were put in place so far.
+        self.sizes: Dict[str, int] = {}
         self.values = 0
 
     def load(self, path: str, node: Any = None, key: Any = None) -> Any:
@@ -31,7 +33,9 @@ class Library:
             if node is not None and not os.path.isfile(path):
                 raise fault_at(f"there is no file {path}", node, key)
             self.reading[path] = None
+            before = self.values
             self.files[path] = self.placed(read_file(path))
+            self.sizes[path] = self.values - before
             del self.reading[path]
         return self.files[path]
 
@@ -60,31 +64,38 @@ class Library:
     def placed(self, value: Any) -> Any:
         """Returns the value with what it imports in its place."""
         if isinstance(value, Fields):
-            self.spent(value)
+            self.spent(value, 1 + len(value))
             if "$import" in value:
                 return self.imported(value)
             if "$include" in value:
                 return self.text(self.named(value, "$include"), value, "$include")
             return self.mixed(value) if "$mixin" in value else self.placed_fields(value)
         if isinstance(value, Items):
-            self.spent(value)
+            self.spent(value, 1 + len(value))
             return self.placed_items(value)
         return value
 
-    def spent(self, value: Any) -> None:
-        self.values += 1 + len(value)
+    def spent(self, value: Any, count: int) -> None:
+        self.values += count
         if self.values > MOST_VALUES:
             raise ImportFault(f"with what it imports the document has more than {MOST_VALUES} values", value.file, value.line)
+
+    def loaded(self, value: Fields, key: str) -> Any:
+        """Returns what an entry imports, which counts again where it was imported before."""
+        path = self.named(value, key)
+        if path in self.sizes:
+            self.spent(value, self.sizes[path])
+        return self.load(path, value, key)
 
     def imported(self, value: Fields) -> Any:
         if len(value) > 1:
             raise fault_at("an object with $import has no other fields", value, "$import")
-        whole = self.load(self.named(value, "$import"), value, "$import")
+        whole = self.loaded(value, "$import")
         fragment = split_fragment(value["$import"])[1]
         return member(whole, fragment, value) if fragment else whole
 
     def mixed(self, value: Fields) -> Fields:
-        base = self.load(self.named(value, "$mixin"), value, "$mixin")
+        base = self.loaded(value, "$mixin")
         if not isinstance(base, Fields):
             raise fault_at("what $mixin names is no object", value, "$mixin")
         mixed = base.like()
