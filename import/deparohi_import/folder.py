@@ -1,0 +1,78 @@
+"""The folder that an import writes: documents, an input object, the files of literals and a report."""
+
+import json
+import os
+from typing import Any, List, Set
+from urllib.parse import quote
+
+from .fault import ImportFault
+
+REPORT, INPUTS, LITERALS = "report.txt", "inputs.json", "literals"
+
+
+class Folder:
+    """A folder with names that are given once each. Nothing is written before the import is whole."""
+
+    def __init__(self, path: str) -> None:
+        self.path = os.path.abspath(path)
+        self.names: Set[str] = {REPORT, INPUTS, LITERALS}
+        self.documents: List[tuple] = []
+        self.literals: List[tuple] = []
+
+    def name(self, wanted: str) -> str:
+        """Returns a name for a document that none has yet."""
+        stem = wanted if wanted not in ("", ".", "..") and "/" not in wanted else "document"
+        name, count = f"{stem}.json", 1
+        while name in self.names:
+            count += 1
+            name = f"{stem}-{count}.json"
+        self.names.add(name)
+        return name
+
+    def document(self, name: str, value: Any) -> None:
+        self.documents.append((name, value))
+
+    def file(self, name: str, contents: str) -> str:
+        path = os.path.join(self.path, LITERALS, str(len(self.literals)), name)
+        self.literals.append((path, contents))
+        return path
+
+    def folder(self, name: str, entries: list) -> str:
+        path = os.path.join(self.path, LITERALS, str(len(self.literals)), name)
+        self.literals.append((path, entries))
+        return path
+
+    def write(self, report: str) -> None:
+        """Writes all of it."""
+        try:
+            os.makedirs(self.path, exist_ok=True)
+            for path, contents in self.literals:
+                self.write_literal(path, contents)
+            for name, value in self.documents:
+                self.put(os.path.join(self.path, name), json.dumps(value, indent=1, ensure_ascii=False) + "\n")
+            self.put(os.path.join(self.path, REPORT), report)
+        except OSError as error:
+            raise ImportFault(f"the folder can't be written: {error.strerror}", error.filename or self.path) from None
+
+    def write_literal(self, path: str, contents: Any) -> None:
+        if isinstance(contents, str):
+            os.makedirs(os.path.dirname(path), exist_ok=True)
+            self.put(path, contents)
+            return
+        os.makedirs(path, exist_ok=True)
+        for name, source in contents:
+            link = os.path.join(path, os.path.basename(name))
+            if os.path.lexists(link):
+                os.remove(link)
+            os.symlink(source, link)
+
+    def put(self, path: str, text: str) -> None:
+        """Puts a file in place of an earlier one, whole or not at all."""
+        with open(f"{path}.new", "w", encoding="utf-8", errors="surrogatepass", newline="") as it:
+            it.write(text)
+        os.replace(f"{path}.new", path)
+
+
+def reference_to(name: str) -> str:
+    """Returns the name of a document as the `run` of a step names it."""
+    return quote(name)

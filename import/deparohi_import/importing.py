@@ -1,0 +1,147 @@
+"""One import: from the name of a document to the folder of JSON."""
+
+import os
+from typing import Any, Dict, List, Set, Tuple
+
+from .checking import Checker
+from .fault import ImportFault
+from .findings import LEFT, Findings
+from .folder import INPUTS, Folder, reference_to
+from .loading import Library, fault_at, graph_of
+from .marked import Fields, Items
+from .names import short
+from .places import NotAFile, path_of, split_fragment
+from .process import Rewriter, Scope, named_types
+from .requirements import Requirements
+from .values import Values
+from .versions import UnknownVersion, current
+
+MOST_NESTED = 64
+
+
+class Import:
+    """The import of one document, with its input object."""
+
+    def __init__(self, folder: Folder, forced: Set[str]) -> None:
+        self.folder, self.findings, self.library = folder, Findings(), Library()
+        self.values = Values(self.findings, folder.file, folder.folder)
+        self.rewriter = Rewriter(self.findings, Requirements(self.findings, forced), self.values, self.run_named)
+        self.written: Dict[Tuple, str] = {}
+        self.open: List[Tuple] = []
+        self.upgraded: Dict[str, Fields] = {}
+
+    def document(self, location: str) -> str:
+        """Imports a document, `FILE` or `FILE#id`. Returns the name of what is written of it."""
+        path, fragment = location, ""
+        if not os.path.exists(path):
+            path, fragment = split_fragment(location)
+        return self.process(os.path.abspath(path), fragment, Scope({}, {}), None, None)
+
+    def whole(self, path: str, node: Any, key: Any) -> Fields:
+        """Returns a document with its imports in place, of a version that is read."""
+        if path not in self.upgraded:
+            whole = self.library.load(path, node, key)
+            if isinstance(whole, Items):
+                raise ImportFault("the document is a list, and a packed one has its processes in $graph", path, whole.line)
+            if not isinstance(whole, Fields):
+                raise ImportFault("the document is no object", path)
+            self.upgraded[path] = current(whole)
+        return self.upgraded[path]
+
+    def process(self, path: str, fragment: str, scope: Scope, node: Any, key: Any) -> str:
+        """Writes a process of a document, once for each set of requirements around it. Returns the name of its file."""
+        around = tuple((name, id(it.fields), it.is_hint) for name, it in sorted(scope.carried.items()))
+        asked = (path, fragment, around, tuple(sorted(scope.names)))
+        if (path, fragment) in self.open:
+            raise fault_at(f"{os.path.basename(path)}{'#' + fragment if fragment else ''} runs itself", node, key)
+        if asked in self.written:
+            return self.written[asked]
+        if len(self.open) >= MOST_NESTED:
+            raise fault_at(f"more than {MOST_NESTED} workflows are inside one another", node, key)
+        raw, scope = self.chosen(path, fragment, scope, node, key)
+        stem = os.path.splitext(os.path.basename(path))[0]
+        name = self.folder.name(f"{stem}-{short(fragment)}" if fragment and self.written else stem)
+        self.written[asked] = name
+        self.open.append((path, fragment))
+        made = self.rewriter.process(raw, scope)
+        self.open.pop()
+        self.folder.document(name, {"cwlVersion": "v1.2", **made})
+        Checker(self.findings).process(made)
+        return name
+
+    def chosen(self, path: str, fragment: str, scope: Scope, node: Any, key: Any) -> Tuple[Fields, Scope]:
+        """Returns the process that is meant, of a packed document the one that the fragment or `main` names."""
+        whole = self.whole(path, node, key)
+        packed, processes = graph_of(whole)
+        if not packed:
+            return whole, scope
+        if not isinstance(processes, Items) or not all(isinstance(it, Fields) for it in processes):
+            raise ImportFault("$graph is no list of processes", path, whole.line_of("$graph"))
+        # Types that stand beside the processes have names too.
+        names = dict(scope.names)
+        for it in processes:
+            names.update(named_types(it))
+        wanted = short(fragment) if fragment else "main"
+        for it in processes:
+            if isinstance(it.get("id"), str) and short(it["id"]) == wanted:
+                return it, Scope(scope.carried, names)
+        alone = [] if fragment else unnamed(processes)
+        if len(alone) == 1:
+            return alone[0], Scope(scope.carried, names)
+        ids = ", ".join(short(it["id"]) for it in processes if isinstance(it.get("id"), str))
+        words = f"the packed document has no process {wanted}; it has {ids}"
+        raise ImportFault(words, path, whole.line_of("$graph")) if node is None else fault_at(words, node, key)
+
+    def run_named(self, step: Fields, value: str, scope: Scope) -> str:
+        before, fragment = split_fragment(value)
+        try:
+            path = path_of(before, step.file) if before else step.file
+        except NotAFile as error:
+            self.findings.add(LEFT, step, "run", "remote document", str(error))
+            return value
+        packed = not before and "$graph" not in self.upgraded.get(path, {})
+        if packed:
+            # `run: "#id"` in a document that is not packed names a process by its id.
+            raise fault_at(f"{value} names a process of a packed document, and this document is none", step, "run")
+        try:
+            return reference_to(self.process(path, fragment, scope, step, "run"))
+        except UnknownVersion as fault:
+            self.findings.add(LEFT, step, "run", "cwlVersion", str(fault))
+            return value
+
+    def inputs(self, path: str) -> None:
+        """Imports an input object."""
+        raw = self.library.load(path)
+        if raw is None:
+            raw = Fields(os.path.abspath(path), 1)
+        if not isinstance(raw, Fields):
+            raise ImportFault("the input object is no object", path)
+        made = raw.like()
+        for key, it in raw.items():
+            if key in ("cwl:requirements", "cwl:overrides", "cwltool:overrides", "http://commonwl.org/cwltool#overrides"):
+                self.findings.add(LEFT, raw, key, key, "this runner takes no requirements from an input object")
+            elif key not in ("cwl:tool", "id", "$namespaces", "$schemas") or key == "id" and not isinstance(it, str):
+                made.put(short(key), self.values.rewritten(raw, key, it), raw.line_of(key))
+            elif key == "id":
+                made.put(key, it, raw.line_of(key))
+        self.folder.document(INPUTS, made)
+
+
+def unnamed(processes: List[Fields]) -> List[Fields]:
+    """Returns the processes of a packed document that none of the others runs."""
+    named: Set[str] = set()
+
+    def gather(value: Any) -> None:
+        if isinstance(value, Fields):
+            run = value.get("run")
+            if isinstance(run, str) and run.startswith("#"):
+                named.add(short(run))
+            for it in value.values():
+                gather(it)
+        elif isinstance(value, Items):
+            for it in value:
+                gather(it)
+
+    for it in processes:
+        gather(it)
+    return [it for it in processes if not (isinstance(it.get("id"), str) and short(it["id"]) in named)]

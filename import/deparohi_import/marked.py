@@ -1,0 +1,48 @@
+"""Plain data that knows where it was read: objects and lists with their file and the lines of their entries."""
+
+from typing import Any, Dict, List, Optional, Union
+
+
+class Fields(dict):
+    """An object: its file, its line, and the line of each key."""
+
+    def __init__(self, file: str = "", line: Optional[int] = None) -> None:
+        super().__init__()
+        self.file, self.line = file, line
+        self.lines: Dict[str, Optional[int]] = {}
+
+    def put(self, key: str, value: Any, line: Optional[int] = None) -> None:
+        """Sets an entry with its line, which is the object's where none is given."""
+        self[key] = value
+        self.lines[key] = self.line if line is None else line
+
+    def line_of(self, key: str) -> Optional[int]:
+        return self.lines.get(key, self.line)
+
+    def like(self) -> "Fields":
+        """Returns an empty object of the same place."""
+        return Fields(self.file, self.line)
+
+
+class Items(list):
+    """A list: its file, its line, and the line of each item."""
+
+    def __init__(self, file: str = "", line: Optional[int] = None) -> None:
+        super().__init__()
+        self.file, self.line = file, line
+        self.lines: List[Optional[int]] = []
+
+    def add(self, value: Any, line: Optional[int] = None) -> None:
+        """Appends an item with its line, which is the list's where none is given."""
+        self.append(value)
+        self.lines.append(self.line if line is None else line)
+
+    def line_at(self, index: int) -> Optional[int]:
+        return self.lines[index] if index < len(self.lines) else self.line
+
+    def like(self) -> "Items":
+        """Returns an empty list of the same place."""
+        return Items(self.file, self.line)
+
+
+Marked = Union[Fields, Items]

@@ -1,0 +1,43 @@
+"""Paths of files and their URLs. Nothing is fetched: a URL has to be one of a file."""
+
+import os
+import re
+from typing import Tuple
+from urllib.parse import quote, unquote_to_bytes
+
+SCHEME = re.compile(r"([A-Za-z][A-Za-z0-9+.-]+):")
+UNESCAPED = "/-._~"
+
+
+class NotAFile(ValueError):
+    """A location that names no file on this machine."""
+
+
+def url_of(path: str) -> str:
+    """Returns the `file` URL of an absolute path."""
+    return "file://" + quote(os.fsencode(path), safe=UNESCAPED)
+
+
+def split_fragment(location: str) -> Tuple[str, str]:
+    """Returns what comes before the first `#`, and what follows it."""
+    before, _, after = location.partition("#")
+    return before, after
+
+
+def path_of(location: str, file: str) -> str:
+    """Returns the absolute path of a location that is written in this file. Raises NotAFile."""
+    scheme = SCHEME.match(location)
+    if scheme:
+        if scheme[1].lower() != "file":
+            raise NotAFile(f"{location} is no file on this machine, and nothing is fetched")
+        rest = location[len(scheme[0]):]
+        if rest.startswith("//"):
+            host, slash, tail = rest[2:].partition("/")
+            if host not in ("", "localhost"):
+                raise NotAFile(f"{location} is on another machine, and nothing is fetched")
+            rest = slash + tail
+        location = rest
+    path = os.fsdecode(unquote_to_bytes(location))
+    if "\0" in path:
+        raise NotAFile("a location has a zero character")
+    return os.path.normpath(os.path.join(os.path.dirname(os.path.abspath(file)), path))

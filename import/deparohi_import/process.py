@@ -1,0 +1,368 @@
+"""Rewrites processes, with the steps of workflows and what these run."""
+
+from typing import Any, Callable, Dict, List, NamedTuple, Optional, Tuple
+
+from .findings import LEFT, REWRITTEN, WRONG, Findings
+from .marked import Fields, Items
+from .names import class_name, short, source_name
+from .references import faults, has_expression
+from .requirements import Asked, Requirements, ToolTexts, entries
+from .shell import command_of
+from .types import Types
+from .values import Values
+
+EXPRESSION = "expression in "
+OTHER_CLASSES = {"ExpressionTool": "it is JavaScript", "Operation": "it can't be run"}
+# What the runner ignores at each object.
+DESCRIBING = ("doc", "label", "intent", "format", "streamable")
+
+
+class Scope(NamedTuple):
+    """What a process has from around it: the requirements carried to its tools, and the types that have names."""
+
+    carried: Dict[str, Asked]
+    names: Dict[str, Any]
+
+
+class Rewriter:
+    """Rewrites the processes of one import. `run_named` gives the name of the written document that a step names."""
+
+    def __init__(self, findings: Findings, requirements: Requirements, values: Values, run_named: Callable[[Fields, str, Scope], str]) -> None:
+        self.findings, self.requirements, self.values, self.run_named = findings, requirements, values, run_named
+        self.types = Types(findings, {})
+
+    def process(self, raw: Fields, scope: Scope) -> Fields:
+        """Returns the process in the forms of v1.2, without its version."""
+        kind = class_name(raw["class"]) if isinstance(raw.get("class"), str) else None
+        names = {**scope.names, **named_types(raw)}
+        outer, self.types = self.types, Types(self.findings, names)
+        made = raw.like()
+        if kind in OTHER_CLASSES:
+            self.findings.add(LEFT, raw, "class", kind, f"this runner has no {kind}: {OTHER_CLASSES[kind]}")
+            self.copy_rest(made, raw, ())
+        elif kind in ("CommandLineTool", "Workflow"):
+            requirements, hints, below = self.requirements.kept(raw, scope.carried, self.copied)
+            self.parameters(made, raw, kind)
+            if kind == "CommandLineTool":
+                self.tool(made, raw, below, requirements, hints)
+            else:
+                self.workflow(made, raw, Scope(below, names))
+            self.sections(made, raw, requirements, hints)
+            self.copy_rest(made, raw, ("requirements", "hints", "cwlVersion", "$namespaces", "$schemas", "$graph"))
+        else:
+            self.findings.add(WRONG, raw, "class", "class", "a process has the class CommandLineTool or Workflow")
+            self.copy_rest(made, raw, ())
+        self.identify(made, kind)
+        self.types = outer
+        return made
+
+    def identify(self, made: Fields, kind: Optional[str]) -> None:
+        made.pop("cwlVersion", None)
+        if kind is not None:
+            made["class"] = kind
+        identifier = made.pop("id", None)
+        if isinstance(identifier, str) and short(identifier):
+            made.put("id", short(identifier))
+
+    def sections(self, made: Fields, raw: Fields, requirements: Items, hints: Items) -> None:
+        for it in (*requirements, *hints):
+            if it["class"] == "EnvVarRequirement":
+                self.variables(it)
+        if requirements:
+            made.put("requirements", requirements, raw.line_of("requirements"))
+        if hints:
+            made.put("hints", hints, raw.line_of("hints"))
+
+    def variables(self, it: Fields) -> None:
+        definitions = it.get("envDef")
+        for node in definitions if isinstance(definitions, Items) else [definitions]:
+            if isinstance(node, Fields):
+                for key, value in node.items():
+                    self.text(node, key, value if not isinstance(value, Fields) else value.get("envValue"))
+
+    def copy_rest(self, made: Fields, raw: Fields, done: Tuple[str, ...]) -> None:
+        for key, it in raw.items():
+            if key not in made and key not in done and it is not None:
+                made.put(key, self.copied(it), raw.line_of(key))
+
+    def copied(self, value: Any) -> Any:
+        """Returns a copy of which entries may be changed."""
+        if isinstance(value, Fields):
+            made: Any = value.like()
+            for key, it in value.items():
+                made.put(key, self.copied(it), value.line_of(key))
+            return made
+        if isinstance(value, Items):
+            made = value.like()
+            for at, it in enumerate(value):
+                made.add(self.copied(it), value.line_at(at))
+            return made
+        return value
+
+    def text(self, node: Any, key: Any, value: Any, folders: bool = True, runtime: bool = True) -> None:
+        """Finds what the runner refuses in a text that may have references."""
+        if isinstance(value, str):
+            for feature, words in faults(value, folders, runtime):
+                self.findings.add(LEFT, node, key, feature, words)
+
+    def no_expression(self, node: Any, key: str, where: str) -> None:
+        value = node.get(key)
+        for at in value if isinstance(value, Items) else [value]:
+            if has_expression(at):
+                self.findings.add(LEFT, node, key, EXPRESSION + where, f"this runner takes no expression in {where}")
+
+    # ---- parameters
+
+    def parameters(self, made: Fields, raw: Fields, kind: str) -> None:
+        for section in ("inputs", "outputs"):
+            if section in raw and raw[section] is not None:
+                made.put(section, self.section(raw, section, kind), raw.line_of(section))
+
+    def section(self, raw: Fields, section: str, kind: str) -> Any:
+        value = raw[section]
+        if isinstance(value, Items):
+            items = value.like()
+            for at, it in enumerate(value):
+                if isinstance(it, Fields):
+                    it = self.parameter(it, section, kind)
+                items.add(it, value.line_at(at))
+            return items
+        if not isinstance(value, Fields):
+            return value
+        fields = value.like()
+        for key, it in value.items():
+            one = self.parameter(it, section, kind) if isinstance(it, Fields) else self.types.rewritten(value, key, it)
+            # An object under a key is the parameter's, and a union stands for its type.
+            fields.put(short(key), one if not isinstance(one, Fields) or isinstance(it, Fields) else typed(one), value.line_of(key))
+        return fields
+
+    def parameter(self, raw: Fields, section: str, kind: str) -> Fields:
+        made = raw.like()
+        for key, it in raw.items():
+            line = raw.line_of(key)
+            if it is None and key != "type":
+                continue
+            if key == "id" and isinstance(it, str):
+                it = short(it)
+            elif key == "type":
+                it = self.types.rewritten(raw, key, it)
+            elif key == "default":
+                it = self.values.rewritten(raw, key, it)
+            elif key == "secondaryFiles":
+                it = self.secondary(raw, key, it)
+            elif key == "loadListing":
+                if it in ("no_listing", "deep_listing"):
+                    continue
+                self.findings.add(LEFT, raw, key, "loadListing", "a listing of one level is asked for")
+            elif key == "inputBinding":
+                it = self.binding(it) if kind == "CommandLineTool" else self.contents_alone(made, it)
+                if it is None:
+                    continue
+            elif key == "outputBinding":
+                it = self.output_binding(it)
+            if key == "loadContents" and kind == "Workflow" and it is True:
+                self.findings.add(LEFT, raw, key, "loadContents of a workflow", "this runner loads contents for tools alone")
+            made.put(key, it, line)
+        return made
+
+    def contents_alone(self, made: Fields, binding: Any) -> None:
+        """Of the binding of a workflow's input only loadContents has a meaning."""
+        if isinstance(binding, Fields) and binding.get("loadContents") is True:
+            self.findings.add(LEFT, binding, "loadContents", "loadContents of a workflow", "this runner loads contents for tools alone")
+
+    def secondary(self, raw: Fields, key: str, value: Any) -> Any:
+        listed = value if isinstance(value, Items) else [value]
+        for it in listed:
+            pattern = it.get("pattern") if isinstance(it, Fields) else it
+            required = it.get("required") if isinstance(it, Fields) else None
+            if has_expression(pattern) or has_expression(required):
+                self.findings.add(LEFT, raw, key, EXPRESSION + "secondaryFiles", "this runner takes no expression in secondaryFiles")
+            elif isinstance(pattern, str) and "/" in pattern:
+                self.findings.add(LEFT, raw, key, "secondaryFiles with /", "this runner looks for secondary files in the folder of the file")
+        copy = self.copied(value)
+        for it in copy if isinstance(copy, Items) else [copy]:
+            if isinstance(it, Fields) and it.get("required", 0) is None:
+                del it["required"]
+        return copy
+
+    def binding(self, raw: Any) -> Any:
+        if not isinstance(raw, Fields):
+            return raw
+        made = raw.like()
+        for key, it in raw.items():
+            if it is not None:
+                made.put(key, self.copied(it), raw.line_of(key))
+        self.no_expression(made, "position", "position")
+        self.text(made, "valueFrom", made.get("valueFrom"))
+        return made
+
+    def output_binding(self, raw: Any) -> Any:
+        made = self.binding(raw)
+        if isinstance(made, Fields):
+            listing = made.pop("loadListing", None)
+            if listing == "shallow_listing":
+                self.findings.add(LEFT, made, "loadListing", "loadListing", "a listing of one level is asked for")
+            patterns = made.get("glob")
+            for at in patterns if isinstance(patterns, Items) else [patterns]:
+                self.text(made, "glob", at, folders=False)
+            self.text(made, "outputEval", made.get("outputEval"), folders=False)
+        return made
+
+    # ---- tools
+
+    def tool(self, made: Fields, raw: Fields, asked: Dict[str, Asked], requirements: Items, hints: Items) -> None:
+        shell = self.requirements.at_tool(ToolTexts(raw), asked, requirements, hints)
+        for key in ("stdin", "stdout", "stderr"):
+            self.text(raw, key, raw.get(key))
+            if key != "stdin" and isinstance(raw.get(key), str) and "/" in raw[key] and not has_expression(raw[key]):
+                self.findings.add(LEFT, raw, key, f"{key} with /", "this runner takes the name of a file alone")
+        arguments = raw.get("arguments")
+        if isinstance(arguments, Items):
+            listed = arguments.like()
+            for at, it in enumerate(arguments):
+                self.text(arguments, at, it)
+                listed.add(self.binding(it), arguments.line_at(at))
+            made.put("arguments", listed, raw.line_of("arguments"))
+        if shell:
+            command_of(made, raw)
+
+    # ---- workflows
+
+    def workflow(self, made: Fields, raw: Fields, scope: Scope) -> None:
+        steps = raw.get("steps")
+        whole = (short(raw["id"]) if isinstance(raw.get("id"), str) else "", step_names(steps))
+        if isinstance(made.get("outputs"), (Fields, Items)):
+            self.clean_sources(made["outputs"], whole)
+        if isinstance(steps, (Fields, Items)):
+            made.put("steps", self.steps(steps, scope, whole), raw.line_of("steps"))
+
+    def steps(self, steps: Any, scope: Scope, whole: Tuple[str, List[str]]) -> Any:
+        listed = steps.like()
+        for key, it in enumerate(steps) if isinstance(steps, Items) else steps.items():
+            step = self.step(it, scope, whole) if isinstance(it, Fields) else it
+            if isinstance(steps, Items):
+                listed.add(step, steps.line_at(key))
+            else:
+                listed.put(short(key), step, steps.line_of(key))
+        return listed
+
+    def step(self, raw: Fields, scope: Scope, whole: Tuple[str, List[str]]) -> Fields:
+        made = raw.like()
+        requirements, hints, below = self.requirements.kept(raw, scope.carried, self.copied)
+        for key, it in raw.items():
+            line = raw.line_of(key)
+            if it is None or key in ("requirements", "hints", "run"):
+                continue
+            if key == "id" and isinstance(it, str):
+                it = short(it)
+            elif key == "in":
+                it = self.step_inputs(it, whole)
+            elif key == "out":
+                it = self.short_names(it)
+            elif key == "scatter":
+                it = self.short_names(it)
+            elif key == "when":
+                self.text(raw, key, it, folders=False, runtime=False)
+            made.put(key, it, line)
+        self.sections(made, raw, requirements, hints)
+        if "run" in raw:
+            made.put("run", self.run(raw, Scope(below, scope.names)), raw.line_of("run"))
+        return made
+
+    def run(self, raw: Fields, scope: Scope) -> Any:
+        value = raw["run"]
+        if isinstance(value, Fields):
+            return self.process(value, scope)
+        return self.run_named(raw, value, scope) if isinstance(value, str) else value
+
+    def short_names(self, value: Any) -> Any:
+        if isinstance(value, str):
+            return short(value)
+        if not isinstance(value, Items):
+            return value
+        listed = value.like()
+        for at, it in enumerate(value):
+            if isinstance(it, Fields):
+                it = self.copied(it)
+                if isinstance(it.get("id"), str):
+                    it["id"] = short(it["id"])
+            listed.add(short(it) if isinstance(it, str) else it, value.line_at(at))
+        return listed
+
+    def step_inputs(self, value: Any, whole: Tuple[str, List[str]]) -> Any:
+        if not isinstance(value, (Fields, Items)):
+            return value
+        listed = value.like()
+        for key, it in enumerate(value) if isinstance(value, Items) else value.items():
+            if isinstance(it, Fields):
+                it = self.step_input(it, whole)
+            elif isinstance(value, Fields):
+                it = value.like() if it is None else self.clean(it, whole)
+            if isinstance(value, Items):
+                listed.add(it, value.line_at(key))
+            else:
+                listed.put(short(key), it, value.line_of(key))
+        return listed
+
+    def step_input(self, raw: Fields, whole: Tuple[str, List[str]]) -> Fields:
+        made = raw.like()
+        for key, it in raw.items():
+            line = raw.line_of(key)
+            if it is None:
+                continue
+            if key == "id" and isinstance(it, str):
+                it = short(it)
+            elif key == "source":
+                it = self.clean(it, whole)
+            elif key == "default":
+                it = self.values.rewritten(raw, key, it)
+            elif key == "valueFrom":
+                self.text(raw, key, it, folders=False, runtime=False)
+            elif key == "loadContents" and it is True:
+                self.findings.add(LEFT, raw, key, "loadContents of a workflow", "this runner loads contents for tools alone")
+            elif key == "loadListing" and it in ("no_listing", "deep_listing"):
+                continue
+            made.put(key, it, line)
+        return made
+
+    def clean_sources(self, outputs: Any, whole: Tuple[str, List[str]]) -> None:
+        for it in outputs if isinstance(outputs, Items) else outputs.values():
+            if isinstance(it, Fields) and "outputSource" in it:
+                it["outputSource"] = self.clean(it["outputSource"], whole)
+
+    def clean(self, value: Any, whole: Tuple[str, List[str]]) -> Any:
+        if isinstance(value, str):
+            return source_name(value, *whole)
+        if not isinstance(value, Items):
+            return value
+        listed = value.like()
+        for at, it in enumerate(value):
+            listed.add(source_name(it, *whole) if isinstance(it, str) else it, value.line_at(at))
+        return listed
+
+
+def typed(value: Fields) -> Fields:
+    """Returns the parameter that has this type alone."""
+    made = value.like()
+    made.put("type", value)
+    return made
+
+
+def step_names(steps: Any) -> List[str]:
+    if isinstance(steps, Fields):
+        return [short(it) for it in steps]
+    if isinstance(steps, Items):
+        return [short(it["id"]) for it in steps if isinstance(it, Fields) and isinstance(it.get("id"), str)]
+    return []
+
+
+def named_types(raw: Fields) -> Dict[str, Any]:
+    """Returns the types of the process's SchemaDefRequirement by their names."""
+    found: Dict[str, Any] = {}
+    for section in ("hints", "requirements"):
+        for it in entries(raw.get(section)):
+            if it["class"] == "SchemaDefRequirement" and isinstance(it.get("types"), Items):
+                for one in it["types"]:
+                    if isinstance(one, Fields) and isinstance(one.get("name"), str):
+                        found[short(one["name"])] = one
+    return found

@@ -1,0 +1,88 @@
+"""The words of `deparohi-import`, and how it ends."""
+
+import argparse
+import os
+import sys
+from typing import List, Optional
+
+from . import runner, yaml_library
+from .fault import ImportFault
+from .findings import LEFT, WRONG, Findings
+from .folder import INPUTS, Folder
+from .importing import Import
+from .requirements import FORCED
+from .versions import UnknownVersion
+
+UNSUPPORTED, FAILED, USAGE = 33, 1, 3
+
+
+def words_of(arguments: List[str]) -> argparse.Namespace:
+    parser = argparse.ArgumentParser(
+        prog="deparohi-import",
+        description="Makes of a CWL document, in YAML or JSON and of v1.0 to v1.2, the JSON that `deparohi run` takes. Prints the paths of the document "
+        "and of the input object that it wrote. The report, report.txt, says what was rewritten, and what is left that the runner refuses.",
+        epilog="Status: 0 where the runner should take the document, 33 where something is left that it refuses, 1 where a file is wrong, 3 for other words.",
+    )
+    parser.add_argument("file", metavar="FILE[#ID]", help="the document, and of a packed one which process (main, where none is named)")
+    parser.add_argument("inputs", metavar="INPUTS", nargs="?", help="the input object, in YAML or JSON")
+    parser.add_argument("-o", "--output", metavar="FOLDER", required=True, help="the folder to write, which is made where it is absent")
+    parser.add_argument("--quiet", action="store_true", help="print no findings on standard error; they are in the report")
+    for name, option in FORCED.items():
+        parser.add_argument(option, dest="forced", action="append_const", const=name, default=[], help=f"take {name} for a hint, which the runner ignores")
+    return parser.parse_args(arguments)
+
+
+def main(arguments: List[str]) -> int:
+    try:
+        words = words_of(arguments)
+    except SystemExit as ended:
+        return USAGE if ended.code else 0
+    if not yaml_library.NAME:
+        print("deparohi-import: no YAML library: install python3-ruamel.yaml or python3-yaml", file=sys.stderr)
+        return USAGE
+    try:
+        return imported(words)
+    except UnknownVersion as fault:
+        print(f"left: {fault}", file=sys.stderr)
+        return UNSUPPORTED
+    except ImportFault as fault:
+        print(f"wrong: {fault}", file=sys.stderr)
+        return FAILED
+
+
+def imported(words: argparse.Namespace) -> int:
+    folder = Folder(words.output)
+    one = Import(folder, set(words.forced))
+    name = one.document(words.file)
+    if words.inputs is not None:
+        one.inputs(words.inputs)
+    folder.write(report_of(one.findings, words.file))
+    document = os.path.join(folder.path, name)
+    inputs = os.path.join(folder.path, INPUTS) if words.inputs is not None else None
+    print(document)
+    if inputs:
+        print(inputs)
+    if not words.quiet:
+        for it in one.findings.all:
+            if it.kind in (LEFT, WRONG):
+                print(it.text(), file=sys.stderr)
+    return one.findings.status() or asked(document, inputs)
+
+
+def asked(document: str, inputs: Optional[str]) -> int:
+    """Asks `deparohi run --validate` where it is there, and returns how that ended."""
+    deparohi = runner.program()
+    if deparohi is None or not runner.validates(deparohi):
+        return 0
+    said = runner.verdict(deparohi, document, inputs)
+    if not said.accepted:
+        print(f"deparohi run --validate: {said.words}", file=sys.stderr)
+    return 0 if said.accepted else UNSUPPORTED
+
+
+def report_of(findings: Findings, file: str) -> str:
+    """Returns the report: what is left and wrong first, then what was rewritten and what is ignored."""
+    lines = [f"{file}: {'this runner should take it' if not findings.status() else 'this runner refuses it'}"]
+    for kind in ("wrong", "left", "rewritten", "ignored"):
+        lines += [it.text() for it in findings.of(kind)]
+    return "\n".join(lines) + "\n"

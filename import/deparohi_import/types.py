@@ -1,0 +1,143 @@
+"""Rewrites types to the forms that the runner takes: named types are put in place, nested unions become one, prefixes go."""
+
+import re
+from typing import Any, Dict, Tuple
+
+from .findings import LEFT, REWRITTEN, WRONG, Findings
+from .marked import Fields, Items
+from .names import class_name, short
+
+PLAIN = ("null", "boolean", "int", "long", "string", "File", "Directory", "Any")
+STREAMS = ("stdin", "stdout", "stderr")
+FLOATS = ("float", "double")
+NAMED = re.compile(r"(.*?)((?:\[\])*)(\??)\Z", re.S)
+SALAD = ("https://w3id.org/cwl/salad#", "salad:", "xsd:", "http://www.w3.org/2001/XMLSchema#")
+MOST_NAMES = 20
+
+
+class Types:
+    """The types of one process; `names` has those of its SchemaDefRequirement."""
+
+    def __init__(self, findings: Findings, names: Dict[str, Any]) -> None:
+        self.findings, self.names = findings, names
+
+    def rewritten(self, node: Any, key: Any, value: Any, through: Tuple[str, ...] = ()) -> Any:
+        """Returns the type that an entry has, in a form of the runner's; what that can't be is left as it is."""
+        if isinstance(value, str):
+            return self.text(node, key, value, through)
+        if isinstance(value, Items):
+            return self.union(value, through)
+        if isinstance(value, Fields):
+            return self.object(node, key, value, through)
+        self.findings.add(WRONG, node, key, "type", "a type is a text, an object or a list of types")
+        return value
+
+    def text(self, node: Any, key: Any, value: str, through: Tuple[str, ...]) -> Any:
+        base, lists, optional = NAMED.match(value).groups()  # type: ignore
+        base = without_prefix(base)
+        if base in FLOATS:
+            self.findings.add(LEFT, node, key, "float", f"this runner has no values of type {base}")
+            return value
+        if base in STREAMS and not lists and not optional:
+            return base
+        if base in PLAIN:
+            inner: Any = base
+        elif short(base) in self.names and len(through) < MOST_NAMES and short(base) not in through:
+            inner = self.named(node, key, short(base), through)
+        else:
+            known = base in ("record", "enum", "array", "map", "union")
+            self.findings.add(LEFT if known else WRONG, node, key, base if known else "type", f"{value} names no type")
+            return value
+        if isinstance(inner, str) and len(lists) <= 2:
+            return inner + lists + optional
+        for _ in range(len(lists) // 2):
+            inner = array_of(node, inner)
+        return union_of(node, ["null", inner]) if optional else inner
+
+    def named(self, node: Any, key: Any, name: str, through: Tuple[str, ...]) -> Any:
+        self.findings.add(REWRITTEN, node, key, "SchemaDefRequirement", f"the type {name} is written out where it is named")
+        return self.rewritten(node, key, self.names[name], (*through, name))
+
+    def union(self, value: Items, through: Tuple[str, ...]) -> Any:
+        return union_of(value, [self.rewritten(value, at, it, through) for at, it in enumerate(value)])
+
+    def object(self, node: Any, key: Any, value: Fields, through: Tuple[str, ...]) -> Any:
+        kind = value.get("type")
+        kind = without_prefix(kind) if isinstance(kind, str) else kind
+        if kind == "array":
+            return self.array(value, through)
+        if kind == "enum":
+            return self.enum(value)
+        if kind == "record":
+            self.findings.add(LEFT, value, "type", "record", "this runner has no records")
+            return value
+        if kind is None:
+            self.findings.add(WRONG, node, key, "type", "an object that is a type has a field type")
+            return value
+        if set(value) - {"type", "doc", "label", "name"}:
+            self.findings.add(WRONG, value, None, "type", "a type that only names another one has no other fields")
+        return self.rewritten(value, "type", value["type"], through)
+
+    def array(self, value: Fields, through: Tuple[str, ...]) -> Any:
+        array = value.like()
+        array.put("type", "array", value.line_of("type"))
+        if "items" in value:
+            array.put("items", self.rewritten(value, "items", value["items"], through), value.line_of("items"))
+        for key, it in value.items():
+            if key not in ("type", "items", "name") and it is not None:
+                array.put(key, self.item_binding(it) if key == "inputBinding" else it, value.line_of(key))
+        return array
+
+    def item_binding(self, value: Any) -> Any:
+        """Leaves out what says no more than its absence would."""
+        if not isinstance(value, Fields):
+            return value
+        binding = value.like()
+        for key, it in value.items():
+            if it is not None and (key, it) != ("position", 0) and key != "shellQuote":
+                binding.put(key, it, value.line_of(key))
+        return binding
+
+    def enum(self, value: Fields) -> Any:
+        enum = value.like()
+        for key, it in value.items():
+            if key == "type":
+                it = "enum"
+            elif key == "symbols" and isinstance(it, Items):
+                symbols = it.like()
+                for at, symbol in enumerate(it):
+                    symbols.add(short(symbol) if isinstance(symbol, str) and "#" in symbol else symbol, it.line_at(at))
+                it = symbols
+            elif key == "name" and isinstance(it, str):
+                it = short(it)
+            elif key == "inputBinding" and isinstance(it, Fields) and not any(v is not None for v in it.values()):
+                continue
+            elif key == "inputBinding":
+                self.findings.add(LEFT, value, key, "inputBinding of an enum", "this runner takes an inputBinding on the parameter alone")
+            if it is not None:
+                enum.put(key, it, value.line_of(key))
+        return enum
+
+
+def without_prefix(name: str) -> str:
+    for prefix in SALAD:
+        if name.startswith(prefix):
+            return name[len(prefix):]
+    return class_name(name)
+
+
+def array_of(node: Any, items: Any) -> Fields:
+    array = Fields(node.file, node.line)
+    array.put("type", "array")
+    array.put("items", items)
+    return array
+
+
+def union_of(node: Any, members: list) -> Any:
+    """Returns the union of types, those in a union of their own among the others, each text once."""
+    union = Items(node.file, node.line)
+    for it in members:
+        for member in it if isinstance(it, Items) else [it]:
+            if not (isinstance(member, str) and member in union):
+                union.add(member)
+    return union[0] if len(union) == 1 else union

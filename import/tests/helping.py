@@ -1,0 +1,60 @@
+"""What the tests share: documents in a folder of their own, and their import."""
+
+import json
+import os
+import sys
+import tempfile
+import unittest
+from typing import Any, Dict, List
+
+HERE = os.path.dirname(os.path.dirname(os.path.realpath(__file__)))
+TOP = os.path.dirname(HERE)
+sys.path.insert(0, HERE)
+
+from deparohi_import.findings import LEFT, WRONG  # noqa: E402
+from deparohi_import.folder import INPUTS, Folder  # noqa: E402
+from deparohi_import.importing import Import  # noqa: E402
+from deparohi_import.program import report_of  # noqa: E402
+
+TOOL = """cwlVersion: v1.2
+class: CommandLineTool
+baseCommand: echo
+"""
+
+
+class InFolder(unittest.TestCase):
+    """A test with a folder of its own."""
+
+    def setUp(self) -> None:
+        self.room = tempfile.TemporaryDirectory()
+        self.addCleanup(self.room.cleanup)
+        self.path = os.path.realpath(self.room.name)
+
+    def write(self, name: str, text: str) -> str:
+        path = os.path.join(self.path, name)
+        os.makedirs(os.path.dirname(path), exist_ok=True)
+        with open(path, "w", encoding="utf-8", newline="") as it:
+            it.write(text)
+        return path
+
+    def read(self, name: str) -> Any:
+        with open(os.path.join(self.path, "out", name), encoding="utf-8") as it:
+            return json.load(it)
+
+    def imported(self, text: str, inputs: str = "", forced: tuple = (), name: str = "main.cwl") -> Dict[str, Any]:
+        """Imports a text, and returns the document that is written of it. What was found is in `findings`."""
+        folder = Folder(os.path.join(self.path, "out"))
+        one = Import(folder, set(forced))
+        written = one.document(self.write(name, text))
+        if inputs:
+            one.inputs(self.write("job.yml", inputs))
+        folder.write(report_of(one.findings, name))
+        self.findings = one.findings
+        return self.read(written)
+
+    def left(self) -> List[str]:
+        """Returns the features that are left or wrong, each with its line."""
+        return [f"{it.feature} {it.line}" for it in self.findings.all if it.kind in (LEFT, WRONG)]
+
+
+__all__ = ["HERE", "INPUTS", "InFolder", "TOOL", "TOP"]
