@@ -5,6 +5,7 @@ pub mod Greedy
 pub mod Indexing
 pub mod Moved
 pub mod Numbered
+pub mod Planned
 pub mod Grouped
 pub mod Naming
 pub mod Names

@@ -46,10 +46,10 @@ contains_cons x xs y c =
 
 -- each placed group's number is its folder's, where groups that are the same share one
 
-abbrev first_number : List Placed → List Member → ℕ
+abbrev pub first_number : List Placed → List Member → ℕ
 first_number placed group = unwrap_or (option_map (λ (p : Placed). p.folder) (place_in placed group)) 0
 
-first_numbers : (placed : List Placed) → ((p q : Placed) → Contains placed p → Contains placed q → p.members ≡ q.members → p.folder ≡ q.folder) → (p : Placed) → Contains placed p → first_number placed p.members ≡ p.folder
+pub first_numbers : (placed : List Placed) → ((p q : Placed) → Contains placed p → Contains placed q → p.members ≡ q.members → p.folder ≡ q.folder) → (p : Placed) → Contains placed p → first_number placed p.members ≡ p.folder
 first_numbers [] one p in_p = absurd (nothing_in p in_p)
 first_numbers (q ∷ qs) one p in_p = by_test (first_numbers qs (λ r s in_r in_s. one r s (Contains-append_right (q ∷ []) qs r in_r) (Contains-append_right (q ∷ []) qs s in_s)) p) (same_members q.members p.members) refl where
   later : same_members q.members p.members ≡ false → Contains qs p

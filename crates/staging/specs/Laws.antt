@@ -9,7 +9,7 @@ use Rattle.staging.specs.declared.plan.Move.{Move}
 use Rattle.staging.specs.declared.plan.StagePlan.{StagePlan}
 use Rattle.staging.specs.Reading.{IsReading}
 use Rattle.staging.specs.declared.fault.GlobFault.{GlobFault}
-use Rattle.staging.specs.Placing.{ArePlaced}
+use Rattle.staging.specs.Placing.{IsFolder, ArePlaced}
 use Rattle.staging.specs.declared.group.Member.{Member}
 use Rattle.staging.specs.declared.group.Placed.{Placed}
 use Rattle.staging.specs.declared.item.PatternItem.{PatternItem}
@@ -82,3 +82,11 @@ TargetsNeverMeet = (holds_others : Bool) (dir : List ℕ) (values : List (List �
 abbrev pub EachFileIsCopied : Type 0
 EachFileIsCopied = (holds_others : Bool) (dir : List ℕ) (values : List (List ℕ × Value)) (plan : StagePlan) (is : IsPlan holds_others dir values plan) (group : List Member) (m : Member)
     → Contains (groups_of_fields values) group → Contains group m → Contains plan.moves (move_to (folder_path holds_others dir (is.number group)) m)
+
+-- a group finds a folder, whatever was placed before it
+abbrev pub EachGroupFindsFolder : Type 0
+EachGroupFindsFolder = (holds_others : Bool) (placed : List Placed) (group : List Member) → (k : ℕ) × IsFolder holds_others placed group k
+
+-- all values can be copied, to be staged and to be delivered, into every folder
+abbrev pub EachValueHasPlan : Type 0
+EachValueHasPlan = (holds_others : Bool) (dir : List ℕ) (values : List (List ℕ × Value)) → (plan : StagePlan) × IsPlan holds_others dir values plan

@@ -1,6 +1,6 @@
 //! What holds of all patterns, names and folders: each law is the contract of a function that does nothing.
 
-ghost use Rattle.staging.specs.Laws.{TextMatchesItself, TextMatchesNoOther, SameComponents, HiddenByPeriodAlone, EachTextIsRead, EachNameIsTold, SourcesNeverMeet, EachGroupIsPlaced, OneGroupOneFolder, TargetsNeverMeet, EachFileIsCopied};
+ghost use Rattle.staging.specs.Laws.{TextMatchesItself, TextMatchesNoOther, SameComponents, HiddenByPeriodAlone, EachTextIsRead, EachNameIsTold, SourcesNeverMeet, EachGroupIsPlaced, OneGroupOneFolder, TargetsNeverMeet, EachFileIsCopied, EachGroupFindsFolder, EachValueHasPlan};
 
 /// A pattern without `*`, `?` and brackets matches its own text and no other name.
 pub fn text_matches_itself_alone()
@@ -37,4 +37,11 @@ pub fn sources_never_meet()
 pub fn targets_never_meet()
     ensures apart { TargetsNeverMeet }
     ensures each { EachFileIsCopied }
+{}
+
+/// All values have a plan of copies, both `stage_plan`'s and `deliver_plan`'s, into every folder; for each group finds a
+/// folder, whatever was placed before it.
+pub fn each_value_has_a_plan()
+    ensures folders { EachGroupFindsFolder }
+    ensures plans { EachValueHasPlan }
 {}

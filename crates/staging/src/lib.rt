@@ -35,8 +35,8 @@ pub use found::Found;
 pub use group::{Member, Placed};
 pub use item::{Bracket, CharRange, PatternItem};
 pub use laws::{
-    each_text_and_name_is_told, hidden_by_a_period_alone, same_components, sources_never_meet,
-    targets_never_meet, text_matches_itself_alone,
+    each_text_and_name_is_told, each_value_has_a_plan, hidden_by_a_period_alone, same_components,
+    sources_never_meet, targets_never_meet, text_matches_itself_alone,
 };
 pub use measure::Measure;
 pub use pattern::Pattern;
