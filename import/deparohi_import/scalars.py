@@ -6,21 +6,25 @@ from typing import Any, Optional
 NULL = re.compile(r"(?:~|null|Null|NULL|)\Z")
 TRUE = re.compile(r"(?:true|True|TRUE)\Z")
 FALSE = re.compile(r"(?:false|False|FALSE)\Z")
-INT = re.compile(r"[-+]?[0-9]{1,4000}\Z")
-OCTAL = re.compile(r"0o[0-7]{1,4000}\Z")
-HEX = re.compile(r"0x[0-9a-fA-F]{1,4000}\Z")
+INT = re.compile(r"[-+]?[0-9]+\Z")
+OCTAL = re.compile(r"0o[0-7]+\Z")
+HEX = re.compile(r"0x[0-9a-fA-F]+\Z")
+INFINITE = re.compile(r"(?:[-+]?\.(?:inf|Inf|INF)|\.(?:nan|NaN|NAN))\Z")
+MOST_DIGITS = 4_000
 FLOAT = re.compile(r"[-+]?(?:\.[0-9]+|[0-9]+(?:\.[0-9]*)?)(?:[eE][-+]?[0-9]+)?\Z")
 STANDARD = "tag:yaml.org,2002:"
 
 
 def plain_scalar(text: str) -> Any:
-    """Returns the value of a scalar without quotes. `.inf` and `.nan` stay texts, since JSON has no such numbers."""
+    """Returns the value of a scalar without quotes. Raises ValueError for a number of too many digits."""
     if NULL.match(text):
         return None
     if TRUE.match(text):
         return True
     if FALSE.match(text):
         return False
+    if len(text) > MOST_DIGITS and (INT.match(text) or OCTAL.match(text) or HEX.match(text)):
+        raise ValueError(f"a number has more than {MOST_DIGITS} digits")
     if INT.match(text):
         return int(text)
     if OCTAL.match(text):
@@ -28,8 +32,9 @@ def plain_scalar(text: str) -> Any:
     if HEX.match(text):
         return int(text[2:], 16)
     if FLOAT.match(text):
-        value = float(text)
-        return value if abs(value) != float("inf") else text
+        return float(text)
+    if INFINITE.match(text):
+        return float(text.replace(".", ""))
     return text
 
 

@@ -60,17 +60,21 @@ class Builder:
 
     def scalar(self, event: Any, line: int) -> None:
         self.count(1, len(event.value), line)
-        if event.tag is not None and not (event.implicit[0] or event.implicit[1]) or event.tag not in (None, "!", STANDARD + "str") and event.tag:
-            try:
-                value = tagged_scalar(event.tag, event.value)
-            except ValueError:
-                raise self.fault(f"the tag {event.tag} is not one of YAML's own that fits the value", line) from None
-        else:
-            value = plain_scalar(event.value) if event.implicit[0] and event.tag is None else event.value
+        value = self.value_of(event, line)
         if event.anchor:
             self.anchors[event.anchor], self.sizes[event.anchor] = value, (1, len(event.value))
         is_merge = event.value == MERGE and event.implicit[0]
         self.give(value, line, event.value, is_merge)
+
+    def value_of(self, event: Any, line: int) -> Any:
+        """Returns the value of a scalar, by its tag where it has one."""
+        try:
+            if event.tag and event.tag != "!":
+                return tagged_scalar(event.tag, event.value)
+            return plain_scalar(event.value) if event.implicit[0] and not event.tag else event.value
+        except ValueError as error:
+            words = str(error) if "digits" in str(error) else f"the tag {event.tag} is not one of YAML's own that fits the value"
+            raise self.fault(words, line) from None
 
     def alias(self, anchor: str, line: int) -> None:
         if anchor not in self.anchors:

@@ -24,6 +24,11 @@ class Reading(InFolder):
         wanted = {"a": "yes", "b": True, "c": 10, "d": 1.5, "e": None, "f": "no", "g": 255, "h": "1", "i": 8, "j": "2020-01-01"}
         self.assertEqual(wanted, self.of('{a: yes, b: true, c: 10, d: 1.5, e: ~, f: no, g: 0xff, h: "1", i: 0o10, j: 2020-01-01}'))
 
+    def test_numbers_that_json_lacks(self) -> None:
+        self.assertEqual(float("inf"), self.of("a: 1e999")["a"])
+        self.assertEqual(float("-inf"), self.of("a: -.inf")["a"])
+        self.refused("a: " + "9" * 5000, "digits", 1)
+
     def test_tags_of_yaml_decide(self) -> None:
         self.assertEqual({"a": "5", "b": 5, "c": 2.0}, self.of('{a: !!str 5, b: !!int "5", c: !!float 2}'))
         self.refused("a: !python/object x", "tag", 1)
