@@ -1,0 +1,4 @@
+pub mod Free
+pub mod Taken
+pub mod Parts
+pub mod Laws
