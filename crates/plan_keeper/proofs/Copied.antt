@@ -1,21 +1,20 @@
 -- What is taken from a planned graph: charges are as fair there as here, and a plan of the one is a plan of the other.
-use Rattle.std.proofs.Common.{◌≡◌, ◌≢◌, ℕ, ◌+◌, ◌*◌, ◌<◌, ◌≤◌, Option, Some, IsSome, List, Contains, All, length, get_or, sum, subst, sym, refl, ap, ◌∙◌, inl, inr, ⊎_elim, ◌⊎◌, arith}
+use Rattle.std.proofs.Common.{◌≡◌, ◌≢◌, ℕ, ◌*◌, ◌<◌, Option, IsSome, List, Contains, length, get_or, sum, subst, sym, refl, ap, ◌∙◌, ⊎_elim, arith}
 use Rattle.std.proofs.Math.Nat.{mul-zero}
 use Rattle.std.proofs.lemmas.List.Elements.{All-contains, Contains-get_or}
 use Rattle.plan_checker.specs.declared.vertex.Vertex.{Vertex}
 use Rattle.plan_checker.specs.declared.plan.Mark.{Mark}
 use Rattle.plan_checker.specs.declared.plan.Mark.TheVariants.{Load, Compute, Prune}
 use Rattle.plan_checker.specs.declared.charges.Charges.{Charges}
-use Rattle.plan_checker.specs.Sums.{sum_below}
 use Rattle.plan_checker.specs.Graph.{vertex, IsGraph}
-use Rattle.plan_checker.specs.Plan.{mark, cost_of, cost, IsAllowed, IsValid}
-use Rattle.plan_checker.specs.Charges.{passes, received, value, IsCounted, IsFair, AreFair}
+use Rattle.plan_checker.specs.Plan.{mark, cost_of, IsAllowed}
+use Rattle.plan_checker.specs.Charges.{passes, received, IsCounted, IsFair}
 use Rattle.plan_checker.proofs.Duality.{is_kept, kept, income, outlay, passed_by_weight}
 use Rattle.plan_keeper.specs.Free.{IsFree}
-use Rattle.plan_keeper.specs.Taken.{flow, Planned, IsSameAt, HasSameArcs, AreTaken}
+use Rattle.plan_keeper.specs.Taken.{flow, Planned, IsSameAt, AreTaken}
 use Rattle.plan_keeper.proofs.Reindexed.{reindexed}
 use Rattle.plan_keeper.proofs.Flows.{by_weight, all_passed}
-use Rattle.plan_keeper.proofs.Even.{IsEven, cost_same}
+use Rattle.plan_keeper.proofs.Even.{cost_same}
 
 pub received_same : (graph : List Vertex) (marks : List Mark) (charges : Charges) (old : Planned) (place : ℕ → ℕ) → AreTaken graph marks charges old place → (a : ℕ) → a < length old.graph → place a < length graph → received graph charges (place a) ≡ received old.graph old.charges a
 received_same graph marks charges old place taken a ha inside =

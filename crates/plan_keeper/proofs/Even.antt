@@ -1,15 +1,14 @@
 -- What comes in at a vertex is all that goes out: where that is so at each, a plan costs what the charges are worth.
-use Rattle.std.proofs.Common.{◌≡◌, ℕ, ◌+◌, ◌*◌, ◌<◌, ◌≤◌, Option, unwrap_or, List, length, get_or, refl, ap, arith}
+use Rattle.std.proofs.Common.{◌≡◌, ℕ, ◌<◌, ◌≤◌, Option, unwrap_or, List, length, refl, ap, arith}
 use Rattle.plan_checker.specs.declared.vertex.Vertex.{Vertex}
 use Rattle.plan_checker.specs.declared.plan.Mark.{Mark}
 use Rattle.plan_checker.specs.declared.plan.Mark.TheVariants.{Load, Compute, Prune}
 use Rattle.plan_checker.specs.declared.charges.Charges.{Charges}
-use Rattle.plan_checker.specs.Sums.{sum_below}
-use Rattle.plan_checker.specs.Graph.{vertex, IsGraph}
-use Rattle.plan_checker.specs.Plan.{mark, cost_of, cost, IsValid}
-use Rattle.plan_checker.specs.Charges.{received, value, IsCounted, AreFair}
+use Rattle.plan_checker.specs.Graph.{IsGraph}
+use Rattle.plan_checker.specs.Plan.{cost_of, cost, IsValid}
+use Rattle.plan_checker.specs.Charges.{value, IsCounted, AreFair}
 use Rattle.plan_checker.proofs.SumsBelow.{sum_below_same, sum_below_tight}
-use Rattle.plan_checker.proofs.Duality.{is_kept, income, outlay, income_sum, outlay_sum, income-le-outlay}
+use Rattle.plan_checker.proofs.Duality.{income, outlay, income_sum, outlay_sum, income-le-outlay}
 
 abbrev pub IsEven : List Vertex → List Mark → Charges → ℕ → Type 0
 IsEven graph marks charges i = income graph marks charges i ≡ outlay graph marks charges i

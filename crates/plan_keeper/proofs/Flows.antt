@@ -1,14 +1,13 @@
 -- What vertices pass, summed over all vertices in place of their parents.
-use Rattle.std.proofs.Common.{◌≡◌, ◌≢◌, ℕ, zero, suc, ◌+◌, ◌*◌, ◌<◌, ◌≤◌, List, Contains, cond, eqb, length, get_or, sum, sym, refl, ap, ◌∙◌, inl, inr, ⊎_elim, ◌⊎◌, arith}
+use Rattle.std.proofs.Common.{◌≡◌, ◌≢◌, ℕ, ◌*◌, ◌<◌, List, Contains, cond, eqb, length, get_or, sum, sym, refl, ap, ◌∙◌, arith}
 use Rattle.std.proofs.Math.Nat.{mul-zero}
 use Rattle.std.proofs.lemmas.List.{get_or_default}
-use Rattle.std.proofs.lemmas.Bool.{cases_eq, cases_lt, eq-eqb, ne_eqb, cond-true, cond-false}
+use Rattle.std.proofs.lemmas.Bool.{eq-eqb, ne_eqb, cond-true, cond-false}
 use Rattle.plan_checker.specs.declared.vertex.Vertex.{Vertex}
-use Rattle.plan_checker.specs.declared.plan.Mark.{Mark}
 use Rattle.plan_checker.specs.declared.charges.Charges.{Charges}
 use Rattle.plan_checker.specs.Sums.{sum_below}
 use Rattle.plan_checker.specs.Graph.{vertex, IsGraph}
-use Rattle.plan_checker.specs.Charges.{passes, passed_to, received, IsCounted}
+use Rattle.plan_checker.specs.Charges.{passes, IsCounted}
 use Rattle.plan_checker.proofs.SumsBelow.{sum_below_same, sum_below-zero, sum_below-scale, sum_below-swap, sum_below_only, sum_is_below, term-le-sum_below}
 use Rattle.plan_checker.proofs.Duality.{parent_at, amount_at, passed_by_weight}
 use Rattle.plan_keeper.specs.Taken.{flow}

@@ -1,5 +1,5 @@
 -- What is in a part is taken from its plan.
-use Rattle.std.proofs.Common.{◌≡◌, ◌≢◌, ℕ, ◌+◌, ◌<◌, ◌≤◌, List, Contains, All, length, get_or, subst, sym, refl, ap, ◌∙◌, inl, inr, ⊎_elim, ◌⊎◌, arith}
+use Rattle.std.proofs.Common.{◌≡◌, ◌≢◌, ℕ, ◌<◌, List, Contains, length, get_or, subst, ◌∙◌, inl, inr, ⊎_elim, ◌⊎◌, arith}
 use Rattle.std.specs.List.Sorted.{IsStrictlyIncreasing}
 use Rattle.std.proofs.lemmas.Bool.{cases_lt}
 use Rattle.std.proofs.lemmas.List.{get_or_default}
@@ -11,7 +11,7 @@ use Rattle.plan_checker.specs.Graph.{vertex, IsGraph}
 use Rattle.plan_checker.specs.Least.{IsLeast}
 use Rattle.plan_checker.specs.Certificate.{IsCertificate}
 use Rattle.plan_keeper.specs.Free.{IsFree, IsMarkedFree}
-use Rattle.plan_keeper.specs.Taken.{flow, Planned, AreTaken, IsTaken, IsUncharged, IsMadeOfPlans}
+use Rattle.plan_keeper.specs.Taken.{flow, Planned, AreTaken, IsUncharged, IsMadeOfPlans}
 use Rattle.plan_keeper.specs.Parts.{IsPart, IsReadAt, IsInPart, IsMadeOfParts}
 use Rattle.plan_keeper.proofs.Reindexed.{found}
 use Rattle.plan_keeper.proofs.Flows.{no_parent, none_passed}

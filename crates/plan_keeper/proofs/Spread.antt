@@ -1,7 +1,7 @@
 -- A cheapest plan of a graph, spread over a graph that vertices are taken from: a cheapest plan there.
-use Rattle.std.proofs.Common.{◌≡◌, ◌≢◌, ℕ, zero, suc, ◌+◌, ◌*◌, ◌<◌, ◌≤◌, Option, None, Some, IsSome, unwrap_or, List, Contains, All, length, get_or, sum, subst, sym, refl, ap, ◌∙◌, inl, inr, ⊎_elim, ◌⊎◌, arith}
+use Rattle.std.proofs.Common.{◌≡◌, ◌≢◌, ℕ, zero, suc, ◌+◌, ◌*◌, ◌<◌, ◌≤◌, Option, None, Some, IsSome, unwrap_or, List, Contains, length, get_or, sum, subst, sym, refl, ap, ◌∙◌, inl, inr, ⊎_elim, ◌⊎◌, arith}
 use Rattle.std.proofs.Math.Nat.{mul-zero}
-use Rattle.std.proofs.lemmas.Bool.{cases_eq, cases_lt}
+use Rattle.std.proofs.lemmas.Bool.{cases_lt}
 use Rattle.std.proofs.lemmas.List.Elements.{All-contains, Contains-get_or}
 use Rattle.plan_checker.specs.declared.vertex.Vertex.{Vertex}
 use Rattle.plan_checker.specs.declared.plan.Mark.{Mark}
@@ -9,11 +9,11 @@ use Rattle.plan_checker.specs.declared.plan.Mark.TheVariants.{Load, Compute, Pru
 use Rattle.plan_checker.specs.declared.charges.Charges.{Charges}
 use Rattle.plan_checker.specs.Sums.{sum_below}
 use Rattle.plan_checker.specs.Graph.{vertex, IsGraph}
-use Rattle.plan_checker.specs.Plan.{mark, cost_of, cost, IsAllowed, IsValid}
-use Rattle.plan_checker.specs.Least.{IsCheapest, IsLeast, DoesNoMore}
-use Rattle.plan_checker.specs.Charges.{passes, received, value, IsCounted, IsFair, AreFair}
+use Rattle.plan_checker.specs.Plan.{mark, cost_of, IsAllowed, IsValid}
+use Rattle.plan_checker.specs.Least.{IsCheapest, DoesNoMore}
+use Rattle.plan_checker.specs.Charges.{passes, received, IsFair}
 use Rattle.plan_checker.proofs.SumsBelow.{sum_below_same, sum_below-zero, term-le-sum_below}
-use Rattle.plan_checker.proofs.Duality.{is_kept, kept, income, outlay, passed_by_weight}
+use Rattle.plan_checker.proofs.Duality.{is_kept, kept, income, passed_by_weight}
 use Rattle.plan_keeper.specs.Free.{IsFree}
 use Rattle.plan_keeper.specs.Taken.{flow, Planned, AreTaken}
 use Rattle.plan_keeper.proofs.Flows.{by_weight, none_passed}

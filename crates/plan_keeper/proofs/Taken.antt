@@ -1,25 +1,24 @@
 -- A plan that is made of plans is the Least plan.
-use Rattle.std.proofs.Common.{◌≡◌, ◌≢◌, ℕ, ◌+◌, ◌*◌, ◌<◌, ◌≤◌, true, false, Option, Some, IsSome, unwrap_or, List, Contains, All, length, get_or, sum, subst, sym, refl, ap, ◌∙◌, inl, inr, ⊎_elim, ◌⊎◌, arith}
+use Rattle.std.proofs.Common.{◌≡◌, ◌≢◌, ℕ, ◌*◌, ◌<◌, false, Option, IsSome, unwrap_or, List, Contains, length, subst, sym, refl, ap, ◌∙◌, inl, inr, ⊎_elim, ◌⊎◌, arith}
 use Rattle.std.proofs.Math.Nat.{mul-zero}
-use Rattle.std.proofs.lemmas.Bool.{cases_eq, cases_lt, false_from_ne_true, true≢false}
+use Rattle.std.proofs.lemmas.Bool.{false_from_ne_true, true≢false}
 use Rattle.std.proofs.lemmas.List.Elements.{All-contains}
 use Rattle.plan_checker.specs.declared.vertex.Vertex.{Vertex}
 use Rattle.plan_checker.specs.declared.plan.Mark.{Mark}
 use Rattle.plan_checker.specs.declared.plan.Mark.TheVariants.{Load, Compute, Prune}
 use Rattle.plan_checker.specs.declared.charges.Charges.{Charges}
-use Rattle.plan_checker.specs.Sums.{sum_below}
 use Rattle.plan_checker.specs.Graph.{vertex, IsGraph}
-use Rattle.plan_checker.specs.Plan.{mark, cost_of, cost, IsAllowed, IsValid}
-use Rattle.plan_checker.specs.Least.{IsCheapest, IsLeast, DoesNoMore}
+use Rattle.plan_checker.specs.Plan.{mark, cost_of, IsAllowed, IsValid}
+use Rattle.plan_checker.specs.Least.{IsCheapest, IsLeast}
 use Rattle.plan_checker.specs.Certificate.{IsCertificate}
-use Rattle.plan_checker.specs.Charges.{passes, received, value, IsCounted, IsFair, AreFair}
+use Rattle.plan_checker.specs.Charges.{received, IsFair, AreFair}
 use Rattle.plan_checker.proofs.SumsBelow.{sum_below_same, sum_below-zero}
-use Rattle.plan_checker.proofs.Duality.{is_kept, income, outlay, passed_by_weight, certificate_is_cheapest}
+use Rattle.plan_checker.proofs.Duality.{is_kept, passed_by_weight, certificate_is_cheapest}
 use Rattle.plan_keeper.specs.Free.{IsFree, IsWanted, IsMarkedFree}
 use Rattle.plan_keeper.specs.Taken.{flow, Planned, AreTaken, IsTaken, IsUncharged, IsMadeOfPlans}
 use Rattle.plan_keeper.proofs.Flows.{by_weight, none_passed}
 use Rattle.plan_keeper.proofs.Even.{IsEven, even_at, balanced_from}
-use Rattle.plan_keeper.proofs.Copied.{Agree, fair_taken, terms_same, allowed_here}
+use Rattle.plan_keeper.proofs.Copied.{fair_taken, terms_same, allowed_here}
 use Rattle.plan_keeper.proofs.Spread.{does_no_more}
 
 -- no taken vertex stands at a free one

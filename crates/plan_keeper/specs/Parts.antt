@@ -1,5 +1,5 @@
 -- Parts of a graph: some of its vertices that are not free, numbered anew, with all that hangs together with them but for free vertices.
-use Rattle.std.specs.Prelude.{◌≡◌, ◌⊎◌, ℕ, ◌<◌, List, length, slice_index, slice_index_or, All, Contains, EachIndex}
+use Rattle.std.specs.Prelude.{◌≡◌, ◌⊎◌, ℕ, ◌<◌, List, length, slice_index, All, Contains, EachIndex}
 use Rattle.std.specs.List.Sorted.{IsStrictlyIncreasing}
 use Rattle.plan_checker.specs.declared.vertex.Vertex.{Vertex}
 use Rattle.plan_checker.specs.declared.plan.Mark.{Mark}
