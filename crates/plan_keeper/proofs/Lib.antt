@@ -6,3 +6,4 @@ pub mod Chosen
 pub mod Spread
 pub mod Taken
 pub mod Parts
+pub mod Unreached

@@ -28,7 +28,7 @@ one_place xs a b rising ha hb e =
     (cases_lt b a))
     (cases_lt a b)
 
-contains_or_not : (xs : List ℕ) (x : ℕ) → Contains xs x ⊎ ¬ Contains xs x
+pub contains_or_not : (xs : List ℕ) (x : ℕ) → Contains xs x ⊎ ¬ Contains xs x
 contains_or_not xs x =
     ⊎_elim
     (λ (some : (k : ℕ) × (k < length xs) × (get_or xs k 0 ≡ x)). inl (some.0, some.1, get_or_default xs some.0 x 0 some.1 ∙ some.2))

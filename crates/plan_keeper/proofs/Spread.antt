@@ -52,7 +52,7 @@ load_kept : (m : Mark) → m ≡ Load → m ≢ Prune
 load_kept m e gone = let P : Load ≡ Prune = sym e ∙ gone in cc
 
 -- what leaves and reaches a free vertex is nothing
-free_passes : (old : Planned) (b : ℕ) → b < length old.graph → IsFree (vertex old.graph b) → (get_or old.charges.through b 0 ≡ 0) × (sum (passes old.charges b) ≡ 0) × (get_or old.charges.enter b 0 ≡ 0) × (received old.graph old.charges b ≡ 0)
+pub free_passes : (old : Planned) (b : ℕ) → b < length old.graph → IsFree (vertex old.graph b) → (get_or old.charges.through b 0 ≡ 0) × (sum (passes old.charges b) ≡ 0) × (get_or old.charges.enter b 0 ≡ 0) × (received old.graph old.charges b ≡ 0)
 free_passes old b h free =
     let fair : IsFair old.graph old.charges b = old.certified.fair.fair b h in
     let le = fair.loading 0 free in
@@ -67,7 +67,7 @@ none_weighed old w b h free =
     (λ p hp. ap (λ x. w p * x) (none_passed old.graph old.charges b p old.good old.certified.fair.counted h (free_passes old b h free).1 hp) ∙ mul-zero (w p))
     ∙ sum_below-zero (length old.graph)
 
-none_to_free : (old : Planned) (b q : ℕ) → b < length old.graph → q < length old.graph → IsFree (vertex old.graph q) → flow old.graph old.charges b q ≡ 0
+pub none_to_free : (old : Planned) (b q : ℕ) → b < length old.graph → q < length old.graph → IsFree (vertex old.graph q) → flow old.graph old.charges b q ≡ 0
 none_to_free old b q hb hq free =
     let all : sum_below (length old.graph) (λ j. flow old.graph old.charges j q) ≡ 0 = (free_passes old q hq free).3 in
     let one = term-le-sum_below (length old.graph) (λ j. flow old.graph old.charges j q) b hb in

@@ -6,4 +6,4 @@
 
 mod laws;
 
-pub use laws::{parts_make_the_plan, plans_make_the_plan};
+pub use laws::{parts_make_the_plan, plans_make_the_plan, unreached_stays};
