@@ -1,0 +1,5 @@
+pub mod Free
+pub mod Taken
+pub mod Parts
+pub mod Unreached
+pub mod Laws

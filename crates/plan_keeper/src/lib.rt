@@ -1,0 +1,9 @@
+//! How the Least plan of a graph is made of the Least plans of its parts.
+//!
+//! A vertex that loads at no cost is free, as a job that is in flight or at hand. Free vertices cut a graph: what hangs
+//! together only by way of them can be planned apart, and what has not changed keeps its marks and charges.
+#![tactic(auto)]
+
+mod laws;
+
+pub use laws::{parts_make_the_plan, plans_make_the_plan, unreached_stays};
