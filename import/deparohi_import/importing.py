@@ -17,6 +17,7 @@ from .values import Values
 from .versions import UnknownVersion, current
 
 MOST_NESTED = 64
+MOST_VALUES = 600_000
 
 
 class Import:
@@ -29,6 +30,7 @@ class Import:
         self.written: Dict[Tuple, str] = {}
         self.open: List[Tuple] = []
         self.upgraded: Dict[str, Fields] = {}
+        self.size = 0
 
     def document(self, location: str) -> str:
         """Imports a document, `FILE` or `FILE#id`. Returns the name of what is written of it."""
@@ -65,6 +67,9 @@ class Import:
         self.open.append((path, fragment))
         made = self.rewriter.process(raw, scope)
         self.open.pop()
+        self.size += size_of(made)
+        if self.size > MOST_VALUES:
+            raise ImportFault(f"with a copy for each set of requirements the documents have more than {MOST_VALUES} values", path)
         self.folder.document(name, {"cwlVersion": "v1.2", **made})
         Checker(self.findings).process(made)
         return name
@@ -145,3 +150,10 @@ def unnamed(processes: List[Fields]) -> List[Fields]:
     for it in processes:
         gather(it)
     return [it for it in processes if not (isinstance(it.get("id"), str) and short(it["id"]) in named)]
+
+
+def size_of(value: Any) -> int:
+    """Returns how many values there are in a value."""
+    if isinstance(value, dict):
+        return 1 + sum(map(size_of, value.values()))
+    return 1 + sum(map(size_of, value)) if isinstance(value, list) else 1

@@ -36,6 +36,7 @@ class Rewriter:
         kind = class_name(raw["class"]) if isinstance(raw.get("class"), str) else None
         names = {**scope.names, **named_types(raw)}
         outer, self.types = self.types, Types(self.findings, names)
+        self.types.members = outer.members
         made = raw.like()
         if kind in OTHER_CLASSES:
             self.findings.add(LEFT, raw, "class", kind, f"this runner has no {kind}: {OTHER_CLASSES[kind]}")
@@ -53,7 +54,7 @@ class Rewriter:
             self.findings.add(WRONG, raw, "class", "class", "a process has the class CommandLineTool or Workflow")
             self.copy_rest(made, raw, ())
         self.identify(made, kind)
-        self.types = outer
+        outer.members, self.types = self.types.members, outer
         return made
 
     def identify(self, made: Fields, kind: Optional[str]) -> None:

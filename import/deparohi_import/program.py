@@ -47,7 +47,11 @@ def main(arguments: List[str]) -> int:
         return UNSUPPORTED
     except ImportFault as fault:
         print(f"wrong: {fault}", file=sys.stderr)
-        return FAILED
+    except RecursionError:
+        print(f"wrong: {words.file}: processes or types nest too deep", file=sys.stderr)
+    except MemoryError:
+        print(f"wrong: {words.file}: there is not enough memory to read it", file=sys.stderr)
+    return FAILED
 
 
 def imported(words: argparse.Namespace) -> int:

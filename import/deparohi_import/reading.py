@@ -10,7 +10,8 @@ from .fault import ImportFault
 from .marked import Fields, Items
 from .yaml_reader import MOST_NESTING, read_yaml
 
-MOST_BYTES = (4 << 20) if yaml_library.FAST else (1 << 20)
+# What is read within 10 seconds, with the library's parser in C and without it.
+MOST_BYTES = (4 << 20) if yaml_library.FAST else (1 << 19)
 
 
 def read_text(path: str) -> str:

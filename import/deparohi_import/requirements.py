@@ -33,9 +33,8 @@ FORCED = {
     "InplaceUpdateRequirement": "--force-inplace-update-as-hint",
     "LoadListingRequirement": "--force-load-listing-as-hint",
     "ToolTimeLimit": "--force-time-limit-as-hint",
-    "NetworkAccess": "--force-network-access-as-hint",
 }
-CARRIED = tuple(FORCED)
+CARRIED = (*FORCED, "NetworkAccess")
 
 
 class Asked(NamedTuple):
