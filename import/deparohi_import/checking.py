@@ -37,7 +37,7 @@ class Checker:
             self.findings.add(kind, node, key, feature, words)
 
     def process(self, value: Fields) -> None:
-        kind = PROCESSES.get(value.get("class", ""))
+        kind = PROCESSES.get(str(value.get("class")))
         if kind:
             self.object(value, kind)
 
@@ -144,7 +144,7 @@ class Checker:
 
     def requirements(self, section: Any, name: str) -> None:
         for it in section if isinstance(section, Items) else []:
-            kind = REQUIREMENTS.get(it.get("class"))
+            kind = REQUIREMENTS.get(str(it.get("class")))
             if kind is not None and (name == "Requirements" or kind != "PlainRequirement"):
                 self.object(it, kind)
 

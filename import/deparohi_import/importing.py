@@ -125,10 +125,9 @@ class Import:
         for key, it in raw.items():
             if key in ("cwl:requirements", "cwl:overrides", "cwltool:overrides", "http://commonwl.org/cwltool#overrides"):
                 self.findings.add(LEFT, raw, key, key, "this runner takes no requirements from an input object")
-            elif key not in ("cwl:tool", "id", "$namespaces", "$schemas") or key == "id" and not isinstance(it, str):
+            elif key not in ("cwl:tool", "$namespaces", "$schemas"):
+                self.rewriter.one_name(made, raw, key)
                 made.put(short(key), self.values.rewritten(raw, key, it), raw.line_of(key))
-            elif key == "id":
-                made.put(key, it, raw.line_of(key))
         self.folder.document(INPUTS, made)
 
 

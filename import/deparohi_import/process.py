@@ -133,6 +133,7 @@ class Rewriter:
         fields = value.like()
         for key, it in value.items():
             one = self.parameter(it, section, kind) if isinstance(it, Fields) else self.types.rewritten(value, key, it)
+            self.one_name(fields, value, key)
             # An object under a key is the parameter's, and a union stands for its type.
             fields.put(short(key), one if not isinstance(one, Fields) or isinstance(it, Fields) else typed(one), value.line_of(key))
         return fields
@@ -165,6 +166,11 @@ class Rewriter:
                 self.findings.add(LEFT, raw, key, "loadContents of a workflow", "this runner loads contents for tools alone")
             made.put(key, it, line)
         return made
+
+    def one_name(self, made: Fields, raw: Fields, key: str) -> None:
+        """Finds a second name with the same last part, as `a/x` beside `b/x`."""
+        if short(key) in made:
+            self.findings.add(WRONG, raw, key, "repeated name", f"the name {short(key)} stands twice in one object")
 
     def contents_alone(self, made: Fields, binding: Any) -> None:
         """Of the binding of a workflow's input only loadContents has a meaning."""
@@ -244,6 +250,7 @@ class Rewriter:
             if isinstance(steps, Items):
                 listed.add(step, steps.line_at(key))
             else:
+                self.one_name(listed, steps, key)
                 listed.put(short(key), step, steps.line_of(key))
         return listed
 
@@ -302,6 +309,7 @@ class Rewriter:
             if isinstance(value, Items):
                 listed.add(it, value.line_at(key))
             else:
+                self.one_name(listed, value, key)
                 listed.put(short(key), it, value.line_of(key))
         return listed
 

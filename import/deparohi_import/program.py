@@ -33,6 +33,9 @@ def words_of(arguments: List[str]) -> argparse.Namespace:
 
 
 def main(arguments: List[str]) -> int:
+    for stream in (sys.stdout, sys.stderr):
+        # A name of a file need not be UTF-8.
+        stream.reconfigure(errors="surrogateescape")  # type: ignore
     try:
         words = words_of(arguments)
     except SystemExit as ended:
