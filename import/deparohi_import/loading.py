@@ -57,8 +57,11 @@ class Library:
         name = node[key]
         if not isinstance(name, str):
             raise fault_at(f"{key} names no file", node, key)
+        before = split_fragment(name)[0]
+        if not before:
+            raise fault_at(f"{key} names {name or 'nothing'}, a part of its own file, and takes another file", node, key)
         try:
-            return path_of(split_fragment(name)[0], node.file)
+            return path_of(before, node.file)
         except NotAFile as error:
             raise fault_at(str(error), node, key) from None
 

@@ -181,10 +181,13 @@ class Rewriter:
         listed = value if isinstance(value, Items) else [value]
         for it in listed:
             pattern = it.get("pattern") if isinstance(it, Fields) else it
-            required = it.get("required") if isinstance(it, Fields) else None
-            if has_expression(pattern) or has_expression(required):
-                self.findings.add(LEFT, raw, key, EXPRESSION + "secondaryFiles", "this runner takes no expression in secondaryFiles")
-            elif isinstance(pattern, str) and "/" in pattern:
+            for part in ("pattern", "required"):
+                node, at = (it, part) if isinstance(it, Fields) else (raw, key)
+                if has_expression(it.get(part) if isinstance(it, Fields) else it):
+                    self.findings.add(LEFT, node, at, EXPRESSION + "secondaryFiles", "this runner takes no expression in secondaryFiles")
+            if has_expression(pattern):
+                continue
+            if isinstance(pattern, str) and "/" in pattern:
                 self.findings.add(LEFT, raw, key, "secondaryFiles with /", "this runner looks for secondary files in the folder of the file")
         copy = self.copied(value)
         for it in copy if isinstance(copy, Items) else [copy]:
