@@ -10,7 +10,7 @@ from .folder import INPUTS, Folder, reference_to
 from .loading import Library, fault_at, graph_of
 from .marked import Fields, Items
 from .names import short
-from .places import NotAFile, path_of, split_fragment
+from .places import SCHEME, NotAFile, path_of, split_fragment
 from .process import Rewriter, Scope, named_types
 from .requirements import Requirements
 from .values import Values
@@ -37,6 +37,7 @@ class Import:
         path, fragment = location, ""
         if not os.path.exists(path):
             path, fragment = split_fragment(location)
+            path = named_file(path)
         return self.process(os.path.abspath(path), fragment, Scope({}, {}), None, None)
 
     def whole(self, path: str, node: Any, key: Any) -> Fields:
@@ -116,6 +117,7 @@ class Import:
 
     def inputs(self, path: str) -> None:
         """Imports an input object."""
+        path = path if os.path.exists(path) else named_file(path)
         raw = self.library.load(path)
         if raw is None:
             raw = Fields(os.path.abspath(path), 1)
@@ -129,6 +131,14 @@ class Import:
                 self.rewriter.one_name(made, raw, key)
                 made.put(short(key), self.values.rewritten(raw, key, it), raw.line_of(key))
         self.folder.document(INPUTS, made)
+
+
+def named_file(name: str) -> str:
+    """Returns the path of a file that the words of the program name, by a path or a `file` URL."""
+    try:
+        return path_of(name, os.path.join(os.getcwd(), "words")) if SCHEME.match(name) else name
+    except NotAFile as error:
+        raise ImportFault(str(error)) from None
 
 
 def unnamed(processes: List[Fields]) -> List[Fields]:
