@@ -5,7 +5,7 @@ from typing import Any, Dict, List, Set, Tuple
 
 from .checking import Checker
 from .fault import ImportFault
-from .findings import LEFT, Findings
+from .findings import LEFT, REWRITTEN, Findings
 from .folder import INPUTS, Folder, reference_to
 from .loading import Library, fault_at, graph_of
 from .marked import Fields, Items
@@ -20,6 +20,18 @@ MOST_NESTED = 64
 MOST_VALUES = 600_000
 
 
+class Packed:
+    """The processes of a packed document by their ids, and the types that they name."""
+
+    def __init__(self, processes: Items) -> None:
+        self.processes: Dict[str, Fields] = {}
+        self.names: Dict[str, Any] = {}
+        for it in processes:
+            self.names.update(named_types(it))
+            if isinstance(it.get("id"), str):
+                self.processes.setdefault(short(it["id"]), it)
+
+
 class Import:
     """The import of one document, with its input object."""
 
@@ -30,6 +42,7 @@ class Import:
         self.written: Dict[Tuple, str] = {}
         self.open: List[Tuple] = []
         self.upgraded: Dict[str, Fields] = {}
+        self.packed: Dict[str, Packed] = {}
         self.size = 0
 
     def document(self, location: str) -> str:
@@ -49,6 +62,8 @@ class Import:
             if not isinstance(whole, Fields):
                 raise ImportFault("the document is no object", path)
             self.upgraded[path] = current(whole)
+            if whole["cwlVersion"] != "v1.2":
+                self.findings.add(REWRITTEN, whole, "cwlVersion", "cwlVersion", f"{whole['cwlVersion']} becomes v1.2")
         return self.upgraded[path]
 
     def process(self, path: str, fragment: str, scope: Scope, node: Any, key: Any) -> str:
@@ -83,18 +98,19 @@ class Import:
             return whole, scope
         if not isinstance(processes, Items) or not all(isinstance(it, Fields) for it in processes):
             raise ImportFault("$graph is no list of processes", path, whole.line_of("$graph"))
-        # Types that stand beside the processes have names too.
-        names = dict(scope.names)
-        for it in processes:
-            names.update(named_types(it))
+        if path not in self.packed:
+            self.packed[path] = Packed(processes)
+        known = self.packed[path]
+        names = {**scope.names, **known.names}
         wanted = short(fragment) if fragment else "main"
-        for it in processes:
-            if isinstance(it.get("id"), str) and short(it["id"]) == wanted:
-                return it, Scope(scope.carried, names)
+        if wanted in known.processes:
+            return known.processes[wanted], Scope(scope.carried, names)
         alone = [] if fragment else unnamed(processes)
         if len(alone) == 1:
+            if len(processes) > 1:
+                self.findings.add(REWRITTEN, alone[0], None, "$graph", "there is no process main, and this is the only one that no other runs")
             return alone[0], Scope(scope.carried, names)
-        ids = ", ".join(short(it["id"]) for it in processes if isinstance(it.get("id"), str))
+        ids = ", ".join(list(known.processes)[:20])
         words = f"the packed document has no process {wanted}; it has {ids}"
         raise ImportFault(words, path, whole.line_of("$graph")) if node is None else fault_at(words, node, key)
 

@@ -4,6 +4,7 @@ import os
 from typing import Any, Dict, Tuple
 
 from .fault import ImportFault
+from .findings import place_of
 from .marked import Fields, Items
 from .places import NotAFile, path_of, split_fragment
 from .reading import read_file, read_text
@@ -147,8 +148,6 @@ def member(whole: Any, fragment: str, node: Fields) -> Any:
 
 
 def fault_at(words: str, node: Any, key: Any) -> ImportFault:
-    from .findings import place_of
-
     file, line = place_of(node, key) if node is not None else (None, None)
     return ImportFault(words, file, line)
 

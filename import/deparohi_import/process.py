@@ -1,8 +1,8 @@
 """Rewrites processes, with the steps of workflows and what these run."""
 
-from typing import Any, Callable, Dict, List, NamedTuple, Optional, Tuple
+from typing import Any, Callable, Dict, NamedTuple, Optional, Set, Tuple
 
-from .findings import LEFT, REWRITTEN, WRONG, Findings
+from .findings import IGNORED, LEFT, WRONG, Findings
 from .marked import Fields, Items
 from .names import class_name, short, source_name
 from .references import faults, has_expression
@@ -162,6 +162,8 @@ class Rewriter:
                     continue
             elif key == "outputBinding":
                 it = self.output_binding(it)
+            elif key == "format":
+                self.findings.add(IGNORED, raw, key, "format", "formats are neither checked nor in the output object")
             if key == "loadContents" and kind == "Workflow" and it is True:
                 self.findings.add(LEFT, raw, key, "loadContents of a workflow", "this runner loads contents for tools alone")
             made.put(key, it, line)
@@ -246,7 +248,7 @@ class Rewriter:
         if isinstance(steps, (Fields, Items)):
             made.put("steps", self.steps(steps, scope, whole), raw.line_of("steps"))
 
-    def steps(self, steps: Any, scope: Scope, whole: Tuple[str, List[str]]) -> Any:
+    def steps(self, steps: Any, scope: Scope, whole: Tuple[str, Set[str]]) -> Any:
         listed = steps.like()
         for key, it in enumerate(steps) if isinstance(steps, Items) else steps.items():
             step = self.step(it, scope, whole) if isinstance(it, Fields) else it
@@ -257,7 +259,7 @@ class Rewriter:
                 listed.put(short(key), step, steps.line_of(key))
         return listed
 
-    def step(self, raw: Fields, scope: Scope, whole: Tuple[str, List[str]]) -> Fields:
+    def step(self, raw: Fields, scope: Scope, whole: Tuple[str, Set[str]]) -> Fields:
         made = raw.like()
         requirements, hints, below = self.requirements.kept(raw, scope.carried, self.copied)
         for key, it in raw.items():
@@ -300,7 +302,7 @@ class Rewriter:
             listed.add(short(it) if isinstance(it, str) else it, value.line_at(at))
         return listed
 
-    def step_inputs(self, value: Any, whole: Tuple[str, List[str]]) -> Any:
+    def step_inputs(self, value: Any, whole: Tuple[str, Set[str]]) -> Any:
         if not isinstance(value, (Fields, Items)):
             return value
         listed = value.like()
@@ -316,7 +318,7 @@ class Rewriter:
                 listed.put(short(key), it, value.line_of(key))
         return listed
 
-    def step_input(self, raw: Fields, whole: Tuple[str, List[str]]) -> Fields:
+    def step_input(self, raw: Fields, whole: Tuple[str, Set[str]]) -> Fields:
         made = raw.like()
         for key, it in raw.items():
             line = raw.line_of(key)
@@ -337,12 +339,12 @@ class Rewriter:
             made.put(key, it, line)
         return made
 
-    def clean_sources(self, outputs: Any, whole: Tuple[str, List[str]]) -> None:
+    def clean_sources(self, outputs: Any, whole: Tuple[str, Set[str]]) -> None:
         for it in outputs if isinstance(outputs, Items) else outputs.values():
             if isinstance(it, Fields) and "outputSource" in it:
                 it["outputSource"] = self.clean(it["outputSource"], whole)
 
-    def clean(self, value: Any, whole: Tuple[str, List[str]]) -> Any:
+    def clean(self, value: Any, whole: Tuple[str, Set[str]]) -> Any:
         if isinstance(value, str):
             return source_name(value, *whole)
         if not isinstance(value, Items):
@@ -360,12 +362,12 @@ def typed(value: Fields) -> Fields:
     return made
 
 
-def step_names(steps: Any) -> List[str]:
+def step_names(steps: Any) -> Set[str]:
     if isinstance(steps, Fields):
-        return [short(it) for it in steps]
+        return {short(it) for it in steps}
     if isinstance(steps, Items):
-        return [short(it["id"]) for it in steps if isinstance(it, Fields) and isinstance(it.get("id"), str)]
-    return []
+        return {short(it["id"]) for it in steps if isinstance(it, Fields) and isinstance(it.get("id"), str)}
+    return set()
 
 
 def named_types(raw: Fields) -> Dict[str, Any]:

@@ -141,9 +141,12 @@ def array_of(node: Any, items: Any) -> Fields:
 
 def union_of(node: Any, members: list) -> Any:
     """Returns the union of types, those in a union of their own among the others, each text once."""
-    union = Items(node.file, node.line)
+    union, texts = Items(node.file, node.line), set()
     for it in members:
         for member in it if isinstance(it, Items) else [it]:
-            if not (isinstance(member, str) and member in union):
-                union.add(member)
+            if isinstance(member, str):
+                if member in texts:
+                    continue
+                texts.add(member)
+            union.add(member)
     return union[0] if len(union) == 1 else union
