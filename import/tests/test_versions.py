@@ -76,3 +76,8 @@ class Versions(InFolder):
                 self.assertEqual(ours[1], theirs[1])
                 compared += 1
         self.assertGreater(compared, 1)
+
+    def test_draft_3(self) -> None:
+        text = "cwlVersion: draft-3\nclass: CommandLineTool\nbaseCommand: [echo]\ninputs:\n  - {id: '#word', type: string, inputBinding: {position: 1}}\n"
+        made = self.imported(text + "outputs:\n  - {id: '#out', type: File, outputBinding: {glob: out.txt}}\nstdout: out.txt\n")
+        self.assertEqual(([], "v1.2", ["word"]), (self.left(), made["cwlVersion"], list(made["inputs"])))
