@@ -1,8 +1,8 @@
 """Holds a rewritten document against the runner's table, to say with its line what the runner would refuse."""
 
-from typing import Any, List, Optional
+from typing import Any, Optional, Set
 
-from .findings import LEFT, WRONG, Findings
+from .findings import LEFT, WRONG, Findings, place_of
 from .marked import Fields, Items
 from .standard import is_of_standard
 from .table import OBJECTS, REQUIREMENTS, TYPES, form_of, is_ignored
@@ -30,14 +30,12 @@ class Checker:
         self.known = {(it.file, it.line) for it in findings.all if it.kind in (LEFT, WRONG)}
 
     def add(self, kind: str, node: Any, key: Any, feature: str, words: str) -> None:
-        from .findings import place_of
-
         file, line = place_of(node, key)
         if (file, line or 0) not in self.known:
             self.findings.add(kind, node, key, feature, words)
 
     def process(self, value: Fields) -> None:
-        kind = PROCESSES.get(value.get("class", ""))
+        kind = PROCESSES.get(str(value.get("class")))
         if kind:
             self.object(value, kind)
 
@@ -115,16 +113,16 @@ class Checker:
 
     def objects(self, node: Any, key: Any, it: Any, kind: str) -> None:
         if isinstance(it, Items):
-            names: List[Any] = []
+            names: Set[str] = set()
             for at, item in enumerate(it):
                 if not isinstance(item, Fields):
                     self.wrong(it, at, words_of(kind))
                     continue
                 self.object(item, kind)
-                name = item.get(SUBJECTS.get(kind, "id"))
+                name = str(item.get(SUBJECTS.get(kind, "id")))
                 if name in names:
                     self.add(WRONG, item, None, "repeated name", f"the name {name} stands twice in one list")
-                names.append(name)
+                names.add(name)
         elif isinstance(it, Fields):
             for name, item in it.items():
                 self.keyed(it, name, item, kind)
@@ -144,7 +142,7 @@ class Checker:
 
     def requirements(self, section: Any, name: str) -> None:
         for it in section if isinstance(section, Items) else []:
-            kind = REQUIREMENTS.get(it.get("class"))
+            kind = REQUIREMENTS.get(str(it.get("class")))
             if kind is not None and (name == "Requirements" or kind != "PlainRequirement"):
                 self.object(it, kind)
 

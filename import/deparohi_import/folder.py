@@ -8,6 +8,7 @@ from urllib.parse import quote
 from .fault import ImportFault
 
 REPORT, INPUTS, LITERALS = "report.txt", "inputs.json", "literals"
+LONG = 200_000
 
 
 class Folder:
@@ -49,7 +50,7 @@ class Folder:
             for path, contents in self.literals:
                 self.write_literal(path, contents)
             for name, value in self.documents:
-                self.put(os.path.join(self.path, name), json.dumps(value, indent=1, ensure_ascii=False) + "\n")
+                self.put(os.path.join(self.path, name), json_text(value))
             self.put(os.path.join(self.path, REPORT), report)
         except OSError as error:
             raise ImportFault(f"the folder can't be written: {error.strerror}", error.filename or self.path) from None
@@ -76,3 +77,9 @@ class Folder:
 def reference_to(name: str) -> str:
     """Returns the name of a document as the `run` of a step names it."""
     return quote(name)
+
+
+def json_text(value: Any) -> str:
+    """Returns the JSON of a value, with a line for each entry, or in one line where that would be long."""
+    text = json.dumps(value, ensure_ascii=False)
+    return (text if len(text) > LONG else json.dumps(value, indent=1, ensure_ascii=False)) + "\n"

@@ -5,18 +5,31 @@ from typing import Any, Dict, List, Set, Tuple
 
 from .checking import Checker
 from .fault import ImportFault
-from .findings import LEFT, Findings
+from .findings import LEFT, REWRITTEN, Findings
 from .folder import INPUTS, Folder, reference_to
 from .loading import Library, fault_at, graph_of
 from .marked import Fields, Items
 from .names import short
-from .places import NotAFile, path_of, split_fragment
+from .places import SCHEME, NotAFile, path_of, split_fragment
 from .process import Rewriter, Scope, named_types
 from .requirements import Requirements
 from .values import Values
 from .versions import UnknownVersion, current
 
 MOST_NESTED = 64
+MOST_VALUES = 600_000
+
+
+class Packed:
+    """The processes of a packed document by their ids, and the types that they name."""
+
+    def __init__(self, processes: Items) -> None:
+        self.processes: Dict[str, Fields] = {}
+        self.names: Dict[str, Any] = {}
+        for it in processes:
+            self.names.update(named_types(it))
+            if isinstance(it.get("id"), str):
+                self.processes.setdefault(short(it["id"]), it)
 
 
 class Import:
@@ -29,12 +42,15 @@ class Import:
         self.written: Dict[Tuple, str] = {}
         self.open: List[Tuple] = []
         self.upgraded: Dict[str, Fields] = {}
+        self.packed: Dict[str, Packed] = {}
+        self.size = 0
 
     def document(self, location: str) -> str:
         """Imports a document, `FILE` or `FILE#id`. Returns the name of what is written of it."""
         path, fragment = location, ""
         if not os.path.exists(path):
             path, fragment = split_fragment(location)
+            path = named_file(path)
         return self.process(os.path.abspath(path), fragment, Scope({}, {}), None, None)
 
     def whole(self, path: str, node: Any, key: Any) -> Fields:
@@ -46,6 +62,8 @@ class Import:
             if not isinstance(whole, Fields):
                 raise ImportFault("the document is no object", path)
             self.upgraded[path] = current(whole)
+            if whole["cwlVersion"] != "v1.2":
+                self.findings.add(REWRITTEN, whole, "cwlVersion", "cwlVersion", f"{whole['cwlVersion']} becomes v1.2")
         return self.upgraded[path]
 
     def process(self, path: str, fragment: str, scope: Scope, node: Any, key: Any) -> str:
@@ -65,6 +83,9 @@ class Import:
         self.open.append((path, fragment))
         made = self.rewriter.process(raw, scope)
         self.open.pop()
+        self.size += size_of(made)
+        if self.size > MOST_VALUES:
+            raise ImportFault(f"with a copy for each set of requirements the documents have more than {MOST_VALUES} values", path)
         self.folder.document(name, {"cwlVersion": "v1.2", **made})
         Checker(self.findings).process(made)
         return name
@@ -77,18 +98,19 @@ class Import:
             return whole, scope
         if not isinstance(processes, Items) or not all(isinstance(it, Fields) for it in processes):
             raise ImportFault("$graph is no list of processes", path, whole.line_of("$graph"))
-        # Types that stand beside the processes have names too.
-        names = dict(scope.names)
-        for it in processes:
-            names.update(named_types(it))
+        if path not in self.packed:
+            self.packed[path] = Packed(processes)
+        known = self.packed[path]
+        names = {**scope.names, **known.names}
         wanted = short(fragment) if fragment else "main"
-        for it in processes:
-            if isinstance(it.get("id"), str) and short(it["id"]) == wanted:
-                return it, Scope(scope.carried, names)
+        if wanted in known.processes:
+            return known.processes[wanted], Scope(scope.carried, names)
         alone = [] if fragment else unnamed(processes)
         if len(alone) == 1:
+            if len(processes) > 1:
+                self.findings.add(REWRITTEN, alone[0], None, "$graph", "there is no process main, and this is the only one that no other runs")
             return alone[0], Scope(scope.carried, names)
-        ids = ", ".join(short(it["id"]) for it in processes if isinstance(it.get("id"), str))
+        ids = ", ".join(list(known.processes)[:20])
         words = f"the packed document has no process {wanted}; it has {ids}"
         raise ImportFault(words, path, whole.line_of("$graph")) if node is None else fault_at(words, node, key)
 
@@ -111,6 +133,7 @@ class Import:
 
     def inputs(self, path: str) -> None:
         """Imports an input object."""
+        path = path if os.path.exists(path) else named_file(path)
         raw = self.library.load(path)
         if raw is None:
             raw = Fields(os.path.abspath(path), 1)
@@ -120,11 +143,18 @@ class Import:
         for key, it in raw.items():
             if key in ("cwl:requirements", "cwl:overrides", "cwltool:overrides", "http://commonwl.org/cwltool#overrides"):
                 self.findings.add(LEFT, raw, key, key, "this runner takes no requirements from an input object")
-            elif key not in ("cwl:tool", "id", "$namespaces", "$schemas") or key == "id" and not isinstance(it, str):
+            elif key not in ("cwl:tool", "$namespaces", "$schemas"):
+                self.rewriter.one_name(made, raw, key)
                 made.put(short(key), self.values.rewritten(raw, key, it), raw.line_of(key))
-            elif key == "id":
-                made.put(key, it, raw.line_of(key))
         self.folder.document(INPUTS, made)
+
+
+def named_file(name: str) -> str:
+    """Returns the path of a file that the words of the program name, by a path or a `file` URL."""
+    try:
+        return path_of(name, os.path.join(os.getcwd(), "words")) if SCHEME.match(name) else name
+    except NotAFile as error:
+        raise ImportFault(str(error)) from None
 
 
 def unnamed(processes: List[Fields]) -> List[Fields]:
@@ -145,3 +175,10 @@ def unnamed(processes: List[Fields]) -> List[Fields]:
     for it in processes:
         gather(it)
     return [it for it in processes if not (isinstance(it.get("id"), str) and short(it["id"]) in named)]
+
+
+def size_of(value: Any) -> int:
+    """Returns how many values there are in a value."""
+    if isinstance(value, dict):
+        return 1 + sum(map(size_of, value.values()))
+    return 1 + sum(map(size_of, value)) if isinstance(value, list) else 1

@@ -4,12 +4,14 @@ import os
 from typing import Any, Dict, Tuple
 
 from .fault import ImportFault
+from .findings import place_of
 from .marked import Fields, Items
 from .places import NotAFile, path_of, split_fragment
 from .reading import read_file, read_text
 
 MOST_FILES = 1_000
 MOST_VALUES = 300_000
+MOST_CHARACTERS = 16 << 20
 
 
 class Library:
@@ -19,9 +21,9 @@ class Library:
         self.files: Dict[str, Any] = {}
         self.texts: Dict[str, str] = {}
         self.reading: Dict[str, None] = {}
-        # How many values are in a file with all that it imports, and how many were put in place so far.
-        self.sizes: Dict[str, int] = {}
-        self.values = 0
+        # How many values and characters are in a file with all that it imports, and how many were put in place so far.
+        self.sizes: Dict[str, Tuple[int, int]] = {}
+        self.values = self.characters = 0
 
     def load(self, path: str, node: Any = None, key: Any = None) -> Any:
         """Returns the data of a file. A fault that is due to the file's name stands where the name is written."""
@@ -33,9 +35,9 @@ class Library:
             if node is not None and not os.path.isfile(path):
                 raise fault_at(f"there is no file {path}", node, key)
             self.reading[path] = None
-            before = self.values
+            values, characters = self.values, self.characters
             self.files[path] = self.placed(read_file(path))
-            self.sizes[path] = self.values - before
+            self.sizes[path] = (self.values - values, self.characters - characters)
             del self.reading[path]
         return self.files[path]
 
@@ -56,35 +58,42 @@ class Library:
         name = node[key]
         if not isinstance(name, str):
             raise fault_at(f"{key} names no file", node, key)
+        before = split_fragment(name)[0]
+        if not before:
+            raise fault_at(f"{key} names {name or 'nothing'}, a part of its own file, and takes another file", node, key)
         try:
-            return path_of(split_fragment(name)[0], node.file)
+            return path_of(before, node.file)
         except NotAFile as error:
             raise fault_at(str(error), node, key) from None
 
     def placed(self, value: Any) -> Any:
         """Returns the value with what it imports in its place."""
         if isinstance(value, Fields):
-            self.spent(value, 1 + len(value))
+            self.spent(value, 1 + len(value), sum(map(length, value.values())))
             if "$import" in value:
                 return self.imported(value)
             if "$include" in value:
-                return self.text(self.named(value, "$include"), value, "$include")
+                text = self.text(self.named(value, "$include"), value, "$include")
+                self.spent(value, 0, len(text))
+                return text
             return self.mixed(value) if "$mixin" in value else self.placed_fields(value)
         if isinstance(value, Items):
-            self.spent(value, 1 + len(value))
+            self.spent(value, 1 + len(value), sum(map(length, value)))
             return self.placed_items(value)
         return value
 
-    def spent(self, value: Any, count: int) -> None:
-        self.values += count
-        if self.values > MOST_VALUES:
-            raise ImportFault(f"with what it imports the document has more than {MOST_VALUES} values", value.file, value.line)
+    def spent(self, value: Any, values: int, characters: int) -> None:
+        self.values += values
+        self.characters += characters
+        if self.values > MOST_VALUES or self.characters > MOST_CHARACTERS:
+            words = f"with what it imports the document has more than {MOST_VALUES} values or {MOST_CHARACTERS} characters"
+            raise ImportFault(words, value.file, value.line)
 
     def loaded(self, value: Fields, key: str) -> Any:
         """Returns what an entry imports, which counts again where it was imported before."""
         path = self.named(value, key)
         if path in self.sizes:
-            self.spent(value, self.sizes[path])
+            self.spent(value, *self.sizes[path])
         return self.load(path, value, key)
 
     def imported(self, value: Fields) -> Any:
@@ -125,6 +134,10 @@ class Library:
         return placed
 
 
+def length(value: Any) -> int:
+    return len(value) if isinstance(value, str) else 0
+
+
 def member(whole: Any, fragment: str, node: Fields) -> Any:
     """Returns the object of this id or name in what was imported."""
     wanted = fragment.split("/")[-1]
@@ -135,8 +148,6 @@ def member(whole: Any, fragment: str, node: Fields) -> Any:
 
 
 def fault_at(words: str, node: Any, key: Any) -> ImportFault:
-    from .findings import place_of
-
     file, line = place_of(node, key) if node is not None else (None, None)
     return ImportFault(words, file, line)
 

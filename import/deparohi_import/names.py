@@ -1,6 +1,6 @@
 """Identifiers: the short names that are left of ids with `#`, `/` or a document's URL."""
 
-from typing import List
+from typing import List, Set
 
 STANDARD = ("https://w3id.org/cwl/cwl#", "cwl:")
 CWLTOOL = ("http://commonwl.org/cwltool#", "cwltool:")
@@ -37,7 +37,7 @@ def parts(name: str) -> List[str]:
     return [it for it in name.rpartition("#")[2].split("/") if it]
 
 
-def source_name(name: str, process: str, steps: List[str]) -> str:
+def source_name(name: str, process: str, steps: Set[str]) -> str:
     """Returns `name` or `step/name` for a source of a workflow whose id is given, and whose steps have these names."""
     found = parts(name)
     if len(found) > 1 and found[-2] in steps:

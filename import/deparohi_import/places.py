@@ -37,7 +37,10 @@ def path_of(location: str, file: str) -> str:
                 raise NotAFile(f"{location} is on another machine, and nothing is fetched")
             rest = slash + tail
         location = rest
-    path = os.fsdecode(unquote_to_bytes(location))
+    try:
+        path = os.fsdecode(unquote_to_bytes(location))
+    except UnicodeError:
+        raise NotAFile("a location has half of a pair of surrogates") from None
     if "\0" in path:
         raise NotAFile("a location has a zero character")
     return os.path.normpath(os.path.join(os.path.dirname(os.path.abspath(file)), path))

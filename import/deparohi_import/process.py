@@ -1,8 +1,8 @@
 """Rewrites processes, with the steps of workflows and what these run."""
 
-from typing import Any, Callable, Dict, List, NamedTuple, Optional, Tuple
+from typing import Any, Callable, Dict, NamedTuple, Optional, Set, Tuple
 
-from .findings import LEFT, REWRITTEN, WRONG, Findings
+from .findings import IGNORED, LEFT, WRONG, Findings
 from .marked import Fields, Items
 from .names import class_name, short, source_name
 from .references import faults, has_expression
@@ -36,6 +36,7 @@ class Rewriter:
         kind = class_name(raw["class"]) if isinstance(raw.get("class"), str) else None
         names = {**scope.names, **named_types(raw)}
         outer, self.types = self.types, Types(self.findings, names)
+        self.types.members = outer.members
         made = raw.like()
         if kind in OTHER_CLASSES:
             self.findings.add(LEFT, raw, "class", kind, f"this runner has no {kind}: {OTHER_CLASSES[kind]}")
@@ -53,7 +54,7 @@ class Rewriter:
             self.findings.add(WRONG, raw, "class", "class", "a process has the class CommandLineTool or Workflow")
             self.copy_rest(made, raw, ())
         self.identify(made, kind)
-        self.types = outer
+        outer.members, self.types = self.types.members, outer
         return made
 
     def identify(self, made: Fields, kind: Optional[str]) -> None:
@@ -132,6 +133,7 @@ class Rewriter:
         fields = value.like()
         for key, it in value.items():
             one = self.parameter(it, section, kind) if isinstance(it, Fields) else self.types.rewritten(value, key, it)
+            self.one_name(fields, value, key)
             # An object under a key is the parameter's, and a union stands for its type.
             fields.put(short(key), one if not isinstance(one, Fields) or isinstance(it, Fields) else typed(one), value.line_of(key))
         return fields
@@ -160,10 +162,17 @@ class Rewriter:
                     continue
             elif key == "outputBinding":
                 it = self.output_binding(it)
+            elif key == "format":
+                self.findings.add(IGNORED, raw, key, "format", "formats are neither checked nor in the output object")
             if key == "loadContents" and kind == "Workflow" and it is True:
                 self.findings.add(LEFT, raw, key, "loadContents of a workflow", "this runner loads contents for tools alone")
             made.put(key, it, line)
         return made
+
+    def one_name(self, made: Fields, raw: Fields, key: str) -> None:
+        """Finds a second name with the same last part, as `a/x` beside `b/x`."""
+        if short(key) in made:
+            self.findings.add(WRONG, raw, key, "repeated name", f"the name {short(key)} stands twice in one object")
 
     def contents_alone(self, made: Fields, binding: Any) -> None:
         """Of the binding of a workflow's input only loadContents has a meaning."""
@@ -174,10 +183,13 @@ class Rewriter:
         listed = value if isinstance(value, Items) else [value]
         for it in listed:
             pattern = it.get("pattern") if isinstance(it, Fields) else it
-            required = it.get("required") if isinstance(it, Fields) else None
-            if has_expression(pattern) or has_expression(required):
-                self.findings.add(LEFT, raw, key, EXPRESSION + "secondaryFiles", "this runner takes no expression in secondaryFiles")
-            elif isinstance(pattern, str) and "/" in pattern:
+            for part in ("pattern", "required"):
+                node, at = (it, part) if isinstance(it, Fields) else (raw, key)
+                if has_expression(it.get(part) if isinstance(it, Fields) else it):
+                    self.findings.add(LEFT, node, at, EXPRESSION + "secondaryFiles", "this runner takes no expression in secondaryFiles")
+            if has_expression(pattern):
+                continue
+            if isinstance(pattern, str) and "/" in pattern:
                 self.findings.add(LEFT, raw, key, "secondaryFiles with /", "this runner looks for secondary files in the folder of the file")
         copy = self.copied(value)
         for it in copy if isinstance(copy, Items) else [copy]:
@@ -236,17 +248,18 @@ class Rewriter:
         if isinstance(steps, (Fields, Items)):
             made.put("steps", self.steps(steps, scope, whole), raw.line_of("steps"))
 
-    def steps(self, steps: Any, scope: Scope, whole: Tuple[str, List[str]]) -> Any:
+    def steps(self, steps: Any, scope: Scope, whole: Tuple[str, Set[str]]) -> Any:
         listed = steps.like()
         for key, it in enumerate(steps) if isinstance(steps, Items) else steps.items():
             step = self.step(it, scope, whole) if isinstance(it, Fields) else it
             if isinstance(steps, Items):
                 listed.add(step, steps.line_at(key))
             else:
+                self.one_name(listed, steps, key)
                 listed.put(short(key), step, steps.line_of(key))
         return listed
 
-    def step(self, raw: Fields, scope: Scope, whole: Tuple[str, List[str]]) -> Fields:
+    def step(self, raw: Fields, scope: Scope, whole: Tuple[str, Set[str]]) -> Fields:
         made = raw.like()
         requirements, hints, below = self.requirements.kept(raw, scope.carried, self.copied)
         for key, it in raw.items():
@@ -289,7 +302,7 @@ class Rewriter:
             listed.add(short(it) if isinstance(it, str) else it, value.line_at(at))
         return listed
 
-    def step_inputs(self, value: Any, whole: Tuple[str, List[str]]) -> Any:
+    def step_inputs(self, value: Any, whole: Tuple[str, Set[str]]) -> Any:
         if not isinstance(value, (Fields, Items)):
             return value
         listed = value.like()
@@ -301,10 +314,11 @@ class Rewriter:
             if isinstance(value, Items):
                 listed.add(it, value.line_at(key))
             else:
+                self.one_name(listed, value, key)
                 listed.put(short(key), it, value.line_of(key))
         return listed
 
-    def step_input(self, raw: Fields, whole: Tuple[str, List[str]]) -> Fields:
+    def step_input(self, raw: Fields, whole: Tuple[str, Set[str]]) -> Fields:
         made = raw.like()
         for key, it in raw.items():
             line = raw.line_of(key)
@@ -325,12 +339,12 @@ class Rewriter:
             made.put(key, it, line)
         return made
 
-    def clean_sources(self, outputs: Any, whole: Tuple[str, List[str]]) -> None:
+    def clean_sources(self, outputs: Any, whole: Tuple[str, Set[str]]) -> None:
         for it in outputs if isinstance(outputs, Items) else outputs.values():
             if isinstance(it, Fields) and "outputSource" in it:
                 it["outputSource"] = self.clean(it["outputSource"], whole)
 
-    def clean(self, value: Any, whole: Tuple[str, List[str]]) -> Any:
+    def clean(self, value: Any, whole: Tuple[str, Set[str]]) -> Any:
         if isinstance(value, str):
             return source_name(value, *whole)
         if not isinstance(value, Items):
@@ -348,12 +362,12 @@ def typed(value: Fields) -> Fields:
     return made
 
 
-def step_names(steps: Any) -> List[str]:
+def step_names(steps: Any) -> Set[str]:
     if isinstance(steps, Fields):
-        return [short(it) for it in steps]
+        return {short(it) for it in steps}
     if isinstance(steps, Items):
-        return [short(it["id"]) for it in steps if isinstance(it, Fields) and isinstance(it.get("id"), str)]
-    return []
+        return {short(it["id"]) for it in steps if isinstance(it, Fields) and isinstance(it.get("id"), str)}
+    return set()
 
 
 def named_types(raw: Fields) -> Dict[str, Any]:

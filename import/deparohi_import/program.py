@@ -33,6 +33,9 @@ def words_of(arguments: List[str]) -> argparse.Namespace:
 
 
 def main(arguments: List[str]) -> int:
+    for stream in (sys.stdout, sys.stderr):
+        # A name of a file need not be UTF-8.
+        stream.reconfigure(errors="surrogateescape")  # type: ignore
     try:
         words = words_of(arguments)
     except SystemExit as ended:
@@ -47,7 +50,11 @@ def main(arguments: List[str]) -> int:
         return UNSUPPORTED
     except ImportFault as fault:
         print(f"wrong: {fault}", file=sys.stderr)
-        return FAILED
+    except RecursionError:
+        print(f"wrong: {words.file}: processes or types nest too deep", file=sys.stderr)
+    except MemoryError:
+        print(f"wrong: {words.file}: there is not enough memory to read it", file=sys.stderr)
+    return FAILED
 
 
 def imported(words: argparse.Namespace) -> int:

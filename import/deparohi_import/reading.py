@@ -10,7 +10,8 @@ from .fault import ImportFault
 from .marked import Fields, Items
 from .yaml_reader import MOST_NESTING, read_yaml
 
-MOST_BYTES = (4 << 20) if yaml_library.FAST else (1 << 20)
+# What is read within 10 seconds, with the library's parser in C and without it.
+MOST_BYTES = (4 << 20) if yaml_library.FAST else (1 << 19)
 
 
 def read_text(path: str) -> str:
@@ -77,14 +78,23 @@ def marked_json(data: Any, path: str, depth: int) -> Any:
         for key, value in data:
             if key in fields:
                 raise ImportFault(f"the key {key!r} stands twice in one object", path, twice_on(path, key))
-            fields.put(key, marked_json(value, path, depth + 1))
+            fields.put(whole_text(key, path), marked_json(value, path, depth + 1))
         return fields
     if isinstance(data, list):
         items = Items(path)
         for it in data:
             items.add(marked_json(it, path, depth + 1))
         return items
-    return data
+    return whole_text(data, path) if isinstance(data, str) else data
+
+
+def whole_text(text: str, path: str) -> str:
+    """Returns a text of JSON, or raises an ImportFault where it has half of a pair of surrogates, which no UTF-8 has."""
+    try:
+        text.encode("utf-8")
+    except UnicodeEncodeError:
+        raise ImportFault("a text has half of a pair of surrogates", path) from None
+    return text
 
 
 def twice_on(path: str, key: str) -> Optional[int]:

@@ -7,7 +7,7 @@ whether they change anything; there they are dropped, become hints, or stay requ
 import re
 from typing import Any, Callable, Dict, Iterator, List, NamedTuple, Optional, Set
 
-from .findings import IGNORED, LEFT, REWRITTEN, Findings
+from .findings import IGNORED, LEFT, REWRITTEN, WRONG, Findings
 from .marked import Fields, Items
 from .names import class_name
 from .references import has_expression
@@ -33,9 +33,8 @@ FORCED = {
     "InplaceUpdateRequirement": "--force-inplace-update-as-hint",
     "LoadListingRequirement": "--force-load-listing-as-hint",
     "ToolTimeLimit": "--force-time-limit-as-hint",
-    "NetworkAccess": "--force-network-access-as-hint",
 }
-CARRIED = tuple(FORCED)
+CARRIED = (*FORCED, "NetworkAccess")
 
 
 class Asked(NamedTuple):
@@ -77,6 +76,7 @@ class Requirements:
         requirements, hints, below = Items(raw.file, raw.line), Items(raw.file, raw.line), dict(carried)
         own: Dict[str, Asked] = {}
         for section, kept in (("hints", hints), ("requirements", requirements)):
+            self.tell_malformed(raw, section)
             for it in entries(raw.get(section)):
                 name = it["class"]
                 if name in CARRIED:
@@ -93,6 +93,20 @@ class Requirements:
             if not (it.is_hint and name in below and not below[name].is_hint):
                 below[name] = it
         return requirements, hints, below
+
+    def tell_malformed(self, raw: Fields, section: str) -> None:
+        """Finds what is no requirement, since it is left out of what is written."""
+        value = raw.get(section)
+        if isinstance(value, Items):
+            for at, it in enumerate(value):
+                if not (isinstance(it, Fields) and isinstance(it.get("class"), str)):
+                    self.findings.add(WRONG, value, at, section, f"an entry of {section} is an object with a class")
+        elif isinstance(value, Fields):
+            for key, it in value.items():
+                if not isinstance(it, Fields) and it is not None:
+                    self.findings.add(WRONG, value, key, section, f"an entry of {section} is an object")
+        elif value is not None:
+            self.findings.add(WRONG, raw, section, section, f"{section} is a list, or a map by class")
 
     def tell_hint(self, it: Fields) -> None:
         if it["class"] not in (*PLAIN, *ACTING):

@@ -38,4 +38,8 @@ def verdict(deparohi: str, document: str, inputs: Optional[str] = None) -> Verdi
 
 
 def run(words: List[str]) -> "subprocess.CompletedProcess[str]":
-    return subprocess.run(words, stdin=subprocess.DEVNULL, stdout=subprocess.PIPE, stderr=subprocess.PIPE, universal_newlines=True, errors="replace")
+    how = {"stdin": subprocess.DEVNULL, "stdout": subprocess.PIPE, "stderr": subprocess.PIPE, "universal_newlines": True, "errors": "replace"}
+    try:
+        return subprocess.run(words, **how)  # type: ignore
+    except OSError as error:
+        return subprocess.CompletedProcess(words, 127, "", f"{words[0]} can't be started: {error.strerror}")

@@ -77,7 +77,7 @@ def command_of(made: Fields, raw: Fields) -> None:
 def marked_arguments(made: Fields, raw: Fields) -> Items:
     """Returns the arguments with marks around those words that stay bare, and gives each binding a position of its own."""
     bindings: List[Binding] = []
-    for at, it in enumerate(made.get("arguments") or []):
+    for at, it in enumerate(items_of(made, "arguments")):
         fields = it if isinstance(it, Fields) else with_value(raw, it)
         bindings.append(Binding((fields.get("position", 0), 0, at, b""), fields))
     for name, it in parameters(made):
@@ -110,8 +110,14 @@ def listed(raw: Fields, words: List[Any]) -> Items:
     return items
 
 
+def items_of(raw: Fields, key: str) -> List[Any]:
+    """Returns the items of a field that is a list, and none of another."""
+    value = raw.get(key)
+    return list(value) if isinstance(value, Items) else []
+
+
 def argument_bindings(raw: Fields) -> List[Fields]:
-    return [it for it in raw.get("arguments") or [] if isinstance(it, Fields)]
+    return [it for it in items_of(raw, "arguments") if isinstance(it, Fields)]
 
 
 def parameters(raw: Fields) -> List[Tuple[str, Any]]:
@@ -119,7 +125,7 @@ def parameters(raw: Fields) -> List[Tuple[str, Any]]:
     inputs = raw.get("inputs")
     if isinstance(inputs, Fields):
         return list(inputs.items())
-    return [(str(it.get("id", "")), it) for it in inputs or [] if isinstance(it, Fields)]
+    return [(str(it.get("id", "")), it) for it in items_of(raw, "inputs") if isinstance(it, Fields)]
 
 
 def input_bindings(raw: Fields) -> List[Tuple[str, Fields, Any]]:

@@ -3,6 +3,7 @@
 import re
 from typing import Any, Dict, Tuple
 
+from .fault import ImportFault
 from .findings import LEFT, REWRITTEN, WRONG, Findings
 from .marked import Fields, Items
 from .names import class_name, short
@@ -13,16 +14,21 @@ FLOATS = ("float", "double")
 NAMED = re.compile(r"(.*?)((?:\[\])*)(\??)\Z", re.S)
 SALAD = ("https://w3id.org/cwl/salad#", "salad:", "xsd:", "http://www.w3.org/2001/XMLSchema#")
 MOST_NAMES = 20
+MOST_MEMBERS = 200_000
 
 
 class Types:
     """The types of one process; `names` has those of its SchemaDefRequirement."""
 
     def __init__(self, findings: Findings, names: Dict[str, Any]) -> None:
-        self.findings, self.names = findings, names
+        self.findings, self.names, self.members = findings, names, 0
 
     def rewritten(self, node: Any, key: Any, value: Any, through: Tuple[str, ...] = ()) -> Any:
         """Returns the type that an entry has, in a form of the runner's; what that can't be is left as it is."""
+        symbols = value.get("symbols") if isinstance(value, Fields) else None
+        self.members += 1 + (len(symbols) if isinstance(symbols, Items) else 0)
+        if self.members > MOST_MEMBERS:
+            raise ImportFault(f"with their names written out the types have more than {MOST_MEMBERS} members", getattr(node, "file", None), getattr(node, "line", None))
         if isinstance(value, str):
             return self.text(node, key, value, through)
         if isinstance(value, Items):
@@ -135,9 +141,12 @@ def array_of(node: Any, items: Any) -> Fields:
 
 def union_of(node: Any, members: list) -> Any:
     """Returns the union of types, those in a union of their own among the others, each text once."""
-    union = Items(node.file, node.line)
+    union, texts = Items(node.file, node.line), set()
     for it in members:
         for member in it if isinstance(it, Items) else [it]:
-            if not (isinstance(member, str) and member in union):
-                union.add(member)
+            if isinstance(member, str):
+                if member in texts:
+                    continue
+                texts.add(member)
+            union.add(member)
     return union[0] if len(union) == 1 else union

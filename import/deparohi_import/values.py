@@ -79,16 +79,23 @@ class Values:
     def literal_folder(self, value: Fields, file: Fields) -> Any:
         name, entries = self.name_of(value, "folder"), []
         for it in file.pop("listing"):
-            location = it.get("location") if isinstance(it, Fields) else None
-            if not isinstance(location, str) or not location.startswith("file://"):
+            path = self.path_below(it, value.file)
+            if path is None:
                 self.findings.add(LEFT, value, "listing", "Directory literal", "an entry of a literal folder is no file on this machine")
                 return None
-            path = path_of(location, value.file)
             entries.append((str(it.get("basename") or os.path.basename(path)), path))
         if "basename" not in file:
             file.put("basename", name)
         self.findings.add(REWRITTEN, value, None, "Directory literal", f"its listing is written to the folder {name}, as links to its files")
         return url_of(self.make_folder(name, entries))
+
+    def path_below(self, entry: Any, file: str) -> Any:
+        """Returns the path of an entry of a listing, or None where it has none on this machine."""
+        location = entry.get("location") if isinstance(entry, Fields) else None
+        try:
+            return path_of(location, file) if isinstance(location, str) else None
+        except NotAFile:
+            return None
 
     def name_of(self, value: Fields, other: str) -> str:
         name = value.get("basename")

@@ -67,6 +67,6 @@ def of_draft_3(document: Fields) -> Fields:
 
     try:
         with tempfile.TemporaryDirectory() as folder, contextlib.redirect_stderr(io.StringIO()):
-            return marked(upgrade_document(commented(document), folder, target_version="v1.2"))
+            return marked(upgrade_document(commented(document), folder, target_version="v1.0"))
     except Exception as error:  # the library raises whatever its walk meets
         raise ImportFault(f"cwl-upgrader does not take this draft-3 document: {type(error).__name__}: {error}", document.file, document.line) from None

@@ -75,6 +75,10 @@ class Left(InFolder):
         self.leaves(TOOL + "inputs: [{id: a, type: int}, {id: a, type: int}]\noutputs: []\n", "repeated name 4")
         self.assertEqual(1, self.findings.status())
 
+    def test_nothing_is_lost(self) -> None:
+        self.leaves(TOOL + ENDS + "requirements: [{}, WorkReuse]\nhints: x\n", "requirements 6", "hints 7")
+        self.leaves(TOOL + "outputs: []\ninputs: {'#a/x': int, '#b/x': int}\n", "repeated name 5")
+
     def test_another_version(self) -> None:
         from deparohi_import.versions import UnknownVersion
 

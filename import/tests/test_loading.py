@@ -41,6 +41,16 @@ class Loading(InFolder):
             self.imported(TOOL + "inputs: []\noutputs: []\nhints: [{class: 'x:y', z: {$import: b0.yml}}]\n")
         self.assertIn("values", found.exception.words)
 
+    def test_a_bomb_of_texts_and_one_of_names(self) -> None:
+        self.write("long.txt", "x" * 100_000)
+        with self.assertRaises(ImportFault) as found:
+            self.imported(TOOL + "inputs: []\noutputs: []\nhints: [{class: 'x:y', z: [" + ", ".join(["{$include: long.txt}"] * 1000) + "]}]\n")
+        self.assertIn("characters", found.exception.words)
+        types = ", ".join("{name: %s%d, type: array, items: [a%d, b%d]}" % (name, at, at + 1, at + 1) for at in range(19) for name in "ab")
+        with self.assertRaises(ImportFault) as found:
+            self.imported(TOOL + "requirements: [{class: SchemaDefRequirement, types: [" + types + ", {name: a19, type: array, items: int}, {name: b19, type: array, items: int}]}]\ninputs: {x: a0}\noutputs: []\n")
+        self.assertIn("members", found.exception.words)
+
     def test_nothing_is_fetched(self) -> None:
         self.refused(TOOL + "inputs:\n  $import: http://example.org/x.yml\noutputs: []\n", "nothing is fetched", 5)
         self.refused(TOOL + "inputs:\n  $import: file://elsewhere/x.yml\noutputs: []\n", "nothing is fetched", 5)

@@ -75,6 +75,13 @@ class Program(InFolder):
         status, _, said = self.start("absent.cwl", "-o", "out")
         self.assertEqual((1, True), (status, "absent.cwl" in said))
 
+    def test_urls(self) -> None:
+        self.write("main.cwl", TOOL + ENDS)
+        self.assertEqual(0, self.start(f"file://{self.path}/main.cwl", "-o", "out")[0])
+        for words in (("https://example.org/main.cwl",), ("main.cwl", "https://example.org/job.yml")):
+            status, _, said = self.start(*words, "-o", "out")
+            self.assertEqual((1, True), (status, "nothing is fetched" in said))
+
     def test_a_bomb(self) -> None:
         lines = ["a0: &a0 [x, x, x, x, x, x, x, x, x]"]
         lines += [f"a{at}: &a{at} [{', '.join([f'*a{at - 1}'] * 9)}]" for at in range(1, 60)]

@@ -44,6 +44,10 @@ class Reading(InFolder):
     def test_json_with_tabs_and_pairs_of_surrogates(self) -> None:
         self.assertEqual({"a": ["\U0001f600", 1]}, self.of('{\n\t"a":\t["\\ud83d\\ude00", 1]}'))
 
+    def test_half_of_a_pair_of_surrogates(self) -> None:
+        self.refused('{"a": "\\ud800"}', "surrogates")
+        self.refused('{"\\udc00": 1}', "surrogates")
+
     def test_a_key_that_stands_twice(self) -> None:
         self.refused("a: 1\nb: 2\na: 3\n", "stands twice", 3)
         self.refused('{"a": 1,\n "b": {"c": 1,\n  "c": 2}}', "stands twice", 3)

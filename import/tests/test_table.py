@@ -1,14 +1,29 @@
 """The importer's copy of the runner's table, and the page that is made of it, are as the code has them."""
 
+import json
 import os
 import subprocess
 import sys
 import unittest
 
-from .helping import HERE, TOP
+from .helping import HERE, TOP, InFolder
+from .test_program import program
 
 from deparohi_import.standard import STANDARD
 from deparohi_import.table import OBJECTS
+
+
+class Codes(InFolder):
+    @unittest.skipUnless(program(), "no program deparohi")
+    def test_the_runner_refuses_with_the_codes_of_the_page(self) -> None:
+        with open(os.path.join(HERE, "deparohi_import", "standard.json"), encoding="utf-8") as it:
+            rows = json.load(it)["features"]
+        for feature, words, _, document, code in rows:
+            if code:
+                with self.subTest(feature):
+                    ended = subprocess.run([program(), "run", "--work", self.path, self.write("it.json", document)], stdout=subprocess.PIPE, stderr=subprocess.PIPE, universal_newlines=True)
+                    self.assertEqual(f"refused: {code}", ended.stderr.splitlines()[0])
+                    self.assertIn(code, words)
 
 
 class Table(unittest.TestCase):
