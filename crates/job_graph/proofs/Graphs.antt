@@ -6,7 +6,7 @@ use Rattle.std.specs.List.{zip}
 use Rattle.std.specs.List.Sorted.{IsStrictlyIncreasing}
 use Rattle.plan_checker.specs.declared.graph.TheConstants.{MOST_VERTICES, MOST_ENTRIES, MOST_COST}
 use Rattle.plan_checker.specs.declared.vertex.Vertex.{Vertex}
-use Rattle.plan_checker.specs.Graph.{Fits, FitsAt, IsGraph, entries_below, vertex}
+use Rattle.plan_checker.specs.Graph.{IsGraph, entries_below, vertex}
 use Rattle.job_graph.specs.declared.costs.Costs.{Costs}
 use Rattle.job_graph.specs.Jobs.{Job}
 use Rattle.job_graph.specs.Made.{any_made}

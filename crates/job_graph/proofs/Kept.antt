@@ -1,11 +1,11 @@
 -- A fault that is found is kept, and all else stays.
-use Rattle.std.proofs.Common.{◌≡◌, ◌∙◌, List, ◌∷◌, [], ◌++◌, Option, Some, None, Result, Ok, Err, refl, sym, ap, subst, option_map}
+use Rattle.std.proofs.Common.{◌≡◌, ◌∙◌, List, ◌∷◌, [], ◌++◌, Option, Some, None, Ok, Err, sym, ap, subst, option_map}
 use Rattle.job_graph.specs.declared.fault.UnfoldError.{UnfoldError}
 use Rattle.job_graph.specs.declared.fault.UnfoldError.TheVariants.{Refused, OutOfMemory}
 use Rattle.job_graph.specs.declared.fault.UnfoldFault.{UnfoldFault}
 use Rattle.job_graph.specs.declared.progress.Progress.{Progress}
 use Rattle.job_graph.specs.Jobs.{Walker}
-use Rattle.job_graph.specs.Unfold.{Fault, Resolved, or_else, unfolded}
+use Rattle.job_graph.specs.Unfold.{Resolved, or_else, unfolded}
 use Rattle.job_graph.specs.Unfolding.{Blames, fault_of}
 use Rattle.job_graph.specs.inner.Growth.{IsOfOneProcess, Keeps, LearnsIn, Resolves}
 use Rattle.job_graph.specs.inner.Inside.{Follows}

@@ -1,5 +1,5 @@
 -- What is known of an unfolding, by what its fields are.
-use Rattle.std.proofs.Common.{◌≡◌, ◌∙◌, ℕ, length, take, List, [], ◌∷◌, ◌++◌, map, Option, Some, None, Result, Ok, Err, refl, sym, ap, ap₂, subst, option_map}
+use Rattle.std.proofs.Common.{◌≡◌, ◌∙◌, ℕ, length, take, List, [], ◌∷◌, ◌++◌, map, Option, Some, None, Result, Ok, Err, sym, ap, ap₂, subst, option_map}
 use Rattle.std.specs.Prelude.{OnErr, OnOk}
 use Rattle.std.proofs.lemmas.List.{length-map, take-map}
 use Rattle.document_links.specs.declared.process.Process.{Process}
@@ -13,7 +13,7 @@ use Rattle.job_graph.specs.Words.{Fields}
 use Rattle.job_graph.specs.Jobs.{Job, Walker}
 use Rattle.job_graph.specs.KnownJobs.{job_of, jobs_in, known_of}
 use Rattle.job_graph.specs.Unfold.{Fault, Resolved, known_from, or_else, unfolded}
-use Rattle.job_graph.specs.UnfoldedSoFar.{Task, UnfoldedSoFar, walks_of}
+use Rattle.job_graph.specs.UnfoldedSoFar.{Task, UnfoldedSoFar}
 use Rattle.job_graph.specs.Unfolding.{AnswersAlike, Knows, Learns, fault_of}
 use Rattle.job_graph.specs.inner.Growth.{IsOfOneProcess, LearnsIn}
 use Rattle.job_graph.specs.inner.Inside.{Follows, Stands, seen, walks_in}
@@ -59,8 +59,8 @@ module _ (one : Resolved) (old new : Progress) where
   -- all but the fault is as it was
   same_seen : Stands old → IsOfOneProcess old new → Follows walks learned new → (refused : Option Fault) → (seen new).refused ≡ refused → seen new ≡ record (seen old) { refused = refused }
   same_seen stands same follows refused is =
-      ap₂ (λ (front : Task × List Resolved × List Job) (back : Option Fields × Fields × Option Fault).
-      record { task = front.0; learned = front.1; known = front.2; result = back.0; outs = back.1; refused = back.2 })
+      ap₂ (λ (front : Task × (List Resolved × List Job)) (back : Option Fields × (Fields × Option Fault)).
+      record { task = front.0; learned = front.1.0; known = front.1.1; result = back.0; outs = back.1.0; refused = back.1.1 })
       (ap₂ (λ (task : Task) (rest : List Resolved × List Job). (task, rest)) (same_task same)
       (ap₂ (λ (places : List Resolved) (jobs : List Job). (places, jobs)) follows.places (follows.jobs ∙ sym stands.jobs)))
       (ap₂ (λ (outputs : Option Fields) (rest : Fields × Option Fault). (outputs, rest)) (follows.result ∙ sym stands.result)
@@ -113,12 +113,12 @@ LearnsBy walks learned one old new (Err OutOfMemory) = Knows walks learned new
 
 pub learns_by : (walks : Walker) (learned : List Resolved) (one : Resolved) (old new : UnfoldedSoFar) (result : Result (Unit {0}) UnfoldError) →
     Knows walks learned old → Learns old one new result → LearnsBy walks learned one old new result
-learns_by walks learned one old new (Ok done) knows learns =
-    subst (λ (places : List Resolved). Knows walks (places ++ one ∷ []) new) knows.places
+learns_by through places one old new (Ok done) knows learns =
+    subst (λ (front : List Resolved). Knows through (front ++ one ∷ []) new) knows.places
     (subst (λ (w : Walker). Knows w (old.learned ++ one ∷ []) new) knows.walker learns.1)
-learns_by walks learned one old new (Err (Refused fault)) knows learns = (
+learns_by through places one old new (Err (Refused fault)) knows learns = (
   sym (ap₂ (λ (found : Option Fault) (later : Option Fault). or_else found later) knows.goes_on
-      (ap₂ (λ (w : Walker) (places : List Resolved). (unfolded w (places ++ one ∷ [])).fault) knows.walker knows.places)) ∙ learns.0,
+      (ap₂ (λ (w : Walker) (front : List Resolved). (unfolded w (front ++ one ∷ [])).fault) knows.walker knows.places)) ∙ learns.0,
   learns.1,
 )
-learns_by walks learned one old new (Err OutOfMemory) knows learns = subst (Knows walks learned) (sym learns) knows
+learns_by through places one old new (Err OutOfMemory) knows learns = subst (Knows through places) (sym learns) knows

@@ -1,6 +1,6 @@
 -- Where no equation fails, the known jobs are no more than a graph may have, and neither are their parents.
-use Rattle.std.specs.Prelude.{◌&&◌, nat_le}
-use Rattle.std.proofs.Common.{◌≡◌, ◌≤◌, Bool, true, false, cond, List, [], ◌∷◌, ◌++◌, length, reverse, Option, Some, None, refl, arith}
+use Rattle.std.specs.Prelude.{nat_le}
+use Rattle.std.proofs.Common.{◌≡◌, ◌≤◌, Bool, true, false, cond, List, [], ◌∷◌, ◌++◌, length, reverse, Option, Some, None, refl}
 use Rattle.std.proofs.lemmas.Bool.{leb-true}
 use Rattle.plan_checker.specs.declared.graph.TheConstants.{MOST_VERTICES, MOST_ENTRIES}
 use Rattle.job_graph.specs.Jobs.{Job, Met, Walker, met_fault, met_job}

@@ -1,6 +1,6 @@
 -- The vertices of what is known are the present job graph.
 use Rattle.std.specs.List.{zip}
-use Rattle.std.proofs.Common.{◌≡◌, ◌∙◌, List, [], length, map, All, true, sym, ap, subst, ℕ, ◌+◌, ◌<◌, drop, get_or, ◌∷◌, suc, arith}
+use Rattle.std.proofs.Common.{◌≡◌, ◌∙◌, List, length, map, All, true, sym, ap, subst, ℕ, ◌+◌, ◌<◌, drop, get_or, ◌∷◌, suc, arith}
 use Rattle.std.proofs.Math.Seq.{drop-cons}
 use Rattle.std.proofs.lemmas.List.{length-map}
 use Rattle.plan_checker.specs.declared.vertex.Vertex.{Vertex}
@@ -8,7 +8,6 @@ use Rattle.plan_checker.specs.Graph.{IsGraph}
 use Rattle.job_graph.specs.declared.costs.Costs.{Costs}
 use Rattle.job_graph.specs.declared.growth.KnownJob.{KnownJob}
 use Rattle.job_graph.specs.declared.progress.Progress.{Progress}
-use Rattle.job_graph.specs.Jobs.{Job}
 use Rattle.job_graph.specs.KnownJobs.{job_of, known_of}
 use Rattle.job_graph.specs.Words.{Fields}
 use Rattle.job_graph.specs.PresentJobGraph.{AreWithin, present_job_graph, vertex_of}

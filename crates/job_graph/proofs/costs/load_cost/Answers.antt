@@ -1,4 +1,4 @@
-use Rattle.std.proofs.Common.{arith, subst}
+use Rattle.std.proofs.Common.{arith}
 use Rattle.job_graph.proofs.Quotients.{is_load_cost}
 use Rattle.job_graph.proofs.costs.load_cost.Goals as goal
 

@@ -1,4 +1,4 @@
-use Rattle.std.proofs.Common.{◌∙◌, [], map, ap, sym}
+use Rattle.std.proofs.Common.{◌∙◌, [], map, ap}
 use Rattle.job_graph.specs.KnownJobs.{jobs_in, known_of}
 use Rattle.job_graph.specs.Unfold.{known_from}
 use Rattle.job_graph.specs.UnfoldedSoFar.{UnfoldedSoFar}
