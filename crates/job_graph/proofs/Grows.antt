@@ -15,9 +15,9 @@ use Rattle.job_graph.specs.Made.{any_made}
 use Rattle.job_graph.specs.Words.{Fields, JobPlace}
 use Rattle.job_graph.specs.Jobs.{Job, Met, met_job, met_fault}
 use Rattle.job_graph.specs.Unfold.{Known, Fault, too_many_jobs, is_at, is_known, is_within_limits, with_met, first_fault, known_from, entries_from, parents_from}
-use Rattle.job_graph.specs.Unfolding.{fault_of, jobs_in, known_of}
+use Rattle.job_graph.specs.Unfolding.{fault_of}
 use Rattle.job_graph.specs.inner.Growth.{AreCounted, Grows, GrowsTo}
-use Rattle.job_graph.specs.inner.Views.{job_of}
+use Rattle.job_graph.specs.KnownJobs.{job_of, jobs_in, known_of}
 use Rattle.job_graph.proofs.MetMore.{with_met_append, fault_past, fault_front, known_push, entries_push, is_within, is_past}
 
 -- ---- one that is met

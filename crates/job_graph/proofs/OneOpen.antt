@@ -4,7 +4,7 @@ use Rattle.std.specs.Prelude.{◌||◌}
 use Rattle.job_graph.specs.declared.growth.KnownJob.{KnownJob}
 use Rattle.job_graph.specs.Beside.{is_open_beside, is_one_open}
 use Rattle.job_graph.specs.Unfold.{Resolved}
-use Rattle.job_graph.specs.Unfolding.{jobs_in}
+use Rattle.job_graph.specs.KnownJobs.{jobs_in}
 use Rattle.job_graph.specs.Words.{JobPlace}
 
 or_true : (a b : Bool) → b ≡ true → (a || b) ≡ true

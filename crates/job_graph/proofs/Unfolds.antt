@@ -1,5 +1,5 @@
 -- What is known once one more place is learned.
-use Rattle.std.proofs.Common.{◌≡◌, ◌∙◌, ℕ, List, [], ◌∷◌, ◌++◌, map, Option, Some, None, true, Ok, Err, refl, sym, ap, subst, option_map, length, take, arith}
+use Rattle.std.proofs.Common.{◌≡◌, ◌∙◌, ℕ, List, [], ◌∷◌, ◌++◌, map, Option, Some, None, true, Ok, Err, refl, sym, ap, subst, length, take, arith}
 use Rattle.std.specs.Prelude.{MatchOption}
 use Rattle.std.proofs.Math.Seq.{take-append_seam}
 use Rattle.std.proofs.lemmas.List.{length_push, map-append}
@@ -8,15 +8,19 @@ use Rattle.input_files.specs.Measured.{Measures}
 use Rattle.job_graph.specs.declared.fault.UnfoldError.{UnfoldError}
 use Rattle.job_graph.specs.declared.growth.KnownJob.{KnownJob}
 use Rattle.job_graph.specs.declared.made.Resolved.{Resolved as KeptResolved}
-use Rattle.job_graph.specs.declared.unfolding.Unfolding.{Unfolding}
+use Rattle.job_graph.specs.declared.outcome.Outputs.{Outputs}
+use Rattle.job_graph.specs.declared.progress.Progress.{Progress}
 use Rattle.job_graph.specs.Words.{Fields}
 use Rattle.job_graph.specs.Apart.{ids_differ}
-use Rattle.job_graph.specs.Jobs.{Job, Walk, Walker, result_in}
+use Rattle.job_graph.specs.Jobs.{Job, Walk, Walker, result_in, those_named}
 use Rattle.job_graph.specs.Equations.{meaning_of}
 use Rattle.job_graph.specs.Unfold.{Resolved, Fault, made_by, with_met, first_fault, Unfolded, unfolded, known_from, entries_from}
-use Rattle.job_graph.specs.Unfolding.{Blames, Knows, jobs_in, known_of, walks_of}
+use Rattle.job_graph.specs.KnownJobs.{jobs_in, known_of}
+use Rattle.job_graph.specs.Unfolding.{Blames}
 use Rattle.job_graph.specs.Beside.{is_one_open}
 use Rattle.job_graph.specs.inner.Growth.{AreCounted, IsOfOneProcess, Unfolds, UnfoldsTo, walk_in}
+use Rattle.job_graph.specs.inner.Inside.{Follows, walks_in}
+use Rattle.job_graph.specs.inner.Outputs.{result_of}
 use Rattle.job_graph.specs.inner.Views.{resolved_of}
 use Rattle.job_graph.proofs.laws_of_walks.Open.{more_jobs, more_fault, unfolded_same}
 
@@ -33,46 +37,46 @@ popped before now after x (Some last) is off =
 
 -- ---- of an unfolding
 
-abbrev pub with_learned : Unfolding → List KeptResolved → Unfolding
+abbrev pub with_learned : Progress → List KeptResolved → Progress
 with_learned held learned = record held { facts = record held.facts { learned = learned } }
 
 abbrev task : Measures → Process → Fields → Walker
 task measures process fields made = meaning_of measures made process [] fields
 
-same_walks : (old new : Unfolding) → IsOfOneProcess old new → walks_of new ≡ walks_of old
+same_walks : (old new : Progress) → IsOfOneProcess old new → walks_in new ≡ walks_in old
 same_walks old new same =
     ap (λ (measures : Measures). task measures new.process.now new.fields) same.measures
     ∙ ap (λ (process : Process). task old.facts.measures process new.fields) same.process
     ∙ ap (λ (fields : Fields). task old.facts.measures old.process.now fields) same.fields
 
-walk_is : (walks : Walker) (learned : List Resolved) (held : Unfolding) → walks_of held ≡ walks → map resolved_of held.facts.learned ≡ learned →
+walk_is : (walks : Walker) (learned : List Resolved) (held : Progress) → walks_in held ≡ walks → map resolved_of held.facts.learned ≡ learned →
     walk_in held ≡ walks (made_by learned)
 walk_is walks learned held walker places =
-    ap (λ (found : List Resolved). walks_of held (made_by found)) places ∙ ap (λ (w : Walker). w (made_by learned)) walker
+    ap (λ (found : List Resolved). walks_in held (made_by found)) places ∙ ap (λ (w : Walker). w (made_by learned)) walker
 
 -- what is known after one walk, where these jobs were known
-pub knows_after : (walks : Walker) (past : List Job) (learned : List Resolved) (held new : Unfolding) →
-    walks_of held ≡ walks → map resolved_of held.facts.learned ≡ learned → jobs_in held.known.items ≡ past → AreCounted held.known.items held.entries → held.fault ≡ None →
+pub knows_after : (walks : Walker) (past : List Job) (learned : List Resolved) (held new : Progress) →
+    walks_in held ≡ walks → map resolved_of held.facts.learned ≡ learned → jobs_in held.known.items ≡ past → AreCounted held.known.items held.entries →
     (unfolded walks learned).jobs ≡ with_met past (walks (made_by learned)).met → (unfolded walks learned).fault ≡ first_fault past (walks (made_by learned)).met →
-    Unfolds held new (Ok tt) → Knows walks learned new
-knows_after walks past learned held new walker places known counted none all fault unfolds =
+    Unfolds held new (Ok tt) → Follows walks learned new
+knows_after walks past learned held new walker places known counted all fault unfolds =
     let found : UnfoldsTo held new (Ok tt) = unfolds.unfolds counted in
     let walk : walk_in held ≡ walks (made_by learned) = walk_is walks learned held walker places in
     let jobs : jobs_in new.known.items ≡ (unfolded walks learned).jobs =
-    found.0.0 ∙ ap (λ (jobs : List Job). with_met jobs (walk_in held).met) known ∙ ap (λ (w : Walk). with_met past w.met) walk ∙ sym all in
+    found.grown.0 ∙ ap (λ (jobs : List Job). with_met jobs (walk_in held).met) known ∙ ap (λ (w : Walk). with_met past w.met) walk ∙ sym all in
     record {
       walker = same_walks held new unfolds.same ∙ walker;
       places = ap (map resolved_of) unfolds.learned ∙ places;
       jobs = jobs;
-      parents = found.0.2.parents ∙ ap (known_from []) jobs;
-      entries = found.0.2.count ∙ ap (entries_from 0 []) jobs;
-      fault = fault ∙ sym (ap (λ (w : Walk). first_fault past w.met) walk) ∙ sym (ap (λ (jobs : List Job). first_fault jobs (walk_in held).met) known) ∙ found.0.1;
-      result = found.1 ∙ ap (λ (found : List Resolved). result_in (made_by found) (walk_in held)) places ∙ ap (result_in (made_by learned)) walk;
-      goes_on = unfolds.same.fault ∙ none;
+      parents = found.grown.2.parents ∙ ap (known_from []) jobs;
+      entries = found.grown.2.count ∙ ap (entries_from 0 []) jobs;
+      fault = fault ∙ sym (ap (λ (w : Walk). first_fault past w.met) walk) ∙ sym (ap (λ (jobs : List Job). first_fault jobs (walk_in held).met) known) ∙ found.grown.1;
+      result = found.result ∙ ap (λ (found : List Resolved). result_in (made_by found) (walk_in held)) places ∙ ap (result_in (made_by learned)) walk;
+      outs = found.outs ∙ ap (λ (w : Walk). those_named w.outs) walk;
     }
 
-pub blames_after : (walks : Walker) (past : List Job) (learned : List Resolved) (held new : Unfolding) (error : UnfoldError) →
-    walks_of held ≡ walks → map resolved_of held.facts.learned ≡ learned → jobs_in held.known.items ≡ past → AreCounted held.known.items held.entries →
+pub blames_after : (walks : Walker) (past : List Job) (learned : List Resolved) (held new : Progress) (error : UnfoldError) →
+    walks_in held ≡ walks → map resolved_of held.facts.learned ≡ learned → jobs_in held.known.items ≡ past → AreCounted held.known.items held.entries →
     (unfolded walks learned).fault ≡ first_fault past (walks (made_by learned)).met →
     Unfolds held new (Err error) → Blames (unfolded walks learned).fault error
 blames_after walks past learned held new error walker places known counted fault unfolds =
@@ -89,19 +93,19 @@ none_counted known entries none zero = record {
   count = zero ∙ sym (ap (λ (before : List KnownJob). entries_from 0 [] (jobs_in before)) none);
 }
 
-pub knows_first : (walks : Walker) (held new : Unfolding) → walks_of held ≡ walks → held.facts.learned ≡ [] → held.known.items ≡ [] → held.entries ≡ 0 → held.fault ≡ None →
-    Unfolds held new (Ok tt) → Knows walks [] new
-knows_first walks held new walker learned known entries none unfolds =
-    knows_after walks [] [] held new walker (ap (map resolved_of) learned) (ap jobs_in known) (none_counted held.known.items held.entries known entries) none refl refl unfolds
+pub knows_first : (walks : Walker) (held new : Progress) → walks_in held ≡ walks → held.facts.learned ≡ [] → held.known.items ≡ [] → held.entries ≡ 0 →
+    Unfolds held new (Ok tt) → Follows walks [] new
+knows_first walks held new walker learned known entries unfolds =
+    knows_after walks [] [] held new walker (ap (map resolved_of) learned) (ap jobs_in known) (none_counted held.known.items held.entries known entries) refl refl unfolds
 
-pub blames_first : (walks : Walker) (held new : Unfolding) (error : UnfoldError) → walks_of held ≡ walks → held.facts.learned ≡ [] → held.known.items ≡ [] → held.entries ≡ 0 →
+pub blames_first : (walks : Walker) (held new : Progress) (error : UnfoldError) → walks_in held ≡ walks → held.facts.learned ≡ [] → held.known.items ≡ [] → held.entries ≡ 0 →
     Unfolds held new (Err error) → Blames (unfolded walks []).fault error
 blames_first walks held new error walker learned known entries unfolds =
     blames_after walks [] [] held new error walker (ap (map resolved_of) learned) (ap jobs_in known) (none_counted held.known.items held.entries known entries) refl unfolds
 
 -- once one more place is learned
 
-is_counted : (walks : Walker) (learned : List Resolved) (old : Unfolding) → Knows walks learned old → AreCounted old.known.items old.entries
+is_counted : (walks : Walker) (learned : List Resolved) (old : Progress) → Follows walks learned old → AreCounted old.known.items old.entries
 is_counted walks learned old knows =
     record { parents = knows.parents ∙ ap (known_from []) (sym knows.jobs); count = knows.entries ∙ ap (entries_from 0 []) (sym knows.jobs) }
 
@@ -110,37 +114,37 @@ more_places : (learned : List Resolved) (before more : List KeptResolved) (resol
 more_places learned before more resolved places is =
     ap (map resolved_of) is ∙ map-append resolved_of before (resolved ∷ []) ∙ ap (λ (front : List Resolved). front ++ resolved_of resolved ∷ []) places
 
-pub knows_more : (walks : Walker) (learned : List Resolved) (old new : Unfolding) (resolved : KeptResolved) (more : List KeptResolved) → Knows walks learned old →
-    more ≡ old.facts.learned ++ resolved ∷ [] → Unfolds (with_learned old more) new (Ok tt) → Knows walks (learned ++ resolved_of resolved ∷ []) new
+pub knows_more : (walks : Walker) (learned : List Resolved) (old new : Progress) (resolved : KeptResolved) (more : List KeptResolved) → Follows walks learned old →
+    more ≡ old.facts.learned ++ resolved ∷ [] → Unfolds (with_learned old more) new (Ok tt) → Follows walks (learned ++ resolved_of resolved ∷ []) new
 knows_more walks learned old new resolved more knows is unfolds =
     knows_after walks (unfolded walks learned).jobs (learned ++ resolved_of resolved ∷ []) (with_learned old more) new
-    knows.walker (more_places learned old.facts.learned more resolved knows.places is) knows.jobs (is_counted walks learned old knows) knows.goes_on
+    knows.walker (more_places learned old.facts.learned more resolved knows.places is) knows.jobs (is_counted walks learned old knows)
     (more_jobs walks learned (resolved_of resolved)) (more_fault walks learned (resolved_of resolved) knows.fault) unfolds
 
-pub blames_more : (walks : Walker) (learned : List Resolved) (old new : Unfolding) (resolved : KeptResolved) (more : List KeptResolved) (error : UnfoldError) → Knows walks learned old →
+pub blames_more : (walks : Walker) (learned : List Resolved) (old new : Progress) (resolved : KeptResolved) (more : List KeptResolved) (error : UnfoldError) → Follows walks learned old →
     more ≡ old.facts.learned ++ resolved ∷ [] → Unfolds (with_learned old more) new (Err error) → Blames (unfolded walks (learned ++ resolved_of resolved ∷ [])).fault error
 blames_more walks learned old new resolved more error knows is unfolds =
     blames_after walks (unfolded walks learned).jobs (learned ++ resolved_of resolved ∷ []) (with_learned old more) new error
     knows.walker (more_places learned old.facts.learned more resolved knows.places is) knows.jobs (is_counted walks learned old knows)
     (more_fault walks learned (resolved_of resolved) knows.fault) unfolds
 
-pub knows_still : (walks : Walker) (learned : List Resolved) (old new : Unfolding) (more less : List KeptResolved) (error : UnfoldError) → Knows walks learned old →
-    less ≡ old.facts.learned → Unfolds (with_learned old more) new (Err error) → Knows walks learned (with_learned new less)
+pub knows_still : (walks : Walker) (learned : List Resolved) (old new : Progress) (more less : List KeptResolved) (error : UnfoldError) → Follows walks learned old →
+    less ≡ old.facts.learned → Unfolds (with_learned old more) new (Err error) → Follows walks learned (with_learned new less)
 knows_still walks learned old new more less error knows is unfolds = record {
   walker = same_walks (with_learned old more) new unfolds.same ∙ knows.walker;
   places = ap (map resolved_of) is ∙ knows.places;
-  jobs = ap jobs_in unfolds.alike.0.jobs ∙ knows.jobs;
-  parents = ap (map known_of) unfolds.alike.0.jobs ∙ knows.parents;
-  entries = unfolds.alike.1 ∙ knows.entries;
+  jobs = ap jobs_in unfolds.alike.jobs ∙ knows.jobs;
+  parents = ap (map known_of) unfolds.alike.jobs ∙ knows.parents;
+  entries = unfolds.alike.entries ∙ knows.entries;
   fault = knows.fault;
-  result = ap (option_map (λ outputs. outputs.items)) unfolds.alike.0.result ∙ knows.result;
-  goes_on = unfolds.same.fault ∙ knows.goes_on;
+  result = ap result_of unfolds.alike.outputs ∙ knows.result;
+  outs = ap (λ (outputs : Outputs). outputs.named.items) unfolds.alike.outputs ∙ knows.outs;
 }
 
 -- once one more place is learned, while a job beside it is open
 
-still_knows : (walks : Walker) (learned : List Resolved) (old : Unfolding) (one : Resolved) (more : List KeptResolved) → map resolved_of more ≡ learned ++ one ∷ [] →
-    Knows walks learned old → unfolded walks (learned ++ one ∷ []) ≡ unfolded walks learned → Knows walks (learned ++ one ∷ []) (with_learned old more)
+still_knows : (walks : Walker) (learned : List Resolved) (old : Progress) (one : Resolved) (more : List KeptResolved) → map resolved_of more ≡ learned ++ one ∷ [] →
+    Follows walks learned old → unfolded walks (learned ++ one ∷ []) ≡ unfolded walks learned → Follows walks (learned ++ one ∷ []) (with_learned old more)
 still_knows walks learned old one more places knows same = record {
   walker = knows.walker;
   places = places;
@@ -149,21 +153,21 @@ still_knows walks learned old one more places knows same = record {
   entries = knows.entries ∙ sym (ap (λ (u : Unfolded). entries_from 0 [] u.jobs) same);
   fault = ap (λ (u : Unfolded). u.fault) same ∙ knows.fault;
   result = knows.result ∙ sym (ap (λ (u : Unfolded). u.result) same);
-  goes_on = knows.goes_on;
+  outs = knows.outs ∙ sym (ap (λ (u : Unfolded). u.outs) same);
 }
 
-pub knows_open : (walks : Walker) (learned : List Resolved) (old : Unfolding) (resolved : KeptResolved) (more : List KeptResolved) → Knows walks learned old →
+pub knows_open : (walks : Walker) (learned : List Resolved) (old : Progress) (resolved : KeptResolved) (more : List KeptResolved) → Follows walks learned old →
     more ≡ old.facts.learned ++ resolved ∷ [] → ids_differ old.process.now ≡ true →
     is_one_open (map resolved_of old.facts.learned) (resolved_of resolved).place (jobs_in old.known.items) ≡ true →
-    Knows walks (learned ++ resolved_of resolved ∷ []) (with_learned old more)
+    Follows walks (learned ++ resolved_of resolved ∷ []) (with_learned old more)
 knows_open walks learned old resolved more knows is apart waits =
     let one : Resolved = resolved_of resolved in
-    let through : walks_of old ≡ walks = knows.walker in
-    let here : is_one_open learned one.place (unfolded (walks_of old) learned).jobs ≡ true =
+    let through : walks_in old ≡ walks = knows.walker in
+    let here : is_one_open learned one.place (unfolded (walks_in old) learned).jobs ≡ true =
     sym (ap (λ (found : List Resolved). is_one_open found one.place (jobs_in old.known.items)) knows.places
     ∙ ap (λ (jobs : List Job). is_one_open learned one.place jobs) (knows.jobs ∙ ap (λ (w : Walker). (unfolded w learned).jobs) (sym through))) ∙ waits in
-    let none : (unfolded (walks_of old) learned).fault ≡ None = ap (λ (w : Walker). (unfolded w learned).fault) through ∙ knows.fault in
-    subst (λ (w : Walker). Knows w (learned ++ one ∷ []) (with_learned old more)) through
-    (still_knows (walks_of old) learned old one more (more_places learned old.facts.learned more resolved knows.places is)
-    (subst (λ (w : Walker). Knows w learned old) (sym through) knows)
+    let none : (unfolded (walks_in old) learned).fault ≡ None = ap (λ (w : Walker). (unfolded w learned).fault) through ∙ knows.fault in
+    subst (λ (w : Walker). Follows w (learned ++ one ∷ []) (with_learned old more)) through
+    (still_knows (walks_in old) learned old one more (more_places learned old.facts.learned more resolved knows.places is)
+    (subst (λ (w : Walker). Follows w learned old) (sym through) knows)
     (unfolded_same old.process.now old.fields old.facts.measures apart learned one here none))

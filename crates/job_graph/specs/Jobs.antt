@@ -1,6 +1,6 @@
 -- What a walk through a process meets, and what it gives, where the outputs of some jobs are known.
 -- What computing every job gives (`Eval`) and what is known in the midst of a run (`Unfold`) are one walk.
-use Rattle.std.specs.Prelude.{Bool, false, cond, List, [], ◌∷◌, Option, Some, None, Result, Ok, Err, map, is_some, option_map}
+use Rattle.std.specs.Prelude.{Bool, false, cond, List, [], ◌∷◌, Option, Some, None, Result, Ok, Err, filter_map, map, is_some, option_map}
 use Rattle.std.specs.List.{list_all}
 use Rattle.std.specs.Map.{keys_of}
 use Rattle.cwl_value.specs.declared.value.Value.{Value}
@@ -76,6 +76,10 @@ all_there (v ∷ vs) = with_first v (all_there vs)
 abbrev pub all_named : {T : Type 0} → List (Name × Option T) → Option (List (Name × T))
 all_named [] = Some []
 all_named (e ∷ entries) = with_first (option_map (λ v. (e.0, v)) e.1) (all_named entries)
+
+-- those of the named values that are there
+abbrev pub those_named : {T : Type 0} → List (Name × Option T) → List (Name × T)
+those_named entries = filter_map (λ e. option_map (λ v. (e.0, v)) e.1) entries
 
 -- whether what is met lets there be a result: a job whose outputs are known
 abbrev pub is_well : Made → Met → Bool

@@ -6,12 +6,16 @@ pub mod Equations
 pub mod Eval
 pub mod Inputs
 pub mod Jobs
+pub mod KnownJobs
 pub mod Links
+pub mod LoadCosts
 pub mod Made
 pub mod More
 pub mod Paths
+pub mod PresentJobGraph
 pub mod Scatter
 pub mod Unfold
+pub mod UnfoldedSoFar
 pub mod Unfolding
 pub mod Words
 pub mod inner

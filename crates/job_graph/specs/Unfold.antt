@@ -4,7 +4,7 @@ use Rattle.std.specs.List.{list_any}
 use Rattle.plan_checker.specs.declared.graph.TheConstants.{MOST_VERTICES, MOST_ENTRIES}
 use Rattle.job_graph.specs.declared.cause.Cause.{Cause}
 use Rattle.job_graph.specs.Words.{Fields, JobPlace, is_same_place}
-use Rattle.job_graph.specs.Jobs.{Job, Met, met_job, met_fault, Made, Walker, result}
+use Rattle.job_graph.specs.Jobs.{Job, Met, met_job, met_fault, Made, Walker, result, those_named}
 use Rattle.job_graph.specs.Made.{any_made, fields_made}
 
 -- a resolved place with its named outputs
@@ -107,14 +107,17 @@ fault_after walks [] = first_fault [] (met_after walks [])
 fault_after walks (r ∷ earlier) =
     or_else (fault_after walks earlier) (first_fault (jobs_after walks earlier) (met_after walks (r ∷ earlier)))
 
+-- the jobs that are known, the first fault, the outputs of the process once all jobs have ended, and those of its outputs that have a
+-- value
 pub record Unfolded : Type 0 where
   pub jobs : List Job
   pub fault : Option Fault
   pub result : Option Fields
+  pub outs : Fields
 
 -- what is known before the input files are measured
 abbrev pub nothing_known : Unfolded
-nothing_known = record { jobs = []; fault = None; result = None }
+nothing_known = record { jobs = []; fault = None; result = None; outs = [] }
 
 -- what is known, for resolved places in the order learned
 abbrev pub unfolded : Walker → List Resolved → Unfolded
@@ -122,4 +125,5 @@ unfolded walks resolved = record {
   jobs = jobs_after walks (reverse resolved);
   fault = fault_after walks (reverse resolved);
   result = result walks (made_by resolved);
+  outs = those_named (walks (made_by resolved)).outs;
 }

@@ -1,8 +1,10 @@
 pub mod Entered
 pub mod Growth
 pub mod Index
+pub mod Inside
 pub mod Levels
 pub mod Marks
+pub mod Outputs
 pub mod Rounds
 pub mod Told
 pub mod Views

@@ -2,9 +2,9 @@
 ghost use Rattle.std.specs.Prelude.{◌≡◌, ◌∷◌, [], IfOk, false, is_some, map};
 ghost use Rattle.job_graph.specs.Jobs.{met_job};
 ghost use Rattle.job_graph.specs.Unfold.{is_known, parents_from};
-ghost use Rattle.job_graph.specs.Unfolding.{jobs_in};
+ghost use Rattle.job_graph.specs.KnownJobs.{job_of, jobs_in};
 ghost use Rattle.job_graph.specs.inner.Growth.{Grows};
-ghost use Rattle.job_graph.specs.inner.Views.{job_of, met_of};
+ghost use Rattle.job_graph.specs.inner.Views.{met_of};
 
 use crate::fault::{UnfoldError, UnfoldFault};
 use crate::parents::any_made;

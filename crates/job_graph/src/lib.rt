@@ -3,12 +3,14 @@
 //! - `input_paths` has the paths that are measured before a run.
 //! - `Unfolding::new` finds the jobs that can run at once; `learn` takes a job's outputs, and then more jobs are known.
 //! - `known` has the jobs in the order in which they came to be known, `result` the process's outputs once all are.
+//! - `graph` makes of them, with their costs, the graph that a planner takes; `load_cost` has what it costs to load files.
 //!
 //! What is known is one walk through the process (`specs/Equations.antt`), made anew where more may be known. What computing every
 //! job gives (`specs/Eval.antt`) is the same walk where each job's outputs are known.
 #![tactic(auto)]
 
 mod cause;
+mod costs;
 mod fault;
 mod gather;
 mod growth;
@@ -25,6 +27,8 @@ mod parents;
 mod partly;
 mod paths;
 mod place;
+mod present;
+mod progress;
 mod rounds;
 mod scatter;
 mod step;
@@ -33,6 +37,7 @@ mod walk;
 mod workflow;
 
 pub use cause::Cause;
+pub use costs::{Costs, load_cost};
 pub use fault::{UnfoldError, UnfoldFault};
 pub use growth::KnownJob;
 pub use ids::see_ids;

@@ -1,6 +1,6 @@
 //! Jobs that are open beside one that ends.
 ghost use Rattle.std.specs.Prelude.{◌≡◌, map};
-ghost use Rattle.job_graph.specs.Unfolding.{jobs_in};
+ghost use Rattle.job_graph.specs.KnownJobs.{jobs_in};
 ghost use Rattle.job_graph.specs.Beside.{is_one_open, is_open_beside};
 ghost use Rattle.job_graph.specs.inner.Views.{resolved_of};
 

@@ -1,40 +1,46 @@
 //! What is known of a process, once the outputs of some of its jobs are.
-ghost use Rattle.std.specs.Prelude.{◌≡◌, ◌++◌, ◌∷◌, [], List, IfErr, IfOk, OnErr, OnOk, Some, length, option_map, take};
+ghost use Rattle.std.specs.Prelude.{◌≡◌, [], All, IfErr, IfOk, None, OnErr, OnOk, length, map, option_map, take};
 ghost use Rattle.job_graph.specs.Equations.{walker};
-ghost use Rattle.job_graph.specs.Jobs.{Walker};
-ghost use Rattle.job_graph.specs.Unfold.{Resolved as LearnedJob, unfolded};
-ghost use Rattle.job_graph.specs.Unfolding.{AnswersAlike, Blames, IsAgain, Knows, Learns};
-ghost use Rattle.job_graph.specs.inner.Growth.{Keeps, Resolves, Unfolds};
-ghost use Rattle.job_graph.specs.inner.Views.{resolved_of};
+ghost use Rattle.job_graph.specs.KnownJobs.{jobs_in, known_of};
+ghost use Rattle.job_graph.specs.PresentJobGraph.{AreWithin, present_job_graph};
+ghost use Rattle.job_graph.specs.Unfold.{known_from, unfolded};
+ghost use Rattle.job_graph.specs.Unfolding.{AnswersAlike, Blames, Knows, Learns};
 
-use crate::fault::{UnfoldError, UnfoldFault};
-use crate::growth::{KnownJob, grow};
-use crate::ids::see_ids;
-use crate::inputs::root_fields;
-use crate::learned::Learned;
-use crate::made::{Facts, Resolved};
-use crate::open::is_one_open;
-use crate::outcome::walk_from_root;
+use crate::costs::Costs;
+use crate::fault::UnfoldError;
+use crate::growth::KnownJob;
+use crate::made::Resolved;
+use crate::progress::Progress;
 use cwl_value::{JobPlace, Value};
 use document_links::Process;
 use plain_data::{Keyed, Text};
+use plan_checker::Graph;
 use staging::Measure;
 use std::alloc::Global;
-use std::mem;
+use std::marker::Model;
 
-/// What is known of a process on its inputs. It is made anew from all that was learned in each `learn` by which more may be known.
+/// What is known of a process on its inputs, which contracts see as what was learned and what is known by it.
 #[derive(Drop)]
 pub struct Unfolding<'a> {
-    alloc: Global,
-    process: &'a Process,
-    /// What is handed to the process.
-    fields: Keyed<Value>,
-    facts: Facts,
-    known: Vec<KnownJob<'a>>,
-    /// How many parents the known jobs have in all.
-    entries: usize,
-    fault: Option<UnfoldFault>,
-    result: Option<Vec<(Text, Value)>>,
+    progress: Progress<'a>,
+}
+
+impl<'a> Model for Unfolding<'a> {
+    ghost use Rattle.job_graph.specs.UnfoldedSoFar.{UnfoldedSoFar};
+    ghost use Rattle.cwl_value.specs.contracts.value.Value as value;
+    ghost use Rattle.cwl_process.specs.contracts.tool.Tool as tool;
+    ghost use Rattle.document_links.specs.contracts.process.Process as process;
+    ghost use Rattle.std.specs.Coded.{codes};
+
+    ghost Value = { UnfoldedSoFar };
+
+    ghost coded = { Prim.hlevel (codes, process.the_row.coded, tool.the_row.coded, value.the_row.coded) };
+
+    ghost use Rattle.job_graph.specs.inner.Inside.{seen, Stands};
+
+    ghost view = { λ fields. seen fields.progress };
+
+    ghost invariant = { λ fields. Stands fields.progress };
 }
 
 impl<'a> Unfolding<'a> {
@@ -48,22 +54,8 @@ impl<'a> Unfolding<'a> {
         ensures ok { IfOk result (Knows (walker process.now inputs.now measures) []) }
         ensures err { IfErr result (Blames (unfolded (walker process.now inputs.now measures) []).fault) }
     {
-        let fields = root_fields(alloc, process, inputs, &measures)?;
-        let mut unfolding = Unfolding {
-            alloc,
-            process,
-            fields,
-            facts: Facts {
-                measures,
-                learned: Learned::new(alloc),
-            },
-            known: Vec::new(alloc),
-            entries: 0,
-            fault: None,
-            result: None,
-        };
-        match unfolding.unfold() {
-            Ok(()) => Ok(unfolding),
+        match Progress::new(alloc, process, inputs, measures) {
+            Ok(progress) => Ok(Unfolding { progress }),
             Err(error) => Err(error),
         }
     }
@@ -71,94 +63,37 @@ impl<'a> Unfolding<'a> {
     /// Takes the outputs of the job at a place, whose files are named relative to its output folder. After a refusal it
     /// answers the same from then on, and what is known stays as it was. Out of memory, it is as before the call.
     pub fn learn(&mut self, place: JobPlace, outputs: Keyed<Value>) -> Result<(), UnfoldError>
-        ensures learns { (walks : Walker) (learned : List LearnedJob) → Knows walks learned self.old →
-            Learns walks learned (record { place = place; outputs = outputs }) self.new result }
-        ensures ok { OnOk result (take (length self.old.known.items) self.new.known.items ≡ self.old.known.items) }
+        ensures learns { Learns self.old (record { place = place; outputs = outputs }) self.new result }
+        ensures ok { OnOk result (take (length self.old.known) self.new.known ≡ self.old.known) }
         ensures err { OnErr result (AnswersAlike self.old self.new) }
-        ensures again { (fault : UnfoldFault) → self.old.fault ≡ Some fault → (self.new ≡ self.old) × IsAgain fault result }
     {
-        if let Some(fault) = &self.fault {
-            return Err(UnfoldError::Refused(fault.clone_in(self.alloc)?));
-        }
-        match self.resolve(Resolved::new(place, outputs)) {
-            Ok(()) => Ok(()),
-            Err(error) => Err(self.keep(error)),
-        }
+        self.progress.learn(Resolved::new(place, outputs))
     }
 
     /// The jobs whose inputs are known, in the order in which they came to be known.
     pub fn known(&self) -> &[KnownJob<'a>]
-        ensures { result.now ≡ self.now.known.items }
+        ensures jobs { jobs_in result.now ≡ self.now.known }
+        ensures parents { map known_of result.now ≡ known_from [] self.now.known }
     {
-        self.known.as_slice()
+        self.progress.known.as_slice()
     }
 
     /// The outputs of the process, once those of all jobs are known.
     pub fn result(&self) -> Option<&[(Text, Value)]>
-        ensures { option_map (λ outputs. outputs.now) result ≡ option_map (λ outputs. outputs.items) self.now.result }
+        ensures { option_map (λ outputs. outputs.now) result ≡ self.now.result }
     {
-        match &self.result {
-            None => None,
-            Some(outputs) => Some(outputs.as_slice()),
-        }
+        self.progress.outputs()
     }
 
-    /// Adds what was learned, and what is known then. No walk is made while another job of the same scattered step is open, since
-    /// nothing more is known then (`open_jobs_hold_back`). After an error nothing has changed.
-    fn resolve(&mut self, resolved: Resolved) -> Result<(), UnfoldError>
-        ensures resolves { (walks : Walker) (learned : List LearnedJob) → Knows walks learned self.old →
-            Resolves walks learned (resolved_of resolved) self.new result }
-        ensures ok { OnOk result (take (length self.old.known.items) self.new.known.items ≡ self.old.known.items) }
-        ensures err { OnErr result (AnswersAlike self.old self.new) }
+    /// Returns the present job graph: the known jobs with these costs, as a planner takes them. After a refused `learn` it
+    /// answers that refusal.
+    pub fn graph(&self, costs: &[Costs]) -> Result<Graph, UnfoldError>
+        requires each { length costs.now ≡ length self.now.known }
+        requires within { All AreWithin costs.now }
+        ensures ok { IfOk result (λ graph. graph ≡ present_job_graph self.now.learned self.now.known self.now.outs costs.now) }
+        ensures goes_on { OnOk result (self.now.refused ≡ None) }
+        ensures err { IfErr result (Blames self.now.refused) }
     {
-        let place = &resolved.at.place;
-        let is_open = is_one_open(&self.facts.learned, place, self.known.as_slice());
-        self.facts.learned.push(resolved)?;
-        if is_open {
-            see_ids(self.process);
-            return Ok(());
-        }
-        match self.unfold() {
-            Ok(()) => Ok(()),
-            Err(error) => {
-                mem::drop(self.facts.learned.pop());
-                Err(error)
-            }
-        }
-    }
-
-    /// Keeps a fault, which each later `learn` answers.
-    fn keep(&mut self, error: UnfoldError) -> UnfoldError
-        ensures { Keeps self.old error self.new result }
-    {
-        match error {
-            UnfoldError::OutOfMemory => UnfoldError::OutOfMemory,
-            UnfoldError::Refused(fault) => match fault.clone_in(self.alloc) {
-                Err(_refused) => UnfoldError::OutOfMemory,
-                Ok(copy) => {
-                    mem::drop(mem::replace(&mut self.fault, Some(copy)));
-                    UnfoldError::Refused(fault)
-                }
-            },
-        }
-    }
-
-    /// Makes what is known anew, from all that was learned. After an error it is as before.
-    fn unfold(&mut self) -> Result<(), UnfoldError>
-        ensures { Unfolds self.old self.new result }
-    {
-        let (met, result) = walk_from_root(self.alloc, &self.facts, self.process, &self.fields)?;
-        let before = self.known.len();
-        match grow(self.alloc, &mut self.known, self.entries, met) {
-            Ok(entries) => {
-                self.entries = entries;
-                mem::drop(mem::replace(&mut self.result, result));
-                Ok(())
-            }
-            Err(error) => {
-                self.known.truncate(before);
-                Err(error)
-            }
-        }
+        self.progress.graph(costs)
     }
 }

@@ -13,7 +13,7 @@ use Rattle.job_graph.specs.declared.cause.Cause.{Cause}
 use Rattle.job_graph.specs.Apart.{ids_differ}
 use Rattle.job_graph.specs.Words.{Fields, JobPlace, is_same_place}
 use Rattle.job_graph.specs.Made.{fields_made}
-use Rattle.job_graph.specs.Jobs.{Job, Met, met_job, met_fault, Walk, Walker, all_named, result}
+use Rattle.job_graph.specs.Jobs.{Job, Met, met_job, met_fault, Walk, Walker, all_named, result, those_named}
 use Rattle.job_graph.specs.Unfold.{Resolved, Fault, too_many_jobs, jobs_after, fault_after, met_after, or_else, outputs_at, made_by, is_known, is_within_limits, with_met, first_fault, unfolded}
 use Rattle.job_graph.specs.Beside.{are_at_end, is_beside, is_open_beside, is_one_open}
 use Rattle.job_graph.proofs.laws_of_walks.Part.{and_left, and_right}
@@ -198,7 +198,7 @@ module _ (process : Process) (fields : Fields) (measures : Measures) (apart : id
   met_known : (job : Job) → IsIn (met_job job) (walks (made_by learned)).met → is_known known job ≡ true
   met_known job at = after_known process fields measures (reverse learned) job (subst (IsIn (met_job job)) (sym (in_order process fields measures learned)) at)
 
-  -- nothing new is met, no fault is told and there is no result
+  -- nothing new is met, no fault is told, there is no result, and the known outputs stay
   pub unfolded_same : is_one_open learned one.place known ≡ true → (unfolded walks learned).fault ≡ None → unfolded walks more ≡ unfolded walks learned
   unfolded_same is none =
       let waits : HasOpen = has_open is in
@@ -210,5 +210,7 @@ module _ (process : Process) (fields : Fields) (measures : Measures) (apart : id
       ∙ no_fault_again (walks (made_by learned)).met known met_known
       (λ place cause at. none_met walks place cause (reverse learned) none (subst (IsIn (met_fault place cause)) (sym (in_order process fields measures learned)) at))
       ∙ sym none in
-      ap₂ (λ (found : List Job) (both : Option Fault × Option Fields). record { jobs = found; fault = both.0; result = both.1 }) jobs
-      (ap₂ (λ (told : Option Fault) (outputs : Option Fields). (told, outputs)) fault (sym (results_same waits)))
+      let outs : (unfolded walks more).outs ≡ (unfolded walks learned).outs = ap (λ (walk : Walk). those_named walk.outs) same in
+      ap₂ (λ (found : List Job × Option Fault) (given : Option Fields × Fields). record { jobs = found.0; fault = found.1; result = given.0; outs = given.1 })
+      (ap₂ (λ (found : List Job) (told : Option Fault). (found, told)) jobs fault)
+      (ap₂ (λ (outputs : Option Fields) (named : Fields). (outputs, named)) (sym (results_same waits)) outs)

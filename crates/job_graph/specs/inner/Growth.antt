@@ -1,13 +1,16 @@
 -- How the known jobs grow by what is met.
 use Rattle.std.specs.Prelude.{◌≡◌, ℕ, List, [], ◌∷◌, ◌++◌, None, Some, Result, Ok, Err, OnErr, length, map, option_map, take}
-use Rattle.job_graph.specs.Jobs.{Met, Walk, Walker, result_in}
-use Rattle.job_graph.specs.Unfold.{Resolved, entries_from, first_fault, known_from, unfolded, with_met}
-use Rattle.job_graph.specs.Unfolding.{AnswersAlike, Blames, Knows, jobs_in, known_of, walks_of}
+use Rattle.job_graph.specs.Jobs.{Met, Walk, Walker, result_in, those_named}
+use Rattle.job_graph.specs.KnownJobs.{jobs_in, known_of}
+use Rattle.job_graph.specs.Unfold.{Resolved, entries_from, first_fault, known_from, or_else, unfolded, with_met}
+use Rattle.job_graph.specs.Unfolding.{Blames, fault_of}
+use Rattle.job_graph.specs.inner.Inside.{Follows, walks_in}
+use Rattle.job_graph.specs.inner.Outputs.{result_of}
 use Rattle.job_graph.specs.inner.Views.{made_from}
 use Rattle.job_graph.specs.declared.fault.UnfoldError.{UnfoldError}
 use Rattle.job_graph.specs.declared.fault.UnfoldError.TheVariants.{Refused, OutOfMemory}
 use Rattle.job_graph.specs.declared.growth.KnownJob.{KnownJob}
-use Rattle.job_graph.specs.declared.unfolding.Unfolding.{Unfolding}
+use Rattle.job_graph.specs.declared.progress.Progress.{Progress}
 
 -- each job has its parents, which are so many in all
 pub record AreCounted (known : List KnownJob) (entries : ℕ) : Type 0 where
@@ -25,35 +28,53 @@ pub record Grows (old : List KnownJob) (entries : ℕ) (met : List Met) (new : L
   pub grown : AreCounted old entries → GrowsTo old met new result
 
 -- the walk that it makes on what was learned
-abbrev pub walk_in : Unfolding → Walk
-walk_in held = walks_of held (made_from held.facts)
+abbrev pub walk_in : Progress → Walk
+walk_in held = walks_in held (made_from held.facts)
 
 -- the process and what is handed to it stay
-pub record IsOfOneProcess (old new : Unfolding) : Type 0 where
+pub record IsOfOneProcess (old new : Progress) : Type 0 where
   pub process : new.process.now ≡ old.process.now
   pub fields : new.fields ≡ old.fields
   pub measures : new.facts.measures ≡ old.facts.measures
-  pub fault : new.fault ≡ old.fault
 
-abbrev pub UnfoldsTo : Unfolding → Unfolding → Result (Unit {0}) UnfoldError → Type 0
-UnfoldsTo old new (Ok done) =
-    GrowsTo old.known.items (walk_in old).met new.known.items (Ok new.entries)
-    × (option_map (λ outputs. outputs.items) new.result ≡ result_in (made_from old.facts) (walk_in old))
+-- what is known stays
+pub record IsAlike (old new : Progress) : Type 0 where
+  pub jobs : new.known.items ≡ old.known.items
+  pub entries : new.entries ≡ old.entries
+  pub outputs : new.outputs ≡ old.outputs
+
+-- once its walk was made
+pub record IsWalked (old new : Progress) : Type 0 where
+  pub grown : GrowsTo old.known.items (walk_in old).met new.known.items (Ok new.entries)
+  pub result : result_of new.outputs ≡ result_in (made_from old.facts) (walk_in old)
+  pub outs : new.outputs.named.items ≡ those_named (walk_in old).outs
+
+abbrev pub UnfoldsTo : Progress → Progress → Result (Unit {0}) UnfoldError → Type 0
+UnfoldsTo old new (Ok done) = IsWalked old new
 UnfoldsTo old new (Err error) = Blames (first_fault (jobs_in old.known.items) (walk_in old).met) error
 
-pub record Unfolds (old new : Unfolding) (result : Result (Unit {0}) UnfoldError) : Type 0 where
+pub record Unfolds (old new : Progress) (result : Result (Unit {0}) UnfoldError) : Type 0 where
   pub same : IsOfOneProcess old new
   pub learned : new.facts.learned ≡ old.facts.learned
+  pub kept : new.fault ≡ old.fault
   pub front : take (length old.known.items) new.known.items ≡ old.known.items
-  pub alike : OnErr result (AnswersAlike old new × (new.entries ≡ old.entries))
+  pub alike : OnErr result (IsAlike old new)
   pub unfolds : AreCounted old.known.items old.entries → UnfoldsTo old new result
 
 -- one more place is learned, or nothing changes
-abbrev pub Resolves : Walker → List Resolved → Resolved → Unfolding → Result (Unit {0}) UnfoldError → Type 0
-Resolves walks learned one new (Ok done) = Knows walks (learned ++ one ∷ []) new
-Resolves walks learned one new (Err error) = Blames (unfolded walks (learned ++ one ∷ [])).fault error × Knows walks learned new
+abbrev pub Resolves : Walker → List Resolved → Resolved → Progress → Result (Unit {0}) UnfoldError → Type 0
+Resolves walks learned one new (Ok done) = Follows walks (learned ++ one ∷ []) new
+Resolves walks learned one new (Err error) = Blames (unfolded walks (learned ++ one ∷ [])).fault error × Follows walks learned new
 
 -- the fault that is answered is kept from then on
-abbrev pub Keeps : Unfolding → UnfoldError → Unfolding → UnfoldError → Type 0
+abbrev pub Keeps : Progress → UnfoldError → Progress → UnfoldError → Type 0
 Keeps old error new OutOfMemory = new ≡ old
 Keeps old error new (Refused fault) = (error ≡ Refused fault) × (new ≡ record old { fault = Some fault })
+
+-- one more place is learned; or a fault is kept, or found and kept from then on; or nothing changes
+abbrev pub LearnsIn : Walker → List Resolved → Resolved → Progress → Progress → Result (Unit {0}) UnfoldError → Type 0
+LearnsIn walks learned one old new (Ok done) = (old.fault ≡ None) × (new.fault ≡ None) × Follows walks (learned ++ one ∷ []) new
+LearnsIn walks learned one old new (Err (Refused fault)) =
+    (or_else (option_map fault_of old.fault) (unfolded walks (learned ++ one ∷ [])).fault ≡ Some (fault_of fault))
+    × (new.fault ≡ Some fault) × Follows walks learned new
+LearnsIn walks learned one old new (Err OutOfMemory) = (new.fault ≡ old.fault) × Follows walks learned new

@@ -1,16 +1,13 @@
 -- What is kept of a walk and of the jobs that have ended, as the definitions see it.
 use Rattle.std.specs.Prelude.{map}
-use Rattle.job_graph.specs.Jobs.{Job, Made, Met, met_job, met_fault, Walk}
+use Rattle.job_graph.specs.Jobs.{Made, Met, met_job, met_fault, Walk}
+use Rattle.job_graph.specs.KnownJobs.{job_of}
 use Rattle.job_graph.specs.Unfold.{Resolved, made_by}
 use Rattle.job_graph.specs.declared.made.Facts.{Facts}
 use Rattle.job_graph.specs.declared.made.Resolved.{Resolved as KeptResolved}
-use Rattle.job_graph.specs.declared.walk.Job.{Job as KeptJob}
 use Rattle.job_graph.specs.declared.walk.Met.{Met as KeptMet}
 use Rattle.job_graph.specs.declared.walk.Met.TheVariants as kept
 use Rattle.job_graph.specs.declared.walk.Walk.{Walk as KeptWalk}
-
-abbrev pub job_of : KeptJob → Job
-job_of job = record { place = job.place; tool = job.tool.now; inputs = job.inputs }
 
 abbrev pub met_of : KeptMet → Met
 met_of (kept.Job job) = met_job (job_of job)

@@ -1,10 +1,9 @@
 use Rattle.std.proofs.Common.{◌∷◌, [], Ok, List, sym, subst, inl, inr, arith, ap, ◌∙◌}
 use Rattle.job_graph.specs.Jobs.{met_job}
 use Rattle.job_graph.specs.Unfold.{parents_from}
-use Rattle.job_graph.specs.Unfolding.{jobs_in}
+use Rattle.job_graph.specs.KnownJobs.{job_of, jobs_in}
 use Rattle.job_graph.specs.declared.growth.KnownJob.{KnownJob}
 use Rattle.job_graph.specs.inner.Growth.{Grows}
-use Rattle.job_graph.specs.inner.Views.{job_of}
 use Rattle.job_graph.proofs.Grows.{grows_past, grows_push}
 use Rattle.job_graph.proofs.growth.add_job.Goals as goal
 use Rattle.job_graph.proofs.growth.add_job.Goals.{then-entries-gt-MOST_ENTRIES-via-then-entries-gt-MOST_ENTRIES, then-entries-gt-MOST_ENTRIES-via-else-entries-gt-MOST_ENTRIES+then-len-ge-MOST_VERTICES}

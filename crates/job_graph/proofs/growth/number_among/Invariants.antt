@@ -1,7 +1,6 @@
 use Rattle.std.proofs.Common.{◌≡◌, drop}
 use Rattle.job_graph.specs.Unfold.{is_known}
-use Rattle.job_graph.specs.Unfolding.{jobs_in}
-use Rattle.job_graph.specs.inner.Views.{job_of}
+use Rattle.job_graph.specs.KnownJobs.{job_of, jobs_in}
 use Rattle.job_graph.proofs.growth.number_among.Given as goal
 
 abbrev pub invariant-loop-number : goal.invariant-loop-number

@@ -1,6 +1,6 @@
 use Rattle.std.proofs.Common.{◌≡◌, ◌++◌, drop}
 use Rattle.job_graph.specs.Unfold.{parents_from}
-use Rattle.job_graph.specs.Unfolding.{jobs_in}
+use Rattle.job_graph.specs.KnownJobs.{jobs_in}
 use Rattle.job_graph.proofs.growth.parents_among.Given as goal
 
 abbrev pub invariant-loop-number : goal.invariant-loop-number

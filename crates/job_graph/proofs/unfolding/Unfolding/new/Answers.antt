@@ -1,12 +1,10 @@
-use Rattle.std.proofs.Common.{[], ap, refl}
-use Rattle.job_graph.specs.Equations.{meaning_of, walker}
-use Rattle.job_graph.specs.Jobs.{Made}
-use Rattle.job_graph.specs.Words.{Fields}
-use Rattle.job_graph.proofs.Unfolds.{knows_first}
+use Rattle.std.proofs.Common.{[]}
+use Rattle.job_graph.specs.Equations.{walker}
+use Rattle.job_graph.proofs.Knowing.{knows_seen, stands_by}
 use Rattle.job_graph.proofs.unfolding.Unfolding.new.Goals as goal
 
+pub invariant_of-result : goal.invariant_of-result
+invariant_of-result c = stands_by (walker c.args.process.now c.args.inputs.now c.args.measures) [] c.in-Ok.progress c.in-Ok.ensures.ok
+
 pub returns-in-Ok-clause-ok : goal.returns-in-Ok-clause-ok
-returns-in-Ok-clause-ok c =
-    knows_first (walker c.args.process.now c.args.inputs.now c.args.measures) _ c.unfold.new.self
-    (ap (λ (fields : Fields). λ (made : Made). meaning_of c.args.measures made c.args.process.now [] fields) c.in_ok-fields.ensures)
-    c.new.ensures c.new-2.ensures.items refl refl c.in-Ok.ensures
+returns-in-Ok-clause-ok c = knows_seen (walker c.args.process.now c.args.inputs.now c.args.measures) [] c.in-Ok.progress c.in-Ok.ensures.ok c.in-Ok.ensures.fresh

@@ -2,9 +2,9 @@ use Rattle.job_graph.proofs.Unfolds.{blames_more, knows_more, knows_open, knows_
 use Rattle.std.proofs.Common.{◌∙◌, List, map, ap, sym}
 use Rattle.job_graph.specs.declared.growth.KnownJob.{KnownJob}
 use Rattle.job_graph.specs.Beside.{is_one_open}
-use Rattle.job_graph.specs.Unfolding.{jobs_in}
+use Rattle.job_graph.specs.KnownJobs.{jobs_in}
 use Rattle.job_graph.specs.inner.Views.{resolved_of}
-use Rattle.job_graph.proofs.unfolding.Unfolding.resolve.Goals as goal
+use Rattle.job_graph.proofs.progress.Progress.resolve.Goals as goal
 
 pub returns-then-is_open-clause-resolves : goal.returns-then-is_open-clause-resolves
 returns-then-is_open-clause-resolves c =

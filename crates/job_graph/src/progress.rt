@@ -1,0 +1,182 @@
+//! How far a process is unfolded.
+ghost use Rattle.std.specs.Prelude.{◌≡◌, [], All, List, IfErr, IfOk, None, OnOk, length, option_map, take};
+ghost use Rattle.job_graph.specs.Equations.{walker};
+ghost use Rattle.job_graph.specs.Jobs.{Walker};
+ghost use Rattle.job_graph.specs.PresentJobGraph.{AreWithin, present_job_graph};
+ghost use Rattle.job_graph.specs.Unfold.{Resolved as LearnedJob, unfolded};
+ghost use Rattle.job_graph.specs.Unfolding.{Blames};
+ghost use Rattle.job_graph.specs.inner.Growth.{IsOfOneProcess, Keeps, LearnsIn, Resolves, Unfolds};
+ghost use Rattle.job_graph.specs.inner.Inside.{Follows, Stands, seen};
+ghost use Rattle.job_graph.specs.inner.Outputs.{result_of};
+ghost use Rattle.job_graph.specs.inner.Views.{resolved_of};
+
+use crate::costs::Costs;
+use crate::fault::{UnfoldError, UnfoldFault};
+use crate::growth::{KnownJob, grow};
+use crate::ids::see_ids;
+use crate::inputs::root_fields;
+use crate::learned::Learned;
+use crate::made::{Facts, Resolved};
+use crate::open::is_one_open;
+use crate::outcome::{Outputs, walk_from_root};
+use crate::present::{graph_of, vertices_of};
+use cwl_value::Value;
+use document_links::Process;
+use plain_data::{Keyed, Text};
+use plan_checker::Graph;
+use staging::Measure;
+use std::alloc::Global;
+use std::mem;
+
+/// What is known of a process on its inputs. It is made anew from all that was learned in each `learn` by which more may be known.
+#[derive(Drop)]
+pub(crate) struct Progress<'a> {
+    alloc: Global,
+    process: &'a Process,
+    /// What is handed to the process.
+    fields: Keyed<Value>,
+    facts: Facts,
+    pub known: Vec<KnownJob<'a>>,
+    /// How many parents the known jobs have in all.
+    entries: usize,
+    fault: Option<UnfoldFault>,
+    outputs: Outputs,
+}
+
+impl<'a> Progress<'a> {
+    /// What is known before any job has run, where the input files were measured, or why the process has no result.
+    pub(crate) fn new(
+        alloc: Global,
+        process: &'a Process,
+        inputs: &Keyed<Value>,
+        measures: Keyed<Measure>,
+    ) -> Result<Progress<'a>, UnfoldError>
+        ensures ok { IfOk result (Follows (walker process.now inputs.now measures) []) }
+        ensures fresh { IfOk result (λ held. held.fault ≡ None) }
+        ensures err { IfErr result (Blames (unfolded (walker process.now inputs.now measures) []).fault) }
+    {
+        let fields = root_fields(alloc, process, inputs, &measures)?;
+        let mut progress = Progress {
+            alloc,
+            process,
+            fields,
+            facts: Facts {
+                measures,
+                learned: Learned::new(alloc),
+            },
+            known: Vec::new(alloc),
+            entries: 0,
+            fault: None,
+            outputs: Outputs::new(alloc),
+        };
+        match progress.unfold() {
+            Ok(()) => Ok(progress),
+            Err(error) => Err(error),
+        }
+    }
+
+    /// Takes the outputs of a job. A fault that is met is kept, and answered from then on.
+    pub(crate) fn learn(&mut self, resolved: Resolved) -> Result<(), UnfoldError>
+        ensures learns { (walks : Walker) (learned : List LearnedJob) → Follows walks learned self.old →
+            LearnsIn walks learned (resolved_of resolved) self.old self.new result }
+        ensures same { IsOfOneProcess self.old self.new }
+        ensures ok { OnOk result (take (length self.old.known.items) self.new.known.items ≡ self.old.known.items) }
+    {
+        if let Some(fault) = &self.fault {
+            return Err(UnfoldError::Refused(fault.clone_in(self.alloc)?));
+        }
+        match self.resolve(resolved) {
+            Ok(()) => Ok(()),
+            Err(error) => Err(self.keep(error)),
+        }
+    }
+
+    /// The outputs of the process, once those of all jobs are known.
+    pub(crate) fn outputs(&self) -> Option<&[(Text, Value)]>
+        ensures { option_map (λ outputs. outputs.now) result ≡ result_of self.now.outputs }
+    {
+        if self.outputs.is_whole {
+            Some(self.outputs.named.as_slice())
+        } else {
+            None
+        }
+    }
+
+    /// The known jobs with these costs, as a planner takes them, or the fault that was met.
+    pub(crate) fn graph(&self, costs: &[Costs]) -> Result<Graph, UnfoldError>
+        requires stands { Stands self.now }
+        requires each { length costs.now ≡ length self.now.known.items }
+        requires within { All AreWithin costs.now }
+        ensures ok { IfOk result (λ graph. graph ≡ present_job_graph (seen self.now).learned (seen self.now).known (seen self.now).outs costs.now) }
+        ensures goes_on { OnOk result (self.now.fault ≡ None) }
+        ensures err { IfErr result (Blames (seen self.now).refused) }
+    {
+        if let Some(fault) = &self.fault {
+            return Err(UnfoldError::Refused(fault.clone_in(self.alloc)?));
+        }
+        let outs = self.outputs.named.as_slice();
+        let known = self.known.as_slice();
+        let vertices = vertices_of(self.alloc, &self.facts.learned, outs, known, costs)?;
+        graph_of(self.alloc, vertices)
+    }
+
+    /// Adds what was learned, and what is known then. No walk is made while another job of the same scattered step is open, since
+    /// nothing more is known then (`open_jobs_hold_back`). After an error nothing has changed.
+    fn resolve(&mut self, resolved: Resolved) -> Result<(), UnfoldError>
+        ensures resolves { (walks : Walker) (learned : List LearnedJob) → Follows walks learned self.old →
+            Resolves walks learned (resolved_of resolved) self.new result }
+        ensures same { IsOfOneProcess self.old self.new }
+        ensures kept { self.new.fault ≡ self.old.fault }
+        ensures ok { OnOk result (take (length self.old.known.items) self.new.known.items ≡ self.old.known.items) }
+    {
+        let place = &resolved.at.place;
+        let is_open = is_one_open(&self.facts.learned, place, self.known.as_slice());
+        self.facts.learned.push(resolved)?;
+        if is_open {
+            see_ids(self.process);
+            return Ok(());
+        }
+        match self.unfold() {
+            Ok(()) => Ok(()),
+            Err(error) => {
+                mem::drop(self.facts.learned.pop());
+                Err(error)
+            }
+        }
+    }
+
+    /// Keeps a fault, which each later `learn` answers.
+    fn keep(&mut self, error: UnfoldError) -> UnfoldError
+        ensures { Keeps self.old error self.new result }
+    {
+        match error {
+            UnfoldError::OutOfMemory => UnfoldError::OutOfMemory,
+            UnfoldError::Refused(fault) => match fault.clone_in(self.alloc) {
+                Err(_refused) => UnfoldError::OutOfMemory,
+                Ok(copy) => {
+                    mem::drop(mem::replace(&mut self.fault, Some(copy)));
+                    UnfoldError::Refused(fault)
+                }
+            },
+        }
+    }
+
+    /// Makes what is known anew, from all that was learned. After an error it is as before.
+    fn unfold(&mut self) -> Result<(), UnfoldError>
+        ensures { Unfolds self.old self.new result }
+    {
+        let (met, outputs) = walk_from_root(self.alloc, &self.facts, self.process, &self.fields)?;
+        let before = self.known.len();
+        match grow(self.alloc, &mut self.known, self.entries, met) {
+            Ok(entries) => {
+                self.entries = entries;
+                mem::drop(mem::replace(&mut self.outputs, outputs));
+                Ok(())
+            }
+            Err(error) => {
+                self.known.truncate(before);
+                Err(error)
+            }
+        }
+    }
+}
