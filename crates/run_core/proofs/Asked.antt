@@ -22,7 +22,7 @@ use Rattle.run_core.specs.inner.Standing.{HasRoom}
 -- the job of the phase was staged
 pub record AtWork (course : Course) (phase : Phase) : Type 0 where
   pub ready : IsReady course
-  pub number : job_in phase < length course.jobs.items
+  pub number : job_in phase < length course.jobs
 
 -- the child of the job of the phase may be noted
 pub record AtStart (course : Course) : Type 0 where
@@ -34,7 +34,6 @@ pub record AtStart (course : Course) : Type 0 where
 pub record AtStaging (course : Course) (phase : Phase) : Type 0 where
   pub ready : IsReady course
   pub stages : CanStage course (job_in phase)
-  pub jobs : vec_len course.jobs < vec_capacity course.jobs
 
 module _ (flying : List ℕ) (course : Course) where
   pub at_measure : (asks : Request) (phase : Phase) (measure : Measure) → MayAnswer flying asks (Answer.Host (HostAnswer.Measured measure)) → AsksOf course asks phase →
@@ -44,7 +43,7 @@ module _ (flying : List ℕ) (course : Course) where
 
   pub at_staging : (place : JobPlace) (plan : StagePlan) (folder : ℕ) (phase : Phase) → AsksOf course (Request.Host place (HostRequest.Stage plan folder)) phase →
       HasRoom course phase → IsReadyFor course phase → AtStaging course phase
-  at_staging place plan folder (Phase.Staging number) fits room ready = record { ready = ready; stages = fits; jobs = room.jobs number refl }
+  at_staging place plan folder (Phase.Staging number) fits room ready = record { ready = ready; stages = fits }
   at_staging place plan folder phase fits room ready = absurd fits
 
   pub at_start : (asks : Request) (phase : Phase) (ticket : ℕ) → MayAnswer flying asks (Answer.Host (HostAnswer.Started ticket)) → AsksOf course asks phase →

@@ -1,7 +1,6 @@
 -- What is picked, by the tests that lead there.
-use Rattle.std.specs.Prelude.{◌<◌, ◌≢◌, OnErr}
-use Rattle.std.proofs.Common.{◌≡◌, ◌∙◌, inl, inr, ℕ, [], length, None, Result, Ok, Err, refl, sym, ap, subst}
-use Rattle.std.proofs.lemmas.Bool.{cases_lt}
+use Rattle.std.specs.Prelude.{◌≢◌, OnErr}
+use Rattle.std.proofs.Common.{◌≡◌, ◌∙◌, ℕ, [], None, Result, Ok, Err, refl, sym, ap, subst}
 use Rattle.proc_host.specs.declared.call.HostFault.{HostFault}
 use Rattle.proc_host.specs.declared.call.HostRequest.{HostRequest}
 use Rattle.job_graph.specs.Words.{JobPlace}
@@ -13,30 +12,18 @@ use Rattle.run_core.specs.declared.state.Phase.{Phase}
 use Rattle.run_core.specs.declared.state.Turn.{Turn}
 use Rattle.run_core.specs.inner.Course.{known_in, place_at}
 use Rattle.run_core.specs.inner.Follows.{AfterFailureIn}
-use Rattle.run_core.specs.inner.Picks.{AfterFault, Delivers, NoneToStage, Picks, Stages, Turns, all_staged, asks, has_result, slots_full, stages, waits_for_one}
+use Rattle.run_core.specs.inner.Picks.{AfterFault, Delivers, MayBeNext, NoneToStage, Picks, Stages, Turns, asks, has_result, stages, waits_for_one}
 use Rattle.run_core.specs.inner.Turn.{collects, works}
 
 module _ (given : Given) (course : Course) (going : course.end ≡ None) where
-  pub picks_stage : (turn : Turn) → length course.tickets.items < given.options.slots → length course.jobs.items < length (known_in course.known) →
-      Stages given course (length course.jobs.items) turn → Picks given course turn course
-  picks_stage turn slot more st = stages turn course going slot more st refl refl
+  pub picks_stage : (number : ℕ) (turn : Turn) → MayBeNext given course number → Stages given course number turn → Picks given course turn course
+  picks_stage number turn may st = stages number turn course going may.slot may.lowest st refl refl
 
-  none_to_stage : (length course.tickets.items < given.options.slots → length course.jobs.items < length (known_in course.known) → ⊥) → NoneToStage given course
-  none_to_stage never = elim (cases_lt (length course.tickets.items) given.options.slots) [
-    | inl slot ↦ elim (cases_lt (length course.jobs.items) (length (known_in course.known))) [
-      | inl more ↦ absurd (never slot more)
-      | inr all ↦ all_staged all
-    ]
-    | inr full ↦ slots_full full
-  ]
+  pub picks_result : (turn : Turn) → NoneToStage given course → course.tickets.items ≡ [] → Delivers given course turn → Picks given course turn course
+  picks_result turn none nobody d = has_result turn course going nobody none d refl refl
 
-  pub picks_result : (turn : Turn) → (length course.tickets.items < given.options.slots → length course.jobs.items < length (known_in course.known) → ⊥) →
-      course.tickets.items ≡ [] → Delivers given course turn → Picks given course turn course
-  picks_result turn never none d = has_result turn course going none (none_to_stage never) d refl refl
-
-  pub picks_wait : (length course.tickets.items < given.options.slots → length course.jobs.items < length (known_in course.known) → ⊥) → course.tickets.items ≢ [] →
-      Picks given course collects course
-  picks_wait never some = waits_for_one course going some (none_to_stage never) refl refl
+  pub picks_wait : NoneToStage given course → course.tickets.items ≢ [] → Picks given course collects course
+  picks_wait none some = waits_for_one course going some none refl refl
 
 -- where memory ran out
 pub if_lost : {X E : Type 0} (result : Result X E) {A B : Type 0} → (A → B) → OnErr result A → OnErr result B

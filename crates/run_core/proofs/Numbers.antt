@@ -2,10 +2,10 @@
 use Rattle.std.specs.Prelude.{◌<◌}
 use Rattle.std.proofs.Common.{◌≡◌, ◌∙◌, ◌+◌, ℕ, cond, List, [], ◌∷◌, length, get_or, drop, map, ◌⊎◌, inl, inr, refl, sym, ap}
 use Rattle.job_graph.specs.declared.growth.KnownJob.{KnownJob}
-use Rattle.job_graph.specs.inner.Views.{job_of}
+use Rattle.job_graph.specs.KnownJobs.{job_of}
 use Rattle.job_graph.specs.Jobs.{Job}
 use Rattle.job_graph.specs.Words.{JobPlace, is_same_place}
-use Rattle.run_core.specs.declared.state.JobState.{JobState}
+use Rattle.run_core.specs.declared.job_states.JobState.{JobState}
 use Rattle.run_core.specs.inner.Course.{number_in}
 use Rattle.run_core.proofs.Loops.{drop_at}
 

@@ -26,8 +26,8 @@ ahead past (Phase.Ended outcome) other still = absurd (still outcome refl)
 ahead past phase other still = refl
 
 nothing_starts : (course : Course) (tickets : List ℕ) → HasRoom course (lost_with tickets).phase
-nothing_starts course [] = record { tickets = λ takes. absurd takes; flights = λ takes. absurd takes; jobs = λ number is. absurd cc }
-nothing_starts course (ticket ∷ tickets) = record { tickets = λ takes. absurd takes; flights = λ takes. absurd takes; jobs = λ number is. absurd cc }
+nothing_starts course [] = record { tickets = λ takes. absurd takes; flights = λ takes. absurd takes }
+nothing_starts course (ticket ∷ tickets) = record { tickets = λ takes. absurd takes; flights = λ takes. absurd takes }
 
 pub lost_takes_none : (course : Course) (past : Past) → HasRoom course (lost_after past).phase
 lost_takes_none course past = nothing_starts course past.tickets

@@ -5,7 +5,7 @@ use Rattle.std.proofs.lemmas.Option.{slice_get-map, slice_get_read}
 use Rattle.std.proofs.lemmas.List.{length-map}
 use Rattle.job_graph.specs.Jobs.{Job}
 use Rattle.job_graph.specs.declared.growth.KnownJob.{KnownJob}
-use Rattle.job_graph.specs.inner.Views.{job_of}
+use Rattle.job_graph.specs.KnownJobs.{job_of}
 
 pub seen_length : (kept : List KnownJob) (jobs : List Job) → map (λ (one : KnownJob). job_of one.job) kept ≡ jobs → length kept ≡ length jobs
 seen_length kept jobs are = sym (length-map kept (λ (one : KnownJob). job_of one.job)) ∙ ap length are

@@ -1,33 +1,81 @@
--- What is written into the list of the jobs that were staged.
+-- What is written into the states of the jobs.
 use Rattle.std.specs.Prelude.{slice_get}
-use Rattle.std.proofs.Common.{◌≡◌, ◌+◌, ◌<◌, ◌≤◌, ℕ, zero, suc, List, [], ◌∷◌, ◌++◌, length, Some, refl, ap, arith}
+use Rattle.std.proofs.Common.{◌≡◌, ◌∙◌, inl, inr, ◌+◌, ◌<◌, ◌≤◌, ℕ, zero, suc, true, false, List, [], ◌∷◌, ◌++◌, length, Some, refl, sym, ap, arith}
 use Rattle.std.proofs.Math.ListN.{set}
-use Rattle.run_core.specs.declared.state.JobState.{JobState}
-use Rattle.run_core.specs.inner.Course.{given_up_in, staged_in}
+use Rattle.std.proofs.lemmas.Bool.{cases_lt}
+use Rattle.std.proofs.lemmas.List.{get_or_append_left}
+use Rattle.std.proofs.lemmas.Option.{get_or_from_slice_get}
+use Rattle.run_core.specs.declared.job_states.JobState.{JobState}
+use Rattle.run_core.specs.inner.JobStates.{NoneWaits, given_up_in, staged_in, state_at, untouched, waits_in}
 
 pub staged_set : (states : List JobState) (number folder : ℕ) (state : JobState) → slice_get states number ≡ Some state →
-    staged_in number folder states ≡ set states number (record state { folder = folder })
+    staged_in number folder states ≡ set states number (record state { waits = false; folder = folder })
 staged_set [] number folder state there = absurd cc
 staged_set (x ∷ states) zero folder state there =
-    let same : x ≡ state = cc in ap (λ (s : JobState). record s { folder = folder } ∷ states) same
+    let same : x ≡ state = cc in ap (λ (s : JobState). record s { waits = false; folder = folder } ∷ states) same
 staged_set (x ∷ states) (suc number) folder state there = ap (λ (others : List JobState). x ∷ others) (staged_set states number folder state there)
 
-pub staged_push : (states : List JobState) (folder : ℕ) →
-    staged_in (length states) folder states ≡ states ++ record { folder = folder; gave_up = 0 } ∷ []
-staged_push [] folder = refl
-staged_push (x ∷ states) folder = ap (λ (others : List JobState). x ∷ others) (staged_push states folder)
-
 pub given_up_set : (states : List JobState) (number : ℕ) (state : JobState) → slice_get states number ≡ Some state →
-    given_up_in number states ≡ set states number (record state { gave_up = state.gave_up + 1 })
+    given_up_in number states ≡ set states number (record state { waits = true; gave_up = state.gave_up + 1 })
 given_up_set [] number state there = absurd cc
 given_up_set (x ∷ states) zero state there =
-    let same : x ≡ state = cc in ap (λ (s : JobState). record s { gave_up = s.gave_up + 1 } ∷ states) same
+    let same : x ≡ state = cc in ap (λ (s : JobState). record s { waits = true; gave_up = s.gave_up + 1 } ∷ states) same
 given_up_set (x ∷ states) (suc number) state there = ap (λ (others : List JobState). x ∷ others) (given_up_set states number state there)
 
-pub staged_within : (states : List JobState) (number folder : ℕ) → number ≤ length states → number < length (staged_in number folder states)
-staged_within [] zero folder next = omega arith
-staged_within [] (suc number) folder next = absurd (omega (arith, next))
-staged_within (x ∷ states) zero folder next = omega arith
-staged_within (x ∷ states) (suc number) folder next =
-    let before : number ≤ length states = omega (arith, next) in
-    let within : number < length (staged_in number folder states) = staged_within states number folder before in omega (arith, within)
+-- one more job that was never touched changes nothing of one past it
+pub staged_past : (states : List JobState) (number folder : ℕ) → length states ≤ number →
+    staged_in number folder (states ++ untouched ∷ []) ≡ staged_in number folder states
+staged_past [] zero folder past = refl
+staged_past [] (suc number) folder past = refl
+staged_past (x ∷ states) zero folder past = absurd (omega (arith, past))
+staged_past (x ∷ states) (suc number) folder past = ap (λ (others : List JobState). x ∷ others) (staged_past states number folder (omega (arith, past)))
+
+-- the state of a job that was touched
+pub touched : (states : List JobState) (n : ℕ) (state : JobState) → slice_get states n ≡ Some state → state_at states n ≡ state
+touched states n state is = get_or_from_slice_get states n state untouched is
+
+-- none that is below the first so many waits where one more was never touched
+pub none_waits_still : (states : List JobState) (count : ℕ) → count ≤ length states → NoneWaits states count → NoneWaits (states ++ untouched ∷ []) count
+none_waits_still states count few none = λ n within.
+    ap (λ (state : JobState). state.waits) (get_or_append_left states (untouched ∷ []) untouched n (omega (arith, within, few))) ∙ none n within
+
+-- the job that is staged is one of those that were touched, and of so many where it and those before are
+pub staged_within : (states : List JobState) (number folder : ℕ) → number < length (staged_in number folder states)
+staged_within [] zero folder = omega arith
+staged_within [] (suc number) folder = let within : number < length (staged_in number folder []) = staged_within [] number folder in omega (arith, within)
+staged_within (x ∷ states) zero folder = omega arith
+staged_within (x ∷ states) (suc number) folder =
+    let within : number < length (staged_in number folder states) = staged_within states number folder in omega (arith, within)
+
+pub staged_few : (states : List JobState) (number folder size : ℕ) → number < size → length states ≤ size → length (staged_in number folder states) ≤ size
+staged_few [] zero folder size within few = omega (arith, within)
+staged_few [] (suc number) folder zero within few = absurd (omega (arith, within))
+staged_few [] (suc number) folder (suc size) within few =
+    let later : length (staged_in number folder []) ≤ size = staged_few [] number folder size (omega (arith, within)) (omega arith) in omega (arith, later)
+staged_few (x ∷ states) zero folder size within few = few
+staged_few (x ∷ states) (suc number) folder zero within few = absurd (omega (arith, within))
+staged_few (x ∷ states) (suc number) folder (suc size) within few =
+    let later : length (staged_in number folder states) ≤ size = staged_few states number folder size (omega (arith, within)) (omega (arith, few)) in omega (arith, later)
+
+pub given_up_length : (states : List JobState) (number : ℕ) → length (given_up_in number states) ≡ length states
+given_up_length [] zero = refl
+given_up_length [] (suc number) = refl
+given_up_length (x ∷ states) zero = refl
+given_up_length (x ∷ states) (suc number) = ap suc (given_up_length states number)
+
+-- a job that doesn't wait was touched
+waits_past : (states : List JobState) (n : ℕ) → length states ≤ n → waits_in states n ≡ true
+waits_past [] n past = refl
+waits_past (x ∷ states) zero past = absurd (omega (arith, past))
+waits_past (x ∷ states) (suc n) past = waits_past states n (omega (arith, past))
+
+pub taken_within : (states : List JobState) (n : ℕ) → waits_in states n ≡ false → n < length states
+taken_within states n taken = elim (cases_lt n (length states)) [
+  | inl within ↦ within
+  | inr past ↦ (let never : true ≡ false = sym (waits_past states n past) ∙ taken in absurd cc)
+]
+
+pub touched_at : (states : List JobState) (n : ℕ) → n < length states → slice_get states n ≡ Some (state_at states n)
+touched_at [] n within = absurd (omega (arith, within))
+touched_at (x ∷ states) zero within = refl
+touched_at (x ∷ states) (suc n) within = touched_at states n (omega (arith, within))

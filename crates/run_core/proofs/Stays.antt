@@ -11,7 +11,7 @@ use Rattle.run_core.specs.inner.Knows.{IsUnfolded, fails, knows}
 
 -- the same jobs were staged, in as many folders, and the same children are in flight
 pub record Stays (old new : Course) : Type 0 where
-  pub jobs : new.jobs.items ≡ old.jobs.items
+  pub jobs : new.jobs ≡ old.jobs
   pub folders : new.folders ≡ old.folders
   pub tickets : new.tickets.items ≡ old.tickets.items
 

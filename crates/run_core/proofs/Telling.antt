@@ -1,16 +1,15 @@
 -- What comes of a course where one more place is told to what is known, and where it is known first.
-use Rattle.std.specs.Prelude.{OnErr, map, slice_get}
+use Rattle.std.specs.Prelude.{OnErr, slice_get}
 use Rattle.std.proofs.Common.{◌≡◌, ◌∙◌, ℕ, List, Option, Some, Result, Ok, Err, refl, sym, ap, subst}
 use Rattle.job_graph.specs.Jobs.{Job, Walker}
 use Rattle.job_graph.specs.Unfold.{Resolved, unfolded}
 use Rattle.job_graph.specs.Unfolding.{AnswersAlike, Blames, Learns as LearnsPlace}
+use Rattle.job_graph.proofs.Knowing.{learns_by}
 use Rattle.job_graph.specs.Words.{Fields, JobPlace}
 use Rattle.job_graph.specs.declared.fault.UnfoldError.{UnfoldError}
 use Rattle.job_graph.specs.declared.fault.UnfoldError.TheVariants.{Refused, OutOfMemory}
 use Rattle.job_graph.specs.declared.fault.UnfoldFault.{UnfoldFault}
-use Rattle.job_graph.specs.declared.growth.KnownJob.{KnownJob}
 use Rattle.job_graph.specs.declared.unfolding.Unfolding.{Unfolding}
-use Rattle.job_graph.specs.inner.Views.{job_of}
 use Rattle.run_rules.specs.declared.outcome.Report.{Report}
 use Rattle.run_rules.specs.declared.outcome.RunFault.{RunFault}
 use Rattle.run_core.specs.declared.state.Course.{Course}
@@ -23,14 +22,13 @@ pub told_none : (one : Resolved) (kept : Unfolding) (new : Option Unfolding) (re
     new ≡ Some kept → result ≡ Err error → error ≡ OutOfMemory → IsTold one kept new result
 told_none one kept new result error is failed none =
     subst (λ (r : Result (Unit {0}) UnfoldError). IsTold one kept new r) (sym (failed ∙ ap (λ (e : UnfoldError). Err e) none))
-    (record { told = kept; is = is; learns = λ walks learned k. k; alike = record { jobs = refl; result = refl } })
+    (record { told = kept; is = is; learns = refl; alike = record { jobs = refl; result = refl; outs = refl } })
 
 -- the place of the job of a number is told
 pub told_place : (jobs : List Job) (number : ℕ) (outputs : Fields) (job : Job) (place : JobPlace) (known : Option Unfolding) (held told kept : Unfolding)
     (result : Result (Unit {0}) UnfoldError) →
     slice_get jobs number ≡ Some job → place ≡ job.place → known ≡ Some held →
-    ((walks : Walker) (learned : List Resolved) → Knows walks learned held → LearnsPlace walks learned (record { place = place; outputs = outputs }) told result) →
-    OnErr result (AnswersAlike held told) → known ≡ Some kept →
+    LearnsPlace held (record { place = place; outputs = outputs }) told result → OnErr result (AnswersAlike held told) → known ≡ Some kept →
     IsTold (record { place = place_at jobs number; outputs = outputs }) kept (Some told) result
 told_place jobs number outputs job place known held told kept result there same is learns alike now =
     let both : Some held ≡ Some kept = sym is ∙ now in
@@ -44,7 +42,7 @@ pub knows_told : (one : Resolved) (old new : Course) (done : Unit {0}) → ((kep
     past_of new ≡ past_of old → Learns one old new
 knows_told one old new done tells past = λ walks learned kept is k.
     let now : IsTold one kept new.known (Ok done) = tells kept is in
-    knows now.told new (now.learns walks learned k) now.is past
+    knows now.told new (learns_by walks learned one kept now.told (Ok done) k now.learns) now.is past
 
 module _ (old : Course) (fault : UnfoldFault) (end : Result Report RunFault) (ends : end ≡ end_by fault) where
   pub fails_told : (one : Resolved) (told new : Course) (error : UnfoldError) →
@@ -54,8 +52,8 @@ module _ (old : Course) (fault : UnfoldFault) (end : Result Report RunFault) (en
       let now : IsTold one kept told.known (Err (Refused fault)) =
       subst (λ (e : UnfoldError). IsTold one kept told.known (Err e)) refused (tells kept is) in
       let alike : AnswersAlike kept now.told = now.alike in
-      fails fault new (now.learns walks learned k).0
-      (ap known_in (same ∙ now.is) ∙ ap (map (λ (known : KnownJob). job_of known.job)) alike.jobs ∙ sym (ap known_in is))
+      fails fault new (learns_by walks learned one kept now.told (Err (Refused fault)) k now.learns).0
+      (ap known_in (same ∙ now.is) ∙ alike.jobs ∙ sym (ap known_in is))
       (settles ∙ ap (λ (e : Result Report RunFault). with_end e (past_of told)) ends ∙ ap (with_end (end_by fault)) past)
 
   pub fails_first : (walks : Walker) (learned : List Resolved) (new : Course) (error : UnfoldError) →

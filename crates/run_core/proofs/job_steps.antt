@@ -9,5 +9,4 @@ pub mod Listed
 pub mod Read
 pub mod Started
 pub mod Failed
-pub mod GaveUp
 pub mod Ended

@@ -4,8 +4,10 @@ pub mod Course
 pub mod Due
 pub mod Follows
 pub mod Inside
+pub mod JobStates
 pub mod Keeps
 pub mod Knows
+pub mod LowestWaiting
 pub mod Measured
 pub mod Measures
 pub mod Parts

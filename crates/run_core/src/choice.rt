@@ -1,10 +1,10 @@
 //! What comes next where nothing is due.
-ghost use Rattle.std.specs.Prelude.{◌≡◌, ◌<◌, ◌+◌, ◌^◌, false, None, Some, IsSome, IfOk, IsTrue, ◌↔◌, OnErr, length, slice_get};
-ghost use Rattle.job_graph.specs.inner.Views.{job_of as job_seen};
+ghost use Rattle.std.specs.Prelude.{◌≡◌, ◌<◌, ◌+◌, ◌^◌, false, Some, IsSome, IfOk, MatchOption, OnErr, length, slice_get};
+ghost use Rattle.job_graph.specs.KnownJobs.{job_of as job_seen};
 ghost use Rattle.job_graph.specs.Jobs.{Job};
 ghost use Rattle.run_core.specs.declared.state.Given.{Given as Run};
 ghost use Rattle.run_core.specs.inner.Course.{known_in as jobs_in};
-ghost use Rattle.run_core.specs.inner.Picks.{Picks, Stages, sources_in};
+ghost use Rattle.run_core.specs.inner.Picks.{MayBeNext, NoneToStage, Picks, Stages, sources_in};
 ghost use Rattle.run_core.specs.inner.Turn.{collects, ends};
 ghost use Rattle.run_rules.specs.Folders.{in_folder};
 ghost use Rattle.staging.specs.Plan.{IsPlan};
@@ -23,8 +23,8 @@ use staging::{StagePlan, stage_plan};
 use std::alloc::{AllocError, Global};
 use std::mem;
 
-/// What comes next: after a failure the children in flight are waited for; else the first job that was never staged
-/// is, where a slot is free; else a child in flight is waited for; and at last the result is delivered.
+/// What comes next: after a failure the children in flight are waited for; else the lowest job that waits is staged,
+/// where a slot is free; else a child in flight is waited for; and at last the result is delivered.
 pub(crate) fn pick(
     alloc: Global,
     given: &Given<'_>,
@@ -37,8 +37,8 @@ pub(crate) fn pick(
     if course.end.is_some() {
         return Ok(settled(alloc, course));
     }
-    if can_stage(given, course) {
-        return staging(alloc, given, course, course.jobs.len());
+    if let Some(number) = next_to_stage(given, course) {
+        return staging(alloc, given, course, number);
     }
     if course.tickets.is_empty() {
         return delivery(alloc, given, course);
@@ -60,16 +60,20 @@ fn settled(alloc: Global, course: &mut Course<'_>) -> Turn
     }
 }
 
-/// Whether a slot is free, and there is a job that was never staged.
-fn can_stage(given: &Given<'_>, course: &Course<'_>) -> bool
-    ensures { IsTrue result ↔ (length course.now.tickets.items < given.now.options.slots × length course.now.jobs.items < length (jobs_in course.now.known)) }
+/// The lowest job that waits, where a slot is free.
+fn next_to_stage(given: &Given<'_>, course: &mut Course<'_>) -> Option<usize>
+    ensures same { course.new ≡ course.old }
+    ensures found { MatchOption result (NoneToStage given.now course.old) (MayBeNext given.now course.old) }
 {
-    (course.tickets.len() as u64) < given.options.slots
-        && course.jobs.len() < known_in(&course.known).len()
+    if course.tickets.len() as u64 >= given.options.slots {
+        return None;
+    }
+    let count = known_in(&course.known).len();
+    course.jobs.first_waiting(count)
 }
 
 /// The folders of a job are made, and its input files are copied there.
-pub(crate) fn staging(
+fn staging(
     alloc: Global,
     given: &Given<'_>,
     course: &Course<'_>,

@@ -1,12 +1,13 @@
 //! What the events of a run bring about.
 ghost use Rattle.std.specs.Prelude.{◌≡◌, ◌<◌, ◌≤◌, ◌+◌, ◌^◌, ◌∷◌, [], None, Some, Contains, IsSome, IfOk, OnErr, OnOk, length, map, slice_get, vec_len, vec_capacity};
 ghost use Rattle.job_graph.specs.declared.unfolding.Unfolding.{Unfolding as Held};
-ghost use Rattle.job_graph.specs.inner.Views.{job_of as job_seen};
+ghost use Rattle.job_graph.specs.KnownJobs.{job_of as job_seen};
 ghost use Rattle.run_core.specs.inner.Course.{GivesUp, TakesOut, known_in, nothing_past, past_of, place_at, with_end, with_staging, with_start};
 ghost use Rattle.run_core.specs.inner.Knows.{IsTold, Learns, end_by};
 ghost use Rattle.run_core.specs.inner.Turn.{permanent};
 
-use crate::state::{Course, Flight, JobState, Kept};
+use crate::job_states::JobStates;
+use crate::state::{Course, Flight, Kept};
 use crate::turn::{permanent, reported};
 use crate::{Cause, Outcome, Report, RunFault};
 use cwl_value::{Value, copy_job};
@@ -23,7 +24,7 @@ pub(crate) fn at_first<'a>(alloc: Global) -> Course<'a>
     Course {
         tickets: Vec::new(alloc),
         flights: Vec::new(alloc),
-        jobs: Vec::new(alloc),
+        jobs: JobStates::new(alloc),
         folders: 0,
         known: None,
         end: None,
@@ -70,40 +71,30 @@ pub(crate) fn end_by(alloc: Global, fault: UnfoldFault) -> Result<Report, RunFau
     }
 }
 
-/// Makes room for one more job and one more child.
+/// Makes room for one more child.
 pub(crate) fn reserve_one(course: &mut Course<'_>) -> Result<(), AllocError>
     ensures past { past_of course.new ≡ past_of course.old }
     ensures known { course.new.known ≡ course.old.known }
     ensures tickets { OnOk result (vec_len course.new.tickets < vec_capacity course.new.tickets) }
     ensures flights { OnOk result (vec_len course.new.flights < vec_capacity course.new.flights) }
-    ensures jobs { OnOk result (vec_len course.new.jobs < vec_capacity course.new.jobs) }
 {
-    course.jobs.reserve(1)?;
     course.tickets.reserve(1)?;
     course.flights.reserve(1)?;
     Ok(())
 }
 
 /// The job has new folders.
-pub(crate) fn note_staging(course: &mut Course<'_>, number: usize)
+pub(crate) fn note_staging(course: &mut Course<'_>, number: usize) -> Result<(), AllocError>
     requires folders { course.old.folders + 1 < 2 ^ 64 }
-    requires next { number ≤ length course.old.jobs.items }
-    requires room { vec_len course.old.jobs < vec_capacity course.old.jobs }
-    ensures past { past_of course.new ≡ with_staging number (past_of course.old) }
+    ensures past { OnOk result (past_of course.new ≡ with_staging number (past_of course.old)) }
     ensures known { course.new.known ≡ course.old.known }
     ensures tickets { course.new.tickets ≡ course.old.tickets }
     ensures flights { course.new.flights ≡ course.old.flights }
 {
-    course.folders += 1;
-    if number < course.jobs.len() {
-        course.jobs[number].folder = course.folders;
-    } else {
-        let job = JobState {
-            folder: course.folders,
-            gave_up: 0,
-        };
-        course.jobs.push(job).unwrap();
-    }
+    let folder = course.folders + 1;
+    course.jobs.stage(number, folder)?;
+    course.folders = folder;
+    Ok(())
 }
 
 /// The job's child runs.
@@ -150,28 +141,28 @@ pub(crate) fn note_failure(
     Ok(())
 }
 
-/// The job gives no outputs, and might if it were started again: says whether it may be.
+/// The job gives no outputs, and might if it were started again: it waits again, while retries are left.
 pub(crate) fn note_giving_up(
     alloc: Global,
     course: &mut Course<'_>,
     number: usize,
     retries: u64,
-) -> Result<bool, AllocError>
-    requires number { number < length course.old.jobs.items }
+) -> Result<(), AllocError>
+    requires number { number < length course.old.jobs }
     requires known { number < length (known_in course.old.known) }
-    ensures ok { IfOk result (λ again. GivesUp (known_in course.old.known) number retries (past_of course.old) again (past_of course.new)) }
+    ensures ok { OnOk result (GivesUp (known_in course.old.known) number retries (past_of course.old) (past_of course.new)) }
     ensures tickets { course.new.tickets.items ≡ course.old.tickets.items }
     ensures folders { course.new.folders ≡ course.old.folders }
     ensures known { course.new.known ≡ course.old.known }
 {
-    let gave_up = course.jobs[number].gave_up;
+    let gave_up = course.jobs.tries(number);
     if gave_up < retries {
-        course.jobs[number].gave_up = gave_up + 1;
-        return Ok(course.end.is_none());
+        course.jobs.give_up(number);
+        return Ok(());
     }
     let place = copy_job(alloc, &job_of(course, number).place)?;
     settle(course, reported(alloc, Outcome::TemporaryFail(place)));
-    Ok(false)
+    Ok(())
 }
 
 /// The job gives these outputs: more is known, unless the end is settled.

@@ -15,6 +15,7 @@ mod delivery;
 mod fields;
 mod files;
 mod folders;
+mod job_states;
 mod measuring;
 mod parts;
 mod places;

@@ -5,7 +5,7 @@ ghost use Rattle.job_graph.specs.Made.{value_moved, fields_moved};
 ghost use Rattle.run_core.specs.inner.Places.{file_elsewhere, dir_elsewhere, file_with, left_place, number_at_source, place_by};
 
 use crate::folders::{out_folder, path_in};
-use crate::state::JobState;
+use crate::job_states::JobState;
 use cwl_value::{DirVal, FileVal, JobPlace, Place, Value};
 use file_values::path_to_location;
 use job_graph::{KnownJob, is_same_place};

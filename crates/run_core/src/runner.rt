@@ -275,7 +275,7 @@ fn make_room(alloc: Global, pairs: &mut Vec<Pair>, course: &mut Course<'_>, turn
     }
 }
 
-/// Makes room for one more job and one more child, and for the pairs that come next: the answer to what is asked, and the
+/// Makes room for one more child, and for the pairs that come next: the answer to what is asked, and the
 /// end of each child in flight. Where it fails there is still the room that there was.
 fn reserve(pairs: &mut Vec<Pair>, course: &mut Course<'_>) -> Result<(), AllocError>
     ensures items { pairs.new.items ≡ pairs.old.items }
@@ -286,7 +286,6 @@ fn reserve(pairs: &mut Vec<Pair>, course: &mut Course<'_>) -> Result<(), AllocEr
     ensures pairs { OnOk result (vec_len pairs.new + (length course.old.tickets.items + 2) ≤ vec_capacity pairs.new) }
     ensures tickets { OnOk result (vec_len course.new.tickets < vec_capacity course.new.tickets) }
     ensures flights { OnOk result (vec_len course.new.flights < vec_capacity course.new.flights) }
-    ensures jobs { OnOk result (vec_len course.new.jobs < vec_capacity course.new.jobs) }
 {
     // One more, since a start is answered by one more child in flight.
     pairs.reserve(course.tickets.len().saturating_add(2))?;

@@ -1,5 +1,6 @@
 //! Where a run is: what its events have brought about so far, and what it waits for.
 
+use crate::job_states::JobStates;
 use crate::{Cause, Options, Report, Request, RunFault};
 use cwl_value::Value;
 use document_links::Process;
@@ -115,15 +116,6 @@ pub(crate) struct Flight {
     pub kept: Kept,
 }
 
-/// A job that was staged.
-#[derive(Drop)]
-pub(crate) struct JobState {
-    /// The number of the folders that it was staged in last.
-    pub folder: u64,
-    /// How often it failed temporarily.
-    pub gave_up: u64,
-}
-
 /// What a run has come to so far.
 #[derive(Drop)]
 pub(crate) struct Course<'a> {
@@ -131,9 +123,9 @@ pub(crate) struct Course<'a> {
     pub tickets: Vec<u64>,
     /// Their jobs, in the same order.
     pub flights: Vec<Flight>,
-    /// The jobs that were staged. They are the first of the known ones, by number: each is in flight, or its outputs
-    /// were collected, or the end is settled.
-    pub jobs: Vec<JobState>,
+    /// What has become of the known jobs. One that doesn't wait is in flight, or its outputs were collected, or the end
+    /// is settled.
+    pub jobs: JobStates,
     /// How many folders were made.
     pub folders: u64,
     /// The jobs that are known, once all input files are measured.

@@ -8,7 +8,7 @@ ghost use Rattle.run_core.specs.inner.Picks.{AfterChild, AfterInputHead, AfterLi
 ghost use Rattle.run_core.specs.inner.Standing.{HasRoom};
 ghost use Rattle.run_rules.specs.Answers.{MayAnswer};
 
-use crate::choice::{pick, staging};
+use crate::choice::pick;
 use crate::collects::{listed, read, scanning};
 use crate::course::{
     job_of, note_end, note_failure, note_giving_up, note_staging, note_start, note_success, settle,
@@ -67,13 +67,13 @@ pub(crate) fn follows<'a>(
 
 /// A job in the folders that it was staged in last.
 fn site_of<'a, 's>(given: &'s Given<'_>, course: &Course<'a>, number: usize) -> Site<'a, 's>
-    requires number { number < length course.now.jobs.items }
+    requires number { number < length course.now.jobs }
     requires known { number < length (known_in course.now.known) }
     ensures { IsSite given.now course.now number result }
 {
     Site {
         tool: job_of(course, number).tool,
-        folder: course.jobs[number].folder,
+        folder: course.jobs.as_slice()[number].folder,
         options: &given.options,
     }
 }
@@ -116,11 +116,10 @@ fn staged(
 ) -> Result<Turn, AllocError>
     requires ready { IsReady course.old }
     requires stages { CanStage course.old number }
-    requires room { vec_len course.old.jobs < vec_capacity course.old.jobs }
     ensures is { IfOk result (λ turn. AfterStaging given.now course.old number inputs.now turn course.new) }
     ensures flying { OnErr result (course.new.tickets.items ≡ course.old.tickets.items) }
 {
-    note_staging(course, number);
+    note_staging(course, number)?;
     let next = filled_first(alloc, site_of(given, course, number), inputs)?;
     turn_of(alloc, given, course, number, next)
 }
@@ -182,7 +181,7 @@ fn scanned(
     millis: u64,
 ) -> Result<Turn, AllocError>
     requires folders { course.old.folders + 1 < 2 ^ 64 }
-    requires number { flight.job < length course.old.jobs.items }
+    requires number { flight.job < length course.old.jobs }
     requires known { flight.job < length (known_in course.old.known) }
     ensures is { IfOk result (λ turn. IsScanned given.now course.old flight millis turn course.new) }
     ensures flying { OnErr result (course.new.tickets.items ≡ course.old.tickets.items) }
@@ -192,8 +191,7 @@ fn scanned(
     turn_of(alloc, given, course, job, next)
 }
 
-/// The job's child failed temporarily: it is staged again while retries are left. It is the first job then that is
-/// neither in flight nor at hand, and its slot is free.
+/// The job's child failed temporarily: it waits to be staged again while retries are left.
 fn gave_up(
     alloc: Global,
     given: &Given<'_>,
@@ -201,14 +199,12 @@ fn gave_up(
     number: usize,
 ) -> Result<Turn, AllocError>
     requires folders { course.old.folders + 1 < 2 ^ 64 }
-    requires number { number < length course.old.jobs.items }
+    requires number { number < length course.old.jobs }
     requires known { number < length (known_in course.old.known) }
     ensures is { IfOk result (λ turn. AfterTemporary given.now course.old number turn course.new) }
     ensures flying { OnErr result (course.new.tickets.items ≡ course.old.tickets.items) }
 {
-    if note_giving_up(alloc, course, number, given.options.retries)? {
-        return staging(alloc, given, course, number);
-    }
+    note_giving_up(alloc, course, number, given.options.retries)?;
     pick(alloc, given, course)
 }
 
@@ -221,7 +217,7 @@ fn on_listing(
     found: &Items<Found>,
 ) -> Result<Turn, AllocError>
     requires ready { IsReady course.old }
-    requires number { job_in phase.old < length course.old.jobs.items }
+    requires number { job_in phase.old < length course.old.jobs }
     ensures is { IfOk result (λ turn. AfterListing given.now course.old (job_in phase.old) (kept_in phase.old) found.now turn course.new) }
     ensures flying { OnErr result (course.new.tickets.items ≡ course.old.tickets.items) }
 {
@@ -240,7 +236,7 @@ fn on_bytes(
     bytes: &Items<u8>,
 ) -> Result<Turn, AllocError>
     requires ready { IsReady course.old }
-    requires number { job_in phase.old < length course.old.jobs.items }
+    requires number { job_in phase.old < length course.old.jobs }
     ensures is { IfOk result (λ turn. AfterBytes given.now course.old phase.old bytes.now turn course.new) }
     ensures flying { OnErr result (course.new.tickets.items ≡ course.old.tickets.items) }
 {
@@ -261,7 +257,7 @@ fn on_input_bytes(
     bytes: &Items<u8>,
 ) -> Result<Turn, AllocError>
     requires ready { IsReady course.old }
-    requires number { job_in phase.old < length course.old.jobs.items }
+    requires number { job_in phase.old < length course.old.jobs }
     ensures is { IfOk result (λ turn. AfterInputHead given.now course.old (job_in phase.old) (filling_in phase.old) bytes.now turn course.new) }
     ensures flying { OnErr result (course.new.tickets.items ≡ course.old.tickets.items) }
 {
@@ -280,7 +276,7 @@ fn on_output_bytes(
     bytes: &Items<u8>,
 ) -> Result<Turn, AllocError>
     requires ready { IsReady course.old }
-    requires number { job_in phase.old < length course.old.jobs.items }
+    requires number { job_in phase.old < length course.old.jobs }
     ensures is { IfOk result (λ turn. AfterOutputHead given.now course.old (job_in phase.old) (kept_in phase.old) (reading_in phase.old) bytes.now turn course.new) }
     ensures flying { OnErr result (course.new.tickets.items ≡ course.old.tickets.items) }
 {

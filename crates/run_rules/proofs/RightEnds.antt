@@ -18,7 +18,7 @@ use Rattle.run_rules.specs.Events.{Event, file_measured, job_staged, job_started
 use Rattle.run_rules.specs.End.{End, succeeds_with, fails_permanently, fails_temporarily, beyond_limits, ended_by_host, fault_end, gives_up, settled_by, unfold_end, settled_from, settled}
 use Rattle.run_rules.specs.EndsSo.{EndsSo}
 use Rattle.plan_checker.specs.declared.plan.Mark.{Mark}
-use Rattle.run_rules.specs.Plans.{LoadsHeld}
+use Rattle.run_rules.specs.Plans.{InForce}
 use Rattle.run_rules.specs.Honest.{AgreesAt, AgreesFrom, IsHonest, Means}
 use Rattle.run_rules.specs.Run.{Goes, IsRun}
 use Rattle.run_rules.proofs.Agreeing.{Agrees, AreGiven, agrees, given_first, given_later, given_one}
@@ -150,12 +150,12 @@ pub ends_rightly : (setting : Setting) (world : World) → ((all : Measures) →
 ends_rightly setting world evaluates t (succeeds_with outputs delivered) run honest =
     let es : List Event = run.happened.events in
     succeeds_rightly (scene_of setting) world (measures es) (evaluates (measures es)) es outputs
-    (goes_fitting (scene_of setting) (LoadsHeld (scene_of setting)) run.goes) refl honest
+    (goes_fitting (scene_of setting) (InForce (scene_of setting)) run.goes) refl honest
     (success_is_result (scene_of setting) outputs delivered run.ended)
 ends_rightly setting world evaluates t (fails_permanently place cause) run honest =
     let es : List Event = run.happened.events in
     fails_rightly (scene_of setting) world (measures es) (evaluates (measures es)) es place cause
-    (goes_fitting (scene_of setting) (LoadsHeld (scene_of setting)) run.goes) refl honest
+    (goes_fitting (scene_of setting) (InForce (scene_of setting)) run.goes) refl honest
     (failure_settles (scene_of setting) place cause run.ended)
 ends_rightly setting world evaluates t (fails_temporarily place) run honest = tt
 ends_rightly setting world evaluates t beyond_limits run honest = tt

@@ -15,7 +15,7 @@ use Rattle.run_rules.specs.Events.{Event, file_measured, job_staged, job_started
 use Rattle.run_rules.specs.End.{End, succeeds_with, fails_permanently, fails_temporarily, fault_end, gives_up, settled_by, unfold_end, settled_from, settled}
 use Rattle.run_rules.specs.EndsSo.{EndsSo, IsDelivered, fails, succeeds}
 use Rattle.plan_checker.specs.declared.plan.Mark.{Mark}
-use Rattle.run_rules.specs.Plans.{LoadsHeld}
+use Rattle.run_rules.specs.Plans.{InForce}
 use Rattle.run_rules.specs.Run.{Ends, IsRun}
 use Rattle.run_rules.specs.RanWell.{RanWell}
 use Rattle.run_rules.proofs.Measuring.{Fits, goes_fitting}
@@ -140,7 +140,7 @@ module _ (s : Scene) (finishes : (all : Measures) → Finishes (s.walker all)) w
       let later : Fits s es rest = fits_after s [] es rest (subst (λ (x : List Event). Fits s [] x) (sym is) fits) in
       ap codes_in (sym (subst (λ (x : List Event). job_at s x place ≡ Some job) is (stays_known s es rest place job later known)))
 
-  ran_if_known : (t : List Pair) (outputs delivered : Fields) (run : Ends s (LoadsHeld s) t (succeeds_with outputs delivered)) (job : Job) →
+  ran_if_known : (t : List Pair) (outputs delivered : Fields) (run : Ends s (InForce s) t (succeeds_with outputs delivered)) (job : Job) →
       Contains (unfolding_at s run.happened.events).jobs job → RanWell t job.place job.tool.exit_codes
   ran_if_known t outputs delivered run job there =
       let es : List Event = run.happened.events in
@@ -156,7 +156,7 @@ module _ (s : Scene) (finishes : (all : Measures) → Finishes (s.walker all)) w
       let found : job_at s es job.place ≡ Some job =
       ap (λ (u : Unfolded). find (is_at job.place) u.jobs) known_so ∙ (finishes (measures es)).found_again (resolved es) job its_there in
       subst (λ (c : ExitCodes). RanWell t job.place c) (ap codes_in found)
-      ((knows (codes_at es) s es (λ front rest is place known is_known. its_codes es front rest (goes_fitting s (LoadsHeld s) run.goes) is place known is_known) (LoadsHeld s)
+      ((knows (codes_at es) s es (λ front rest is place known is_known. its_codes es front rest (goes_fitting s (InForce s) run.goes) is place known is_known) (InForce s)
       run.goes [] (append-nil es)).success job.place collected_it.outputs collected_it.there)
 
 pub success_ran : (setting : Setting) → ((all : Measures) → Finishes (walker setting.process setting.inputs all)) → (t : List Pair) (outputs delivered : Fields)

@@ -28,6 +28,7 @@ use Rattle.run_rules.specs.Events.{Event, job_staged, job_started, child_exited,
 use Rattle.run_rules.specs.Folders.{runtime_of, in_folder}
 use Rattle.run_rules.specs.StartsOn.{has_launch, reads_on}
 use Rattle.run_rules.specs.CollectsOn.{collects, left_of}
+use Rattle.run_rules.specs.Plans.{is_planning}
 use Rattle.run_rules.specs.Steps.{call, stages, reads_input, reads_output, starts, exits_well, exits_badly, scans}
 use Rattle.run_rules.proofs.Leads.{Leads, stays, follows}
 use Rattle.run_rules.specs.End.{End, succeeds_with, fails_permanently, fails_temporarily, ended_by_host, settled}
@@ -285,6 +286,13 @@ a_lost_collect = lost refl refl
 
 one_lost_after_a_failure : EndsSo s (at (a_fails ++ collect_failed ∷ [])) (Load ∷ Load ∷ []) (ended_by_host HostFault.Collect (2 ∷ []))
 one_lost_after_a_failure = lost refl refl
+
+-- and nothing is planned after it
+no_plan_after_a_lost_collect : is_planning s (at (one ++ collect_failed ∷ [])) ≡ false
+no_plan_after_a_lost_collect = refl
+
+a_plan_before_it : is_planning s (at one) ≡ true
+a_plan_before_it = refl
 
 -- A start that fails with the other in flight is the end once that has landed, and names no ticket
 a_start_that_fails : EndsSo s (at (one ++ job_staged b 2 ∷ host_failed b HostFault.Start ∷ came_well 1 a)) (Load ∷ Compute ∷ [])

@@ -8,7 +8,7 @@ use Rattle.job_graph.specs.Jobs.{Job}
 use Rattle.job_graph.specs.Unfold.{is_at}
 use Rattle.job_graph.specs.Words.{JobPlace}
 use Rattle.run_rules.specs.Events.{Event, Work, nothing_due, Progress, is_at_hand, is_held, unfolding_at}
-use Rattle.run_rules.specs.End.{settled}
+use Rattle.run_rules.specs.End.{is_lost_collect, settled}
 use Rattle.run_rules.specs.Scene.{Scene}
 
 abbrev pub number_from : ℕ → JobPlace → List Job → ℕ
@@ -27,9 +27,9 @@ abbrev pub mark_if_held : Bool → Mark
 mark_if_held held = cond held Load Compute
 
 module _ (s : Scene) where
-  -- nothing is due, the end isn't settled, and some known job is not at hand
+  -- nothing is due, no collect has failed, the end isn't settled, and some known job is not at hand
   abbrev pub is_planning : Progress → Bool
-  is_planning f = is_idle f.work && is_none (settled s f.events)
+  is_planning f = is_idle f.work && not (list_any is_lost_collect f.events) && is_none (settled s f.events)
       && list_any (λ job. not (is_at_hand f.events job.place)) (unfolding_at s f.events).jobs
 
   abbrev pub mark_at : List Mark → List Event → JobPlace → Mark
@@ -38,3 +38,7 @@ module _ (s : Scene) where
   -- what is held is loaded, and all else is computed
   abbrev pub LoadsHeld : Progress → List Mark → Type 0
   LoadsHeld f marks = marks ≡ map (λ job. mark_if_held (is_held f.events job.place)) (unfolding_at s f.events).jobs
+
+  -- the plan that a run has in force from a planning point on
+  abbrev pub InForce : Progress → List Mark → Type 0
+  InForce = LoadsHeld

@@ -6,7 +6,7 @@ use Rattle.run_rules.specs.Events.{Event, Work, Progress, at_first}
 use Rattle.run_rules.specs.End.{End}
 use Rattle.run_rules.specs.EndsSo.{EndsSo}
 use Rattle.plan_checker.specs.declared.plan.Mark.{Mark}
-use Rattle.run_rules.specs.Plans.{is_planning, LoadsHeld}
+use Rattle.run_rules.specs.Plans.{InForce, is_planning}
 use Rattle.run_rules.specs.Allowed.{Allowed}
 use Rattle.run_rules.specs.Steps.{Steps, progress_with}
 use Rattle.run_rules.specs.Scene.{Scene, scene_of}
@@ -29,10 +29,10 @@ module _ (s : Scene) (Plans : Progress → List Mark → Type 0) where
     pub goes : Goes t happened marks
     pub ended : EndsSo s happened marks end
 
--- a run of a process so far, under the plan that loads what is held and computes all else
+-- a run of a process so far, under the plans that runs have in force
 abbrev pub IsRunSoFar : Setting → List Pair → Progress → List Mark → Type 0
-IsRunSoFar setting = Goes (scene_of setting) (LoadsHeld (scene_of setting))
+IsRunSoFar setting = Goes (scene_of setting) (InForce (scene_of setting))
 
 -- a whole run of a process that ends so
 abbrev pub IsRun : Setting → List Pair → End → Type 0
-IsRun setting = Ends (scene_of setting) (LoadsHeld (scene_of setting))
+IsRun setting = Ends (scene_of setting) (InForce (scene_of setting))

@@ -12,7 +12,7 @@ use Rattle.run_core.specs.inner.Inside.{Goes, Stands, off_run, on_run, seen, set
 use Rattle.run_core.specs.inner.Course.{Past, past_of}
 use Rattle.run_core.specs.inner.Standing.{IsLostAt, draining, lost}
 use Rattle.run_core.proofs.going.Asked.{collects_some}
-use Rattle.run_core.proofs.going.Given.{allows, laws_of}
+use Rattle.run_core.proofs.going.Given.{allows, is_first, laws_of}
 
 -- Where memory ran out
 
@@ -42,6 +42,7 @@ module _ (core : Inside) where
   may_ask_so stands (on_run runs) asks =
       allowed runs.happened runs.marks runs.goes
       (allows core.given (laws_of core.given stands.accepted stands.ids) stands.limits.least_slots core.pairs.items core.course core.turn runs asks)
+      (is_first core.given (laws_of core.given stands.accepted stands.ids) stands.limits.least_slots core.pairs.items core.course core.turn runs asks)
   may_ask_so stands (off_run out) asks =
       drains out.front out.tail out.happened out.marks out.goes out.collects out.pairs (lost_some (past_of core.course) out.at asks)
       (lost_collects (past_of core.course) out.at asks)

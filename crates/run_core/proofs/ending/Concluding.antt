@@ -42,7 +42,7 @@ record HasEnded (s : Scene) (f : Progress) (marks : List Mark) (result : Result 
 module _ (s : Scene) (f : Progress) (marks : List Mark) (course : Course) where
   ended_at : {turn : Turn} (result : Result Report RunFault) → IsAt s f marks course turn → turn.phase ≡ Phase.Ended result → HasEnded s f marks result
   ended_at result (measuring found m rest path is left happened none nothing) phase = absurd cc
-  ended_at result (staging at_work n job plan r st) phase = absurd cc
+  ended_at result (staging n job plan r st) phase = absurd cc
   ended_at result (working n job call phase r w) is = absurd cc
   ended_at result (collecting r may) phase = absurd cc
   ended_at result (delivering plan r may going all) phase = absurd cc
@@ -50,7 +50,7 @@ module _ (s : Scene) (f : Progress) (marks : List Mark) (course : Course) where
 
   asks_no_more : {turn : Turn} → IsAt s f marks course turn → turn.asks ≡ Request.Finished → IsEnded turn.phase
   asks_no_more (measuring found m rest path is left happened none nothing) asks = absurd cc
-  asks_no_more (staging at_work n job plan r st) asks = absurd cc
+  asks_no_more (staging n job plan r st) asks = absurd cc
   asks_no_more (working n job call phase r w) asks = absurd cc
   asks_no_more (collecting r may) asks = absurd cc
   asks_no_more (delivering plan r may going all) asks = absurd cc

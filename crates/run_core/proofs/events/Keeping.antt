@@ -1,5 +1,5 @@
 -- What the machine keeps goes on with each event: a lemma for each.
-use Rattle.std.specs.Prelude.{◌<◌, ◌≤◌, ◌||◌, Contains, IsSome, is_some, nat_lt, option_map, slice_get, slice_index_or}
+use Rattle.std.specs.Prelude.{◌<◌, ◌≤◌, ◌||◌, Contains, nat_lt, option_map, slice_get, slice_index_or}
 use Rattle.std.specs.List.{remove}
 use Rattle.std.proofs.Common.{◌≡◌, ◌∙◌, ◌⊎◌, inl, inr, ◌==◌, ◌+◌, ℕ, zero, suc, Bool, true, false, cond, List, [], ◌∷◌, ◌++◌, length, filter, Option, Some, None, refl, sym, ap, subst, arith, length-append}
 use Rattle.std.proofs.lemmas.Bool.{eqb-true, lt-ltb, le-ltb, or_parts}
@@ -16,7 +16,7 @@ use Rattle.run_rules.specs.declared.outcome.Report.{Report}
 use Rattle.run_rules.specs.declared.outcome.RunFault.{RunFault}
 use Rattle.std.specs.Prelude.{Result}
 use Rattle.run_rules.specs.End.{End, fails_temporarily, gives_up, settled, settled_by, unfold_end}
-use Rattle.run_rules.specs.Events.{Event, child_exited, in_flight, is_held, job_failed_for_now, job_staged, job_started, job_succeeded, started_at, unfolding_at}
+use Rattle.run_rules.specs.Events.{Event, child_exited, in_flight, job_failed_for_now, job_staged, job_started, job_succeeded, started_at, unfolding_at}
 use Rattle.run_rules.specs.Reports.{report_of, reported}
 use Rattle.run_rules.specs.Scene.{Scene}
 use Rattle.run_rules.proofs.Places.{same_place}
@@ -29,14 +29,16 @@ use Rattle.run_rules.proofs.events.Settled.{is_quiet, settled_for_now, settled_m
 use Rattle.run_rules.proofs.events.Tally.{Readings, is_aside, nothing_read, readings, readings_after, reads_after}
 use Rattle.run_rules.proofs.events.Turns.{so_many}
 use Rattle.run_core.specs.declared.state.Flight.{Flight}
-use Rattle.run_core.specs.declared.state.JobState.{JobState}
+use Rattle.run_core.specs.declared.job_states.JobState.{JobState}
 use Rattle.run_core.specs.declared.state.Kept.{Kept}
 use Rattle.run_core.specs.inner.Course.{Past, TakesOut, nothing_past, with_end, with_giving_up, with_staging, with_start}
 use Rattle.run_core.specs.inner.Due.{IsKept}
-use Rattle.run_core.specs.inner.Keeps.{Keeps, KeepsFlight, course_of, state_at, worked}
+use Rattle.run_core.specs.inner.Keeps.{Keeps, KeepsFlight, course_of, worked}
 use Rattle.run_core.specs.inner.Standing.{HasStarted}
-use Rattle.run_core.proofs.events.Kept.{Lands, counted_once_more, gave_up_staged, keeps_end, keeps_failing, keeps_giving_up, keeps_landing, keeps_over, keeps_staging, keeps_starting, once_more}
+use Rattle.run_core.proofs.events.Kept.{Lands, counted_once_more, gave_up_staged, keeps_end, keeps_failing, keeps_giving_up, keeps_landing, keeps_staging, keeps_starting, once_more}
 use Rattle.run_core.proofs.events.Numbers.{Flies, contains_before, flight_flies, state_there}
+use Rattle.run_core.specs.inner.JobStates.{given_up_in, state_at, waits_in}
+use Rattle.run_core.proofs.States.{given_up_length, staged_few}
 
 flights_still : (es es' : List Event) (jobs more : List Job) (flights : List Flight) → ((place : JobPlace) → started_at es' place ≡ started_at es place) → IsFront jobs more →
     ((flight : Flight) → Contains flights flight → KeepsFlight es jobs flight) → (flight : Flight) → Contains flights flight → KeepsFlight es' more flight
@@ -54,11 +56,6 @@ differs_by : (test : Bool) (flying : List Flying) (at place : JobPlace) → is_s
 differs_by true flying at place is none flies =
     let never : true ≡ false = sym flies ∙ ap (is_flying flying) (sym (same_place at place is)) ∙ none in absurd cc
 differs_by false flying at place is none flies = is
-
--- an end that is there is one
-is_there : {T : Type 0} (o : Option T) → IsSome o → is_some o ≡ true
-is_there None some = some
-is_there (Some x) some = refl
 
 pub never_none : {T : Type 0} (o : Option T) (x : T) → or_else o (Some x) ≡ None → ⊥
 never_none None x none = cc
@@ -100,16 +97,17 @@ module _ (s : Scene) (es : List Event) (jobs : List Job) where
   front_still e none leads = subst (λ (u : Unfolded). IsFront jobs u.jobs) (sym (unfolding_stays s es (e ∷ []) (ap (λ b. b || false) none))) leads
 
   -- a job is staged
-  pub staged_keeps : (past : Past) (at_work : Option ℕ) (n : ℕ) (job : Job) → IsJob jobs n job → n ≤ length past.jobs → is_held es job.place ≡ false →
-      length (in_flight es) < s.options.slots → ((m : ℕ) → at_work ≡ Some m → m ≡ n) → Keeps s es jobs past at_work →
+  pub staged_keeps : (past : Past) (n : ℕ) (job : Job) → IsJob jobs n job → waits_in past.jobs n ≡ true →
+      length (in_flight es) < s.options.slots → Keeps s es jobs past None →
       Keeps s (es ++ job_staged job.place (past.folders + 1) ∷ []) jobs (with_staging n past) (Some n)
-  staged_keeps past at_work n job it within free slot alone k = record {
+  staged_keeps past n job it free slot k = record {
     gave_up = k.gave_up;
+    few = staged_few past.jobs n (past.folders + 1) (length jobs) it.within k.few;
     books = books_after (job_staged job.place (past.folders + 1)) jobs (course_of (with_staging n past) (Some n) k.gave_up)
-        (keeps_staging jobs (readings es) past k.gave_up at_work n job it within k.books free alone);
-    counts = λ still m. k.counts still m ∙ sym (gave_up_staged past n within m);
-    retries = λ m. subst (λ times. times ≤ s.options.retries) (sym (gave_up_staged past n within m)) (k.retries m);
-    slots = let many : length (in_flight es) ≡ length past.tickets = so_many jobs (readings es) (course_of past at_work k.gave_up) k.books in omega (arith, slot, many);
+        (keeps_staging jobs (readings es) past k.gave_up n job it k.books free);
+    counts = λ still m. k.counts still m ∙ sym (gave_up_staged past n m);
+    retries = λ m. subst (λ times. times ≤ s.options.retries) (sym (gave_up_staged past n m)) (k.retries m);
+    slots = let many : length (in_flight es) ≡ length past.tickets = so_many jobs (readings es) (course_of past None k.gave_up) k.books in omega (arith, slot, many);
     flights = flights_still es (es ++ job_staged job.place (past.folders + 1) ∷ []) jobs jobs past.flights
         (λ place. started_after es (job_staged job.place (past.folders + 1) ∷ []) place) (front_itself jobs) k.flights;
     front = front_still (job_staged job.place (past.folders + 1)) refl k.front;
@@ -154,6 +152,7 @@ module _ (s : Scene) (es : List Event) (jobs : List Job) where
       Keeps s (es ++ job_started job.place inputs launch ticket ∷ []) jobs (with_start n kept ticket past) None
   started_keeps past n job inputs launch kept ticket it same fresh k = record {
     gave_up = k.gave_up;
+    few = k.few;
     books = books_after (job_started job.place inputs launch ticket) jobs (course_of (with_start n kept ticket past) None k.gave_up)
         (keeps_starting jobs (readings es) past k.gave_up n job it k.books inputs launch kept ticket fresh);
     counts = k.counts;
@@ -197,6 +196,7 @@ module _ (s : Scene) (es : List Event) (jobs : List Job) where
         };
         keeps = record {
           gave_up = k.gave_up;
+          few = k.few;
           books = books_after (child_exited ticket) jobs (course_of new (Some flight.job) k.gave_up) lands.keeps;
           counts = k.counts;
           retries = k.retries;
@@ -231,36 +231,24 @@ module _ (s : Scene) (es : List Event) (jobs : List Job) where
       k.books.gave_up n job it ∙ k.counts (none_before (settled s es) past.end k.end none) n ∙ ap (λ (j : JobState). j.gave_up) (state_there past.jobs n state is)
 
   pub gave_up_keeps : (past : Past) (n : ℕ) (job : Job) (state : JobState) → IsJob jobs n job → slice_get past.jobs n ≡ Some state → state.gave_up < s.options.retries →
-      Keeps s es jobs past (Some n) → Keeps s (es ++ job_failed_for_now job.place ∷ []) jobs (with_giving_up n past) (Some n)
+      Keeps s es jobs past (Some n) → Keeps s (es ++ job_failed_for_now job.place ∷ []) jobs (with_giving_up n past) None
   gave_up_keeps past n job state it is below k =
-      let within : n < length past.jobs = k.books.worked_staged n refl in
+      let within : n < length past.jobs = slice_get_within past.jobs n state is in
       record {
         gave_up = once_more n k.gave_up;
-        books = books_after (job_failed_for_now job.place) jobs (course_of (with_giving_up n past) (Some n) (once_more n k.gave_up))
-            (keeps_giving_up jobs (readings es) past k.gave_up n job it k.books);
+        few = let same : length (given_up_in n past.jobs) ≡ length past.jobs = given_up_length past.jobs n in omega (arith, same, k.few);
+        books = books_after (job_failed_for_now job.place) jobs (course_of (with_giving_up n past) None (once_more n k.gave_up))
+            (keeps_giving_up jobs (readings es) past k.gave_up n job it k.books within);
         counts = λ still m. ap (λ times. cond (n == m) (suc times) times) (k.counts still m) ∙ counted_once_more past n within m;
         retries = λ m. subst (λ times. times ≤ s.options.retries) (counted_once_more past n within m)
             (fewer_times (n == m) n m state.gave_up s.options.retries (λ j. (state_at past.jobs j).gave_up) refl
             (ap (λ (j : JobState). j.gave_up) (state_there past.jobs n state is)) below (k.retries m));
-        slots = k.slots;
+        slots = idle_slots (Some n) (length past.tickets) s.options.slots k.slots;
         flights = flights_still es (es ++ job_failed_for_now job.place ∷ []) jobs jobs past.flights
             (λ place. started_after es (job_failed_for_now job.place ∷ []) place) (front_itself jobs) k.flights;
         front = front_still (job_failed_for_now job.place) refl k.front;
         end = k.end ∙ ap (option_map report_of) (sym (still_by (settled s es) job.place state.gave_up refl (counted_so past n job state it is k) below));
       }
-
-  -- nothing is worked on any more once the end is settled
-  pub over_keeps : (past : Past) (at_work : Option ℕ) → IsSome past.end → Keeps s es jobs past at_work → Keeps s es jobs past None
-  over_keeps past at_work over k = record {
-    gave_up = k.gave_up;
-    books = keeps_over jobs (readings es) past at_work k.gave_up (is_there past.end over) k.books;
-    counts = k.counts;
-    retries = k.retries;
-    slots = idle_slots at_work (length past.tickets) s.options.slots k.slots;
-    flights = k.flights;
-    front = k.front;
-    end = k.end;
-  }
 
   -- it was started again often enough
   too_often_settles : (past : Past) (n : ℕ) (job : Job) (state : JobState) → IsJob jobs n job → slice_get past.jobs n ≡ Some state → s.options.retries ≤ state.gave_up →
@@ -275,6 +263,7 @@ module _ (s : Scene) (es : List Event) (jobs : List Job) where
       Keeps s (es ++ job_failed_for_now job.place ∷ []) jobs (with_end (reported (Outcome.TemporaryFail job.place)) past) None
   too_often_keeps past n job state it is often k = record {
     gave_up = once_more n k.gave_up;
+    few = k.few;
     books = books_after (job_failed_for_now job.place) jobs (course_of (with_end (reported (Outcome.TemporaryFail job.place)) past) None (once_more n k.gave_up))
         (keeps_end jobs (reads_after (readings es) (job_failed_for_now job.place)) past (Some n) (once_more n k.gave_up) (reported (Outcome.TemporaryFail job.place))
         (keeps_failing jobs (readings es) past k.gave_up n job it k.books));
@@ -294,6 +283,7 @@ module _ (s : Scene) (es : List Event) (jobs : List Job) where
       Keeps s (es ++ e ∷ []) jobs (with_end (report_of end) past) None
   failed_keeps past at_work e end aside none same is k = record {
     gave_up = k.gave_up;
+    few = k.few;
     books = books_after e jobs (course_of (with_end (report_of end) past) None k.gave_up)
         (subst (λ (r : Readings). AreKept jobs r (course_of (with_end (report_of end) past) None k.gave_up)) (sym (nothing_read (readings es) e aside))
         (keeps_end jobs (readings es) past at_work k.gave_up (report_of end) k.books));
@@ -313,6 +303,7 @@ module _ (s : Scene) (es : List Event) (jobs : List Job) where
       Keeps s (es ++ e ∷ []) jobs past at_work
   aside_keeps past at_work e aside quiet none same still k = record {
     gave_up = k.gave_up;
+    few = k.few;
     books = books_after e jobs (course_of past at_work k.gave_up)
         (subst (λ (r : Readings). AreKept jobs r (course_of past at_work k.gave_up)) (sym (nothing_read (readings es) e aside)) k.books);
     counts = k.counts;
@@ -329,6 +320,9 @@ module _ (s : Scene) (es : List Event) (jobs : List Job) where
     success_kept : AreKept more (reads_after (readings es) (job_succeeded job.place outputs)) (course_of past None k.gave_up)
     success_kept = keeps_succeeded jobs (readings es) (course_of past (Some n) k.gave_up) k.books n job outputs more it refl leads apart
 
+    success_few : length past.jobs ≤ length more
+    success_few = let longer : length more ≡ length jobs + length leads.rest = ap length leads.is ∙ length-append jobs leads.rest in omega (arith, longer, k.few)
+
     success_flights : (flight : Flight) → Contains past.flights flight → KeepsFlight (es ++ job_succeeded job.place outputs ∷ []) more flight
     success_flights = flights_still es (es ++ job_succeeded job.place outputs ∷ []) jobs more past.flights
         (λ place. started_after es (job_succeeded job.place outputs ∷ []) place) leads k.flights
@@ -336,6 +330,7 @@ module _ (s : Scene) (es : List Event) (jobs : List Job) where
     pub succeeded_keeps : settled s (es ++ job_succeeded job.place outputs ∷ []) ≡ settled s es → Keeps s (es ++ job_succeeded job.place outputs ∷ []) more past None
     succeeded_keeps still = record {
       gave_up = k.gave_up;
+      few = success_few;
       books = books_after (job_succeeded job.place outputs) more (course_of past None k.gave_up) success_kept;
       counts = k.counts;
       retries = k.retries;
@@ -350,6 +345,7 @@ module _ (s : Scene) (es : List Event) (jobs : List Job) where
         Keeps s (es ++ job_succeeded job.place outputs ∷ []) more (with_end (report_of end) past) None
     success_fails_keeps end none is = record {
       gave_up = k.gave_up;
+      few = success_few;
       books = books_after (job_succeeded job.place outputs) more (course_of (with_end (report_of end) past) None k.gave_up)
           (keeps_end more (reads_after (readings es) (job_succeeded job.place outputs)) past None k.gave_up (report_of end) success_kept);
       counts = λ still m. absurd (never_none past.end (report_of end) still);
@@ -365,6 +361,7 @@ module _ (s : Scene) (es : List Event) (jobs : List Job) where
   pub first_keeps : readings es ≡ readings [] → AreApart jobs → IsFront jobs (unfolding_at s es).jobs → settled s es ≡ None → Keeps s es jobs nothing_past None
   first_keeps nothing apart leads none = record {
     gave_up = λ m. 0;
+    few = omega arith;
     books = subst (λ (r : Readings). AreKept jobs r (course_of nothing_past None (λ m. 0))) (sym nothing) (keeps_at_first jobs apart);
     counts = λ still m. refl;
     retries = λ m. omega arith;
@@ -378,6 +375,7 @@ module _ (s : Scene) (es : List Event) (jobs : List Job) where
       Keeps s es jobs (with_end (report_of end) nothing_past) None
   first_fails_keeps end nothing apart leads is = record {
     gave_up = λ m. 0;
+    few = omega arith;
     books = keeps_end jobs (readings es) nothing_past None (λ m. 0) (report_of end)
         (subst (λ (r : Readings). AreKept jobs r (course_of nothing_past None (λ m. 0))) (sym nothing) (keeps_at_first jobs apart));
     counts = λ still m. absurd (never_none None (report_of end) still);

@@ -1,9 +1,9 @@
 -- What the machine keeps of its run is a course of the run's events: each function on it goes on as the event does.
-use Rattle.std.specs.Prelude.{◌<◌, ◌≤◌, Contains, is_some, option_map, slice_get}
+use Rattle.std.specs.Prelude.{◌<◌, Contains, is_some, option_map, slice_get}
 use Rattle.std.specs.List.{remove}
-use Rattle.std.proofs.Common.{◌≡◌, ◌∙◌, ◌⊎◌, inl, inr, ◌==◌, ◌+◌, ℕ, zero, suc, Bool, true, false, cond, List, [], ◌∷◌, length, Option, Some, None, Result, refl, sym, ap, subst, arith}
+use Rattle.std.proofs.Common.{◌≡◌, ◌∙◌, ◌==◌, ◌+◌, ℕ, zero, suc, Bool, true, false, cond, List, [], ◌∷◌, length, Option, Some, None, Result, refl, sym, ap, subst, arith}
 use Rattle.std.proofs.Math.Dec.{eqb-suc-suc, eqb-suc-zero, eqb-zero-suc}
-use Rattle.std.proofs.lemmas.Bool.{cases_order, eqb-true}
+use Rattle.std.proofs.lemmas.Bool.{eqb-true}
 use Rattle.std.proofs.lemmas.List.{map-append}
 use Rattle.std.proofs.lemmas.Option.{get_or_from_slice_get, slice_get-map, slice_get_within}
 use Rattle.command_line.specs.declared.launch.Launch.{Launch}
@@ -14,99 +14,81 @@ use Rattle.job_graph.specs.Words.{Fields}
 use Rattle.job_graph.specs.Jobs.{Job}
 use Rattle.job_graph.specs.Unfold.{or_else}
 use Rattle.run_rules.specs.Events.{child_exited, job_failed_for_now, job_staged, job_started}
-use Rattle.run_rules.proofs.events.Course.{Keeps as AreKept, gives_over, holds, keeps_gave_up, keeps_landed, keeps_staged, keeps_started, when_landed}
+use Rattle.run_rules.proofs.events.Course.{Keeps as AreKept, gives_over, keeps_gave_up, keeps_given_back, keeps_landed, keeps_staged, keeps_started, when_landed}
 use Rattle.run_rules.proofs.events.Places.{IsJob}
 use Rattle.run_rules.proofs.events.Tally.{Readings, reads_after}
-use Rattle.run_rules.proofs.events.Turns.{FliesAt, flies_staged, flight_of, tickets_left}
+use Rattle.run_rules.proofs.events.Turns.{FliesAt, flies_taken, flight_of, tickets_left}
 use Rattle.run_core.specs.declared.state.Flight.{Flight}
-use Rattle.run_core.specs.declared.state.JobState.{JobState}
+use Rattle.run_core.specs.declared.job_states.JobState.{JobState}
 use Rattle.run_core.specs.declared.state.Kept.{Kept}
-use Rattle.run_core.specs.inner.Course.{Past, TakesOut, given_up_in, staged_in, with_end, with_giving_up, with_staging, with_start}
-use Rattle.run_core.specs.inner.Keeps.{course_of, numbers_of, state_at, untouched}
+use Rattle.run_core.specs.inner.Course.{Past, TakesOut, with_end, with_giving_up, with_staging, with_start}
+use Rattle.run_core.specs.inner.Keeps.{course_of, numbers_of}
+use Rattle.run_core.specs.inner.JobStates.{given_up_in, staged_in, state_at, untouched, waits_in}
 
 -- A job is staged
 
-state_staged : (states : List JobState) (n folder m : ℕ) → n ≤ length states →
-    state_at (staged_in n folder states) m ≡ cond (n == m) (record (state_at states n) { folder = folder }) (state_at states m)
-state_staged [] zero folder zero within = refl
-state_staged [] zero folder (suc m) within = sym (ap (λ b. cond b (record untouched { folder = folder }) untouched) (eqb-zero-suc m))
-state_staged [] (suc n) folder m within = absurd (omega (arith, within))
-state_staged (x ∷ states) zero folder zero within = refl
-state_staged (x ∷ states) zero folder (suc m) within = sym (ap (λ b. cond b (record x { folder = folder }) (state_at states m)) (eqb-zero-suc m))
-state_staged (x ∷ states) (suc n) folder zero within = sym (ap (λ b. cond b (record (state_at states n) { folder = folder }) x) (eqb-suc-zero n))
-state_staged (x ∷ states) (suc n) folder (suc m) within =
-    state_staged states n folder m (omega (arith, within))
-    ∙ sym (ap (λ b. cond b (record (state_at states n) { folder = folder }) (state_at states m)) (eqb-suc-suc n m))
+state_staged : (states : List JobState) (n folder m : ℕ) →
+    state_at (staged_in n folder states) m ≡ cond (n == m) (record (state_at states n) { waits = false; folder = folder }) (state_at states m)
+state_staged [] zero folder zero = refl
+state_staged [] zero folder (suc m) = sym (ap (λ b. cond b (record untouched { waits = false; folder = folder }) untouched) (eqb-zero-suc m))
+state_staged [] (suc n) folder zero = sym (ap (λ b. cond b (record untouched { waits = false; folder = folder }) untouched) (eqb-suc-zero n))
+state_staged [] (suc n) folder (suc m) =
+    state_staged [] n folder m ∙ sym (ap (λ b. cond b (record untouched { waits = false; folder = folder }) untouched) (eqb-suc-suc n m))
+state_staged (x ∷ states) zero folder zero = refl
+state_staged (x ∷ states) zero folder (suc m) = sym (ap (λ b. cond b (record x { waits = false; folder = folder }) (state_at states m)) (eqb-zero-suc m))
+state_staged (x ∷ states) (suc n) folder zero = sym (ap (λ b. cond b (record (state_at states n) { waits = false; folder = folder }) x) (eqb-suc-zero n))
+state_staged (x ∷ states) (suc n) folder (suc m) =
+    state_staged states n folder m
+    ∙ sym (ap (λ b. cond b (record (state_at states n) { waits = false; folder = folder }) (state_at states m)) (eqb-suc-suc n m))
 
-folder_if : (b : Bool) (folder : ℕ) (one other : JobState) → (cond b (record one { folder = folder }) other).folder ≡ cond b folder other.folder
+waits_if : (b : Bool) (folder : ℕ) (one other : JobState) → (cond b (record one { waits = false; folder = folder }) other).waits ≡ cond b false other.waits
+waits_if true folder one other = refl
+waits_if false folder one other = refl
+
+folder_if : (b : Bool) (folder : ℕ) (one other : JobState) → (cond b (record one { waits = false; folder = folder }) other).folder ≡ cond b folder other.folder
 folder_if true folder one other = refl
 folder_if false folder one other = refl
 
-gave_up_if : (b : Bool) (folder : ℕ) (one other : JobState) → (b ≡ true → one ≡ other) → (cond b (record one { folder = folder }) other).gave_up ≡ other.gave_up
+gave_up_if : (b : Bool) (folder : ℕ) (one other : JobState) → (b ≡ true → one ≡ other) →
+    (cond b (record one { waits = false; folder = folder }) other).gave_up ≡ other.gave_up
 gave_up_if true folder one other same = ap (λ (state : JobState). state.gave_up) (same refl)
 gave_up_if false folder one other same = refl
 
-staged_length : (states : List JobState) (n folder : ℕ) → n ≤ length states →
-    ((n < length states) × (length (staged_in n folder states) ≡ length states)) ⊎ ((n ≡ length states) × (length (staged_in n folder states) ≡ length states + 1))
-staged_length [] zero folder within = inr (refl, omega arith)
-staged_length [] (suc n) folder within = absurd (omega (arith, within))
-staged_length (x ∷ states) zero folder within = inl (omega arith, refl)
-staged_length (x ∷ states) (suc n) folder within = elim (staged_length states n folder (omega (arith, within))) [
-  | inl old ↦ inl (omega (arith, old.0), ap suc old.1)
-  | inr new ↦ inr (ap suc new.0, omega (arith, new.1))
-]
+module _ (past : Past) (n : ℕ) where
+  pub waits_staged : (m : ℕ) → waits_in (with_staging n past).jobs m ≡ cond (n == m) false (waits_in past.jobs m)
+  waits_staged m =
+      ap (λ (state : JobState). state.waits) (state_staged past.jobs n (past.folders + 1) m)
+      ∙ waits_if (n == m) (past.folders + 1) (state_at past.jobs n) (state_at past.jobs m)
 
-before_last : (m n size now : ℕ) → m < now → (m ≡ n → ⊥) → n ≡ size → now ≡ size + 1 → m < size
-before_last m n size now so other last more = elim (cases_order m n) [
-  | inl same ↦ absurd (other same)
-  | inr apart ↦ elim apart [
-    | inl below ↦ omega (arith, below, last)
-    | inr above ↦ absurd (omega (arith, above, so, last, more))
-  ]
-]
-
-module _ (past : Past) (n : ℕ) (within : n ≤ length past.jobs) where
   pub folder_staged : (m : ℕ) → (state_at (with_staging n past).jobs m).folder ≡ cond (n == m) (past.folders + 1) (state_at past.jobs m).folder
   folder_staged m =
-      ap (λ (state : JobState). state.folder) (state_staged past.jobs n (past.folders + 1) m within)
+      ap (λ (state : JobState). state.folder) (state_staged past.jobs n (past.folders + 1) m)
       ∙ folder_if (n == m) (past.folders + 1) (state_at past.jobs n) (state_at past.jobs m)
 
   pub gave_up_staged : (m : ℕ) → (state_at (with_staging n past).jobs m).gave_up ≡ (state_at past.jobs m).gave_up
   gave_up_staged m =
-      ap (λ (state : JobState). state.gave_up) (state_staged past.jobs n (past.folders + 1) m within)
+      ap (λ (state : JobState). state.gave_up) (state_staged past.jobs n (past.folders + 1) m)
       ∙ gave_up_if (n == m) (past.folders + 1) (state_at past.jobs n) (state_at past.jobs m) (λ same. ap (state_at past.jobs) (eqb-true n m same))
 
-module _ (jobs : List Job) (r : Readings) (past : Past) (g : ℕ → ℕ) (at_work : Option ℕ) (n : ℕ) (job : Job) (it : IsJob jobs n job) (within : n ≤ length past.jobs) where
+module _ (jobs : List Job) (r : Readings) (past : Past) (g : ℕ → ℕ) (n : ℕ) (job : Job) (it : IsJob jobs n job) where
   one_more : suc past.folders ≡ past.folders + 1
   one_more = omega arith
 
-  abbrev staged_now : ℕ
-  staged_now = length (with_staging n past).jobs
-
-  with_sizes : AreKept jobs r (course_of past at_work g) → holds r job.place ≡ false → ((m : ℕ) → at_work ≡ Some m → m ≡ n) →
-      length past.jobs ≤ staged_now → staged_now ≤ length jobs → n < staged_now → ((m : ℕ) → m < staged_now → (m ≡ n → ⊥) → m < length past.jobs) →
+  pub keeps_staging : AreKept jobs r (course_of past None g) → waits_in past.jobs n ≡ true →
       AreKept jobs (reads_after r (job_staged job.place (past.folders + 1))) (course_of (with_staging n past) (Some n) g)
-  with_sizes k free alone more few now others =
+  keeps_staging k free =
       subst (AreKept jobs (reads_after r (job_staged job.place (past.folders + 1))))
       (λ i. record {
         tickets = past.tickets;
         numbers = numbers_of past.flights;
-        staged = staged_now;
-        folder = λ m. sym (folder_staged past n within m) i;
+        waits = λ m. sym (waits_staged past n m) i;
+        folder = λ m. sym (folder_staged past n m) i;
         gave_up = g;
         folders = one_more i;
         at_work = Some n;
         over = is_some past.end;
       })
-      (keeps_staged jobs r (course_of past at_work g) k n job (past.folders + 1) staged_now it free more few now others alone)
-
-  pub keeps_staging : AreKept jobs r (course_of past at_work g) → holds r job.place ≡ false → ((m : ℕ) → at_work ≡ Some m → m ≡ n) →
-      AreKept jobs (reads_after r (job_staged job.place (past.folders + 1))) (course_of (with_staging n past) (Some n) g)
-  keeps_staging k free alone = elim (staged_length past.jobs n (past.folders + 1) within) [
-    | inl old ↦ with_sizes k free alone (omega (arith, old.1)) (omega (arith, old.1, k.few)) (omega (arith, old.0, old.1)) (λ m so other. omega (arith, so, old.1))
-    | inr new ↦ with_sizes k free alone (omega (arith, new.1)) (omega (arith, new.0, new.1, it.within)) (omega (arith, new.0, new.1))
-        (λ m so other. before_last m n (length past.jobs) staged_now so other new.0 new.1)
-  ]
+      (keeps_staged jobs r (course_of past None g) k n job (past.folders + 1) it free refl)
 
 -- Its child is started
 
@@ -146,7 +128,7 @@ module _ (jobs : List Job) (r : Readings) (g : ℕ → ℕ) (old new : Past) (ti
         (record (course_of old (Some flight.job) g) { tickets = remove old.tickets taken.index; numbers = numbers })) (numbers_removed old.flights taken.index)
         (subst (λ number. AreKept jobs (reads_after r (child_exited ticket)) (when_landed jobs r (course_of old None g) k taken.index number)) same
         (keeps_landed jobs r (course_of old None g) k taken.index at.number (ticket, at.job.place) at.job at.within at.flight at.it refl refl
-        (flies_staged jobs r (course_of old None g) k taken.index ticket at))));
+        (flies_taken jobs r (course_of old None g) k taken.index ticket at))));
   }
 
   pub keeps_landing : Lands jobs r g ticket flight old new
@@ -158,34 +140,35 @@ module _ (jobs : List Job) (r : Readings) (g : ℕ → ℕ) (old new : Past) (ti
       slice_get-map (λ (f : Flight). f.job) old.flights taken.index ∙ ap (option_map (λ (f : Flight). f.job)) taken.flight_there in
       lands_at at (sym at.numbered ∙ get_or_from_slice_get (numbers_of old.flights) taken.index flight.job at.number number)
 
--- It gave up, and may be staged again
+-- It gave up, and waits again
 
 state_given_up : (states : List JobState) (n m : ℕ) → n < length states →
-    state_at (given_up_in n states) m ≡ cond (n == m) (record (state_at states m) { gave_up = (state_at states m).gave_up + 1 }) (state_at states m)
+    state_at (given_up_in n states) m ≡ cond (n == m) (record (state_at states m) { waits = true; gave_up = (state_at states m).gave_up + 1 }) (state_at states m)
 state_given_up [] n m within = absurd (omega (arith, within))
 state_given_up (x ∷ states) zero zero within = refl
 state_given_up (x ∷ states) zero (suc m) within =
-    sym (ap (λ b. cond b (record (state_at states m) { gave_up = (state_at states m).gave_up + 1 }) (state_at states m)) (eqb-zero-suc m))
-state_given_up (x ∷ states) (suc n) zero within = sym (ap (λ b. cond b (record x { gave_up = x.gave_up + 1 }) x) (eqb-suc-zero n))
+    sym (ap (λ b. cond b (record (state_at states m) { waits = true; gave_up = (state_at states m).gave_up + 1 }) (state_at states m)) (eqb-zero-suc m))
+state_given_up (x ∷ states) (suc n) zero within = sym (ap (λ b. cond b (record x { waits = true; gave_up = x.gave_up + 1 }) x) (eqb-suc-zero n))
 state_given_up (x ∷ states) (suc n) (suc m) within =
     state_given_up states n m (omega (arith, within))
-    ∙ sym (ap (λ b. cond b (record (state_at states m) { gave_up = (state_at states m).gave_up + 1 }) (state_at states m)) (eqb-suc-suc n m))
+    ∙ sym (ap (λ b. cond b (record (state_at states m) { waits = true; gave_up = (state_at states m).gave_up + 1 }) (state_at states m)) (eqb-suc-suc n m))
 
-folder_given_up : (b : Bool) (state : JobState) → state.folder ≡ (cond b (record state { gave_up = state.gave_up + 1 }) state).folder
+waits_given_up : (b : Bool) (state : JobState) → cond b true state.waits ≡ (cond b (record state { waits = true; gave_up = state.gave_up + 1 }) state).waits
+waits_given_up true state = refl
+waits_given_up false state = refl
+
+folder_given_up : (b : Bool) (state : JobState) → state.folder ≡ (cond b (record state { waits = true; gave_up = state.gave_up + 1 }) state).folder
 folder_given_up true state = refl
 folder_given_up false state = refl
 
-gave_up_given_up : (b : Bool) (state : JobState) → cond b (suc state.gave_up) state.gave_up ≡ (cond b (record state { gave_up = state.gave_up + 1 }) state).gave_up
+gave_up_given_up : (b : Bool) (state : JobState) → cond b (suc state.gave_up) state.gave_up ≡ (cond b (record state { waits = true; gave_up = state.gave_up + 1 }) state).gave_up
 gave_up_given_up true state = omega arith
 gave_up_given_up false state = refl
 
-as_many : (states : List JobState) (n : ℕ) → length states ≡ length (given_up_in n states)
-as_many [] zero = refl
-as_many [] (suc n) = refl
-as_many (x ∷ states) zero = refl
-as_many (x ∷ states) (suc n) = ap suc (as_many states n)
-
 module _ (past : Past) (n : ℕ) (within : n < length past.jobs) where
+  pub waits_again : (m : ℕ) → cond (n == m) true (waits_in past.jobs m) ≡ waits_in (with_giving_up n past).jobs m
+  waits_again m = waits_given_up (n == m) (state_at past.jobs m) ∙ ap (λ (s : JobState). s.waits) (sym (state_given_up past.jobs n m within))
+
   pub folder_kept : (m : ℕ) → (state_at past.jobs m).folder ≡ (state_at (with_giving_up n past).jobs m).folder
   folder_kept m = folder_given_up (n == m) (state_at past.jobs m) ∙ ap (λ (s : JobState). s.folder) (sym (state_given_up past.jobs n m within))
 
@@ -201,20 +184,20 @@ module _ (jobs : List Job) (r : Readings) (past : Past) (g : ℕ → ℕ) (n : �
   pub keeps_failing : AreKept jobs (reads_after r (job_failed_for_now job.place)) (course_of past (Some n) (once_more n g))
   keeps_failing = keeps_gave_up jobs r (course_of past (Some n) g) k n job it refl
 
-  pub keeps_giving_up : AreKept jobs (reads_after r (job_failed_for_now job.place)) (course_of (with_giving_up n past) (Some n) (once_more n g))
-  keeps_giving_up =
+  pub keeps_giving_up : n < length past.jobs → AreKept jobs (reads_after r (job_failed_for_now job.place)) (course_of (with_giving_up n past) None (once_more n g))
+  keeps_giving_up within =
       subst (AreKept jobs (reads_after r (job_failed_for_now job.place)))
       (λ i. record {
         tickets = past.tickets;
         numbers = numbers_of past.flights;
-        staged = as_many past.jobs n i;
-        folder = λ m. folder_kept past n (k.worked_staged n refl) m i;
+        waits = λ m. waits_again past n within m i;
+        folder = λ m. folder_kept past n within m i;
         gave_up = once_more n g;
         folders = past.folders;
-        at_work = Some n;
+        at_work = None;
         over = is_some past.end;
       })
-      keeps_failing
+      (keeps_given_back jobs (reads_after r (job_failed_for_now job.place)) (course_of past (Some n) (once_more n g)) keeps_failing n job it refl)
 
 -- The end is settled
 
@@ -226,9 +209,3 @@ pub keeps_end : (jobs : List Job) (r : Readings) (past : Past) (at_work : Option
     AreKept jobs r (course_of (with_end end past) None g)
 keeps_end jobs r past at_work g end k =
     subst (λ over. AreKept jobs r (record (course_of past None g) { over = over })) (some_end past.end end) (gives_over jobs r (course_of past at_work g) k)
-
--- where it was settled before, nothing is worked on any more
-pub keeps_over : (jobs : List Job) (r : Readings) (past : Past) (at_work : Option ℕ) (g : ℕ → ℕ) → is_some past.end ≡ true → AreKept jobs r (course_of past at_work g) →
-    AreKept jobs r (course_of past None g)
-keeps_over jobs r past at_work g over k =
-    subst (λ over. AreKept jobs r (record (course_of past None g) { over = over })) (sym over) (gives_over jobs r (course_of past at_work g) k)

@@ -15,9 +15,10 @@ use Rattle.run_rules.proofs.events.Places.{IsFound, IsJob, found_is, same_itself
 use Rattle.run_rules.proofs.events.Tally.{Readings}
 use Rattle.run_rules.proofs.events.Turns.{so_many}
 use Rattle.run_core.specs.declared.state.Flight.{Flight}
-use Rattle.run_core.specs.declared.state.JobState.{JobState}
+use Rattle.run_core.specs.declared.job_states.JobState.{JobState}
 use Rattle.run_core.specs.inner.Course.{Past, number_in, place_at}
-use Rattle.run_core.specs.inner.Keeps.{course_of, numbers_of, state_at}
+use Rattle.run_core.specs.inner.Keeps.{course_of, numbers_of}
+use Rattle.run_core.specs.inner.JobStates.{state_at}
 
 -- Where a job is
 

@@ -1,7 +1,7 @@
 -- What a course reflects goes on with each event: a lemma for each.
 use Rattle.std.specs.Prelude.{◌<◌, ◌≤◌, ◌||◌, Contains, IsSome, is_some, Result, Err, option_map}
 use Rattle.std.specs.List.{list_any}
-use Rattle.std.proofs.Common.{◌≡◌, ◌∙◌, ◌+◌, ℕ, Bool, true, false, cond, List, [], ◌∷◌, ◌++◌, length, Option, Some, None, refl, sym, ap, subst}
+use Rattle.std.proofs.Common.{◌≡◌, ◌∙◌, ◌+◌, ℕ, Bool, true, false, List, [], ◌∷◌, ◌++◌, length, Option, Some, None, refl, sym, ap, subst}
 use Rattle.std.proofs.lemmas.Bool.{or_from}
 use Rattle.command_line.specs.declared.launch.Launch.{Launch}
 use Rattle.input_files.specs.Measured.{Measures}
@@ -18,7 +18,7 @@ use Rattle.run_rules.specs.declared.outcome.Outcome.{Outcome}
 use Rattle.run_rules.specs.declared.outcome.Report.{Report}
 use Rattle.run_rules.specs.declared.outcome.RunFault.{RunFault}
 use Rattle.run_rules.specs.End.{End, beyond_limits, ended_by_host, fails_permanently, fault_end, is_lost_collect, settled, settled_by}
-use Rattle.run_rules.specs.Events.{Event, child_exited, delivered_at, delivered_if, in_flight, is_held, job_at, job_failed, job_failed_for_now, job_staged, job_started, job_succeeded, host_failed, measures, number_at, resolved, started_at, unfolding_at}
+use Rattle.run_rules.specs.Events.{Event, child_exited, delivered_at, delivered_if, in_flight, job_at, job_failed, job_failed_for_now, job_staged, job_started, job_succeeded, host_failed, measures, number_at, resolved, started_at, unfolding_at}
 use Rattle.run_rules.specs.Reports.{report_of, reported}
 use Rattle.run_rules.specs.Scene.{Scene}
 use Rattle.run_rules.proofs.events.Known.{IsFront, found_still, front_itself, is_measure, measured_still, measures_stay, resolved_stay, teaches, unfolding_learns}
@@ -30,14 +30,15 @@ use Rattle.run_rules.proofs.events.Turns.{FliesAt, flight_of}
 use Rattle.run_core.specs.declared.state.Course.{Course}
 use Rattle.run_core.specs.declared.state.Flight.{Flight}
 use Rattle.run_core.specs.declared.state.Kept.{Kept}
-use Rattle.run_core.specs.inner.Course.{GivesUp, Past, TakesOut, again, known_in, no_more, past_of, place_at, too_often, with_end, with_giving_up, with_staging, with_start}
+use Rattle.run_core.specs.inner.Course.{GivesUp, Past, TakesOut, again, known_in, past_of, place_at, too_often, with_end, with_giving_up, with_staging, with_start}
 use Rattle.run_core.specs.inner.Due.{IsKept}
-use Rattle.run_core.specs.inner.Keeps.{Keeps, Reflects, course_of, numbers_of, state_at}
+use Rattle.run_core.specs.inner.Keeps.{Keeps, Reflects, course_of, numbers_of}
 use Rattle.run_core.specs.inner.Knows.{IsKnown, IsUnfolded, Knows, Learns, end_by, fails, fault_of, knows}
 use Rattle.run_core.specs.inner.Standing.{HasStarted}
 use Rattle.run_core.specs.inner.Turn.{permanent}
-use Rattle.run_core.proofs.events.Keeping.{HasLanded, failed_keeps, front_late, gave_up_keeps, landed_keeps, never_none, none_settled, over_keeps, staged_keeps, started_keeps, succeeded_keeps, success_fails_keeps, too_often_keeps}
+use Rattle.run_core.proofs.events.Keeping.{HasLanded, failed_keeps, front_late, gave_up_keeps, landed_keeps, never_none, none_settled, staged_keeps, started_keeps, succeeded_keeps, success_fails_keeps, too_often_keeps}
 use Rattle.run_core.proofs.events.Numbers.{place_there}
+use Rattle.run_core.specs.inner.JobStates.{state_at, waits_in}
 
 -- whether an event leaves what is known, delivered and collected as it was
 abbrev pub is_plain : Event → Bool
@@ -165,12 +166,12 @@ module _ (s : Scene) where
     undelivered = undelivered_after es e r.undelivered (plain_delivers_nothing e plain);
   }
 
-  pub staged_reflects : (es : List Event) (old new : Course) (at_work : Option ℕ) (n : ℕ) (job : Job) → IsJob (known_in old.known) n job → n ≤ length old.jobs.items →
-      is_held es job.place ≡ false → length (in_flight es) < s.options.slots → ((m : ℕ) → at_work ≡ Some m → m ≡ n) → past_of new ≡ with_staging n (past_of old) → new.known ≡ old.known →
-      Reflects s es old at_work → Reflects s (es ++ job_staged job.place (old.folders + 1) ∷ []) new (Some n)
-  staged_reflects es old new at_work n job it within free slot alone past known r =
-      reflects_on es (job_staged job.place (old.folders + 1)) old new (with_staging n (past_of old)) at_work (Some n) refl past known (λ still. still) r
-      (staged_keeps s es (known_in old.known) (past_of old) at_work n job it within free slot alone r.keeps)
+  pub staged_reflects : (es : List Event) (old new : Course) (n : ℕ) (job : Job) → IsJob (known_in old.known) n job → waits_in old.jobs n ≡ true →
+      length (in_flight es) < s.options.slots → past_of new ≡ with_staging n (past_of old) → new.known ≡ old.known →
+      Reflects s es old None → Reflects s (es ++ job_staged job.place (old.folders + 1) ∷ []) new (Some n)
+  staged_reflects es old new n job it free slot past known r =
+      reflects_on es (job_staged job.place (old.folders + 1)) old new (with_staging n (past_of old)) None (Some n) refl past known (λ still. still) r
+      (staged_keeps s es (known_in old.known) (past_of old) n job it free slot r.keeps)
 
   pub started_reflects : (es : List Event) (old new : Course) (n : ℕ) (job : Job) (inputs : Fields) (launch : Launch) (kept : Kept) (ticket : ℕ) → IsJob (known_in old.known) n job →
       IsKept kept (record { inputs = inputs; launch = launch }) → IsFresh ticket old.tickets.items → past_of new ≡ with_start n kept ticket (past_of old) → new.known ≡ old.known →
@@ -221,18 +222,14 @@ module _ (s : Scene) where
   host_failed_reflects es old new at_work place fault past known r =
       failure_reflects es old new at_work (host_failed place fault) (ended_by_host fault []) refl refl (λ p. started_after es (host_failed place fault ∷ []) p) refl past known r
 
-  -- a job failed for now: it may be started again, or not
-  pub gave_up_reflects : (es : List Event) (old new : Course) (n : ℕ) (job : Job) (again : Bool) (past : Past) → IsJob (known_in old.known) n job →
-      GivesUp (known_in old.known) n s.options.retries (past_of old) again past → past_of new ≡ past → new.known ≡ old.known →
-      Reflects s es old (Some n) → Reflects s (es ++ job_failed_for_now job.place ∷ []) new (cond again (Some n) None)
-  gave_up_reflects es old new n job true past it (again state is below unsettled) same known r =
-      reflects_on es (job_failed_for_now job.place) old new (with_giving_up n (past_of old)) (Some n) (Some n) refl same known (λ still. still) r
-      (gave_up_keeps s es (known_in old.known) (past_of old) n job state it is below r.keeps)
-  gave_up_reflects es old new n job false past it (no_more state is below over) same known r =
+  -- a job failed for now: it waits again, or was started often enough
+  pub gave_up_reflects : (es : List Event) (old new : Course) (n : ℕ) (job : Job) (past : Past) → IsJob (known_in old.known) n job →
+      GivesUp (known_in old.known) n s.options.retries (past_of old) past → past_of new ≡ past → new.known ≡ old.known →
+      Reflects s es old (Some n) → Reflects s (es ++ job_failed_for_now job.place ∷ []) new None
+  gave_up_reflects es old new n job past it (again state is below) same known r =
       reflects_on es (job_failed_for_now job.place) old new (with_giving_up n (past_of old)) (Some n) None refl same known (λ still. still) r
-      (over_keeps s (es ++ job_failed_for_now job.place ∷ []) (known_in old.known) (with_giving_up n (past_of old)) (Some n) over
-      (gave_up_keeps s es (known_in old.known) (past_of old) n job state it is below r.keeps))
-  gave_up_reflects es old new n job false past it (too_often state is often) same known r =
+      (gave_up_keeps s es (known_in old.known) (past_of old) n job state it is below r.keeps)
+  gave_up_reflects es old new n job past it (too_often state is often) same known r =
       let place : place_at (known_in old.known) n ≡ job.place = place_there (known_in old.known) n job it in
       reflects_on es (job_failed_for_now job.place) old new (with_end (reported (Outcome.TemporaryFail job.place)) (past_of old)) (Some n) None refl
       (same ∙ ap (λ (p : JobPlace). with_end (reported (Outcome.TemporaryFail p)) (past_of old)) place) known
@@ -329,7 +326,7 @@ module _ (s : Scene) where
       found_still job.place job (known_in course.known) (unfolding_at s es).jobs r.keeps.front (found_at (known_in course.known) r.keeps.books.apart n job it)
 
   pub folder_there : (es : List Event) (course : Course) (at_work : Option ℕ) (n : ℕ) (job : Job) → IsJob (known_in course.known) n job → Reflects s es course at_work →
-      number_at es job.place ≡ (state_at course.jobs.items n).folder
+      number_at es job.place ≡ (state_at course.jobs n).folder
   folder_there es course at_work n job it r = r.keeps.books.number n job it
 
   -- the job of a child in flight

@@ -1,7 +1,7 @@
 -- What the machine asks, where it is in its run: it may be asked, its phase fits it, and the course's lists fit one another.
-use Rattle.std.specs.Prelude.{◌<◌, ◌≤◌, ◌≢◌, Contains}
-use Rattle.std.proofs.Common.{◌≡◌, ◌∙◌, inl, inr, ◌+◌, ℕ, true, false, List, [], ◌∷◌, length, reverse, Option, Some, None, refl, sym, ap, subst, arith}
-use Rattle.std.proofs.lemmas.Bool.{cases_lt, or_parts}
+use Rattle.std.specs.Prelude.{◌<◌, ◌≤◌, ◌≢◌, Contains, is_some}
+use Rattle.std.proofs.Common.{◌≡◌, ◌∙◌, ◌+◌, ℕ, Bool, true, false, List, [], ◌∷◌, length, reverse, Option, Some, None, refl, sym, ap, subst, arith}
+use Rattle.std.proofs.lemmas.Bool.{or_parts}
 use Rattle.plan_checker.specs.declared.plan.Mark.{Mark}
 use Rattle.proc_host.specs.declared.call.HostRequest.{HostRequest}
 use Rattle.collected_outputs.specs.Contents.{Heads}
@@ -9,6 +9,7 @@ use Rattle.collected_outputs.specs.HeadsWanted.{limit_of}
 use Rattle.input_files.specs.declared.contents.TheConstants.{MOST_CONTENTS}
 use Rattle.staging.specs.Groups.{path_in}
 use Rattle.staging.specs.declared.found.Found.{Found}
+use Rattle.staging.specs.declared.plan.StagePlan.{StagePlan}
 use Rattle.job_graph.specs.Jobs.{Job}
 use Rattle.job_graph.specs.Words.{Fields, JobPlace, Name}
 use Rattle.run_rules.specs.declared.request.Pair.{Pair}
@@ -18,10 +19,13 @@ use Rattle.run_rules.specs.Allowed.{Allowed, MayCollect, MayMeasure}
 use Rattle.run_rules.specs.Events.{Event, Progress, in_flight, input_heads_due, output_heads_due}
 use Rattle.run_rules.specs.Folders.{out_folder}
 use Rattle.run_rules.specs.Scene.{Scene}
-use Rattle.run_rules.proofs.events.Course.{Course as Books, Keeps as AreKept}
+use Rattle.run_rules.specs.Plans.{number_of}
+use Rattle.run_rules.proofs.events.Course.{Keeps as AreKept}
 use Rattle.run_rules.proofs.events.Flights.{is_flying}
 use Rattle.run_rules.proofs.events.Tally.{Readings, readings}
-use Rattle.run_rules.proofs.events.Turns.{so_many}
+use Rattle.run_rules.proofs.events.Places.{IsJob, number_is}
+use Rattle.run_rules.proofs.events.Planned.{jobs_in}
+use Rattle.run_rules.proofs.events.Turns.{lowest_first, so_many}
 use Rattle.run_core.specs.declared.state.Course.{Course}
 use Rattle.run_core.specs.declared.state.Flight.{Flight}
 use Rattle.run_core.specs.declared.state.Given.{Given}
@@ -32,13 +36,17 @@ use Rattle.run_core.specs.declared.state.Turn.{Turn}
 use Rattle.run_core.specs.inner.Course.{Past, known_in, nothing_past, past_of}
 use Rattle.run_core.specs.inner.Due.{FitsCall, call_for, work_of}
 use Rattle.run_core.specs.inner.Follows.{AsksIn, AsksOf}
-use Rattle.run_core.specs.inner.Keeps.{Reflects, course_of, state_at}
-use Rattle.run_core.specs.inner.Standing.{IsAt, Runs, collecting, delivering, ended, measuring, staging, working}
+use Rattle.run_core.specs.inner.Keeps.{Reflects, course_of}
+use Rattle.run_core.specs.Core.{IsFirst}
+use Rattle.run_core.specs.inner.Standing.{IsAt, IsStaging, Runs, collecting, delivering, ended, measuring, staging, working}
 use Rattle.run_core.proofs.events.Numbers.{Flies, flight_flies, flights_as_many}
 use Rattle.run_core.proofs.events.Reflecting.{Laws, folder_there}
 use Rattle.run_core.proofs.going.Measured.{IsOf, may_measure}
+use Rattle.run_core.proofs.going.Picking.{all_known, all_kept}
 use Rattle.run_core.proofs.job_steps.Calls.{IsForJob, for_job, working_allowed}
 use Rattle.run_core.proofs.job_steps.Turns.{PicksAt}
+use Rattle.run_core.specs.inner.JobStates.{state_at, waits_in}
+use Rattle.run_core.proofs.States.{taken_within}
 
 -- the phase fits the call that is due
 
@@ -58,13 +66,13 @@ output_asks options course place n folder found (name ∷ todo) read call phase 
     let same : HostRequest.Head (path_in (out_folder options.work folder) name) (limit_of name) ≡ call = cc in
     subst (λ (c : HostRequest). AsksOf course (Request.Host place c) (Phase.Working n phase)) same (fits (path_in (out_folder options.work folder) name) (limit_of name))
 
-starting_asks : (course : Course) (place : JobPlace) (n : ℕ) (call : HostRequest) (kept : Kept) → FitsCall call (JobPhase.Starting kept) → n < length course.jobs.items →
+starting_asks : (course : Course) (place : JobPlace) (n : ℕ) (call : HostRequest) (kept : Kept) → FitsCall call (JobPhase.Starting kept) → n < length course.jobs →
     AsksOf course (Request.Host place call) (Phase.Working n (JobPhase.Starting kept))
 starting_asks course place n (HostRequest.Start launch) kept fits within = within
 starting_asks course place n call kept fits within = absurd fits
 
 work_asks : (options : Options) (course : Course) (place : JobPlace) (n folder : ℕ) (call : HostRequest) (phase : JobPhase) → call_for options folder (work_of [] call phase) ≡ Some call →
-    FitsCall call phase → n < length course.jobs.items → AsksOf course (Request.Host place call) (Phase.Working n phase)
+    FitsCall call phase → n < length course.jobs → AsksOf course (Request.Host place call) (Phase.Working n phase)
 work_asks options course place n folder call (JobPhase.Filling filling) due fits within =
     input_asks options course place n folder filling.staged (reverse filling.left) filling.heads call (JobPhase.Filling filling) due (λ path limit. within)
 work_asks options course place n folder call (JobPhase.Starting kept) due fits within = starting_asks course place n call kept fits within
@@ -74,26 +82,25 @@ work_asks options course place n folder call (JobPhase.Scanning kept millis) due
 work_asks options course place n folder call (JobPhase.Reading kept reading) due fits within =
     output_asks options course place n folder reading.found (reverse reading.left) reading.heads call (JobPhase.Reading kept reading) due (λ path limit. within)
 
--- a job in flight was staged
-flies_below : (jobs : List Job) (r : Readings) (c : Books) → AreKept jobs r c → (n : ℕ) → Flies jobs r.flying n → n < c.staged
-flies_below jobs r c k n its = elim (cases_lt n c.staged) [
-  | inl within ↦ within
-  | inr past ↦
-      let never : true ≡ false = sym its.flies ∙ (or_parts (is_flying r.flying its.job.place) (r.at_hand its.job.place) (k.unstaged n its.job its.it past)).0 in absurd cc
-]
+-- a job in flight was touched
+flies_below : (jobs : List Job) (r : Readings) (past : Past) (at_work : Option ℕ) (g : ℕ → ℕ) → AreKept jobs r (course_of past at_work g) → (n : ℕ) → Flies jobs r.flying n →
+    (test : Bool) → waits_in past.jobs n ≡ test → n < length past.jobs
+flies_below jobs r past at_work g k n its true waits =
+    let never : true ≡ false = sym its.flies ∙ (or_parts (is_flying r.flying its.job.place) (r.at_hand its.job.place) (k.waiting n its.job its.it waits)).0 in absurd cc
+flies_below jobs r past at_work g k n its false taken = taken_within past.jobs n taken
 
 -- the course's lists fit one another
 pub record AreFitting (course : Course) : Type 0 where
   pub as_many : length course.flights.items ≡ length course.tickets.items
-  pub flights : (flight : Flight) → Contains course.flights.items flight → flight.job < length course.jobs.items
-  pub staged : length course.jobs.items ≤ length (known_in course.known)
+  pub flights : (flight : Flight) → Contains course.flights.items flight → flight.job < length course.jobs
+  pub staged : length course.jobs ≤ length (known_in course.known)
 
 nothing_fits : (course : Course) (past : Past) → past_of course ≡ past → past ≡ nothing_past → AreFitting course
 nothing_fits course past is nothing =
     let none : past_of course ≡ nothing_past = is ∙ nothing in
     let no_flights : course.flights.items ≡ [] = ap (λ (p : Past). p.flights) none in
     let no_tickets : course.tickets.items ≡ [] = ap (λ (p : Past). p.tickets) none in
-    let no_jobs : length course.jobs.items ≡ 0 = ap (λ (p : Past). length p.jobs) none in
+    let no_jobs : length course.jobs ≡ 0 = ap (λ (p : Past). length p.jobs) none in
     record {
       as_many = ap length no_flights ∙ sym (ap length no_tickets);
       flights = λ flight there.
@@ -103,23 +110,23 @@ nothing_fits course past is nothing =
     }
 
 module _ (s : Scene) (es : List Event) (course : Course) (at_work : Option ℕ) (r : Reflects s es course at_work) where
-  in_flight_staged : (flight : Flight) → Contains course.flights.items flight → flight.job < length course.jobs.items
+  in_flight_staged : (flight : Flight) → Contains course.flights.items flight → flight.job < length course.jobs
   in_flight_staged flight there =
       let its : Flies (known_in course.known) (in_flight es) flight.job =
       flight_flies (known_in course.known) (readings es) (past_of course) at_work r.keeps.gave_up r.keeps.books flight there in
-      flies_below (known_in course.known) (readings es) (course_of (past_of course) at_work r.keeps.gave_up) r.keeps.books flight.job its
+      flies_below (known_in course.known) (readings es) (past_of course) at_work r.keeps.gave_up r.keeps.books flight.job its (waits_in course.jobs flight.job) refl
 
   lists_fit : AreFitting course
   lists_fit = record {
     as_many = flights_as_many (known_in course.known) (readings es) (past_of course) at_work r.keeps.gave_up r.keeps.books;
     flights = in_flight_staged;
-    staged = r.keeps.books.few;
+    staged = r.keeps.few;
   }
 
 module _ (s : Scene) (f : Progress) (marks : List Mark) (course : Course) where
   fits_at : {turn : Turn} → turn.asks ≢ Request.Finished → IsAt s f marks course turn → AreFitting course
   fits_at asks (measuring found m rest path is left happened none nothing) = nothing_fits course (past_of course) refl nothing
-  fits_at asks (staging at_work n job plan r st) = lists_fit s f.events course at_work r
+  fits_at asks (staging n job plan r st) = lists_fit s f.events course None r
   fits_at asks (working n job call phase r w) = lists_fit s f.events course (Some n) r
   fits_at asks (collecting r may) = lists_fit s f.events course None r
   fits_at asks (delivering plan r may going all) = lists_fit s f.events course None r
@@ -127,9 +134,9 @@ module _ (s : Scene) (f : Progress) (marks : List Mark) (course : Course) where
 
   asks_at : {turn : Turn} → IsAt s f marks course turn → AsksIn course turn
   asks_at (measuring found m rest path is left happened none nothing) = tt
-  asks_at (staging at_work n job plan r st) = record { next = st.next; known = st.it.within }
+  asks_at (staging n job plan r st) = record { known = st.it.within }
   asks_at (working n job call phase r w) =
-      work_asks s.options course job.place n (state_at course.jobs.items n).folder call phase w.calls.due w.calls.fits (r.keeps.books.worked_staged n refl)
+      work_asks s.options course job.place n (state_at course.jobs n).folder call phase w.calls.due w.calls.fits (taken_within course.jobs n (r.keeps.books.worked_on n refl))
   asks_at (collecting r may) = tt
   asks_at (delivering plan r may going all) = tt
   asks_at (ended end so) = tt
@@ -147,10 +154,10 @@ module _ (s : Scene) (f : Progress) (marks : List Mark) (course : Course) where
 
   collects_at : (place : JobPlace) {turn : Turn} → IsAt s f marks course turn → turn.asks ≡ Request.Host place HostRequest.Collect → course.tickets.items ≢ []
   collects_at place (measuring found m rest path is left happened none nothing) asks = absurd (not_waiting (HostRequest.Measure path) place [] (λ same. cc) asks)
-  collects_at place (staging at_work n job plan r st) asks = absurd (not_waiting (HostRequest.Stage plan (course.folders + 1)) place job.place (λ same. cc) asks)
+  collects_at place (staging n job plan r st) asks = absurd (not_waiting (HostRequest.Stage plan (course.folders + 1)) place job.place (λ same. cc) asks)
   collects_at place (working n job call phase r w) asks =
       absurd (not_waiting call place job.place
-      (λ same. subst IsForJob same (for_job s.options (state_at course.jobs.items n).folder [] call phase w.calls.due)) asks)
+      (λ same. subst IsForJob same (for_job s.options (state_at course.jobs n).folder [] call phase w.calls.due)) asks)
   collects_at place (collecting r may) asks = flying_tickets r may
   collects_at place (delivering plan r may going all) asks = absurd (not_waiting (HostRequest.Deliver plan) place [] (λ same. cc) asks)
   collects_at place (ended end so) asks = let never : Request.Finished ≡ Request.Host place HostRequest.Collect = asks in absurd cc
@@ -159,16 +166,45 @@ module _ (s : Scene) (given : Given) (its : IsOf s given) (laws : Laws s) (picks
   allows_at : (t : List Pair) (f : Progress) (marks : List Mark) (course : Course) {turn : Turn} → turn.asks ≢ Request.Finished → IsAt s f marks course turn → Allowed s f marks turn.asks
   allows_at t f marks course asks (measuring found m rest path is left happened none nothing) =
       subst (λ (g : Progress). MayMeasure s g [] path) (sym happened) (may_measure s given its laws picks t found marks m rest path is left)
-  allows_at t f marks course asks (staging at_work n job plan r st) = st.may
+  allows_at t f marks course asks (staging n job plan r st) = st.may
   allows_at t f marks course asks (working n job call phase r w) =
       working_allowed s f marks course n job call phase (folder_there s f.events course (Some n) n job w.it r) w
   allows_at t f marks course asks (collecting r may) = may
   allows_at t f marks course asks (delivering plan r may going all) = may
   allows_at t f marks course asks (ended end so) = absurd (asks refl)
 
+  first_call : (f : Progress) (marks : List Mark) (place : JobPlace) (call : HostRequest) → IsForJob call → IsFirst s f marks (Request.Host place call)
+  first_call f marks place (HostRequest.Stage plan number) its = absurd its
+  first_call f marks place call its = tt
+
+  -- the lowest job that waits is staged
+  first_staged : (f : Progress) (marks : List Mark) (course : Course) (n : ℕ) (job : Job) (plan : StagePlan) → Reflects s f.events course None →
+      IsStaging s f marks course n job plan → IsFirst s f marks (Request.Host job.place (HostRequest.Stage plan (course.folders + 1)))
+  first_staged f marks course n job plan r st =
+      let whole : known_in course.known ≡ jobs_in s f = all_known s f.events course None r st.going in
+      let books : AreKept (jobs_in s f) (readings f.events) (course_of (past_of course) None r.keeps.gave_up) = all_kept s f.events course None r st.going in
+      let number : number_of job.place (jobs_in s f) ≡ n =
+      number_is (jobs_in s f) books.apart n job (subst (λ (jobs : List Job). IsJob jobs n job) whole st.it) in
+      λ other its folder may.
+      let least : n ≤ number_of other (jobs_in s f) =
+      lowest_first s f marks (course_of (past_of course) None r.keeps.gave_up) books st.may.free n (ap is_some st.going) refl st.lowest.lowest other its folder may in
+      omega (arith, number, least)
+
+  first_at : (f : Progress) (marks : List Mark) (course : Course) {turn : Turn} → turn.asks ≢ Request.Finished → IsAt s f marks course turn → IsFirst s f marks turn.asks
+  first_at f marks course asks (measuring found m rest path is left happened none nothing) = tt
+  first_at f marks course asks (staging n job plan r st) = first_staged f marks course n job plan r st
+  first_at f marks course asks (working n job call phase r w) =
+      first_call f marks job.place call (for_job s.options (state_at course.jobs n).folder [] call phase w.calls.due)
+  first_at f marks course asks (collecting r may) = tt
+  first_at f marks course asks (delivering plan r may going all) = tt
+  first_at f marks course asks (ended end so) = absurd (asks refl)
+
   -- what is asked may be asked
   pub allows : (t : List Pair) (course : Course) (turn : Turn) (runs : Runs s t course turn) → turn.asks ≢ Request.Finished → Allowed s runs.happened runs.marks turn.asks
   allows t course turn runs asks = allows_at t runs.happened runs.marks course asks runs.at
+
+  pub is_first : (t : List Pair) (course : Course) (turn : Turn) (runs : Runs s t course turn) → turn.asks ≢ Request.Finished → IsFirst s runs.happened runs.marks turn.asks
+  is_first t course turn runs asks = first_at runs.happened runs.marks course asks runs.at
 
 pub asks_in : (s : Scene) (t : List Pair) (course : Course) (turn : Turn) → Runs s t course turn → AsksIn course turn
 asks_in s t course turn runs = asks_at s runs.happened runs.marks course runs.at

@@ -15,7 +15,7 @@ use Rattle.run_rules.specs.Delivered.{located, sources}
 use Rattle.run_rules.specs.End.{succeeds_with}
 use Rattle.run_rules.specs.EndsSo.{copied, succeeds}
 use Rattle.run_rules.specs.Events.{Event, Progress, nothing_due, number_at, result_delivered}
-use Rattle.run_rules.specs.Plans.{LoadsHeld}
+use Rattle.run_rules.specs.Plans.{InForce}
 use Rattle.run_rules.specs.Run.{Goes}
 use Rattle.run_rules.specs.Scene.{Scene}
 use Rattle.run_rules.specs.Steps.{call, delivers, progress_with}
@@ -26,10 +26,11 @@ use Rattle.run_rules.proofs.events.Planned.{jobs_in, marks_after}
 use Rattle.run_rules.proofs.events.Readings.{delivered_after, in_flight_after, number_after, started_after}
 use Rattle.run_rules.proofs.events.Settled.{settled_quietly}
 use Rattle.run_rules.proofs.events.Tally.{readings}
-use Rattle.run_rules.proofs.events.Turns.{busy_when_staged}
+use Rattle.run_rules.proofs.events.Turns.{busy_when_none_waits}
 use Rattle.run_core.specs.declared.state.Course.{Course}
 use Rattle.run_core.specs.declared.state.Turn.{Turn}
 use Rattle.run_core.specs.inner.Course.{known_in, past_of}
+use Rattle.run_core.specs.inner.JobStates.{NoneWaits}
 use Rattle.run_core.specs.inner.Keeps.{Keeps, Reflects, course_of}
 use Rattle.run_core.specs.inner.Standing.{Runs, ended}
 use Rattle.run_core.specs.inner.Turn.{succeeds as succeeds_so}
@@ -37,8 +38,8 @@ use Rattle.run_core.proofs.events.Keeping.{aside_keeps}
 use Rattle.run_core.proofs.events.Reflecting.{collects_after}
 use Rattle.run_core.proofs.going.Picking.{all_known, unsettled}
 
-module _ (s : Scene) (t : List Pair) (f : Progress) (marks : List Mark) (goes : Goes s (LoadsHeld s) t f marks) (old : Course) (plan : StagePlan)
-    (r : Reflects s f.events old None) (may : MayDeliver s f marks [] plan) (going : old.end ≡ None) (all : length (known_in old.known) ≤ length old.jobs.items) where
+module _ (s : Scene) (t : List Pair) (f : Progress) (marks : List Mark) (goes : Goes s (InForce s) t f marks) (old : Course) (plan : StagePlan)
+    (r : Reflects s f.events old None) (may : MayDeliver s f marks [] plan) (going : old.end ≡ None) (all : NoneWaits old.jobs (length (known_in old.known))) where
   abbrev e : Event
   e = result_delivered plan
 
@@ -68,9 +69,9 @@ module _ (s : Scene) (t : List Pair) (f : Progress) (marks : List Mark) (goes : 
 
   busy_then : IsBusy s later marks_then
   busy_then =
-      busy_when_staged s later marks_then (course_of (past_of old) None keeps_then.gave_up)
+      busy_when_none_waits s later marks_then (course_of (past_of old) None keeps_then.gave_up)
       (subst (λ (jobs : List Job). AreKept jobs (readings (f.events ++ e ∷ [])) (course_of (past_of old) None keeps_then.gave_up)) whole_then keeps_then.books)
-      free_then (ap is_some going) refl (subst (λ (jobs : List Job). length jobs ≤ length old.jobs.items) whole_then all)
+      free_then (ap is_some going) refl (subst (λ (jobs : List Job). NoneWaits old.jobs (length jobs)) whole_then all)
 
   same_numbers : number_at f.events ≡ number_at (f.events ++ e ∷ [])
   same_numbers = λ i place. sym (number_after f.events (e ∷ []) place) i

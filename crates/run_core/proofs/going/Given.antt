@@ -18,13 +18,14 @@ use Rattle.run_core.specs.inner.Inside.{setting_in}
 use Rattle.run_core.specs.declared.state.Course.{Course}
 use Rattle.run_core.specs.declared.state.Given.{Given}
 use Rattle.run_core.specs.declared.state.Turn.{Turn}
+use Rattle.run_core.specs.Core.{IsFirst}
 use Rattle.run_core.specs.inner.Course.{nothing_past, past_of}
 use Rattle.run_core.specs.inner.Follows.{FollowsFrom}
 use Rattle.run_core.specs.inner.Measures.{Begins}
 use Rattle.run_core.specs.inner.Standing.{Runs}
 use Rattle.run_core.proofs.Once.{once_each}
 use Rattle.run_core.proofs.events.Reflecting.{Laws}
-use Rattle.run_core.proofs.going.Asked.{allows as allows_in}
+use Rattle.run_core.proofs.going.Asked.{allows as allows_in, is_first as is_first_in}
 use Rattle.run_core.proofs.going.Going.{begins_with, goes_on_with, picks}
 use Rattle.run_core.proofs.going.Measured.{IsOf}
 
@@ -58,3 +59,7 @@ module _ (given : Given) (laws : Laws (scene_in given)) (some : 1 ≤ given.opti
   pub allows : (t : List Pair) (course : Course) (turn : Turn) (runs : Runs (scene_in given) t course turn) → turn.asks ≢ Request.Finished →
       Allowed (scene_in given) runs.happened runs.marks turn.asks
   allows = allows_in (scene_in given) given (its_own given) laws (picks (scene_in given) given refl (its_own given) laws some)
+
+  pub is_first : (t : List Pair) (course : Course) (turn : Turn) (runs : Runs (scene_in given) t course turn) → turn.asks ≢ Request.Finished →
+      IsFirst (scene_in given) runs.happened runs.marks turn.asks
+  is_first = is_first_in (scene_in given) given (its_own given) laws (picks (scene_in given) given refl (its_own given) laws some)

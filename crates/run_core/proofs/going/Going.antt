@@ -16,7 +16,7 @@ use Rattle.run_rules.specs.Allowed.{MayCollect, MayDeliver}
 use Rattle.run_rules.specs.Answers.{MayAnswer, by_host}
 use Rattle.run_rules.specs.Delivered.{located}
 use Rattle.run_rules.specs.Events.{Progress}
-use Rattle.run_rules.specs.Plans.{LoadsHeld}
+use Rattle.run_rules.specs.Plans.{InForce}
 use Rattle.run_rules.specs.Run.{Goes}
 use Rattle.run_rules.specs.Scene.{Scene}
 use Rattle.run_core.specs.declared.state.Course.{Course}
@@ -27,7 +27,7 @@ use Rattle.run_core.specs.declared.state.Phase.{Phase}
 use Rattle.run_core.specs.declared.state.Turn.{Turn}
 use Rattle.run_core.specs.inner.Course.{known_in, nothing_past, past_of}
 use Rattle.run_core.specs.inner.Follows.{FollowsFrom}
-use Rattle.run_core.specs.inner.Keeps.{Reflects, state_at}
+use Rattle.run_core.specs.inner.Keeps.{Reflects}
 use Rattle.run_core.specs.inner.Measured.{IsMeasuring}
 use Rattle.run_core.specs.inner.Measures.{Begins}
 use Rattle.run_core.specs.inner.Standing.{IsAt, IsStaging, IsWorking, Runs, collecting, delivering, ended, measuring, staging, working}
@@ -44,6 +44,7 @@ use Rattle.run_core.proofs.job_steps.Read.{bytes_go_on}
 use Rattle.run_core.proofs.job_steps.Staged.{staging_goes_on}
 use Rattle.run_core.proofs.job_steps.Started.{start_goes_on}
 use Rattle.run_core.proofs.job_steps.Turns.{PicksAt}
+use Rattle.run_core.specs.inner.JobStates.{NoneWaits, state_at}
 
 -- a collect is for no job
 not_collect : (call : HostRequest) → IsForJob call → call ≡ HostRequest.Collect → ⊥
@@ -53,7 +54,7 @@ module _ (s : Scene) (given : Given) (same : given.options ≡ s.options) (its :
   pub picks : PicksAt s given
   picks t f marks goes idle old turn new r p = picked s given same {t = t} f marks goes idle laws some old r p
 
-  module _ (t : List Pair) (f : Progress) (marks : List Mark) (goes : Goes s (LoadsHeld s) t f marks) (old : Course) (turn : Turn) (new : Course) where
+  module _ (t : List Pair) (f : Progress) (marks : List Mark) (goes : Goes s (InForce s) t f marks) (old : Course) (turn : Turn) (new : Course) where
     -- the run with the answer to this call
     abbrev GoesOnWith : JobPlace → HostRequest → HostAnswer → Type 0
     GoesOnWith place call answer = Runs s (t ++ record { request = Request.Host place call; answer = Answer.Host answer } ∷ []) new turn
@@ -62,48 +63,48 @@ module _ (s : Scene) (given : Given) (same : given.options ≡ s.options) (its :
         old.known ≡ None → past_of old ≡ nothing_past → {answer : HostAnswer} → CanAnswer old.tickets.items (HostRequest.Measure path) answer →
         FollowsFrom given old (waits (HostRequest.Measure path) (Phase.Measuring m)) (Answer.Host answer) turn new → GoesOnWith [] (HostRequest.Measure path) answer
     measure_by found m rest path is left happened none nothing (is_measured p measure) follows =
-        measure_goes_on s given its laws picks t found marks m rest path is left (subst (λ (g : Progress). Goes s (LoadsHeld s) t g marks) happened goes) old nothing none measure turn new follows
+        measure_goes_on s given its laws picks t found marks m rest path is left (subst (λ (g : Progress). Goes s (InForce s) t g marks) happened goes) old nothing none measure turn new follows
     measure_by found m rest path is left happened none nothing (has_failed request) follows =
-        fault_goes_by s given picks t (when_measured found) marks (subst (λ (g : Progress). Goes s (LoadsHeld s) t g marks) happened goes) old [] (HostRequest.Measure path)
+        fault_goes_by s given picks t (when_measured found) marks (subst (λ (g : Progress). Goes s (InForce s) t g marks) happened goes) old [] (HostRequest.Measure path)
         (may_measure s given its laws picks t found marks m rest path is left) (λ same. cc) turn new follows
         (measure_fault_reflects s given its laws picks t found marks m rest path is left old follows.settled nothing none follows.past follows.known)
 
-    stage_by : (at_work : Option ℕ) (n : ℕ) (job : Job) (plan : StagePlan) → Reflects s f.events old at_work → IsStaging s f marks old at_work n job plan →
+    stage_by : (n : ℕ) (job : Job) (plan : StagePlan) → Reflects s f.events old None → IsStaging s f marks old n job plan →
         {answer : HostAnswer} → CanAnswer old.tickets.items (HostRequest.Stage plan (old.folders + 1)) answer →
         FollowsFrom given old (record { asks = Request.Host job.place (HostRequest.Stage plan (old.folders + 1)); phase = Phase.Staging n }) (Answer.Host answer) turn new →
         GoesOnWith job.place (HostRequest.Stage plan (old.folders + 1)) answer
-    stage_by at_work n job plan r st (is_staged p number) follows =
-        staging_goes_on s given same laws picks t f marks goes old at_work n job plan r st turn new follows
-    stage_by at_work n job plan r st (has_failed request) follows =
-        fault_goes_on s given picks t f marks goes old job.place (HostRequest.Stage plan (old.folders + 1)) st.may (λ same. cc) turn new follows at_work r
+    stage_by n job plan r st (is_staged p number) follows =
+        staging_goes_on s given same laws picks t f marks goes old n job plan r st turn new follows
+    stage_by n job plan r st (has_failed request) follows =
+        fault_goes_on s given picks t f marks goes old job.place (HostRequest.Stage plan (old.folders + 1)) st.may (λ same. cc) turn new follows None r
 
     work_by : (n : ℕ) (job : Job) (phase : JobPhase) {call : HostRequest} {answer : HostAnswer} → CanAnswer old.tickets.items call answer → Reflects s f.events old (Some n) →
         IsWorking s f old n job call phase → FollowsFrom given old (works job.place n call phase) (Answer.Host answer) turn new → GoesOnWith job.place call answer
     work_by n job phase (is_measured path measure) r w follows =
-        absurd (for_job s.options (state_at old.jobs.items n).folder [] (HostRequest.Measure path) phase w.calls.due)
+        absurd (for_job s.options (state_at old.jobs n).folder [] (HostRequest.Measure path) phase w.calls.due)
     work_by n job phase (is_staged plan number) r w follows =
-        absurd (for_job s.options (state_at old.jobs.items n).folder [] (HostRequest.Stage plan number) phase w.calls.due)
+        absurd (for_job s.options (state_at old.jobs n).folder [] (HostRequest.Stage plan number) phase w.calls.due)
     work_by n job phase (is_started launch ticket fresh) r w follows =
         start_goes_on s given picks t f marks goes old n job launch ticket r fresh turn new phase w follows
     work_by n job phase (has_ended ending there) r w follows =
-        absurd (for_job s.options (state_at old.jobs.items n).folder [] HostRequest.Collect phase w.calls.due)
+        absurd (for_job s.options (state_at old.jobs n).folder [] HostRequest.Collect phase w.calls.due)
     work_by n job phase (is_listed folder found) r w follows =
         listing_goes_on s given same laws picks t f marks goes old n job folder found r turn new phase w follows
     work_by n job phase (is_read path limit bytes few) r w follows =
         bytes_go_on s given same laws picks t f marks goes old n job path limit bytes r turn new phase w follows
     work_by n job phase (is_delivered plan) r w follows =
-        absurd (for_job s.options (state_at old.jobs.items n).folder [] (HostRequest.Deliver plan) phase w.calls.due)
+        absurd (for_job s.options (state_at old.jobs n).folder [] (HostRequest.Deliver plan) phase w.calls.due)
     work_by n job phase (has_failed request) r w follows =
         fault_goes_on s given picks t f marks goes old job.place request
         (working_allowed s f marks old n job request phase (folder_there s f.events old (Some n) n job w.it r) w)
-        (not_collect request (for_job s.options (state_at old.jobs.items n).folder [] request phase w.calls.due)) turn new follows (Some n) r
+        (not_collect request (for_job s.options (state_at old.jobs n).folder [] request phase w.calls.due)) turn new follows (Some n) r
 
     collect_by : Reflects s f.events old None → MayCollect s f marks [] → {answer : HostAnswer} → CanAnswer old.tickets.items HostRequest.Collect answer →
         FollowsFrom given old collects (Answer.Host answer) turn new → GoesOnWith [] HostRequest.Collect answer
     collect_by r may (has_ended ending there) follows = child_goes_on s given same laws picks t f marks goes old r may ending turn new follows
     collect_by r may (has_failed request) follows = collect_fails s given picks t f marks goes old r may new turn follows.0
 
-    deliver_by : (plan : StagePlan) → Reflects s f.events old None → MayDeliver s f marks [] plan → old.end ≡ None → length (known_in old.known) ≤ length old.jobs.items →
+    deliver_by : (plan : StagePlan) → Reflects s f.events old None → MayDeliver s f marks [] plan → old.end ≡ None → NoneWaits old.jobs (length (known_in old.known)) →
         {answer : HostAnswer} → CanAnswer old.tickets.items (HostRequest.Deliver plan) answer →
         FollowsFrom given old (waits (HostRequest.Deliver plan) (Phase.Delivering (located plan.value))) (Answer.Host answer) turn new → GoesOnWith [] (HostRequest.Deliver plan) answer
     deliver_by plan r may going all (is_delivered p) follows = delivery_goes_on s t f marks goes old plan r may going all turn new follows
@@ -115,7 +116,7 @@ module _ (s : Scene) (given : Given) (same : given.options ≡ s.options) (its :
         Runs s (t ++ record { request = before.asks; answer = answer } ∷ []) new turn
     answered (measuring found m rest path is left happened none nothing) (by_host place request answer can) follows =
         measure_by found m rest path is left happened none nothing can follows
-    answered (staging at_work n job plan r st) (by_host place request answer can) follows = stage_by at_work n job plan r st can follows
+    answered (staging n job plan r st) (by_host place request answer can) follows = stage_by n job plan r st can follows
     answered (working n job call phase r w) (by_host place request answer can) follows = work_by n job phase can r w follows
     answered (collecting r may) (by_host place request answer can) follows = collect_by r may can follows
     answered (delivering plan r may going all) (by_host place request answer can) follows = deliver_by plan r may going all can follows

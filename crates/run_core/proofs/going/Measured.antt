@@ -29,7 +29,7 @@ use Rattle.run_rules.specs.declared.request.Pair.{Pair}
 use Rattle.run_rules.specs.Allowed.{MayMeasure}
 use Rattle.run_rules.specs.End.{End, ended_by_host, fault_end, is_lost_collect, settled, settled_from, unfold_end}
 use Rattle.run_rules.specs.Events.{Event, Progress, are_measured, delivered_if, file_measured, host_failed, is_measured, measures, measures_after, nothing_due, resolved, unfolding_at}
-use Rattle.run_rules.specs.Plans.{LoadsHeld}
+use Rattle.run_rules.specs.Plans.{InForce}
 use Rattle.run_rules.specs.Reports.{report_of}
 use Rattle.run_rules.specs.Run.{Goes}
 use Rattle.run_rules.specs.Scene.{Scene}
@@ -215,7 +215,7 @@ module _ (s : Scene) (once : Once s.paths) where
 -- What comes of a measure
 
 module _ (s : Scene) (given : Given) (its : IsOf s given) (laws : Laws s) (picks : PicksAt s given) where
-  module _ (t : List Pair) (found : List (Name × Measure)) (marks : List Mark) (goes : Goes s (LoadsHeld s) t (when_measured found) marks)
+  module _ (t : List Pair) (found : List (Name × Measure)) (marks : List Mark) (goes : Goes s (InForce s) t (when_measured found) marks)
       (settles : settled s (measured_by found) ≡ unfold_end s (measured_by found)) (old : Course) (nothing : past_of old ≡ nothing_past) (none : old.known ≡ None) where
     measured_on : (measuring : Measuring) → measuring.measures ≡ measures (measured_by found) → s.paths ≡ keys_of found ++ reverse measuring.left → length measuring.left < 2 ^ 64 →
         {turn : Turn} {new : Course} → MeasuresOn given old measuring turn new → Runs s t new turn
@@ -256,7 +256,7 @@ module _ (s : Scene) (given : Given) (its : IsOf s given) (laws : Laws s) (picks
       unmeasured = unmeasured s its.once found path (reverse rest) in_turn;
     }
 
-    module _ (goes : Goes s (LoadsHeld s) t (when_measured found) marks) (old : Course) (nothing : past_of old ≡ nothing_past) (none : old.known ≡ None) where
+    module _ (goes : Goes s (InForce s) t (when_measured found) marks) (old : Course) (nothing : past_of old ≡ nothing_past) (none : old.known ≡ None) where
       -- it is measured
       pub measure_goes_on : (measure : Measure) (turn : Turn) (new : Course) → TakesMeasure given old measuring measure turn new →
           Runs s (t ++ call [] (HostRequest.Measure path) (HostAnswer.Measured measure) ∷ []) new turn
@@ -279,7 +279,7 @@ module _ (s : Scene) (given : Given) (its : IsOf s given) (laws : Laws s) (picks
           subst (λ (names : List Name). length names < 2 ^ 64) (sym put.left_is) (fewer rest path (subst (λ (names : List Name). length names < 2 ^ 64) is m.few)) in
           measured_on (t ++ call [] (HostRequest.Measure path) (HostAnswer.Measured measure) ∷ []) (found ++ (path, measure) ∷ [])
           (marks_after s (progress_with (when_measured found) nothing_due (file_measured path measure ∷ [])) marks)
-          (subst (λ (es : List Event). Goes s (LoadsHeld s) (t ++ call [] (HostRequest.Measure path) (HostAnswer.Measured measure) ∷ []) (record { work = nothing_due; events = es })
+          (subst (λ (es : List Event). Goes s (InForce s) (t ++ call [] (HostRequest.Measure path) (HostAnswer.Measured measure) ∷ []) (record { work = nothing_due; events = es })
           (marks_after s (progress_with (when_measured found) nothing_due (file_measured path measure ∷ [])) marks)) more
           (goes_on s (call [] (HostRequest.Measure path) (HostAnswer.Measured measure)) nothing_due (file_measured path measure ∷ []) goes may_measure (measures_file path measure)))
           settles old nothing none takes.next same all few takes.on

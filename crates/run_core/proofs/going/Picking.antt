@@ -19,7 +19,7 @@ use Rattle.run_rules.specs.End.{End, settled, succeeds_with}
 use Rattle.run_rules.specs.EndsSo.{fails, no_file, succeeds}
 use Rattle.run_rules.specs.Events.{Event, Progress, in_flight, is_at_hand, job_succeeded, measures, nothing_due, number_at, resolved, unfolding_at}
 use Rattle.run_rules.specs.Folders.{in_folder}
-use Rattle.run_rules.specs.Plans.{LoadsHeld}
+use Rattle.run_rules.specs.Plans.{InForce}
 use Rattle.run_rules.specs.Reports.{report_of, reported}
 use Rattle.run_rules.specs.Run.{Goes}
 use Rattle.run_rules.specs.Scene.{Scene}
@@ -31,14 +31,15 @@ use Rattle.run_rules.proofs.events.Known.{unfolding_when}
 use Rattle.run_rules.proofs.events.Places.{IsJob}
 use Rattle.run_rules.proofs.events.Planned.{jobs_in}
 use Rattle.run_rules.proofs.events.Tally.{readings}
-use Rattle.run_rules.proofs.events.Turns.{again_may_stage, busy_when_staged, busy_when_taken, next_may_stage, none_flies}
+use Rattle.run_rules.proofs.events.Turns.{busy_when_none_waits, busy_when_taken, none_flies, waiting_may_stage}
 use Rattle.run_core.specs.declared.state.Course.{Course}
 use Rattle.run_core.specs.declared.state.Given.{Given}
 use Rattle.run_core.specs.declared.state.Turn.{Turn}
 use Rattle.run_core.specs.inner.Course.{known_in, number_in, past_of}
+use Rattle.run_core.specs.inner.JobStates.{IsLowest, NoneWaits}
 use Rattle.run_core.specs.inner.Keeps.{Reflects, course_of}
 use Rattle.run_core.specs.inner.Knows.{IsKnown, outputs_in}
-use Rattle.run_core.specs.inner.Picks.{Delivers, DeliversFiles, NoneToStage, Picks, Stages, all_staged, delivers, drains, ends_so, has_result, slots_full, sources_in, stages, succeeds_at_once, waits_for_one}
+use Rattle.run_core.specs.inner.Picks.{Delivers, DeliversFiles, NoneToStage, Picks, Stages, delivers, drains, ends_so, has_result, none_waits, slots_full, sources_in, stages, succeeds_at_once, waits_for_one}
 use Rattle.run_core.specs.inner.Standing.{IsAt, collecting, delivering, ended, staging}
 use Rattle.run_core.specs.inner.Turn.{collects, ends}
 use Rattle.run_core.proofs.events.Keeping.{none_settled}
@@ -122,7 +123,7 @@ module _ (s : Scene) (es : List Event) (course : Course) (at_work : Option ℕ) 
   pub unsettled : course.end ≡ None → settled s es ≡ None
   unsettled going = none_settled (settled s es) course.end r.keeps.end going
 
-  pub numbers_same : number_at es ≡ number_in (known_in course.known) course.jobs.items
+  pub numbers_same : number_at es ≡ number_in (known_in course.known) course.jobs
   numbers_same = λ i place. number_is_kept (known_in course.known) (readings es) (past_of course) at_work r.keeps.gave_up r.keeps.books place i
 
   pub none_in_flight : course.tickets.items ≡ [] → in_flight es ≡ []
@@ -156,39 +157,20 @@ module _ (s : Scene) (given : Given) (same : given.options ≡ s.options) where
       ∙ sources_same es course at_work r (last_by_name outputs)
       ∙ ap (λ (values : Fields). sources_in given.options course (last_by_name values)) (sym kept)
 
-  module _ {t : List Pair} (f : Progress) (marks : List Mark) (goes : Goes s (LoadsHeld s) t f marks) (idle : f.work ≡ nothing_due) where
-    -- a job that failed for now is staged again
-    pub staged_again : (course : Course) (n : ℕ) (turn : Turn) → Reflects s f.events course (Some n) → course.end ≡ None → Stages given course n turn →
-        IsAt s f marks course turn
-    staged_again course n turn r going st =
-        let room : length course.tickets.items + 1 ≤ s.options.slots = r.keeps.slots in
+  module _ {t : List Pair} (f : Progress) (marks : List Mark) (goes : Goes s (InForce s) t f marks) (idle : f.work ≡ nothing_due) where
+    -- the lowest job that waits is staged
+    staged_next : (course : Course) (n : ℕ) (turn : Turn) → Reflects s f.events course None → course.end ≡ None → length course.tickets.items < s.options.slots →
+        IsLowest course.jobs (length (known_in course.known)) n → Stages given course n turn → IsAt s f marks course turn
+    staged_next course n turn r going slot lowest st =
         let it : IsJob (known_in course.known) n st.job = job_there (known_in course.known) n st.job st.known in
-        let whole : known_in course.known ≡ jobs_in s f = all_known s f.events course (Some n) r going in
-        subst (IsAt s f marks course) (sym st.is)
-        (staging (Some n) n st.job st.plan r (record {
-          it = it;
-          may = again_may_stage s f marks (course_of (past_of course) (Some n) r.keeps.gave_up) (all_kept s f.events course (Some n) r going)
-              (is_free s f course (Some n) r idle going) n st.job st.plan goes (subst (λ (jobs : List Job). IsJob jobs n st.job) whole it) refl (omega (arith, room))
-              (plan_same f.events course (Some n) r n st);
-          next = let within : n < length course.jobs.items = r.keeps.books.worked_staged n refl in omega (arith, within);
-          alone = λ other is. cc;
-          going = going;
-        }))
-
-    -- the first that never was is staged
-    staged_next : (course : Course) (turn : Turn) → Reflects s f.events course None → course.end ≡ None → length course.tickets.items < s.options.slots →
-        Stages given course (length course.jobs.items) turn → IsAt s f marks course turn
-    staged_next course turn r going slot st =
-        let it : IsJob (known_in course.known) (length course.jobs.items) st.job = job_there (known_in course.known) (length course.jobs.items) st.job st.known in
         let whole : known_in course.known ≡ jobs_in s f = all_known s f.events course None r going in
         subst (IsAt s f marks course) (sym st.is)
-        (staging None (length course.jobs.items) st.job st.plan r (record {
+        (staging n st.job st.plan r (record {
           it = it;
-          may = next_may_stage s f marks (course_of (past_of course) None r.keeps.gave_up) (all_kept s f.events course None r going)
-              (is_free s f course None r idle going) st.job st.plan goes (subst (λ (jobs : List Job). IsJob jobs (length course.jobs.items) st.job) whole it) slot
-              (plan_same f.events course None r (length course.jobs.items) st);
-          next = omega arith;
-          alone = λ other is. let never : None ≡ Some other = is in absurd cc;
+          may = waiting_may_stage s f marks (course_of (past_of course) None r.keeps.gave_up) (all_kept s f.events course None r going)
+              (is_free s f course None r idle going) n st.job st.plan goes (subst (λ (jobs : List Job). IsJob jobs n st.job) whole it) lowest.waits slot
+              (plan_same f.events course None r n st);
+          lowest = lowest;
           going = going;
         }))
 
@@ -214,14 +196,14 @@ module _ (s : Scene) (given : Given) (same : given.options ≡ s.options) where
         busy_if_full full =
             busy_when_taken s f marks (course_of (past_of course) None r.keeps.gave_up) (all_kept s f.events course None r going) (is_free s f course None r idle going) full
 
-        pub busy_if_staged : length (known_in course.known) ≤ length course.jobs.items → IsBusy s f marks
-        busy_if_staged all =
-            busy_when_staged s f marks (course_of (past_of course) None r.keeps.gave_up) (all_kept s f.events course None r going) (is_free s f course None r idle going)
-            (ap is_some going) refl (subst (λ (jobs : List Job). length jobs ≤ length course.jobs.items) (all_known s f.events course None r going) all)
+        pub busy_if_none_waits : NoneWaits course.jobs (length (known_in course.known)) → IsBusy s f marks
+        busy_if_none_waits none =
+            busy_when_none_waits s f marks (course_of (past_of course) None r.keeps.gave_up) (all_kept s f.events course None r going) (is_free s f course None r idle going)
+            (ap is_some going) refl (subst (λ (jobs : List Job). NoneWaits course.jobs (length jobs)) (all_known s f.events course None r going) none)
 
         busy_if : NoneToStage given course → IsBusy s f marks
         busy_if (slots_full full) = busy_if_full (subst (λ (o : Options). o.slots ≤ length course.tickets.items) same full)
-        busy_if (all_staged all) = busy_if_staged all
+        busy_if (none_waits none) = busy_if_none_waits none
 
         waited_for : course.tickets.items ≢ [] → NoneToStage given course → IsAt s f marks course collects
         waited_for flying none =
@@ -229,8 +211,8 @@ module _ (s : Scene) (given : Given) (same : given.options ≡ s.options) where
             let flies : FliesThere s f.events course first.ticket = flies_there s f.events course None first.ticket first.there r in
             collecting r (may_collect s f marks (first.ticket, flies.job.place) idle r.collects flies.there (λ still. busy_if none))
 
-        -- each known job was staged, and none is in flight: all are at hand
-        module _ (laws : Laws s) (none : course.tickets.items ≡ []) (all : length (known_in course.known) ≤ length course.jobs.items) where
+        -- no known job waits, and none is in flight: all are at hand
+        module _ (laws : Laws s) (none : course.tickets.items ≡ []) (all : NoneWaits course.jobs (length (known_in course.known))) where
           abbrev walks : Walker
           walks = s.walker (measures f.events)
 
@@ -240,7 +222,7 @@ module _ (s : Scene) (given : Given) (same : given.options ≡ s.options) where
           at_hand : (n : ℕ) (job : Job) → IsJob (known_in course.known) n job → is_at_hand f.events job.place ≡ true
           at_hand n job it =
               nor_flies (in_flight f.events) job.place (is_at_hand f.events job.place) (none_in_flight s f.events course None r none)
-              (r.keeps.books.held (ap is_some going) n job it (omega (arith, it.within, all)) (λ at_work. let never : None ≡ Some n = at_work in absurd cc))
+              (r.keeps.books.held (ap is_some going) n job it (all n it.within) (λ at_work. let never : None ≡ Some n = at_work in absurd cc))
 
           each_resolved : (job : Job) → Contains (unfolded walks (resolved f.events)).jobs job → is_some (outputs_at (resolved f.events) job.place) ≡ true
           each_resolved job there =
@@ -270,7 +252,7 @@ module _ (s : Scene) (given : Given) (same : given.options ≡ s.options) where
           delivered_files result files turn d =
               subst (IsAt s f marks course) (sym d.is)
               (delivering d.plan r
-              (may_deliver s f marks result.outputs d.plan (busy_if_staged all) (none_in_flight s f.events course None r none) result.result
+              (may_deliver s f marks result.outputs d.plan (busy_if_none_waits all) (none_in_flight s f.events course None r none) result.result
               (ap any_file (sym result.kept) ∙ files) r.undelivered
               (subst (λ (values : Fields). IsPlan true s.options.outdir values d.plan) (sym (delivery_same f.events course None r result.outputs result.kept))
               (subst (λ (o : Options). IsPlan true o.outdir (sources_in given.options course (last_by_name (outputs_in course.known))) d.plan) same d.is_plan)))
@@ -280,7 +262,7 @@ module _ (s : Scene) (given : Given) (same : given.options ≡ s.options) where
           succeeded_at_once result no_files =
               subst (λ (outputs : Fields). IsAt s f marks course (ends (reported (Outcome.Success (located (last_by_name outputs)))))) (sym result.kept)
               (ended (succeeds_with result.outputs (last_by_name result.outputs))
-              (succeeds result.outputs (last_by_name result.outputs) (busy_if_staged all) (none_in_flight s f.events course None r none) result.result
+              (succeeds result.outputs (last_by_name result.outputs) (busy_if_none_waits all) (none_in_flight s f.events course None r none) result.result
               (no_file (ap any_file (sym result.kept) ∙ no_files) r.undelivered)))
 
           delivered_by : {turn : Turn} → Delivers given course turn → IsAt s f marks course turn
@@ -292,13 +274,13 @@ module _ (s : Scene) (given : Given) (same : given.options ≡ s.options) where
             let so_few : length course.tickets.items ≡ 0 = ap length none in
             let so_many : s.options.slots ≤ length course.tickets.items = subst (λ (o : Options). o.slots ≤ length course.tickets.items) same full in
             absurd (omega (arith, some, so_few, so_many))
-        result_there laws some none (all_staged all) d = delivered_by laws none all d
+        result_there laws some none (none_waits all) d = delivered_by laws none all d
 
     module _ (laws : Laws s) (some : 1 ≤ s.options.slots) (old : Course) (r : Reflects s f.events old None) where
       pub picked : {turn : Turn} {new : Course} → Picks given old turn new → IsAt s f marks new turn
       picked (drains new over flying past known) = at_same s f marks old new past known (drained old r over flying)
       picked (ends_so told new is none left known) = ended_so old r told is none new
-      picked (stages turn new going slot more st past known) =
-          at_same s f marks old new past known (staged_next old turn r going (subst (λ (o : Options). length old.tickets.items < o.slots) same slot) st)
+      picked (stages number turn new going slot lowest st past known) =
+          at_same s f marks old new past known (staged_next old number turn r going (subst (λ (o : Options). length old.tickets.items < o.slots) same slot) lowest st)
       picked (waits_for_one new going flying none past known) = at_same s f marks old new past known (waited_for old r going flying none)
       picked (has_result turn new going none nothing d past known) = at_same s f marks old new past known (result_there old r going laws some none nothing d)

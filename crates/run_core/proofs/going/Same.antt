@@ -13,20 +13,20 @@ use Rattle.run_rules.specs.Scene.{Scene}
 use Rattle.run_rules.proofs.events.Places.{IsJob}
 use Rattle.run_core.specs.declared.state.Course.{Course}
 use Rattle.run_core.specs.declared.state.JobPhase.{JobPhase}
-use Rattle.run_core.specs.declared.state.JobState.{JobState}
+use Rattle.run_core.specs.declared.job_states.JobState.{JobState}
 use Rattle.run_core.specs.declared.state.Phase.{Phase}
 use Rattle.run_core.specs.declared.state.Turn.{Turn}
 use Rattle.run_core.specs.inner.Course.{Past, known_in, past_of}
 use Rattle.run_core.specs.inner.Due.{Calls}
-use Rattle.run_core.specs.inner.Keeps.{state_at}
 use Rattle.run_core.specs.inner.Standing.{IsAt, IsStaging, IsWorking, Runs, collecting, delivering, ended, measuring, staging, working}
 use Rattle.run_core.proofs.events.Reflecting.{reflects_same}
+use Rattle.run_core.specs.inner.JobStates.{IsLowest, NoneWaits, state_at}
 
 module _ (s : Scene) (f : Progress) (marks : List Mark) (old new : Course) (past : past_of new ≡ past_of old) (known : new.known ≡ old.known) where
   same_jobs : known_in old.known ≡ known_in new.known
   same_jobs = ap known_in (sym known)
 
-  same_states : old.jobs.items ≡ new.jobs.items
+  same_states : old.jobs ≡ new.jobs
   same_states = ap (λ (p : Past). p.jobs) (sym past)
 
   same_end : new.end ≡ old.end
@@ -35,12 +35,16 @@ module _ (s : Scene) (f : Progress) (marks : List Mark) (old new : Course) (past
   same_folders : old.folders ≡ new.folders
   same_folders = ap (λ (p : Past). p.folders) (sym past)
 
-  staging_same : (at_work : Option ℕ) (n : ℕ) (job : Job) (plan : StagePlan) → IsStaging s f marks old at_work n job plan → IsStaging s f marks new at_work n job plan
-  staging_same at_work n job plan st = record {
+  lowest_same : (n : ℕ) → IsLowest old.jobs (length (known_in old.known)) n → IsLowest new.jobs (length (known_in new.known)) n
+  lowest_same n lowest =
+      subst (λ (states : List JobState). IsLowest states (length (known_in new.known)) n) same_states
+      (subst (λ (jobs : List Job). IsLowest old.jobs (length jobs) n) same_jobs lowest)
+
+  staging_same : (n : ℕ) (job : Job) (plan : StagePlan) → IsStaging s f marks old n job plan → IsStaging s f marks new n job plan
+  staging_same n job plan st = record {
     it = subst (λ (jobs : List Job). IsJob jobs n job) same_jobs st.it;
     may = subst (λ folders. MayStage s f marks job.place plan (folders + 1)) same_folders st.may;
-    next = subst (λ (states : List JobState). n ≤ length states) same_states st.next;
-    alone = st.alone;
+    lowest = lowest_same n st.lowest;
     going = same_end ∙ st.going;
   }
 
@@ -54,14 +58,15 @@ module _ (s : Scene) (f : Progress) (marks : List Mark) (old new : Course) (past
 
   pub at_same : {turn : Turn} → IsAt s f marks old turn → IsAt s f marks new turn
   at_same (measuring found m rest path is left happened none nothing) = measuring found m rest path is left happened (known ∙ none) (past ∙ nothing)
-  at_same (staging at_work n job plan r st) =
+  at_same (staging n job plan r st) =
       subst (λ folders. IsAt s f marks new (record { asks = Request.Host job.place (HostRequest.Stage plan (folders + 1)); phase = Phase.Staging n })) (sym same_folders)
-      (staging at_work n job plan (reflects_same s f.events old new at_work past known r) (staging_same at_work n job plan st))
+      (staging n job plan (reflects_same s f.events old new None past known r) (staging_same n job plan st))
   at_same (working n job call phase r w) = working n job call phase (reflects_same s f.events old new (Some n) past known r) (working_same n job call phase w)
   at_same (collecting r may) = collecting (reflects_same s f.events old new None past known r) may
   at_same (delivering plan r may going all) =
       delivering plan (reflects_same s f.events old new None past known r) may (same_end ∙ going)
-      (subst (λ (states : List JobState). length (known_in new.known) ≤ length states) same_states (subst (λ (jobs : List Job). length jobs ≤ length old.jobs.items) same_jobs all))
+      (subst (λ (states : List JobState). NoneWaits states (length (known_in new.known))) same_states
+      (subst (λ (jobs : List Job). NoneWaits old.jobs (length jobs)) same_jobs all))
   at_same (ended end so) = ended end so
 
 -- so with its run

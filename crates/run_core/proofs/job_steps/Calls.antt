@@ -16,9 +16,9 @@ use Rattle.run_core.specs.declared.state.Course.{Course}
 use Rattle.run_core.specs.declared.state.JobPhase.{JobPhase}
 use Rattle.run_core.specs.declared.state.Kept.{Kept}
 use Rattle.run_core.specs.inner.Due.{call_for, work_of}
-use Rattle.run_core.specs.inner.Keeps.{state_at}
 use Rattle.run_core.specs.inner.Standing.{IsWorking}
 use Rattle.run_core.proofs.Work.{due_of, place_of}
+use Rattle.run_core.specs.inner.JobStates.{state_at}
 
 -- the same files are read, wherever the job is
 inputs_alike : (options : Options) (folder : ℕ) (place : JobPlace) (staged : Fields) (todo : List Name) (read : Heads) →
@@ -101,7 +101,7 @@ module _ (s : Scene) (f : Progress) (marks : List Mark) where
   allowed_by place call its is = absurd its
 
   pub working_allowed : (course : Course) (n : ℕ) (job : Job) (call : HostRequest) (phase : JobPhase) →
-      number_at f.events job.place ≡ (state_at course.jobs.items n).folder → IsWorking s f course n job call phase → Allowed s f marks (Request.Host job.place call)
+      number_at f.events job.place ≡ (state_at course.jobs n).folder → IsWorking s f course n job call phase → Allowed s f marks (Request.Host job.place call)
   working_allowed course n job call phase number is =
-      allowed_by job.place call (for_job s.options (state_at course.jobs.items n).folder [] call phase is.calls.due)
-      (due_at job.place (state_at course.jobs.items n).folder call phase is.due number is.calls.due)
+      allowed_by job.place call (for_job s.options (state_at course.jobs n).folder [] call phase is.calls.due)
+      (due_at job.place (state_at course.jobs n).folder call phase is.due number is.calls.due)

@@ -14,7 +14,7 @@ use Rattle.run_rules.specs.declared.setting.Options.{Options}
 use Rattle.run_rules.specs.Allowed.{MayCollect}
 use Rattle.run_rules.specs.Events.{Event, Progress, Work, child_exited, job_at, job_failed, job_failed_for_now, nothing_due, scan_due}
 use Rattle.run_rules.specs.Folders.{out_folder}
-use Rattle.run_rules.specs.Plans.{LoadsHeld}
+use Rattle.run_rules.specs.Plans.{InForce}
 use Rattle.run_rules.specs.Run.{Goes}
 use Rattle.run_rules.specs.Scene.{Scene}
 use Rattle.run_rules.specs.Steps.{Steps, call, exits_badly, exits_for_now, exits_well, progress_with}
@@ -30,16 +30,15 @@ use Rattle.run_core.specs.declared.state.Kept.{Kept}
 use Rattle.run_core.specs.declared.state.Turn.{Turn}
 use Rattle.run_core.specs.inner.Course.{GivesUp, known_in, past_of}
 use Rattle.run_core.specs.inner.Due.{CallsNext, Scans}
-use Rattle.run_core.specs.inner.Keeps.{Reflects, state_at}
-use Rattle.run_core.specs.inner.Picks.{AfterChild, AfterEnd, AfterTemporary, IsSite, Turns, again, badly, for_now, no_more, well}
+use Rattle.run_core.specs.inner.Keeps.{Reflects}
+use Rattle.run_core.specs.inner.Picks.{AfterChild, AfterEnd, AfterTemporary, IsSite, Turns, badly, for_now, well}
 use Rattle.run_core.specs.inner.Standing.{Runs}
 use Rattle.run_core.proofs.events.Numbers.{job_there}
 use Rattle.run_core.proofs.events.Reflecting.{Landed, Laws, gave_up_reflects, known_there, landed_reflects}
-use Rattle.run_core.proofs.going.Picking.{staged_again}
 use Rattle.run_core.proofs.going.Same.{at_same}
-use Rattle.run_core.proofs.job_steps.GaveUp.{still_open}
 use Rattle.run_core.proofs.job_steps.Sites.{Fits, site_fits}
 use Rattle.run_core.proofs.job_steps.Turns.{PicksAt, turns_at}
+use Rattle.run_core.specs.inner.JobStates.{state_at}
 
 -- the call that lists the output folder is the one for the job's folders
 scan_calls : (options : Options) (folder : ℕ) (job : Job) (site : Site) (kept : Kept) (millis : ℕ) → Fits options folder job site →
@@ -51,7 +50,7 @@ scan_calls options folder job site kept millis fits = record {
 }
 
 module _ (s : Scene) (given : Given) (same : given.options ≡ s.options) (laws : Laws s) (picks : PicksAt s given) (t : List Pair) (f : Progress) (marks : List Mark)
-    (goes : Goes s (LoadsHeld s) t f marks) where
+    (goes : Goes s (InForce s) t f marks) where
   module _ (old : Course) (r : Reflects s f.events old None) (may : MayCollect s f marks []) (ending : ChildEnd) (turn : Turn) (new : Course)
       (after : AfterChild given old ending turn new) where
     abbrev pair : Pair
@@ -76,7 +75,7 @@ module _ (s : Scene) (given : Given) (same : given.options ≡ s.options) (laws 
     known = known_there s f.events old None n lands.job lands.it r
 
     goes_by : (work : Work) (more : List Event) → Steps s f pair work more →
-        Goes s (LoadsHeld s) (t ++ pair ∷ []) (progress_with f work more) (marks_after s (progress_with f work more) marks)
+        Goes s (InForce s) (t ++ pair ∷ []) (progress_with f work more) (marks_after s (progress_with f work more) marks)
     goes_by work more step = goes_on s pair work more goes may step
 
     ended_well : (site : Site) (next : JobNext) → class_of lands.job.tool.exit_codes ending.code ≡ ExitClass.Success → IsSite given after.landed n site →
@@ -94,7 +93,7 @@ module _ (s : Scene) (given : Given) (same : given.options ≡ s.options) (laws 
               es after.landed n lands.job lands.reflects it
               (JobNext.Asks (HostRequest.Scan (out_folder site.options.now.work site.folder)) (JobPhase.Scanning after.flight.kept ending.millis))
               turn new refl (sym (append-nil es))
-              (scan_calls s.options (state_at after.landed.jobs.items n).folder lands.job site after.flight.kept ending.millis
+              (scan_calls s.options (state_at after.landed.jobs n).folder lands.job site after.flight.kept ending.millis
               (site_fits s.options given same after.landed n lands.job site it is_site))
               lands.begun
               (subst (λ (its : JobNext). Turns given after.landed n its turn new) scans.is turns);
@@ -126,32 +125,25 @@ module _ (s : Scene) (given : Given) (same : given.options ≡ s.options) (laws 
       abbrev later : Progress
       later = progress_with f nothing_due more
 
-      its_goes : Goes s (LoadsHeld s) (t ++ pair ∷ []) later (marks_after s later marks)
+      its_goes : Goes s (InForce s) (t ++ pair ∷ []) later (marks_after s later marks)
       its_goes = goes_by nothing_due more (exits_for_now lands.job.place ending lands.job lands.there known class)
 
-      gave_up_reflected : (course : Course) (retried : Bool) → GivesUp (known_in after.landed.known) n given.options.retries (past_of after.landed) retried (past_of course) →
-          course.known ≡ after.landed.known → Reflects s later.events course (cond retried (Some n) None)
-      gave_up_reflected course retried gives same_known =
-          subst (λ (happened : List Event). Reflects s happened course (cond retried (Some n) None))
+      gave_up_reflected : (course : Course) → GivesUp (known_in after.landed.known) n given.options.retries (past_of after.landed) (past_of course) →
+          course.known ≡ after.landed.known → Reflects s later.events course None
+      gave_up_reflected course gives same_known =
+          subst (λ (happened : List Event). Reflects s happened course None)
           (append_assoc f.events (child_exited ending.ticket ∷ []) (job_failed_for_now lands.job.place ∷ []))
-          (gave_up_reflects s es after.landed course n lands.job retried (past_of course) it
-          (subst (λ (o : Options). GivesUp (known_in after.landed.known) n o.retries (past_of after.landed) retried (past_of course)) same gives) refl same_known
+          (gave_up_reflects s es after.landed course n lands.job (past_of course) it
+          (subst (λ (o : Options). GivesUp (known_in after.landed.known) n o.retries (past_of after.landed) (past_of course)) same gives) refl same_known
           lands.reflects)
 
       ended_for_now : AfterTemporary given after.landed n turn new → Runs s (t ++ pair ∷ []) new turn
-      ended_for_now (again gave_up gives same_known stages past known_now) = record {
+      ended_for_now temporary = record {
         happened = later;
         marks = marks_after s later marks;
         goes = its_goes;
-        at = at_same s later (marks_after s later marks) gave_up new past known_now
-            (staged_again s given same later (marks_after s later marks) its_goes refl gave_up n turn (gave_up_reflected gave_up true gives same_known)
-            (still_open (known_in after.landed.known) n given.options.retries (past_of after.landed) (past_of gave_up) gives) stages);
-      }
-      ended_for_now (no_more gave_up gives same_known picked) = record {
-        happened = later;
-        marks = marks_after s later marks;
-        goes = its_goes;
-        at = picks (t ++ pair ∷ []) later (marks_after s later marks) its_goes refl gave_up turn new (gave_up_reflected gave_up false gives same_known) picked;
+        at = picks (t ++ pair ∷ []) later (marks_after s later marks) its_goes refl temporary.tried turn new
+            (gave_up_reflected temporary.tried temporary.gives_up temporary.known) temporary.picks;
       }
 
     ended_by : AfterEnd given after.landed after.flight lands.job.tool ending turn new → Runs s (t ++ pair ∷ []) new turn

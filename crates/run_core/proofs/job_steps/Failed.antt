@@ -15,7 +15,7 @@ use Rattle.run_rules.specs.Allowed.{Allowed, MayCollect}
 use Rattle.run_rules.specs.End.{ended_by_host, is_lost_collect}
 use Rattle.run_rules.specs.EndsSo.{lost}
 use Rattle.run_rules.specs.Events.{Progress, collect_failed, host_failed, nothing_due, tickets}
-use Rattle.run_rules.specs.Plans.{LoadsHeld}
+use Rattle.run_rules.specs.Plans.{InForce}
 use Rattle.run_rules.specs.Run.{Goes}
 use Rattle.run_rules.specs.Scene.{Scene}
 use Rattle.run_rules.specs.Steps.{call, call_fails, loses_collect, progress_with}
@@ -33,7 +33,7 @@ use Rattle.run_core.specs.inner.Turn.{ends}
 use Rattle.run_core.proofs.events.Reflecting.{host_failed_reflects}
 use Rattle.run_core.proofs.job_steps.Turns.{PicksAt}
 
-module _ (s : Scene) (given : Given) (picks : PicksAt s given) (t : List Pair) (f : Progress) (marks : List Mark) (goes : Goes s (LoadsHeld s) t f marks) where
+module _ (s : Scene) (given : Given) (picks : PicksAt s given) (t : List Pair) (f : Progress) (marks : List Mark) (goes : Goes s (InForce s) t f marks) where
   module _ (old : Course) (place : JobPlace) (request : HostRequest) (may : Allowed s f marks (Request.Host place request)) (other : request ≡ HostRequest.Collect → ⊥)
       (turn : Turn) (new : Course) (after : AfterFault given old (fault_of request) turn new) where
     abbrev pair : Pair
@@ -42,7 +42,7 @@ module _ (s : Scene) (given : Given) (picks : PicksAt s given) (t : List Pair) (
     abbrev later : Progress
     later = progress_with f nothing_due (host_failed place (fault_of request) ∷ [])
 
-    fault_goes : Goes s (LoadsHeld s) (t ++ pair ∷ []) later (marks_after s later marks)
+    fault_goes : Goes s (InForce s) (t ++ pair ∷ []) later (marks_after s later marks)
     fault_goes = goes_on s pair nothing_due (host_failed place (fault_of request) ∷ []) goes may (call_fails place request other)
 
     -- whatever the course reflected before

@@ -9,7 +9,7 @@ use Rattle.job_graph.specs.Jobs.{Job}
 use Rattle.job_graph.specs.Words.{Name}
 use Rattle.run_rules.specs.declared.request.Pair.{Pair}
 use Rattle.run_rules.specs.Events.{Progress, input_heads_due, number_at}
-use Rattle.run_rules.specs.Plans.{LoadsHeld}
+use Rattle.run_rules.specs.Plans.{InForce}
 use Rattle.run_rules.specs.Run.{Goes}
 use Rattle.run_rules.specs.Scene.{Scene}
 use Rattle.run_rules.specs.StartsOn.{StartsOn}
@@ -22,7 +22,7 @@ use Rattle.run_core.specs.declared.state.Given.{Given}
 use Rattle.run_core.specs.declared.state.JobPhase.{JobPhase}
 use Rattle.run_core.specs.declared.state.Turn.{Turn}
 use Rattle.run_core.specs.inner.Due.{Starts, events_next, work_next}
-use Rattle.run_core.specs.inner.Keeps.{Reflects, state_at}
+use Rattle.run_core.specs.inner.Keeps.{Reflects}
 use Rattle.run_core.specs.inner.Picks.{AfterInputHead}
 use Rattle.run_core.specs.inner.Standing.{IsWorking, Runs}
 use Rattle.run_core.proofs.events.Reflecting.{Laws, folder_there, known_there}
@@ -30,14 +30,15 @@ use Rattle.run_core.proofs.job_steps.Calls.{working_allowed}
 use Rattle.run_core.proofs.job_steps.Firsts.{IsFirst, first_input}
 use Rattle.run_core.proofs.job_steps.Sites.{Fits, site_fits, starts_at, starts_call, works_unstarted}
 use Rattle.run_core.proofs.job_steps.Turns.{PicksAt, turns_at}
+use Rattle.run_core.specs.inner.JobStates.{state_at}
 
 module _ (s : Scene) (given : Given) (same : given.options ≡ s.options) (laws : Laws s) (picks : PicksAt s given) (t : List Pair) (f : Progress) (marks : List Mark)
-    (goes : Goes s (LoadsHeld s) t f marks) where
+    (goes : Goes s (InForce s) t f marks) where
   module _ (old : Course) (n : ℕ) (job : Job) (path : Name) (limit : ℕ) (bytes : List ℕ) (filling : Filling) (r : Reflects s f.events old (Some n))
       (is : IsWorking s f old n job (HostRequest.Head path limit) (JobPhase.Filling filling)) (turn : Turn) (new : Course)
       (after : AfterInputHead given old n filling bytes turn new) where
     abbrev folder : ℕ
-    folder = (state_at old.jobs.items n).folder
+    folder = (state_at old.jobs n).folder
 
     abbrev read : Heads
     read = with_value path bytes filling.heads
@@ -65,7 +66,7 @@ module _ (s : Scene) (given : Given) (same : given.options ≡ s.options) (laws 
         (subst (λ (k : ℕ). StartsOn s.options job.place job k filling.staged read (reverse first.rest) (work_next job.place after.next) (events_next job.place after.next))
         (sym its_number) on)
 
-    its_goes : Goes s (LoadsHeld s) (t ++ call job.place (HostRequest.Head path limit) (HostAnswer.FirstBytes bytes) ∷ [])
+    its_goes : Goes s (InForce s) (t ++ call job.place (HostRequest.Head path limit) (HostAnswer.FirstBytes bytes) ∷ [])
         (progress_with f (work_next job.place after.next) (events_next job.place after.next))
         (marks_after s (progress_with f (work_next job.place after.next) (events_next job.place after.next)) marks)
     its_goes =

@@ -12,7 +12,7 @@ use Rattle.job_graph.specs.Words.{Fields, Name}
 use Rattle.run_rules.specs.declared.request.Pair.{Pair}
 use Rattle.run_rules.specs.CollectsOn.{CollectsOn}
 use Rattle.run_rules.specs.Events.{Progress, nothing_due}
-use Rattle.run_rules.specs.Plans.{LoadsHeld}
+use Rattle.run_rules.specs.Plans.{InForce}
 use Rattle.run_rules.specs.Run.{Goes}
 use Rattle.run_rules.specs.Scene.{Scene}
 use Rattle.run_rules.specs.Steps.{Steps, call, progress_with, scans}
@@ -25,7 +25,7 @@ use Rattle.run_core.specs.declared.state.Kept.{Kept}
 use Rattle.run_core.specs.declared.state.Phase.{Phase}
 use Rattle.run_core.specs.declared.state.Turn.{Turn}
 use Rattle.run_core.specs.inner.Due.{call_for, events_next, work_next}
-use Rattle.run_core.specs.inner.Keeps.{Reflects, state_at}
+use Rattle.run_core.specs.inner.Keeps.{Reflects}
 use Rattle.run_core.specs.inner.Parts.{kept_in}
 use Rattle.run_core.specs.inner.Picks.{AfterListing}
 use Rattle.run_core.specs.inner.Standing.{IsWorking, Runs}
@@ -34,12 +34,13 @@ use Rattle.run_core.proofs.job_steps.Calls.{working_allowed}
 use Rattle.run_core.proofs.job_steps.Firsts.{never_input, never_output}
 use Rattle.run_core.proofs.job_steps.Sites.{Fits, site_fits, collects_at, collects_call, works_started}
 use Rattle.run_core.proofs.job_steps.Turns.{PicksAt, turns_at}
+use Rattle.run_core.specs.inner.JobStates.{state_at}
 
 module _ (s : Scene) (given : Given) (same : given.options ≡ s.options) (laws : Laws s) (picks : PicksAt s given) (t : List Pair) (f : Progress) (marks : List Mark)
-    (goes : Goes s (LoadsHeld s) t f marks) where
+    (goes : Goes s (InForce s) t f marks) where
   module _ (old : Course) (n : ℕ) (job : Job) (its_folder : Name) (found : List Found) (r : Reflects s f.events old (Some n)) (turn : Turn) (new : Course) where
     abbrev folder : ℕ
-    folder = (state_at old.jobs.items n).folder
+    folder = (state_at old.jobs n).folder
 
     module _ (kept : Kept) (millis : ℕ) (is : IsWorking s f old n job (HostRequest.Scan its_folder) (JobPhase.Scanning kept millis))
         (after : AfterListing given old n kept found turn new) where
@@ -59,7 +60,7 @@ module _ (s : Scene) (given : Given) (same : given.options ≡ s.options) (laws 
           scans job.place its_folder found job is.on.started after.collects.wanted (work_next job.place after.next) (events_next job.place after.next)
           (known_there s f.events old (Some n) n job is.it r) is.on.at wanted on
 
-      its_goes : Goes s (LoadsHeld s) (t ++ call job.place (HostRequest.Scan its_folder) (HostAnswer.Listed found) ∷ [])
+      its_goes : Goes s (InForce s) (t ++ call job.place (HostRequest.Scan its_folder) (HostAnswer.Listed found) ∷ [])
           (progress_with f (work_next job.place after.next) (events_next job.place after.next))
           (marks_after s (progress_with f (work_next job.place after.next) (events_next job.place after.next)) marks)
       its_goes =

@@ -10,7 +10,7 @@ use Rattle.job_graph.specs.Words.{Name}
 use Rattle.run_rules.specs.declared.request.Pair.{Pair}
 use Rattle.run_rules.specs.CollectsOn.{CollectsOn}
 use Rattle.run_rules.specs.Events.{Progress, nothing_due, output_heads_due, scan_due}
-use Rattle.run_rules.specs.Plans.{LoadsHeld}
+use Rattle.run_rules.specs.Plans.{InForce}
 use Rattle.run_rules.specs.Run.{Goes}
 use Rattle.run_rules.specs.Scene.{Scene}
 use Rattle.run_rules.specs.Steps.{Steps, call, progress_with, reads_output}
@@ -25,7 +25,7 @@ use Rattle.run_core.specs.declared.state.Reading.{Reading}
 use Rattle.run_core.specs.declared.state.Turn.{Turn}
 use Rattle.run_core.specs.inner.Due.{Collects, call_for, events_next, work_next}
 use Rattle.run_core.specs.inner.Follows.{AfterBytes}
-use Rattle.run_core.specs.inner.Keeps.{Reflects, state_at}
+use Rattle.run_core.specs.inner.Keeps.{Reflects}
 use Rattle.run_core.specs.inner.Picks.{AfterOutputHead}
 use Rattle.run_core.specs.inner.Standing.{IsWorking, Runs}
 use Rattle.run_core.proofs.events.Reflecting.{Laws, folder_there, known_there}
@@ -34,12 +34,13 @@ use Rattle.run_core.proofs.job_steps.Filled.{input_head_goes_on}
 use Rattle.run_core.proofs.job_steps.Firsts.{HasFirst, first_output}
 use Rattle.run_core.proofs.job_steps.Sites.{Fits, site_fits, collects_at, collects_call, works_started}
 use Rattle.run_core.proofs.job_steps.Turns.{PicksAt, turns_at}
+use Rattle.run_core.specs.inner.JobStates.{state_at}
 
 module _ (s : Scene) (given : Given) (same : given.options ≡ s.options) (laws : Laws s) (picks : PicksAt s given) (t : List Pair) (f : Progress) (marks : List Mark)
-    (goes : Goes s (LoadsHeld s) t f marks) where
+    (goes : Goes s (InForce s) t f marks) where
   module _ (old : Course) (n : ℕ) (job : Job) (path : Name) (limit : ℕ) (bytes : List ℕ) (r : Reflects s f.events old (Some n)) (turn : Turn) (new : Course) where
     abbrev folder : ℕ
-    folder = (state_at old.jobs.items n).folder
+    folder = (state_at old.jobs n).folder
 
     module _ (kept : Kept) (reading : Reading) (is : IsWorking s f old n job (HostRequest.Head path limit) (JobPhase.Reading kept reading))
         (after : AfterOutputHead given old n kept reading bytes turn new) where
@@ -68,7 +69,7 @@ module _ (s : Scene) (given : Given) (same : given.options ≡ s.options) (laws 
           (is.due ∙ ap (λ (names : List Name). output_heads_due job.place reading.found names reading.heads) next_file.first.turned)
           (known_there s f.events old (Some n) n job is.it r) is.on.at on
 
-      its_goes : Goes s (LoadsHeld s) (t ++ call job.place (HostRequest.Head path limit) (HostAnswer.FirstBytes bytes) ∷ [])
+      its_goes : Goes s (InForce s) (t ++ call job.place (HostRequest.Head path limit) (HostAnswer.FirstBytes bytes) ∷ [])
           (progress_with f (work_next job.place after.next) (events_next job.place after.next))
           (marks_after s (progress_with f (work_next job.place after.next) (events_next job.place after.next)) marks)
       its_goes =

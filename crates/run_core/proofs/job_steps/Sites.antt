@@ -15,15 +15,15 @@ use Rattle.run_core.specs.declared.state.Course.{Course}
 use Rattle.run_core.specs.declared.state.Given.{Given}
 use Rattle.run_core.specs.declared.state.JobNext.{JobNext}
 use Rattle.run_core.specs.declared.state.JobPhase.{JobPhase}
-use Rattle.run_core.specs.declared.state.JobState.{JobState}
+use Rattle.run_core.specs.declared.job_states.JobState.{JobState}
 use Rattle.run_core.specs.declared.state.Kept.{Kept}
 use Rattle.run_core.specs.inner.Course.{known_in}
 use Rattle.run_core.specs.inner.Due.{CallsNext, Collects, KeepsStill, Starts, events_next, job_at_site, work_next}
-use Rattle.run_core.specs.inner.Keeps.{state_at}
 use Rattle.run_core.specs.inner.Picks.{IsSite}
 use Rattle.run_core.specs.inner.Standing.{HasStarted}
 use Rattle.run_core.proofs.events.Numbers.{job_there, state_there}
 use Rattle.run_core.proofs.job_steps.Turns.{WorksNext}
+use Rattle.run_core.specs.inner.JobStates.{state_at}
 
 -- a site of the job's tool, in the folders that the job of the number has
 pub record Fits (options : Options) (folder : ℕ) (job : Job) (site : Site) : Type 0 where
@@ -32,12 +32,12 @@ pub record Fits (options : Options) (folder : ℕ) (job : Job) (site : Site) : T
   pub options_are : site.options.now ≡ options
 
 pub site_fits : (options : Options) (given : Given) → given.options ≡ options → (course : Course) (n : ℕ) (job : Job) (site : Site) → IsJob (known_in course.known) n job →
-    IsSite given course n site → Fits options (state_at course.jobs.items n).folder job site
+    IsSite given course n site → Fits options (state_at course.jobs n).folder job site
 site_fits options given same course n job site it is =
     let one : is.job ≡ job = one_job (known_in course.known) n n is.job job refl (job_there (known_in course.known) n is.job is.known) it in
     record {
       tool = is.tool ∙ ap (λ (j : Job). j.tool) one;
-      folder_is = is.folder ∙ ap (λ (state : JobState). state.folder) (sym (state_there course.jobs.items n is.state is.staged));
+      folder_is = is.folder ∙ ap (λ (state : JobState). state.folder) (sym (state_there course.jobs n is.state is.staged));
       options_are = is.options ∙ same;
     }
 

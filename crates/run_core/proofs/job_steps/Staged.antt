@@ -1,5 +1,5 @@
 -- A job is staged: its input files are read, or it is started, or it fails.
-use Rattle.std.proofs.Common.{◌≡◌, ◌∙◌, ◌+◌, ◌==◌, ℕ, cond, List, [], ◌∷◌, ◌++◌, Option, Some, refl, sym, ap, subst, append_assoc, eq-eqb}
+use Rattle.std.proofs.Common.{◌≡◌, ◌∙◌, ◌+◌, ◌==◌, ℕ, cond, List, [], ◌∷◌, ◌++◌, Option, Some, None, refl, sym, ap, subst, append_assoc, eq-eqb}
 use Rattle.input_files.specs.Contents.{heads_wanted}
 use Rattle.plan_checker.specs.declared.plan.Mark.{Mark}
 use Rattle.proc_host.specs.declared.call.HostAnswer.{HostAnswer}
@@ -10,7 +10,7 @@ use Rattle.job_graph.specs.declared.unfolding.Unfolding.{Unfolding}
 use Rattle.job_graph.specs.Jobs.{Job}
 use Rattle.run_rules.specs.declared.request.Pair.{Pair}
 use Rattle.run_rules.specs.Events.{Event, Progress, job_staged}
-use Rattle.run_rules.specs.Plans.{LoadsHeld}
+use Rattle.run_rules.specs.Plans.{InForce}
 use Rattle.run_rules.specs.Run.{Goes}
 use Rattle.run_rules.specs.Scene.{Scene}
 use Rattle.run_rules.specs.StartsOn.{StartsOn}
@@ -23,40 +23,41 @@ use Rattle.run_core.specs.declared.state.Given.{Given}
 use Rattle.run_core.specs.declared.state.Turn.{Turn}
 use Rattle.run_core.specs.inner.Course.{Past, known_in, past_of}
 use Rattle.run_core.specs.inner.Due.{CallsNext, Starts, events_next, work_next}
-use Rattle.run_core.specs.inner.Keeps.{Reflects, state_at}
+use Rattle.run_core.specs.inner.Keeps.{Reflects}
 use Rattle.run_core.specs.inner.Picks.{AfterStaging}
 use Rattle.run_core.specs.inner.Standing.{IsStaging, Runs}
 use Rattle.run_core.proofs.events.Kept.{folder_staged}
 use Rattle.run_core.proofs.events.Reflecting.{Laws, known_there, staged_reflects}
 use Rattle.run_core.proofs.job_steps.Sites.{Fits, site_fits, starts_at, starts_call, works_unstarted}
 use Rattle.run_core.proofs.job_steps.Turns.{PicksAt, turns_at}
+use Rattle.run_core.specs.inner.JobStates.{state_at}
 
 -- a number is the same as itself
 its_own : (n one other : ℕ) → cond (n == n) one other ≡ one
 its_own n one other = ap (λ b. cond b one other) (eq-eqb n n refl)
 
 module _ (s : Scene) (given : Given) (same : given.options ≡ s.options) (laws : Laws s) (picks : PicksAt s given) (t : List Pair) (f : Progress) (marks : List Mark)
-    (goes : Goes s (LoadsHeld s) t f marks) where
-  module _ (old : Course) (at_work : Option ℕ) (n : ℕ) (job : Job) (plan : StagePlan) (r : Reflects s f.events old at_work)
-      (is : IsStaging s f marks old at_work n job plan) (turn : Turn) (new : Course) (after : AfterStaging given old n plan.value turn new) where
+    (goes : Goes s (InForce s) t f marks) where
+  module _ (old : Course) (n : ℕ) (job : Job) (plan : StagePlan) (r : Reflects s f.events old None)
+      (is : IsStaging s f marks old n job plan) (turn : Turn) (new : Course) (after : AfterStaging given old n plan.value turn new) where
     abbrev folder : ℕ
     folder = old.folders + 1
 
     it_still : IsJob (known_in after.staged.known) n job
     it_still = subst (λ (k : Option Unfolding). IsJob (known_in k) n job) (sym after.known) is.it
 
-    folder_now : (state_at after.staged.jobs.items n).folder ≡ folder
+    folder_now : (state_at after.staged.jobs n).folder ≡ folder
     folder_now =
         ap (λ (p : Past). (state_at p.jobs n).folder) after.past
-        ∙ folder_staged (past_of old) n is.next n
-        ∙ its_own n folder (state_at old.jobs.items n).folder
+        ∙ folder_staged (past_of old) n n
+        ∙ its_own n folder (state_at old.jobs n).folder
 
     fits : Fits s.options folder job after.site
     fits =
         subst (λ (k : ℕ). Fits s.options k job after.site) folder_now (site_fits s.options given same after.staged n job after.site it_still after.is_site)
 
     staged_is : Reflects s (f.events ++ job_staged job.place folder ∷ []) after.staged (Some n)
-    staged_is = staged_reflects s f.events old after.staged at_work n job is.it is.next is.may.not_held is.may.slot is.alone after.past after.known r
+    staged_is = staged_reflects s f.events old after.staged n job is.it is.lowest.waits is.may.slot after.past after.known r
 
     its_starts : Starts after.site plan.value [] (heads_wanted job.tool.inputs plan.value) after.next
     its_starts = subst (λ (tool : Tool). Starts after.site plan.value [] (heads_wanted tool.inputs plan.value) after.next) fits.tool after.starts
@@ -69,9 +70,9 @@ module _ (s : Scene) (given : Given) (same : given.options ≡ s.options) (laws 
 
     step : Steps s f (call job.place (HostRequest.Stage plan folder) HostAnswer.Done) (work_next job.place after.next) more
     step =
-        stages job.place plan folder job (work_next job.place after.next) (events_next job.place after.next) (known_there s f.events old at_work n job is.it r) on
+        stages job.place plan folder job (work_next job.place after.next) (events_next job.place after.next) (known_there s f.events old None n job is.it r) on
 
-    its_goes : Goes s (LoadsHeld s) (t ++ call job.place (HostRequest.Stage plan folder) HostAnswer.Done ∷ []) (progress_with f (work_next job.place after.next) more)
+    its_goes : Goes s (InForce s) (t ++ call job.place (HostRequest.Stage plan folder) HostAnswer.Done ∷ []) (progress_with f (work_next job.place after.next) more)
         (marks_after s (progress_with f (work_next job.place after.next) more) marks)
     its_goes = goes_on s (call job.place (HostRequest.Stage plan folder) HostAnswer.Done) (work_next job.place after.next) more goes is.may step
 

@@ -8,7 +8,7 @@ use Rattle.proc_host.specs.declared.call.HostRequest.{HostRequest}
 use Rattle.job_graph.specs.Jobs.{Job}
 use Rattle.run_rules.specs.declared.request.Pair.{Pair}
 use Rattle.run_rules.specs.Events.{Event, Progress, job_started, nothing_due, scan_due}
-use Rattle.run_rules.specs.Plans.{LoadsHeld}
+use Rattle.run_rules.specs.Plans.{InForce}
 use Rattle.run_rules.specs.Run.{Goes}
 use Rattle.run_rules.specs.Scene.{Scene}
 use Rattle.run_rules.specs.Steps.{call, progress_with, starts}
@@ -21,7 +21,7 @@ use Rattle.run_core.specs.declared.state.Kept.{Kept}
 use Rattle.run_core.specs.declared.state.Phase.{Phase}
 use Rattle.run_core.specs.declared.state.Turn.{Turn}
 use Rattle.run_core.specs.inner.Due.{IsKept, call_for, kept_of}
-use Rattle.run_core.specs.inner.Keeps.{Reflects, state_at}
+use Rattle.run_core.specs.inner.Keeps.{Reflects}
 use Rattle.run_core.specs.inner.Parts.{kept_in}
 use Rattle.run_core.specs.inner.Picks.{AfterStart}
 use Rattle.run_core.specs.inner.Standing.{IsWorking, Runs}
@@ -29,12 +29,13 @@ use Rattle.run_core.proofs.events.Reflecting.{folder_there, started_reflects}
 use Rattle.run_core.proofs.job_steps.Calls.{working_allowed}
 use Rattle.run_core.proofs.job_steps.Firsts.{input_starts_none, output_starts_none}
 use Rattle.run_core.proofs.job_steps.Turns.{PicksAt}
+use Rattle.run_core.specs.inner.JobStates.{state_at}
 
 -- what is kept is of the launch
 kept_so : (kept : Kept) (launch : Launch) → kept ≡ kept_of kept.inputs launch → IsKept kept (record { inputs = kept.inputs; launch = launch })
 kept_so kept launch is = record { inputs = refl; stdout = ap (λ (k : Kept). k.stdout) is; stderr = ap (λ (k : Kept). k.stderr) is }
 
-module _ (s : Scene) (given : Given) (picks : PicksAt s given) (t : List Pair) (f : Progress) (marks : List Mark) (goes : Goes s (LoadsHeld s) t f marks) where
+module _ (s : Scene) (given : Given) (picks : PicksAt s given) (t : List Pair) (f : Progress) (marks : List Mark) (goes : Goes s (InForce s) t f marks) where
   module _ (old : Course) (n : ℕ) (job : Job) (launch : Launch) (ticket : ℕ) (r : Reflects s f.events old (Some n)) (fresh : IsFresh ticket old.tickets.items)
       (turn : Turn) (new : Course) where
     abbrev pair : Pair
@@ -44,7 +45,7 @@ module _ (s : Scene) (given : Given) (picks : PicksAt s given) (t : List Pair) (
       abbrev more : List Event
       more = job_started job.place kept.inputs launch ticket ∷ []
 
-      its_goes : Goes s (LoadsHeld s) (t ++ pair ∷ []) (progress_with f nothing_due more) (marks_after s (progress_with f nothing_due more) marks)
+      its_goes : Goes s (InForce s) (t ++ pair ∷ []) (progress_with f nothing_due more) (marks_after s (progress_with f nothing_due more) marks)
       its_goes =
           goes_on s pair nothing_due more goes
           (working_allowed s f marks old n job (HostRequest.Start launch) (JobPhase.Starting kept) (folder_there s f.events old (Some n) n job is.it r) is)
@@ -67,9 +68,9 @@ module _ (s : Scene) (given : Given) (picks : PicksAt s given) (t : List Pair) (
     pub start_goes_on : (phase : JobPhase) → IsWorking s f old n job (HostRequest.Start launch) phase → AfterStart given old n (kept_in (Phase.Working n phase)) ticket turn new →
         Runs s (t ++ call job.place (HostRequest.Start launch) (HostAnswer.Started ticket) ∷ []) new turn
     start_goes_on (JobPhase.Filling filling) is after =
-        absurd (input_starts_none s.options (state_at old.jobs.items n).folder filling.staged filling.heads (reverse filling.left) launch is.calls.due)
+        absurd (input_starts_none s.options (state_at old.jobs n).folder filling.staged filling.heads (reverse filling.left) launch is.calls.due)
     start_goes_on (JobPhase.Starting kept) is after = child_started kept is after
     start_goes_on (JobPhase.Scanning kept millis) is after =
-        let never : call_for s.options (state_at old.jobs.items n).folder (scan_due [] millis) ≡ Some (HostRequest.Start launch) = is.calls.due in absurd cc
+        let never : call_for s.options (state_at old.jobs n).folder (scan_due [] millis) ≡ Some (HostRequest.Start launch) = is.calls.due in absurd cc
     start_goes_on (JobPhase.Reading kept reading) is after =
-        absurd (output_starts_none s.options (state_at old.jobs.items n).folder reading.found reading.heads (reverse reading.left) launch is.calls.due)
+        absurd (output_starts_none s.options (state_at old.jobs n).folder reading.found reading.heads (reverse reading.left) launch is.calls.due)

@@ -7,7 +7,7 @@ use Rattle.job_graph.specs.Jobs.{Job}
 use Rattle.job_graph.specs.Words.{JobPlace}
 use Rattle.run_rules.specs.declared.request.Pair.{Pair}
 use Rattle.run_rules.specs.Events.{Event, Progress, job_failed, job_succeeded, nothing_due}
-use Rattle.run_rules.specs.Plans.{LoadsHeld}
+use Rattle.run_rules.specs.Plans.{InForce}
 use Rattle.run_rules.specs.Run.{Goes}
 use Rattle.run_rules.specs.Scene.{Scene}
 use Rattle.run_rules.proofs.events.Places.{IsJob}
@@ -15,22 +15,23 @@ use Rattle.run_core.specs.declared.state.Course.{Course}
 use Rattle.run_core.specs.declared.state.Given.{Given}
 use Rattle.run_core.specs.declared.state.JobNext.{JobNext}
 use Rattle.run_core.specs.declared.state.JobPhase.{JobPhase}
-use Rattle.run_core.specs.declared.state.JobState.{JobState}
+use Rattle.run_core.specs.declared.job_states.JobState.{JobState}
 use Rattle.run_core.specs.declared.state.Turn.{Turn}
 use Rattle.run_core.specs.inner.Course.{Past, known_in, past_of, place_at, with_end}
 use Rattle.run_core.specs.inner.Due.{Calls, CallsNext, events_next, work_next, work_of}
-use Rattle.run_core.specs.inner.Keeps.{Reflects, state_at}
+use Rattle.run_core.specs.inner.Keeps.{Reflects}
 use Rattle.run_core.specs.inner.Knows.{Learns}
 use Rattle.run_core.specs.inner.Picks.{Picks, Turns, asks, fails, gives, gives_late}
 use Rattle.run_core.specs.inner.Standing.{IsAt, WorksOn, working}
 use Rattle.run_core.specs.inner.Turn.{permanent, works}
 use Rattle.run_core.proofs.events.Numbers.{place_there}
 use Rattle.run_core.proofs.events.Reflecting.{Laws, job_failed_reflects, late_reflects, reflects_same, success_reflects}
+use Rattle.run_core.specs.inner.JobStates.{state_at}
 
 -- where nothing is due, the machine is at what it turns to
 abbrev pub PicksAt : Scene → Given → Type 0
 PicksAt s given =
-    (t : List Pair) (f : Progress) (marks : List Mark) → Goes s (LoadsHeld s) t f marks → f.work ≡ nothing_due → (old : Course) (turn : Turn) (new : Course) →
+    (t : List Pair) (f : Progress) (marks : List Mark) → Goes s (InForce s) t f marks → f.work ≡ nothing_due → (old : Course) (turn : Turn) (new : Course) →
     Reflects s f.events old None → Picks given old turn new → IsAt s f marks new turn
 
 -- of a job that goes on after its child has ended is kept what the child was started by
@@ -38,14 +39,14 @@ abbrev pub WorksNext : List Event → JobPlace → JobNext → Type 0
 WorksNext es place (JobNext.Asks call phase) = WorksOn es place phase
 WorksNext es place next = Unit {0}
 
-module _ (s : Scene) (given : Given) (laws : Laws s) (picks : PicksAt s given) (t : List Pair) (f : Progress) (marks : List Mark) (goes : Goes s (LoadsHeld s) t f marks)
+module _ (s : Scene) (given : Given) (laws : Laws s) (picks : PicksAt s given) (t : List Pair) (f : Progress) (marks : List Mark) (goes : Goes s (InForce s) t f marks)
     (es : List Event) (old : Course) (n : ℕ) (job : Job) (r : Reflects s es old (Some n)) (it : IsJob (known_in old.known) n job) where
   there : place_at (known_in old.known) n ≡ job.place
   there = place_there (known_in old.known) n job it
 
   -- it goes on
   goes_on_at : (call : HostRequest) (phase : JobPhase) (new : Course) → past_of new ≡ past_of old → new.known ≡ old.known → f.work ≡ work_of job.place call phase →
-      f.events ≡ es → Calls s.options (state_at old.jobs.items n).folder call phase → WorksOn es job.place phase → IsAt s f marks new (works (place_at (known_in old.known) n) n call phase)
+      f.events ≡ es → Calls s.options (state_at old.jobs n).folder call phase → WorksOn es job.place phase → IsAt s f marks new (works (place_at (known_in old.known) n) n call phase)
   goes_on_at call phase new same known work events calls on =
       subst (λ (place : JobPlace). IsAt s f marks new (works place n call phase)) (sym there)
       (working n job call phase
@@ -64,7 +65,7 @@ module _ (s : Scene) (given : Given) (laws : Laws s) (picks : PicksAt s given) (
       picks t f marks goes work over turn new (subst (λ (happened : List Event). Reflects s happened over None) (sym events) reflects) picked
 
   pub turns_at : (next : JobNext) (turn : Turn) (new : Course) → f.work ≡ work_next job.place next → f.events ≡ es ++ events_next job.place next →
-      CallsNext s.options (state_at old.jobs.items n).folder next → WorksNext es job.place next → Turns given old n next turn new → IsAt s f marks new turn
+      CallsNext s.options (state_at old.jobs n).folder next → WorksNext es job.place next → Turns given old n next turn new → IsAt s f marks new turn
   turns_at next turn new work events calls on (asks call phase same_but past known) =
       goes_on_at call phase same_but past known work (events ∙ append-nil es) calls on
   turns_at next turn new work events calls on (fails cause failed next_turn course past known picked) =

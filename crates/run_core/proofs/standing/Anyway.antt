@@ -1,5 +1,5 @@
 -- Where memory runs out for what follows from an answer, the answer still makes a longer run.
-use Rattle.std.specs.Prelude.{Contains, MatchBool, bytes_eq, slice_get}
+use Rattle.std.specs.Prelude.{Contains, bytes_eq, slice_get}
 use Rattle.std.specs.List.{IsDistinct}
 use Rattle.std.specs.Map.{keys_of}
 use Rattle.std.proofs.Common.{◌≡◌, ◌∙◌, ◌⊎◌, inl, inr, ℕ, Bool, true, false, List, [], ◌∷◌, ◌++◌, reverse, Option, Some, None, Result, Ok, Err, refl, sym, ap}
@@ -36,8 +36,10 @@ use Rattle.run_rules.specs.Answers.{MayAnswer, by_host}
 use Rattle.run_rules.specs.CollectsOn.{CollectsOn, reads_on as reads_more, collects, collects_none, left_of}
 use Rattle.run_rules.specs.Events.{Event, Work, Started, Progress, file_measured, job_staged, job_started, child_exited, job_succeeded, job_failed, job_failed_for_now, result_delivered, host_failed, collect_failed, job_at, nothing_due, input_heads_due, number_at, scan_due, output_heads_due, start_due}
 use Rattle.run_rules.specs.Folders.{runtime_of}
-use Rattle.run_rules.specs.Plans.{is_planning, LoadsHeld}
-use Rattle.run_rules.specs.Run.{Goes, asks}
+use Rattle.run_rules.specs.Plans.{InForce}
+use Rattle.run_rules.specs.Run.{Goes}
+use Rattle.run_rules.proofs.events.Grows.{goes_on as grows_by}
+use Rattle.run_rules.proofs.events.Planned.{marks_after}
 use Rattle.run_rules.specs.Scene.{Scene}
 use Rattle.run_rules.specs.StartsOn.{StartsOn, reads_on, has_launch, has_no_launch, has_no_contents}
 use Rattle.run_rules.specs.Steps.{Steps, progress_with, measures_file, stages, reads_input, starts, exits_well, exits_for_now, exits_badly, scans, reads_output, delivers, loses_collect, call_fails}
@@ -53,15 +55,16 @@ use Rattle.run_core.specs.inner.Anyway.{CanGoOn}
 use Rattle.run_core.specs.inner.Course.{known_in}
 use Rattle.run_core.specs.inner.Due.{call_for, work_of}
 use Rattle.run_core.specs.inner.Follows.{AsksOf}
-use Rattle.run_core.specs.inner.Keeps.{Reflects, state_at}
+use Rattle.run_core.specs.inner.Keeps.{Reflects}
 use Rattle.run_core.specs.inner.Parts.{job_in}
 use Rattle.run_core.specs.inner.Standing.{HasStarted, IsAt, IsWorking, Runs, collecting, delivering, ended, measuring, staging, working}
 use Rattle.run_core.proofs.events.Reflecting.{FliesThere, flies_there, known_there}
+use Rattle.run_core.specs.inner.JobStates.{state_at}
 
 pub record GoesOn (s : Scene) (t : List Pair) : Type 0 where
   pub happened : Progress
   pub marks : List Mark
-  pub goes : Goes s (LoadsHeld s) t happened marks
+  pub goes : Goes s (InForce s) t happened marks
 
 -- a job's start, whatever it is
 record SomeStart (options : Options) (place : JobPlace) (job : Job) (number : ℕ) (staged : Fields) (read : Heads) (todo : List Name) : Type 0 where
@@ -129,19 +132,13 @@ no_collect options folder (output_heads_due place found (name ∷ todo) read) is
 some_there : (jobs : List Job) (number : ℕ) (job : Job) → IsJob jobs number job → slice_get jobs number ≡ Some job
 some_there jobs number job it = slice_get-get_or jobs number job it.within ∙ ap Some it.is
 
--- there is always a plan
-some_plan : (s : Scene) (planning : Bool) (f : Progress) (old : List Mark) → (marks : List Mark) × MatchBool planning (LoadsHeld s f marks) (marks ≡ old)
-some_plan s true f old = (_, refl)
-some_plan s false f old = (old, refl)
-
-module _ (s : Scene) (t : List Pair) (f : Progress) (marks : List Mark) (course : Course) (goes : Goes s (LoadsHeld s) t f marks) where
+module _ (s : Scene) (t : List Pair) (f : Progress) (marks : List Mark) (course : Course) (goes : Goes s (InForce s) t f marks) where
   abbrev noted : Request → Answer → Pair
   noted request answer = record { request = request; answer = answer }
 
   goes_with : (p : Pair) (work : Work) (new : List Event) → Allowed s f marks p.request → Steps s f p work new → GoesOn s (t ++ p ∷ [])
   goes_with p work new allowed steps =
-      let plan = some_plan s (is_planning s (progress_with f work new)) (progress_with f work new) marks in
-      record { happened = progress_with f work new; marks = plan.0; goes = asks t f marks p work new plan.0 goes allowed steps plan.1 }
+      record { happened = progress_with f work new; marks = marks_after s (progress_with f work new) marks; goes = grows_by s p work new goes allowed steps }
 
   fails_anyway : (place : JobPlace) (call : HostRequest) → (call ≡ HostRequest.Collect → ⊥) → Allowed s f marks (Request.Host place call) →
       GoesOn s (t ++ noted (Request.Host place call) (Answer.Host (HostAnswer.Failed (fault_of call))) ∷ [])
@@ -192,16 +189,16 @@ module _ (s : Scene) (t : List Pair) (f : Progress) (marks : List Mark) (course 
         AsksOf course (Request.Host job.place call) (Phase.Working number phase) → Allowed s f marks (Request.Host job.place call) →
         GoesOn s (t ++ noted (Request.Host job.place call) (Answer.Host answer) ∷ [])
     work_anyway call (JobPhase.Filling filling) answer (is_read path limit bytes short) w fits allowed =
-        let next = input_next s.options (state_at course.jobs.items number).folder (HostRequest.Head path limit) filling.staged filling.heads (reverse filling.left) w.calls.due in
+        let next = input_next s.options (state_at course.jobs number).folder (HostRequest.Head path limit) filling.staged filling.heads (reverse filling.left) w.calls.due in
         fill_anyway path limit bytes filling next.0 next.1 w.due allowed
     work_anyway call (JobPhase.Starting kept) answer (is_started launch ticket fresh) w fits allowed =
         goes_with _ nothing_due (job_started job.place kept.inputs launch ticket ∷ []) allowed (starts job.place kept.inputs launch ticket w.due)
     work_anyway call (JobPhase.Scanning kept millis) answer (is_listed folder found) w fits allowed = scan_anyway folder found kept w.on allowed
     work_anyway call (JobPhase.Reading kept reading) answer (is_read path limit bytes short) w fits allowed =
-        read_anyway path limit bytes kept reading (output_next s.options (state_at course.jobs.items number).folder (HostRequest.Head path limit) reading.found reading.heads (reverse reading.left) w.calls.due)
+        read_anyway path limit bytes kept reading (output_next s.options (state_at course.jobs number).folder (HostRequest.Head path limit) reading.found reading.heads (reverse reading.left) w.calls.due)
         w.on w.due allowed
     work_anyway call phase answer (has_failed its) w fits allowed =
-        fails_anyway job.place call (λ collects. no_collect s.options (state_at course.jobs.items number).folder (work_of [] call phase) (w.calls.due ∙ ap Some collects)) allowed
+        fails_anyway job.place call (λ collects. no_collect s.options (state_at course.jobs number).folder (work_of [] call phase) (w.calls.due ∙ ap Some collects)) allowed
     work_anyway call phase answer can_answer w fits allowed = absurd fits
 
   -- A child has ended
@@ -231,13 +228,13 @@ module _ (s : Scene) (t : List Pair) (f : Progress) (marks : List Mark) (course 
       goes_with _ nothing_due (file_measured path measure ∷ []) allowed (measures_file path measure)
   at_goes_on can (measuring found which rest path m is f_is none past) fits (by_host place request answer (has_failed call)) allowed =
       fails_anyway [] (HostRequest.Measure path) (λ other. cc) allowed
-  at_goes_on can (staging at_work number job plan reflects is_staging) fits (by_host place request answer (is_staged its folder)) allowed =
+  at_goes_on can (staging number job plan reflects is_staging) fits (by_host place request answer (is_staged its folder)) allowed =
       let start : SomeStart s.options job.place job folder plan.value [] (heads_wanted job.tool.inputs plan.value) =
       a_start s.options job.place job folder can.launches (can.ids job (some_there (known_in course.known) number job is_staging.it)) plan.value []
       (heads_wanted job.tool.inputs plan.value) in
       goes_with _ start.work (job_staged job.place folder ∷ start.more) allowed
-      (stages job.place plan folder job start.work start.more (known_there s f.events course at_work number job is_staging.it reflects) start.starts)
-  at_goes_on can (staging at_work number job plan reflects is_staging) fits (by_host place request answer (has_failed call)) allowed =
+      (stages job.place plan folder job start.work start.more (known_there s f.events course None number job is_staging.it reflects) start.starts)
+  at_goes_on can (staging number job plan reflects is_staging) fits (by_host place request answer (has_failed call)) allowed =
       fails_anyway job.place _ (λ other. cc) allowed
   at_goes_on can (working number job call phase reflects w) fits (by_host place request answer can_answer) allowed =
       work_anyway number job (Some number) reflects can w.it call phase answer can_answer w fits allowed

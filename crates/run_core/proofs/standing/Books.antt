@@ -1,9 +1,8 @@
 -- What bounds a run and what it blames on its host, as what has happened goes on.
 use Rattle.std.specs.Prelude.{Contains, slice_get}
 use Rattle.std.specs.List.{remove}
-use Rattle.std.proofs.Common.{◌≡◌, ◌∙◌, inl, inr, ℕ, ◌+◌, ◌<◌, ◌≤◌, List, length, Option, Some, None, Result, refl, sym, subst, arith}
+use Rattle.std.proofs.Common.{◌≡◌, ◌∙◌, inl, inr, ℕ, true, ◌+◌, ◌<◌, ◌≤◌, List, length, Option, Some, None, Result, refl, sym, subst, arith}
 use Rattle.std.proofs.lemmas.List.Elements.{Contains-push_cases}
-use Rattle.std.proofs.lemmas.Option.{slice_get_within}
 use Rattle.plan_checker.specs.declared.graph.TheConstants.{MOST_VERTICES}
 use Rattle.proc_host.specs.declared.call.Entry.{Entry}
 use Rattle.proc_host.specs.declared.call.HostAnswer.{HostAnswer}
@@ -13,13 +12,15 @@ use Rattle.run_rules.specs.declared.outcome.RunFault.{RunFault}
 use Rattle.run_rules.specs.declared.setting.Options.{Options}
 use Rattle.run_rules.specs.Blame.{WereStarted, logged_answers}
 use Rattle.run_core.specs.declared.state.Flight.{Flight}
-use Rattle.run_core.specs.declared.state.JobState.{JobState}
+use Rattle.run_core.specs.declared.job_states.JobState.{JobState}
 use Rattle.run_core.specs.declared.state.Kept.{Kept}
-use Rattle.run_core.specs.inner.Attempts.{IsBounded, tries_of}
-use Rattle.run_core.specs.inner.Course.{Past, TakesOut, given_up_in, staged_in, with_end, with_giving_up, with_staging, with_start}
+use Rattle.run_core.specs.inner.Attempts.{IsBounded}
+use Rattle.run_core.specs.inner.Course.{Past, TakesOut, with_end, with_giving_up, with_staging, with_start}
 use Rattle.run_core.specs.inner.Standing.{BlamesSoFar, SettlesRightly}
 use Rattle.run_core.proofs.standing.Tickets.{left_there}
-use Rattle.run_core.proofs.standing.Tries.{gave_up_before, gave_up_once_more, gave_up_staged, length_again, length_before, length_given_up, length_new, tries_again, tries_before, tries_given_up, tries_new}
+use Rattle.run_core.proofs.standing.Tries.{gave_up_before, gave_up_once_more, gave_up_staged, length_before, tries_before, tries_given_up, tries_staged}
+use Rattle.run_core.specs.inner.JobStates.{waits_in}
+use Rattle.run_core.proofs.States.{given_up_length, staged_few}
 
 pub record Books (options : Options) (entries : List Entry) (past : Past) : Type 0 where
   pub bounded : IsBounded options past
@@ -92,49 +93,26 @@ module _ (options : Options) (entries : List Entry) (past : Past) where
         blames = books.blames;
       }
 
-  -- one that is new may be
-  pub books_at_new : (known : ℕ) → length past.jobs < known → known ≤ MOST_VERTICES → Books options entries past → BooksAt options entries past (length past.jobs)
-  books_at_new known within few books = record {
+  -- one that waits may be
+  pub books_waiting : (number known : ℕ) → number < known → known ≤ MOST_VERTICES → waits_in past.jobs number ≡ true → Books options entries past →
+      BooksAt options entries past number
+  books_waiting number known within few waits books = record {
     bounded = record {
-      jobs = omega (arith, length_new past.jobs (length past.jobs) (past.folders + 1) refl, within, few);
-      retries = gave_up_staged options.retries past.jobs (length past.jobs) (past.folders + 1) books.bounded.retries;
-      folders = omega (arith, tries_new past.jobs (length past.jobs) (past.folders + 1) refl, books.bounded.folders);
+      jobs = staged_few past.jobs number (past.folders + 1) MOST_VERTICES (omega (arith, within, few)) books.bounded.jobs;
+      retries = gave_up_staged options.retries past.jobs number (past.folders + 1) books.bounded.retries;
+      folders = omega (arith, tries_staged past.jobs number (past.folders + 1) waits, books.bounded.folders);
     };
     blames = books.blames;
   }
 
-  -- and one that gave up, in place of that
+  -- A job gave up
   bounded_given_up : (number : ℕ) (state : JobState) → slice_get past.jobs number ≡ Some state → state.gave_up < options.retries → IsBounded options past →
       IsBounded options (with_giving_up number past)
   bounded_given_up number state there few bounded = record {
-    jobs = omega (arith, length_given_up past.jobs number, bounded.jobs);
+    jobs = omega (arith, given_up_length past.jobs number, bounded.jobs);
     retries = gave_up_once_more options.retries past.jobs number state there few bounded.retries;
-    folders = omega (arith, tries_given_up past.jobs number (slice_get_within past.jobs number state there), bounded.folders);
+    folders = omega (arith, tries_given_up past.jobs number, bounded.folders);
   }
-
-  tries_more : (number : ℕ) → number < length past.jobs → tries_of (staged_in number (past.folders + 1) (given_up_in number past.jobs)) ≡ tries_of past.jobs + 1
-  tries_more number within =
-      tries_again (given_up_in number past.jobs) number (past.folders + 1) (omega (arith, within, length_given_up past.jobs number))
-      ∙ tries_given_up past.jobs number within
-
-  pub books_at_again : (number : ℕ) (state : JobState) → slice_get past.jobs number ≡ Some state → state.gave_up < options.retries → Books options entries past →
-      BooksAt options entries (with_giving_up number past) number
-  books_at_again number state there few books =
-      let within : number < length past.jobs = slice_get_within past.jobs number state there in
-      record {
-        bounded = record {
-          jobs = omega (
-            arith,
-            length_again (given_up_in number past.jobs) number (past.folders + 1) (omega (arith, within, length_given_up past.jobs number)),
-            length_given_up past.jobs number,
-            books.bounded.jobs,
-          );
-          retries = gave_up_staged options.retries (given_up_in number past.jobs) number (past.folders + 1)
-              (gave_up_once_more options.retries past.jobs number state there few books.bounded.retries);
-          folders = omega (arith, tries_more number within, books.bounded.folders);
-        };
-        blames = record { flying = books.blames.flying; settled = books.blames.settled };
-      }
 
   pub books_given_up : (number : ℕ) (state : JobState) → slice_get past.jobs number ≡ Some state → state.gave_up < options.retries → Books options entries past →
       Books options entries (with_giving_up number past)

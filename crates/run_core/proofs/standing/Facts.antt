@@ -66,7 +66,7 @@ module _ (s : Scene) where
   module _ (f : Progress) (course : Course) where
     looks_at : {marks : List Mark} {turn : Turn} → IsAt s f marks course turn → LooksAtSome (past_of course) turn.phase
     looks_at (measuring found which rest path m is f_is none past) = record { rest = rest; name = path; is = is }
-    looks_at (staging at_work number job plan reflects is_staging) = tt
+    looks_at (staging number job plan reflects is_staging) = tt
     looks_at (working number job call phase reflects w) = works_on_some s.options _ (past_of course) number call phase w.calls.due
     looks_at (collecting reflects may) = tt
     looks_at (delivering plan reflects may going all) =
@@ -75,7 +75,7 @@ module _ (s : Scene) where
 
     knows_at : {marks : List Mark} {turn : Turn} → IsAt s f marks course turn → turn.asks ≢ Request.Finished → MayKnow course turn.phase
     knows_at (measuring found which rest path m is f_is none past) asks = tt
-    knows_at (staging at_work number job plan reflects is_staging) asks = knows_by f.events course at_work reflects
+    knows_at (staging number job plan reflects is_staging) asks = knows_by f.events course None reflects
     knows_at (working number job call phase reflects w) asks = knows_by f.events course (Some number) reflects
     knows_at (collecting reflects may) asks = knows_by f.events course None reflects
     knows_at (delivering plan reflects may going all) asks = knows_by f.events course None reflects
@@ -84,7 +84,7 @@ module _ (s : Scene) where
     apart_at : {marks : List Mark} {turn : Turn} → IsAt s f marks course turn → turn.asks ≢ Request.Finished → IsDistinct nat_eq course.tickets.items
     apart_at (measuring found which rest path m is f_is none past) asks =
         subst (λ (p : Past). IsDistinct nat_eq p.tickets) (sym past) nothing_apart
-    apart_at (staging at_work number job plan reflects is_staging) asks = apart_by f.events course at_work reflects
+    apart_at (staging number job plan reflects is_staging) asks = apart_by f.events course None reflects
     apart_at (working number job call phase reflects w) asks = apart_by f.events course (Some number) reflects
     apart_at (collecting reflects may) asks = apart_by f.events course None reflects
     apart_at (delivering plan reflects may going all) asks = apart_by f.events course None reflects
@@ -92,7 +92,7 @@ module _ (s : Scene) where
 
     going_at : {marks : List Mark} {turn : Turn} → IsAt s f marks course turn → turn.phase ≡ Phase.Draining → ⊥
     going_at (measuring found which rest path m is f_is none past) drains = cc
-    going_at (staging at_work number job plan reflects is_staging) drains = cc
+    going_at (staging number job plan reflects is_staging) drains = cc
     going_at (working number job call phase reflects w) drains = cc
     going_at (collecting reflects may) drains = cc
     going_at (delivering plan reflects may going all) drains = cc
@@ -100,7 +100,7 @@ module _ (s : Scene) where
 
     few_at : {marks : List Mark} {turn : Turn} → IsAt s f marks course turn → FewKnown turn course
     few_at (measuring found which rest path m is f_is none past) number at = absurd cc
-    few_at (staging at_work its_number job plan reflects is_staging) number at =
+    few_at (staging its_number job plan reflects is_staging) number at =
         known_few (s.walker (measures f.events)) (resolved f.events) course.known (reflects.knows is_staging.going)
     few_at (working its_number job call phase reflects w) number at = absurd cc
     few_at (collecting reflects may) number at = absurd cc

@@ -23,11 +23,11 @@ use Rattle.run_core.specs.declared.state.JobPhase.{JobPhase}
 use Rattle.run_core.specs.declared.state.Measuring.{Measuring}
 use Rattle.run_core.specs.declared.state.Phase.{Phase}
 use Rattle.run_core.specs.declared.state.Turn.{Turn}
-use Rattle.run_core.specs.inner.Course.{GivesUp, Past, TakesOut, again, known_in, no_more, past_of, too_often}
+use Rattle.run_core.specs.inner.Course.{GivesUp, Past, TakesOut, again, known_in, past_of, too_often}
 use Rattle.run_core.specs.inner.Follows.{AsksOf, FollowsFrom, IsLeftAfter}
 use Rattle.run_core.specs.inner.Knows.{IsUnfolded, fails as unfold_fails, knows as unfold_knows}
 use Rattle.run_core.specs.inner.Measures.{MeasuresOn, all_measured, measures}
-use Rattle.run_core.specs.inner.Picks.{AfterEnd, AfterFault, AfterTemporary, Picks, Turns, again as stages_again, asks, badly, drains, ends_so, fails, for_now, gives, gives_late, has_result, no_more as tries_no_more, stages, waits_for_one, well}
+use Rattle.run_core.specs.inner.Picks.{AfterEnd, AfterFault, AfterTemporary, Picks, Turns, asks, badly, drains, ends_so, fails, for_now, gives, gives_late, has_result, stages, waits_for_one, well}
 use Rattle.run_core.proofs.standing.Answered.{asks_none, known_still}
 use Rattle.run_core.proofs.standing.Leaving.{KnowsSome, MayKnow, learns_by}
 use Rattle.run_core.proofs.standing.Tickets.{one_less}
@@ -49,7 +49,7 @@ module _ (given : Given) where
   picks_fly : (old : Course) (turn : Turn) (new : Course) → Picks given old turn new → new.tickets.items ≡ old.tickets.items
   picks_fly old turn new (drains its_new settled flying same known) = same_tickets (past_of new) (past_of old) same
   picks_fly old turn new (ends_so end its_new is none cleared known) = cleared ∙ sym none
-  picks_fly old turn new (stages its_turn its_new going slot within staging same known) = same_tickets (past_of new) (past_of old) same
+  picks_fly old turn new (stages number its_turn its_new going slot lowest staging same known) = same_tickets (past_of new) (past_of old) same
   picks_fly old turn new (waits_for_one its_new going flying none same known) = same_tickets (past_of new) (past_of old) same
   picks_fly old turn new (has_result its_turn its_new going none to_stage result same known) = same_tickets (past_of new) (past_of old) same
 
@@ -68,16 +68,13 @@ module _ (given : Given) where
       picks_fly learned turn new picks
       ∙ unfolded_fly some.walks _ old learned (learns_by some.walks some.learned _ old learned old.known refl some.is learns)
 
-  gave_up_fly : (past : Past) (jobs : List Job) (number retries : ℕ) {may : Bool} {new : Past} → GivesUp jobs number retries past may new → new.tickets ≡ past.tickets
-  gave_up_fly past jobs number retries (again state there few going) = refl
-  gave_up_fly past jobs number retries (no_more state there few settled) = refl
+  gave_up_fly : (past : Past) (jobs : List Job) (number retries : ℕ) {new : Past} → GivesUp jobs number retries past new → new.tickets ≡ past.tickets
+  gave_up_fly past jobs number retries (again state there few) = refl
   gave_up_fly past jobs number retries (too_often state there many) = refl
 
   temporary_fly : (old : Course) (number : ℕ) (turn : Turn) (new : Course) → AfterTemporary given old number turn new → new.tickets.items ≡ old.tickets.items
-  temporary_fly old number turn new (stages_again gave_up so known staging same still) =
-      same_tickets (past_of new) (past_of gave_up) same ∙ gave_up_fly (past_of old) (known_in old.known) number given.options.retries so
-  temporary_fly old number turn new (tries_no_more gave_up so known picks) =
-      picks_fly gave_up turn new picks ∙ gave_up_fly (past_of old) (known_in old.known) number given.options.retries so
+  temporary_fly old number turn new after =
+      picks_fly after.tried turn new after.picks ∙ gave_up_fly (past_of old) (known_in old.known) number given.options.retries after.gives_up
 
   fault_fly : (old : Course) (fault : HostFault) (turn : Turn) (new : Course) → AfterFault given old fault turn new → new.tickets.items ≡ old.tickets.items
   fault_fly old fault turn new after = picks_fly after.settled turn new after.picks ∙ ap (λ (p : Past). p.tickets) after.past

@@ -45,8 +45,8 @@ lost_blames_at entries past (draining some) = tt
 lost_blames_at entries past lost = tt
 
 lost_room_at : (course : Course) {turn : Turn} → IsLostAt (past_of course) turn → HasRoom course turn.phase
-lost_room_at course (draining some) = record { tickets = λ takes. absurd takes; flights = λ takes. absurd takes; jobs = λ number is. absurd cc }
-lost_room_at course lost = record { tickets = λ takes. absurd takes; flights = λ takes. absurd takes; jobs = λ number is. absurd cc }
+lost_room_at course (draining some) = record { tickets = λ takes. absurd takes; flights = λ takes. absurd takes }
+lost_room_at course lost = record { tickets = λ takes. absurd takes; flights = λ takes. absurd takes }
 
 lost_ahead_at : (past : Past) {turn : Turn} → IsLostAt past turn → pairs_ahead past turn.phase ≤ length past.tickets
 lost_ahead_at past (draining some) = omega arith
@@ -57,7 +57,7 @@ lost_ahead_at past lost = omega arith
 module _ (s : Scene) (f : Progress) (marks : List Mark) (course : Course) where
   asks_none_at : {turn : Turn} → IsAt s f marks course turn → (outcome : Result Report RunFault) → turn.phase ≡ Phase.Ended outcome → turn.asks ≡ Request.Finished
   asks_none_at (measuring found m rest path is left happened none nothing) outcome phase = absurd cc
-  asks_none_at (staging at_work n job plan r st) outcome phase = absurd cc
+  asks_none_at (staging n job plan r st) outcome phase = absurd cc
   asks_none_at (working n job call phase r w) outcome is = absurd cc
   asks_none_at (collecting r may) outcome phase = absurd cc
   asks_none_at (delivering plan r may going all) outcome phase = absurd cc

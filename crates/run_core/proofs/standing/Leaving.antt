@@ -17,11 +17,11 @@ use Rattle.run_core.specs.declared.state.JobNext.{JobNext}
 use Rattle.run_core.specs.declared.state.Phase.{Phase}
 use Rattle.run_core.specs.declared.state.Turn.{Turn}
 use Rattle.run_core.specs.inner.Attempts.{StaysBounded}
-use Rattle.run_core.specs.inner.Course.{GivesUp, Past, again, known_in, no_more, past_of, too_often}
+use Rattle.run_core.specs.inner.Course.{GivesUp, Past, again, known_in, past_of, too_often}
 use Rattle.run_core.specs.inner.Knows.{IsKnown, IsUnfolded, Learns, end_by, fails as unfold_fails, knows as unfold_knows}
-use Rattle.run_core.specs.inner.Picks.{AfterTemporary, Delivers, Picks, Stages, Turns, again as stages_again, asks, delivers, drains, ends_so, fails, gives, gives_late, has_result, no_more as tries_no_more, stages, succeeds_at_once, waits_for_one}
+use Rattle.run_core.specs.inner.Picks.{AfterTemporary, Delivers, Picks, Stages, Turns, asks, delivers, drains, ends_so, fails, gives, gives_late, has_result, stages, succeeds_at_once, waits_for_one}
 use Rattle.run_core.specs.inner.Standing.{Blames, SettlesRightly}
-use Rattle.run_core.proofs.standing.Books.{Books, BooksAt, books_at_again, books_at_new, books_end, books_given_up}
+use Rattle.run_core.proofs.standing.Books.{Books, BooksAt, books_end, books_given_up, books_waiting}
 
 -- with this turn and this course
 pub record Leaves (options : Options) (entries : List Entry) (turn : Turn) (new : Course) : Type 0 where
@@ -100,11 +100,12 @@ module _ (options : Options) (entries : List Entry) where
         let now : Books options entries (past_of new) = books_course new old same books in
         record { bounded = now.bounded; blames = now.blames; not_lost = λ lost. cc; goes = λ drains. cc }
     picks_leave old turn new few books (ends_so end its_new is none cleared known) = leaves_end end turn new refl (books.blames.settled end is)
-    picks_leave old turn new few books (stages its_turn its_new going slot within staging same known) =
-        let phase : turn.phase ≡ Phase.Staging (length old.jobs.items) = ap (λ (t : Turn). t.phase) staging.is in
+    picks_leave old turn new few books (stages number its_turn its_new going slot lowest staging same known) =
+        let phase : turn.phase ≡ Phase.Staging number = ap (λ (t : Turn). t.phase) staging.is in
         let most : length (known_in old.known) ≤ MOST_VERTICES =
-        subst (λ (k : Option Unfolding). length (known_in k) ≤ MOST_VERTICES) known (few (length old.jobs.items) phase) in
-        leaves_staging (length old.jobs.items) old new turn staging same (books_at_new options entries (past_of old) (length (known_in old.known)) within most books)
+        subst (λ (k : Option Unfolding). length (known_in k) ≤ MOST_VERTICES) known (few number phase) in
+        leaves_staging number old new turn staging same
+        (books_waiting options entries (past_of old) number (length (known_in old.known)) lowest.within most lowest.waits books)
     picks_leave old turn new few books (waits_for_one its_new going flying none same known) =
         let now : Books options entries (past_of new) = books_course new old same books in
         record { bounded = now.bounded; blames = now.blames; not_lost = λ lost. cc; goes = λ drains. cc }
@@ -113,17 +114,9 @@ module _ (options : Options) (entries : List Entry) where
 
     -- A job gave up
 
-    books_again : (past : Past) (jobs : List Job) (number retries : ℕ) {may : Bool} {new : Past} → retries ≡ options.retries → GivesUp jobs number retries past may new →
-        may ≡ true → Books options entries past → BooksAt options entries new number
-    books_again past jobs number retries limit (again state there few going) is books =
-        books_at_again options entries past number state there (omega (arith, few, limit)) books
-    books_again past jobs number retries limit (no_more state there few settled) is books = absurd cc
-    books_again past jobs number retries limit (too_often state there many) is books = absurd cc
-
-    books_gave_up : (past : Past) (jobs : List Job) (number retries : ℕ) {may : Bool} {new : Past} → retries ≡ options.retries → GivesUp jobs number retries past may new →
+    books_gave_up : (past : Past) (jobs : List Job) (number retries : ℕ) {new : Past} → retries ≡ options.retries → GivesUp jobs number retries past new →
         Books options entries past → Books options entries new
-    books_gave_up past jobs number retries limit (again state there few going) books = books_given_up options entries past number state there (omega (arith, few, limit)) books
-    books_gave_up past jobs number retries limit (no_more state there few settled) books = books_given_up options entries past number state there (omega (arith, few, limit)) books
+    books_gave_up past jobs number retries limit (again state there few) books = books_given_up options entries past number state there (omega (arith, few, limit)) books
     books_gave_up past jobs number retries limit (too_often state there many) books = books_end options entries past _ tt books
 
     limit_is : given.options.retries ≡ options.retries
@@ -131,11 +124,8 @@ module _ (options : Options) (entries : List Entry) where
 
     pub leaves_temporary : (old : Course) (number : ℕ) (turn : Turn) (new : Course) → FewKnown turn new → Books options entries (past_of old) →
         AfterTemporary given old number turn new → Leaves options entries turn new
-    leaves_temporary old number turn new few books (stages_again gave_up so known staging same still) =
-        leaves_staging number gave_up new turn staging same
-        (books_again (past_of old) (known_in old.known) number given.options.retries limit_is so refl books)
-    leaves_temporary old number turn new few books (tries_no_more gave_up so known picks) =
-        picks_leave gave_up turn new few (books_gave_up (past_of old) (known_in old.known) number given.options.retries limit_is so books) picks
+    leaves_temporary old number turn new few books after =
+        picks_leave after.tried turn new few (books_gave_up (past_of old) (known_in old.known) number given.options.retries limit_is after.gives_up books) after.picks
 
     -- A job goes on
 

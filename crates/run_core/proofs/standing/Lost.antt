@@ -9,7 +9,7 @@ use Rattle.plan_checker.specs.declared.plan.Mark.{Mark}
 use Rattle.job_graph.specs.Words.{JobPlace}
 use Rattle.run_rules.specs.Answers.{MayAnswer, by_host}
 use Rattle.run_rules.specs.Events.{Progress}
-use Rattle.run_rules.specs.Plans.{LoadsHeld}
+use Rattle.run_rules.specs.Plans.{InForce}
 use Rattle.run_rules.specs.Reports.{AreWaits, IsWait}
 use Rattle.run_rules.specs.Run.{Goes}
 use Rattle.run_rules.specs.Scene.{Scene}
@@ -79,7 +79,7 @@ lost_drains past asks = drains_by past.tickets asks
 
 -- The transcript
 
-pub lost_now : (s : Scene) (t : List Pair) (happened : Progress) (marks : List Mark) (past : Past) → Goes s (LoadsHeld s) t happened marks →
+pub lost_now : (s : Scene) (t : List Pair) (happened : Progress) (marks : List Mark) (past : Past) → Goes s (InForce s) t happened marks →
     RanOut s t past (lost_after past)
 lost_now s t happened marks past goes = record {
   front = t;

@@ -17,9 +17,9 @@ use Rattle.run_core.specs.declared.state.Kept.{Kept}
 use Rattle.run_core.specs.declared.state.Phase.{Phase}
 use Rattle.run_core.specs.declared.state.Turn.{Turn}
 use Rattle.run_core.specs.inner.Attempts.{IsBounded, answers_left, many_files, most_stagings, tries_of, weight_of_past}
-use Rattle.run_core.specs.inner.Course.{GivesUp, Past, TakesOut, again, known_in, no_more, past_of, too_often, with_staging, with_start}
+use Rattle.run_core.specs.inner.Course.{GivesUp, Past, TakesOut, again, known_in, past_of, too_often, with_staging, with_start}
 use Rattle.run_core.specs.inner.Knows.{IsUnfolded, fails as unfold_fails, knows as unfold_knows}
-use Rattle.run_core.specs.inner.Picks.{AfterTemporary, Delivers, Picks, Stages, Turns, again as stages_again, asks, delivers, drains, ends_so, fails, gives, gives_late, has_result, no_more as tries_no_more, stages, succeeds_at_once, waits_for_one}
+use Rattle.run_core.specs.inner.Picks.{AfterTemporary, Delivers, Picks, Stages, Turns, asks, delivers, drains, ends_so, fails, gives, gives_late, has_result, stages, succeeds_at_once, waits_for_one}
 use Rattle.run_core.proofs.standing.Leaving.{KnowsSome, learns_by}
 use Rattle.run_core.proofs.standing.Looked.{weight_next}
 use Rattle.run_core.proofs.standing.Tries.{tries_at_most}
@@ -106,7 +106,7 @@ module _ (options : Options) (given : Given) where
   pub picks_few : (old : Course) (turn : Turn) (new : Course) → Picks given old turn new → answers_left options (past_of new) turn.phase ≤ Before old + 2
   picks_few old turn new (drains its_new settled flying same known) = raised (answers_left options (past_of new) Phase.Collecting) (Before old) (at_collect old new same)
   picks_few old turn new (ends_so end its_new is none cleared known) = least (Before old + 2)
-  picks_few old turn new (stages its_turn its_new going slot within staging same known) = at_staging (length old.jobs.items) old new turn staging same
+  picks_few old turn new (stages number its_turn its_new going slot lowest staging same known) = at_staging number old new turn staging same
   picks_few old turn new (waits_for_one its_new going flying none same known) = raised (answers_left options (past_of new) Phase.Collecting) (Before old) (at_collect old new same)
   picks_few old turn new (has_result its_turn its_new going none to_stage result same known) = at_delivery old new turn result same
 
@@ -114,7 +114,7 @@ module _ (options : Options) (given : Given) where
   pub picks_settled : (old : Course) (turn : Turn) (new : Course) → IsSome old.end → Picks given old turn new → answers_left options (past_of new) turn.phase ≤ Before old + 1
   picks_settled old turn new over (drains its_new settled flying same known) = at_collect old new same
   picks_settled old turn new over (ends_so end its_new is none cleared known) = least (Before old + 1)
-  picks_settled old turn new over (stages its_turn its_new going slot within staging same known) = absurd (none_some old.end over going)
+  picks_settled old turn new over (stages number its_turn its_new going slot lowest staging same known) = absurd (none_some old.end over going)
   picks_settled old turn new over (waits_for_one its_new going flying none same known) = absurd (none_some old.end over going)
   picks_settled old turn new over (has_result its_turn its_new going none to_stage result same known) = absurd (none_some old.end over going)
 
@@ -123,7 +123,7 @@ module _ (options : Options) (given : Given) where
       answers_left options (past_of new) turn.phase ≤ 0
   picks_last old turn new over empty (drains its_new settled flying same known) = absurd (flying empty)
   picks_last old turn new over empty (ends_so end its_new is none cleared known) = least 0
-  picks_last old turn new over empty (stages its_turn its_new going slot within staging same known) = absurd (none_some old.end over going)
+  picks_last old turn new over empty (stages number its_turn its_new going slot lowest staging same known) = absurd (none_some old.end over going)
   picks_last old turn new over empty (waits_for_one its_new going flying none same known) = absurd (none_some old.end over going)
   picks_last old turn new over empty (has_result its_turn its_new going none to_stage result same known) = absurd (none_some old.end over going)
 
@@ -159,16 +159,12 @@ module _ (options : Options) (given : Given) where
       picks_from learned old turn new most
       (unfolded_same some.walks _ old learned (learns_by some.walks some.learned _ old learned old.known refl some.is learns)) two picks
 
-  gave_up_same : (past : Past) (jobs : List Job) (number retries : ℕ) {may : Bool} {new : Past} → GivesUp jobs number retries past may new →
+  gave_up_same : (past : Past) (jobs : List Job) (number retries : ℕ) {new : Past} → GivesUp jobs number retries past new →
       weight_of_past options new ≡ weight_of_past options past
-  gave_up_same past jobs number retries (again state there few going) = refl
-  gave_up_same past jobs number retries (no_more state there few settled) = refl
+  gave_up_same past jobs number retries (again state there few) = refl
   gave_up_same past jobs number retries (too_often state there many) = refl
 
   pub temporary_few : (old : Course) (number : ℕ) (turn : Turn) (new : Course) → AfterTemporary given old number turn new →
       answers_left options (past_of new) turn.phase ≤ Before old + 2
-  temporary_few old number turn new (stages_again gave_up so known staging same still) =
-      subst (λ w. answers_left options (past_of new) turn.phase ≤ w + 2) (gave_up_same (past_of old) (known_in old.known) number given.options.retries so)
-      (at_staging number gave_up new turn staging same)
-  temporary_few old number turn new (tries_no_more gave_up so known picks) =
-      picks_from gave_up old turn new 2 (gave_up_same (past_of old) (known_in old.known) number given.options.retries so) (same_at_most 2) picks
+  temporary_few old number turn new after =
+      picks_from after.tried old turn new 2 (gave_up_same (past_of old) (known_in old.known) number given.options.retries after.gives_up) (same_at_most 2) after.picks

@@ -1,10 +1,10 @@
 -- How many answers a run takes at most: each staging is one of so many, and each phase and each child in flight takes so many at most.
-use Rattle.std.specs.Prelude.{ℕ, ◌+◌, ◌*◌, ◌-◌, ◌^◌, ◌≤◌, List, [], ◌∷◌, length}
+use Rattle.std.specs.Prelude.{ℕ, Bool, true, false, ◌+◌, ◌*◌, ◌-◌, ◌^◌, ◌≤◌, List, [], ◌∷◌, length}
 use Rattle.std.specs.List.{AllByRecursion}
 use Rattle.plan_checker.specs.declared.graph.TheConstants.{MOST_VERTICES}
 use Rattle.run_rules.specs.declared.setting.Options.{Options}
 use Rattle.run_core.specs.declared.state.JobPhase.{JobPhase}
-use Rattle.run_core.specs.declared.state.JobState.{JobState}
+use Rattle.run_core.specs.declared.job_states.JobState.{JobState}
 use Rattle.run_core.specs.declared.state.Phase.{Phase}
 use Rattle.run_core.specs.inner.Course.{Past, with_staging}
 
@@ -12,12 +12,17 @@ use Rattle.run_core.specs.inner.Course.{Past, with_staging}
 abbrev pub most_stagings : Options → ℕ
 most_stagings options = MOST_VERTICES * (options.retries + 1)
 
--- how often these jobs were to be staged: each once, and once more after each time that it gave up
+-- how often a job was staged beside the times that it gave up: once where it waits for nothing
+abbrev pub last_try : Bool → ℕ
+last_try true = 0
+last_try false = 1
+
+-- how often these jobs were staged: once for each time that one gave up, and once more where it waits for nothing
 abbrev pub tries_of : List JobState → ℕ
 tries_of [] = 0
-tries_of (job ∷ jobs) = job.gave_up + 1 + tries_of jobs
+tries_of (job ∷ jobs) = job.gave_up + last_try job.waits + tries_of jobs
 
--- the jobs that were staged are jobs of a graph, and each was staged no oftener than it may be
+-- the jobs that were touched are jobs of a graph, and each was staged no oftener than it may be
 pub record IsBounded (options : Options) (past : Past) : Type 0 where
   pub jobs : length past.jobs ≤ MOST_VERTICES
   pub retries : AllByRecursion (λ (job : JobState). job.gave_up ≤ options.retries) past.jobs

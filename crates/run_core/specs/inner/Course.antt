@@ -1,8 +1,7 @@
 -- What a run has come to, and what each event makes of it.
-use Rattle.std.specs.Prelude.{◌≡◌, ◌<◌, ◌≤◌, ℕ, zero, suc, ◌+◌, Bool, true, false, cond, IsSome, List, [], ◌∷◌, ◌++◌, Option, Some, None, Result, map, option_map, slice_get, unwrap_or}
+use Rattle.std.specs.Prelude.{◌≡◌, ◌<◌, ◌≤◌, ℕ, ◌+◌, cond, List, [], ◌∷◌, ◌++◌, Option, Some, None, Result, map, option_map, slice_get, unwrap_or}
 use Rattle.std.specs.List.{remove, zip}
 use Rattle.job_graph.specs.declared.unfolding.Unfolding.{Unfolding}
-use Rattle.job_graph.specs.inner.Views.{job_of}
 use Rattle.run_rules.specs.declared.outcome.Outcome.{Outcome}
 use Rattle.run_rules.specs.declared.outcome.Report.{Report}
 use Rattle.run_rules.specs.declared.outcome.RunFault.{RunFault}
@@ -12,13 +11,14 @@ use Rattle.job_graph.specs.Unfold.{or_else}
 use Rattle.job_graph.specs.Words.{JobPlace, is_same_place}
 use Rattle.run_core.specs.declared.state.Course.{Course}
 use Rattle.run_core.specs.declared.state.Flight.{Flight}
-use Rattle.run_core.specs.declared.state.JobState.{JobState}
+use Rattle.run_core.specs.declared.job_states.JobState.{JobState}
 use Rattle.run_core.specs.declared.state.Kept.{Kept}
+use Rattle.run_core.specs.inner.JobStates.{given_up_in, staged_in}
 
 -- the known jobs, by number
 abbrev pub known_in : Option Unfolding → List Job
 known_in None = []
-known_in (Some kept) = map (λ known. job_of known.job) kept.known.items
+known_in (Some kept) = kept.known
 
 -- what is kept of the events, but for what is known
 pub record Past : Type 0 where
@@ -32,7 +32,7 @@ abbrev pub past_of : Course → Past
 past_of course = record {
   tickets = course.tickets.items;
   flights = course.flights.items;
-  jobs = course.jobs.items;
+  jobs = course.jobs;
   folders = course.folders;
   end = course.end;
 }
@@ -58,13 +58,6 @@ number_in (job ∷ jobs) (state ∷ states) place = cond (is_same_place job.plac
 abbrev pub with_end : Result Report RunFault → Past → Past
 with_end end past = record past { end = or_else past.end (Some end) }
 
--- the job of a number has these folders
-abbrev pub staged_in : ℕ → ℕ → List JobState → List JobState
-staged_in zero folder [] = record { folder = folder; gave_up = 0 } ∷ []
-staged_in zero folder (job ∷ jobs) = record job { folder = folder } ∷ jobs
-staged_in (suc number) folder [] = []
-staged_in (suc number) folder (job ∷ jobs) = job ∷ staged_in number folder jobs
-
 abbrev pub with_staging : ℕ → Past → Past
 with_staging number past = record past { folders = past.folders + 1; jobs = staged_in number (past.folders + 1) past.jobs }
 
@@ -74,12 +67,7 @@ with_start number kept ticket past = record past {
   flights = past.flights ++ record { job = number; kept = kept } ∷ [];
 }
 
--- the job of a number failed temporarily once more
-abbrev pub given_up_in : ℕ → List JobState → List JobState
-given_up_in number [] = []
-given_up_in zero (job ∷ jobs) = record job { gave_up = job.gave_up + 1 } ∷ jobs
-given_up_in (suc number) (job ∷ jobs) = job ∷ given_up_in number jobs
-
+-- the job of a number failed temporarily once more, and waits again
 abbrev pub with_giving_up : ℕ → Past → Past
 with_giving_up number past = record past { jobs = given_up_in number past.jobs }
 
@@ -90,11 +78,8 @@ pub record TakesOut (ticket : ℕ) (flight : Flight) (old new : Past) : Type 0 w
   pub flight_there : slice_get old.flights index ≡ Some flight
   pub is : new ≡ record old { tickets = remove old.tickets index; flights = remove old.flights index }
 
--- what a job's temporary failure comes to: it may be started again, or not, since its retries are used up or the end is settled
-pub data GivesUp (jobs : List Job) (number retries : ℕ) (old : Past) : Bool → Past → Type 0 where
-  again : (state : JobState) → slice_get old.jobs number ≡ Some state → state.gave_up < retries → old.end ≡ None →
-      GivesUp jobs number retries old true (with_giving_up number old)
-  no_more : (state : JobState) → slice_get old.jobs number ≡ Some state → state.gave_up < retries → IsSome old.end →
-      GivesUp jobs number retries old false (with_giving_up number old)
+-- what a job's temporary failure comes to: it waits to be started again, or its retries are used up
+pub data GivesUp (jobs : List Job) (number retries : ℕ) (old : Past) : Past → Type 0 where
+  again : (state : JobState) → slice_get old.jobs number ≡ Some state → state.gave_up < retries → GivesUp jobs number retries old (with_giving_up number old)
   too_often : (state : JobState) → slice_get old.jobs number ≡ Some state → retries ≤ state.gave_up →
-      GivesUp jobs number retries old false (with_end (reported (Outcome.TemporaryFail (place_at jobs number))) old)
+      GivesUp jobs number retries old (with_end (reported (Outcome.TemporaryFail (place_at jobs number))) old)

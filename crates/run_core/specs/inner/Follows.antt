@@ -26,8 +26,8 @@ use Rattle.run_core.specs.inner.Turn.{ends, lost_after, succeeds}
 -- what each step needs of the course: its lists fit one another, and folders have numbers
 pub record IsReady (course : Course) : Type 0 where
   pub as_many : length course.flights.items ≡ length course.tickets.items
-  pub flights : (flight : Flight) → Contains course.flights.items flight → flight.job < length course.jobs.items
-  pub staged : length course.jobs.items ≤ length (known_in course.known)
+  pub flights : (flight : Flight) → Contains course.flights.items flight → flight.job < length course.jobs
+  pub staged : length course.jobs ≤ length (known_in course.known)
   pub folders : course.folders + 2 < 2 ^ 64
 
 -- what comes after memory ran out needs nothing of it
@@ -35,19 +35,18 @@ abbrev pub IsReadyFor : Course → Phase → Type 0
 IsReadyFor course Phase.Draining = Unit {0}
 IsReadyFor course phase = IsReady course
 
--- the job of a number may be staged: it is known, and it was staged before or comes next
+-- the job of a number may be staged: it is known
 pub record CanStage (course : Course) (job : ℕ) : Type 0 where
-  pub next : job ≤ length course.jobs.items
   pub known : job < length (known_in course.known)
 
 -- the phase fits what is asked
 abbrev pub AsksOf : Course → Request → Phase → Type 0
 AsksOf course (Request.Host place (HostRequest.Measure path)) (Phase.Measuring measuring) = Unit {0}
 AsksOf course (Request.Host place (HostRequest.Stage plan folder)) (Phase.Staging job) = CanStage course job
-AsksOf course (Request.Host place (HostRequest.Head path limit)) (Phase.Working job (JobPhase.Filling filling)) = job < length course.jobs.items
-AsksOf course (Request.Host place (HostRequest.Start launch)) (Phase.Working job (JobPhase.Starting kept)) = job < length course.jobs.items
-AsksOf course (Request.Host place (HostRequest.Scan folder)) (Phase.Working job (JobPhase.Scanning kept millis)) = job < length course.jobs.items
-AsksOf course (Request.Host place (HostRequest.Head path limit)) (Phase.Working job (JobPhase.Reading kept reading)) = job < length course.jobs.items
+AsksOf course (Request.Host place (HostRequest.Head path limit)) (Phase.Working job (JobPhase.Filling filling)) = job < length course.jobs
+AsksOf course (Request.Host place (HostRequest.Start launch)) (Phase.Working job (JobPhase.Starting kept)) = job < length course.jobs
+AsksOf course (Request.Host place (HostRequest.Scan folder)) (Phase.Working job (JobPhase.Scanning kept millis)) = job < length course.jobs
+AsksOf course (Request.Host place (HostRequest.Head path limit)) (Phase.Working job (JobPhase.Reading kept reading)) = job < length course.jobs
 AsksOf course (Request.Host place HostRequest.Collect) Phase.Collecting = Unit {0}
 AsksOf course (Request.Host place HostRequest.Collect) Phase.Draining = Unit {0}
 AsksOf course (Request.Host place (HostRequest.Deliver plan)) (Phase.Delivering outputs) = Unit {0}

@@ -12,17 +12,11 @@ use Rattle.run_rules.proofs.events.Places.{IsJob}
 use Rattle.run_rules.proofs.events.Tally.{readings}
 use Rattle.run_core.specs.declared.state.Course.{Course}
 use Rattle.run_core.specs.declared.state.Flight.{Flight}
-use Rattle.run_core.specs.declared.state.JobState.{JobState}
+use Rattle.run_core.specs.declared.job_states.JobState.{JobState}
 use Rattle.run_core.specs.inner.Course.{Past, known_in, past_of}
 use Rattle.run_core.specs.inner.Due.{IsKept}
+use Rattle.run_core.specs.inner.JobStates.{state_at, waits_in}
 use Rattle.run_core.specs.inner.Knows.{IsKnown}
-
--- of a job that was never staged
-abbrev pub untouched : JobState
-untouched = record { folder = 0; gave_up = 0 }
-
-abbrev pub state_at : List JobState → ℕ → JobState
-state_at states n = slice_index_or states n untouched
 
 abbrev pub numbers_of : List Flight → List ℕ
 numbers_of flights = map (λ flight. flight.job) flights
@@ -32,7 +26,7 @@ abbrev pub course_of : Past → Option ℕ → (ℕ → ℕ) → Books
 course_of past at_work gave_up = record {
   tickets = past.tickets;
   numbers = numbers_of past.flights;
-  staged = length past.jobs;
+  waits = waits_in past.jobs;
   folder = λ n. (state_at past.jobs n).folder;
   gave_up = gave_up;
   folders = past.folders;
@@ -53,10 +47,12 @@ pub record KeepsFlight (es : List Event) (jobs : List Job) (flight : Flight) : T
   pub at : started_at es job.place ≡ Some started
   pub kept : IsKept flight.kept started
 
--- the jobs that are known are the first of those of the rules; how often each failed for now is counted until the end is settled
+-- the jobs that are known are the first of those of the rules, and no others were touched; how often each failed for now is counted until the
+-- end is settled
 pub record Keeps (s : Scene) (es : List Event) (jobs : List Job) (past : Past) (at_work : Option ℕ) : Type 0 where
   pub gave_up : ℕ → ℕ
   pub books : AreKept jobs (readings es) (course_of past at_work gave_up)
+  pub few : length past.jobs ≤ length jobs
   pub counts : past.end ≡ None → (number : ℕ) → gave_up number ≡ (state_at past.jobs number).gave_up
   pub retries : (number : ℕ) → (state_at past.jobs number).gave_up ≤ s.options.retries
   pub slots : length past.tickets + worked at_work ≤ s.options.slots

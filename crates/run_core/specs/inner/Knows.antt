@@ -1,5 +1,5 @@
 -- What is known of the process, by the rules of its unfolding.
-use Rattle.std.specs.Prelude.{◌≡◌, ◌++◌, ◌∷◌, List, [], Option, Some, None, IsSome, OnErr, Result, Err, option_map, unwrap_or}
+use Rattle.std.specs.Prelude.{◌≡◌, ◌++◌, ◌∷◌, List, [], Option, Some, None, IsSome, OnErr, Result, Err, unwrap_or}
 use Rattle.job_graph.specs.declared.unfolding.Unfolding.{Unfolding}
 use Rattle.job_graph.specs.declared.fault.UnfoldError.{UnfoldError}
 use Rattle.job_graph.specs.declared.fault.UnfoldFault.{UnfoldFault}
@@ -36,7 +36,7 @@ pub data IsUnfolded (walks : Walker) (learned : List Resolved) (old : Course) : 
 pub record IsTold (one : Resolved) (kept : Unfolding) (new : Option Unfolding) (result : Result (Unit {0}) UnfoldError) : Type 0 where
   pub told : Unfolding
   pub is : new ≡ Some told
-  pub learns : (walks : Walker) (learned : List Resolved) → Knows walks learned kept → LearnsPlace walks learned one told result
+  pub learns : LearnsPlace kept one told result
   pub alike : OnErr result (AnswersAlike kept told)
 
 -- a job's outputs are learned
@@ -47,7 +47,7 @@ Learns one old new = (walks : Walker) (learned : List Resolved) (kept : Unfoldin
 -- the outputs of the process, where they are there
 abbrev pub outputs_in : Option Unfolding → Fields
 outputs_in None = []
-outputs_in (Some kept) = unwrap_or (option_map (λ named. named.items) kept.result) []
+outputs_in (Some kept) = unwrap_or kept.result []
 
 -- the outputs of the process are there
 abbrev pub IsWhole : Option Unfolding → Type 0

@@ -29,20 +29,21 @@ use Rattle.run_core.specs.declared.state.Flight.{Flight}
 use Rattle.run_core.specs.declared.state.Given.{Given}
 use Rattle.run_core.specs.declared.state.JobNext.{JobNext}
 use Rattle.run_core.specs.declared.state.JobPhase.{JobPhase}
-use Rattle.run_core.specs.declared.state.JobState.{JobState}
+use Rattle.run_core.specs.declared.job_states.JobState.{JobState}
 use Rattle.run_core.specs.declared.state.Kept.{Kept}
 use Rattle.run_core.specs.declared.state.Phase.{Phase}
 use Rattle.run_core.specs.declared.state.Reading.{Reading}
 use Rattle.run_core.specs.declared.state.Turn.{Turn}
 use Rattle.run_core.specs.inner.Course.{GivesUp, TakesOut, known_in, number_in, past_of, place_at, with_end, with_staging, with_start}
 use Rattle.run_core.specs.inner.Due.{CollectsFirst, CollectsPast, Scans, Starts, StartsPast}
+use Rattle.run_core.specs.inner.JobStates.{IsLowest, NoneWaits}
 use Rattle.run_core.specs.inner.Knows.{Learns, outputs_in}
 use Rattle.run_core.specs.inner.Turn.{collects, ends, permanent, root_asks, succeeds, works}
 
 -- the values, where files that jobs made are at their paths
 abbrev pub sources_in : Options → Course → Fields → Fields
 sources_in options course values =
-    fields_moved (source_place (number_in (known_in course.known) course.jobs.items) options.work) values
+    fields_moved (source_place (number_in (known_in course.known) course.jobs) options.work) values
 
 -- the job of a number is to be staged
 pub record Stages (given : Given) (course : Course) (number : ℕ) (turn : Turn) : Type 0 where
@@ -68,18 +69,23 @@ abbrev pub delivered_in : Phase → Value
 delivered_in (Phase.Delivering outputs) = outputs
 delivered_in phase = value.Null
 
--- no slot is free, or each known job was staged
+-- no slot is free, or no known job waits
 pub data NoneToStage (given : Given) (course : Course) : Type 0 where
   slots_full : given.options.slots ≤ length course.tickets.items → NoneToStage given course
-  all_staged : length (known_in course.known) ≤ length course.jobs.items → NoneToStage given course
+  none_waits : NoneWaits course.jobs (length (known_in course.known)) → NoneToStage given course
+
+-- a slot is free for the lowest job that waits
+pub record MayBeNext (given : Given) (course : Course) (number : ℕ) : Type 0 where
+  pub slot : length course.tickets.items < given.options.slots
+  pub lowest : IsLowest course.jobs (length (known_in course.known)) number
 
 -- where nothing is due
 pub data Picks (given : Given) (old : Course) : Turn → Course → Type 0 where
   drains : (new : Course) → IsSome old.end → old.tickets.items ≢ [] → past_of new ≡ past_of old → new.known ≡ old.known → Picks given old collects new
   ends_so : (end : Result Report RunFault) (new : Course) → old.end ≡ Some end → old.tickets.items ≡ [] → new.tickets.items ≡ [] → new.known ≡ old.known →
       Picks given old (ends end) new
-  stages : (turn : Turn) (new : Course) → old.end ≡ None → length old.tickets.items < given.options.slots → length old.jobs.items < length (known_in old.known) →
-      Stages given old (length old.jobs.items) turn → past_of new ≡ past_of old → new.known ≡ old.known → Picks given old turn new
+  stages : (number : ℕ) (turn : Turn) (new : Course) → old.end ≡ None → length old.tickets.items < given.options.slots →
+      IsLowest old.jobs (length (known_in old.known)) number → Stages given old number turn → past_of new ≡ past_of old → new.known ≡ old.known → Picks given old turn new
   waits_for_one : (new : Course) → old.end ≡ None → old.tickets.items ≢ [] → NoneToStage given old → past_of new ≡ past_of old → new.known ≡ old.known →
       Picks given old collects new
   has_result : (turn : Turn) (new : Course) → old.end ≡ None → old.tickets.items ≡ [] → NoneToStage given old → Delivers given old turn →
@@ -105,7 +111,7 @@ pub record IsSite (given : Given) (course : Course) (number : ℕ) (site : Site)
   pub known : slice_get (known_in course.known) number ≡ Some job
   pub tool : site.tool.now ≡ job.tool
   pub state : JobState
-  pub staged : slice_get course.jobs.items number ≡ Some state
+  pub staged : slice_get course.jobs number ≡ Some state
   pub folder : site.folder ≡ state.folder
   pub options : site.options.now ≡ given.options
 
@@ -134,12 +140,12 @@ pub record AfterStart (given : Given) (old : Course) (number : ℕ) (kept : Kept
   pub known : started.known ≡ old.known
   pub picks : Picks given started turn new
 
--- a job's child failed temporarily: the job is staged again while retries are left
-pub data AfterTemporary (given : Given) (old : Course) (number : ℕ) (turn : Turn) (new : Course) : Type 0 where
-  again : (gave_up : Course) → GivesUp (known_in old.known) number given.options.retries (past_of old) true (past_of gave_up) → gave_up.known ≡ old.known →
-      Stages given gave_up number turn → past_of new ≡ past_of gave_up → new.known ≡ gave_up.known → AfterTemporary given old number turn new
-  no_more : (gave_up : Course) → GivesUp (known_in old.known) number given.options.retries (past_of old) false (past_of gave_up) → gave_up.known ≡ old.known →
-      Picks given gave_up turn new → AfterTemporary given old number turn new
+-- a job's child failed temporarily: the job waits again while retries are left
+pub record AfterTemporary (given : Given) (old : Course) (number : ℕ) (turn : Turn) (new : Course) : Type 0 where
+  pub tried : Course
+  pub gives_up : GivesUp (known_in old.known) number given.options.retries (past_of old) (past_of tried)
+  pub known : tried.known ≡ old.known
+  pub picks : Picks given tried turn new
 
 -- the child of a flight has ended well: its folder is listed
 pub record IsScanned (given : Given) (landed : Course) (flight : Flight) (millis : ℕ) (turn : Turn) (new : Course) : Type 0 where

@@ -4,7 +4,7 @@ use Rattle.cwl_value.specs.declared.place.Place.{Place}
 use Rattle.cwl_value.specs.declared.value.Value.{Value, roll-Value}
 use Rattle.cwl_value.specs.declared.value.FileVal.{FileVal, fold-FileVal, out-FileVal, roll-FileVal}
 use Rattle.cwl_value.specs.declared.value.DirVal.{DirVal, fold-DirVal}
-use Rattle.job_graph.specs.inner.Views.{job_of}
+use Rattle.job_graph.specs.KnownJobs.{job_of}
 use Rattle.job_graph.specs.Words.{JobPlace}
 use Rattle.run_rules.specs.Delivered.{source_place, location_place}
 use Rattle.job_graph.specs.Made.{file_moved, dir_moved}

@@ -17,7 +17,7 @@ use Rattle.run_rules.specs.Delivered.{located}
 use Rattle.run_rules.specs.End.{End}
 use Rattle.run_rules.specs.EndsSo.{EndsSo}
 use Rattle.run_rules.specs.Events.{Event, Progress, Started, nothing_due, started_at}
-use Rattle.run_rules.specs.Plans.{LoadsHeld}
+use Rattle.run_rules.specs.Plans.{InForce}
 use Rattle.run_rules.specs.Reports.{AreWaits, report_of}
 use Rattle.run_rules.specs.Run.{Goes}
 use Rattle.run_rules.specs.Scene.{Scene}
@@ -30,9 +30,10 @@ use Rattle.run_core.specs.declared.state.Phase.{Phase}
 use Rattle.run_core.specs.declared.state.Turn.{Turn}
 use Rattle.run_core.specs.inner.Course.{Past, known_in, nothing_past, past_of}
 use Rattle.run_core.specs.inner.Due.{Calls, IsKept, work_of}
-use Rattle.run_core.specs.inner.Keeps.{Reflects, state_at}
+use Rattle.run_core.specs.inner.Keeps.{Reflects}
 use Rattle.run_core.specs.inner.Measured.{IsMeasuring, measured_by}
 use Rattle.run_core.specs.inner.Turn.{collects, ends, waits, works}
+use Rattle.run_core.specs.inner.JobStates.{IsLowest, NoneWaits, state_at}
 
 -- what is kept of the child of a job that has ended well
 pub record HasStarted (es : List Event) (place : JobPlace) (kept : Kept) : Type 0 where
@@ -51,15 +52,14 @@ WorksOn es place (JobPhase.Reading kept reading) = HasStarted es place kept
 pub record IsWorking (s : Scene) (f : Progress) (course : Course) (number : ℕ) (job : Job) (call : HostRequest) (phase : JobPhase) : Type 0 where
   pub it : IsJob (known_in course.known) number job
   pub due : f.work ≡ work_of job.place call phase
-  pub calls : Calls s.options (state_at course.jobs.items number).folder call phase
+  pub calls : Calls s.options (state_at course.jobs number).folder call phase
   pub on : WorksOn f.events job.place phase
 
--- a job that is to be staged: the first that never was, or the one that is worked on and failed temporarily
-pub record IsStaging (s : Scene) (f : Progress) (marks : List Mark) (course : Course) (at_work : Option ℕ) (number : ℕ) (job : Job) (plan : StagePlan) : Type 0 where
+-- a job that is to be staged: the lowest one that waits
+pub record IsStaging (s : Scene) (f : Progress) (marks : List Mark) (course : Course) (number : ℕ) (job : Job) (plan : StagePlan) : Type 0 where
   pub it : IsJob (known_in course.known) number job
   pub may : MayStage s f marks job.place plan (course.folders + 1)
-  pub next : number ≤ length course.jobs.items
-  pub alone : (other : ℕ) → at_work ≡ Some other → other ≡ number
+  pub lowest : IsLowest course.jobs (length (known_in course.known)) number
   pub going : course.end ≡ None
 
 -- what it waits for is what its run has come to: a rule for each phase
@@ -67,15 +67,14 @@ pub data IsAt (s : Scene) (f : Progress) (marks : List Mark) (course : Course) :
   measuring : (found : List (Name × Measure)) (measuring : Measuring) (rest : List Name) (path : Name) → IsMeasuring s found measuring →
       measuring.left ≡ rest ++ path ∷ [] → f ≡ record { work = nothing_due; events = measured_by found } → course.known ≡ None →
       past_of course ≡ nothing_past → IsAt s f marks course (waits (HostRequest.Measure path) (Phase.Measuring measuring))
-  staging : (at_work : Option ℕ) (number : ℕ) (job : Job) (plan : StagePlan) → Reflects s f.events course at_work →
-      IsStaging s f marks course at_work number job plan →
+  staging : (number : ℕ) (job : Job) (plan : StagePlan) → Reflects s f.events course None → IsStaging s f marks course number job plan →
       IsAt s f marks course (record { asks = Request.Host job.place (HostRequest.Stage plan (course.folders + 1)); phase = Phase.Staging number })
   working : (number : ℕ) (job : Job) (call : HostRequest) (phase : JobPhase) → Reflects s f.events course (Some number) →
       IsWorking s f course number job call phase → IsAt s f marks course (works job.place number call phase)
   collecting : Reflects s f.events course None → MayCollect s f marks [] → IsAt s f marks course collects
-  -- each known job was staged
+  -- no known job waits
   delivering : (plan : StagePlan) → Reflects s f.events course None → MayDeliver s f marks [] plan → course.end ≡ None →
-      length (known_in course.known) ≤ length course.jobs.items →
+      NoneWaits course.jobs (length (known_in course.known)) →
       IsAt s f marks course (waits (HostRequest.Deliver plan) (Phase.Delivering (located plan.value)))
   ended : (end : End) → EndsSo s f marks end → IsAt s f marks course (ends (report_of end))
 
@@ -83,7 +82,7 @@ pub data IsAt (s : Scene) (f : Progress) (marks : List Mark) (course : Course) :
 pub record Runs (s : Scene) (t : List Pair) (course : Course) (turn : Turn) : Type 0 where
   pub happened : Progress
   pub marks : List Mark
-  pub goes : Goes s (LoadsHeld s) t happened marks
+  pub goes : Goes s (InForce s) t happened marks
   pub at : IsAt s happened marks course turn
 
 -- the children in flight are waited for, and then it has ended
@@ -98,7 +97,7 @@ pub record RanOut (s : Scene) (t : List Pair) (past : Past) (turn : Turn) : Type
   pub pairs : t ≡ front ++ tail
   pub happened : Progress
   pub marks : List Mark
-  pub goes : Goes s (LoadsHeld s) front happened marks
+  pub goes : Goes s (InForce s) front happened marks
   pub collects : AreWaits tail
   pub at : IsLostAt past turn
 
@@ -126,7 +125,7 @@ pairs_ahead past (Phase.Ended outcome) = 0
 pairs_ahead past Phase.Draining = length past.tickets
 pairs_ahead past phase = length past.tickets + 2
 
--- before a child is started there is room for it and its job
+-- before a child is started there is room for it
 abbrev pub TakesOne : Phase → Type 0
 TakesOne (Phase.Staging number) = Unit {0}
 TakesOne (Phase.Working number (JobPhase.Filling filling)) = Unit {0}
@@ -136,4 +135,3 @@ TakesOne phase = ⊥
 pub record HasRoom (course : Course) (phase : Phase) : Type 0 where
   pub tickets : TakesOne phase → vec_len course.tickets < vec_capacity course.tickets
   pub flights : TakesOne phase → vec_len course.flights < vec_capacity course.flights
-  pub jobs : (number : ℕ) → phase ≡ Phase.Staging number → vec_len course.jobs < vec_capacity course.jobs

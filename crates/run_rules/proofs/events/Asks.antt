@@ -16,28 +16,28 @@ use Rattle.run_rules.specs.Delivered.{any_file, source_place}
 use Rattle.run_rules.specs.Events.{Work, nothing_due, Progress, in_flight, is_held, is_staging, delivered_at, number_at, unfolding_at}
 use Rattle.run_rules.specs.End.{End, settled, IsDelivery, is_lost_collect}
 use Rattle.run_rules.specs.Allowed.{IsFree, MayStage, IsBusy, MayCollect, MayDeliver, due, due_in}
-use Rattle.run_rules.specs.Plans.{LoadsHeld}
-use Rattle.run_rules.specs.Run.{Goes}
+use Rattle.run_rules.specs.Plans.{mark_at}
+use Rattle.plan_checker.specs.declared.plan.Mark.TheVariants.{Compute}
 use Rattle.run_rules.proofs.events.Flights.{Flight}
 use Rattle.run_rules.proofs.events.Places.{AreApart, IsFound, IsJob, found_at, found_is}
 use Rattle.run_rules.proofs.Places.{same_place}
-use Rattle.run_rules.proofs.events.Planned.{computed, jobs_in}
+use Rattle.run_rules.proofs.events.Planned.{jobs_in}
 
 module _ (s : Scene) (f : Progress) (marks : List Mark) where
   -- what is due is asked
   pub due_when : (work : Work) (request : Request) → f.work ≡ work → due_in s f.events work ≡ Some request → due s f ≡ Some request
   due_when work request is asked = ap (due_in s f.events) is ∙ asked
 
-  -- a job may be staged that is not held
-  pub may_stage : {t : List Pair} (n : ℕ) (job : Job) (plan : StagePlan) (number : ℕ) → Goes s (LoadsHeld s) t f marks → IsFree s f → AreApart (jobs_in s f) →
-      IsJob (jobs_in s f) n job → is_held f.events job.place ≡ false → length (in_flight f.events) < s.options.slots →
+  -- a job may be staged that the plan computes and that is not held
+  pub may_stage : (n : ℕ) (job : Job) (plan : StagePlan) (number : ℕ) → IsFree s f → AreApart (jobs_in s f) →
+      IsJob (jobs_in s f) n job → mark_at s marks f.events job.place ≡ Compute → is_held f.events job.place ≡ false → length (in_flight f.events) < s.options.slots →
       number ≡ length (filter is_staging f.events) + 1 → IsPlan false (in_folder s.options.work number) (fields_moved (source_place (number_at f.events) s.options.work) job.inputs) plan →
       MayStage s f marks job.place plan number
-  may_stage n job plan number goes free apart it away slot next staged = record {
+  may_stage n job plan number free apart it computed away slot next staged = record {
     free = free;
     job = job;
     known = found_at (jobs_in s f) apart n job it;
-    computed = computed s n job goes free.still.idle free.still.unsettled apart it away;
+    computed = computed;
     not_held = away;
     slot = slot;
     next_number = next;

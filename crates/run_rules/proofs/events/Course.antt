@@ -24,14 +24,14 @@ pub record Course : Type 0 where
   -- the children in flight, in the order of their starts: their tickets, and the numbers of their jobs
   pub tickets : List ℕ
   pub numbers : List ℕ
-  -- so many jobs were staged, the first by number
-  pub staged : ℕ
+  -- whether the job of a number may be staged: it never was, or it gave up
+  pub waits : ℕ → Bool
   -- the number of the folders that each was staged in last, and how often it gave up
   pub folder : ℕ → ℕ
   pub gave_up : ℕ → ℕ
   -- how many folders were made
   pub folders : ℕ
-  -- the job that is worked on: it was staged, and is neither in flight nor at hand
+  -- the job that is worked on: it is neither waiting nor in flight nor at hand
   pub at_work : Option ℕ
   -- whether a failure has settled the end
   pub over : Bool
@@ -54,6 +54,12 @@ pub record IsUntouched (r : Readings) (place : JobPlace) : Type 0 where
   pub unstaged : r.number place ≡ 0
   pub untried : r.gave_up place ≡ 0
 
+-- nothing has happened to the job of this number
+pub record IsNew (c : Course) (n : ℕ) : Type 0 where
+  pub unstaged : c.folder n ≡ 0
+  pub untried : c.gave_up n ≡ 0
+  pub waits : c.waits n ≡ true
+
 abbrev pub holds : Readings → JobPlace → Bool
 holds r place = is_flying r.flying place || r.at_hand place
 
@@ -62,17 +68,17 @@ pub record Keeps (jobs : List Job) (r : Readings) (c : Course) : Type 0 where
   pub alone : FlyApart r.flying
   pub flights : AreFlights jobs r.flying c.tickets c.numbers
   pub folders : c.folders ≡ r.stagings
-  pub few : c.staged ≤ length jobs
   pub number : (n : ℕ) (job : Job) → IsJob jobs n job → r.number job.place ≡ c.folder n
   pub gave_up : (n : ℕ) (job : Job) → IsJob jobs n job → r.gave_up job.place ≡ c.gave_up n
-  -- what was never staged is not held
-  pub unstaged : (n : ℕ) (job : Job) → IsJob jobs n job → c.staged ≤ n → holds r job.place ≡ false
-  pub unnumbered : (n : ℕ) → c.staged ≤ n → (c.folder n ≡ 0) × (c.gave_up n ≡ 0)
+  -- what waits is not held
+  pub waiting : (n : ℕ) (job : Job) → IsJob jobs n job → c.waits n ≡ true → holds r job.place ≡ false
+  -- a number that is no job's yet is that of a job to which nothing has happened
+  pub unnumbered : (n : ℕ) → length jobs ≤ n → IsNew c n
   -- nor is what is worked on
   pub worked : (n : ℕ) (job : Job) → IsJob jobs n job → c.at_work ≡ Some n → holds r job.place ≡ false
-  pub worked_staged : (n : ℕ) → c.at_work ≡ Some n → n < c.staged
-  -- all else that was staged is, unless a failure has settled the end
-  pub held : c.over ≡ false → (n : ℕ) (job : Job) → IsJob jobs n job → n < c.staged → (c.at_work ≡ Some n → ⊥) → holds r job.place ≡ true
+  pub worked_on : (n : ℕ) → c.at_work ≡ Some n → c.waits n ≡ false
+  -- all else is, unless a failure has settled the end
+  pub held : c.over ≡ false → (n : ℕ) (job : Job) → IsJob jobs n job → c.waits n ≡ false → (c.at_work ≡ Some n → ⊥) → holds r job.place ≡ true
   pub coming : (place : JobPlace) → is_flying r.flying place ≡ true → r.at_hand place ≡ false
   pub unknown : (place : JobPlace) → find (is_at place) jobs ≡ None → IsUntouched r place
 
@@ -83,20 +89,45 @@ gives_over jobs r c k = record {
   alone = k.alone;
   flights = k.flights;
   folders = k.folders;
-  few = k.few;
   number = k.number;
   gave_up = k.gave_up;
-  unstaged = k.unstaged;
-  unnumbered = k.unnumbered;
+  waiting = k.waiting;
+  unnumbered = λ n past. let it : IsNew c n = k.unnumbered n past in record { unstaged = it.unstaged; untried = it.untried; waits = it.waits };
   worked = λ n job it at_work. absurd cc;
-  worked_staged = λ n at_work. absurd cc;
-  held = λ over n job it within other. absurd cc;
+  worked_on = λ n at_work. absurd cc;
+  held = λ over n job it taken other. absurd cc;
   coming = k.coming;
   unknown = k.unknown;
 }
 
 some_n : (n m : ℕ) → Some n ≡ Some m → n ≡ m
 some_n n m same = cc
+
+-- the number of what waits is none of what doesn't
+other_than : (waits : ℕ → Bool) (n m : ℕ) → waits n ≡ false → waits m ≡ true → (n == m) ≡ false
+other_than waits n m taken free = ne_eqb n m (λ same. let never : true ≡ false = sym free ∙ ap waits (sym same) ∙ taken in cc)
+
+-- once the job of a number waits no more, or waits again
+taken_before : (test old : Bool) → cond test false old ≡ true → (test ≡ false) × (old ≡ true)
+taken_before true old is = absurd cc
+taken_before false old is = (refl, is)
+
+given_before : (test old : Bool) → cond test true old ≡ false → (test ≡ false) × (old ≡ false)
+given_before true old is = absurd cc
+given_before false old is = (refl, is)
+
+given_always : (test old : Bool) → old ≡ true → cond test true old ≡ true
+given_always true old is = refl
+given_always false old is = is
+
+-- it waits, or is taken already
+given_or_not : (test old : Bool) → cond test true old ≡ true → (test ≡ true) ⊎ (old ≡ true)
+given_or_not true old is = inl refl
+given_or_not false old is = inr is
+
+still_taken : (test old : Bool) → (test ≡ false → old ≡ false) → cond test false old ≡ false
+still_taken true old is = refl
+still_taken false old is = is refl
 
 nor_more : (b : Bool) → (b || (false || false)) ≡ b
 nor_more true = refl
@@ -196,28 +227,48 @@ jobs_removed jobs (x ∷ flying) (n ∷ numbers) (suc index) within zipped = (zi
 -- Each event
 
 module _ (jobs : List Job) (r : Readings) (c : Course) (k : Keeps jobs r c) where
-  -- a job is staged: one that is new, or one that gave up
-  abbrev pub when_staged : ℕ → ℕ → ℕ → Course
-  when_staged n number staged = record c { staged = staged; folder = λ m. cond (n == m) number (c.folder m); folders = suc c.folders; at_work = Some n }
+  -- a job that waits is staged, and is worked on
+  abbrev pub when_staged : ℕ → ℕ → Course
+  when_staged n number = record c {
+    waits = λ m. cond (n == m) false (c.waits m);
+    folder = λ m. cond (n == m) number (c.folder m);
+    folders = suc c.folders;
+    at_work = Some n;
+  }
 
-  pub keeps_staged : (n : ℕ) (job : Job) (number staged : ℕ) → IsJob jobs n job → holds r job.place ≡ false → c.staged ≤ staged → staged ≤ length jobs → n < staged →
-      ((m : ℕ) → m < staged → (m ≡ n → ⊥) → m < c.staged) → ((m : ℕ) → c.at_work ≡ Some m → m ≡ n) →
-      Keeps jobs (reads_after r (job_staged job.place number)) (when_staged n number staged)
-  keeps_staged n job number staged it free more few within others alone = record {
+  -- the numbers of other jobs stay as they are
+  new_still : (n : ℕ) (job : Job) (number m : ℕ) → IsJob jobs n job → length jobs ≤ m → IsNew (when_staged n number) m
+  new_still n job number m it past =
+      let old : IsNew c m = k.unnumbered m past in
+      let differs : (n == m) ≡ false = ne_eqb n m (λ same. omega (arith, past, it.within, same)) in
+      record {
+        unstaged = ap (λ b. cond b number (c.folder m)) differs ∙ old.unstaged;
+        untried = old.untried;
+        waits = ap (λ b. cond b false (c.waits m)) differs ∙ old.waits;
+      }
+
+  held_still : (n m : ℕ) (other : Job) → c.at_work ≡ None → c.over ≡ false → IsJob jobs m other → (test : Bool) → (n == m) ≡ test →
+      cond test false (c.waits m) ≡ false → (Some n ≡ Some m → ⊥) → holds r other.place ≡ true
+  held_still n m other idle over its true same taken not_it = absurd (not_it (ap Some (eqb-true n m same)))
+  held_still n m other idle over its false differs taken not_it =
+      k.held over m other its taken (λ now. let never : None ≡ Some m = sym idle ∙ now in absurd cc)
+
+  pub keeps_staged : (n : ℕ) (job : Job) (number : ℕ) → IsJob jobs n job → c.waits n ≡ true → c.at_work ≡ None →
+      Keeps jobs (reads_after r (job_staged job.place number)) (when_staged n number)
+  keeps_staged n job number it free idle = record {
     apart = k.apart;
     alone = k.alone;
     flights = k.flights;
     folders = ap suc k.folders;
-    few = few;
     number = λ m other its. number_by jobs k.apart n m job other it its (r.number other.place) number ∙ ap (λ x. cond (n == m) number x) (k.number m other its);
     gave_up = k.gave_up;
-    unstaged = λ m other its past. k.unstaged m other its (omega (arith, past, more));
-    unnumbered = λ m past. let old : (c.folder m ≡ 0) × (c.gave_up m ≡ 0) = k.unnumbered m (omega (arith, past, more)) in
-        (ap (λ b. cond b number (c.folder m)) (ne_eqb n m (λ same. omega (arith, past, within, same))) ∙ old.0, old.1);
+    waiting = λ m other its waits. k.waiting m other its (taken_before (n == m) (c.waits m) waits).1;
+    unnumbered = λ m past. new_still n job number m it past;
     worked = λ m other its at_work. let same : n ≡ m = some_n n m at_work in
-        subst (λ (j : Job). holds r j.place ≡ false) (one_job jobs n m job other same it its) free;
-    worked_staged = λ m at_work. let same : n ≡ m = some_n n m at_work in omega (arith, same, within);
-    held = λ over m other its so not_it. k.held over m other its (others m so (λ same. not_it (ap Some (sym same)))) (λ at_work. not_it (ap Some (sym (alone m at_work))));
+        subst (λ (j : Job). holds r j.place ≡ false) (one_job jobs n m job other same it its) (k.waiting n job it free);
+    worked_on = λ m at_work. let same : n ≡ m = some_n n m at_work in
+        still_taken (n == m) (c.waits m) (λ differs. absurd (eqb-false n m differs same));
+    held = λ over m other its taken not_it. held_still n m other idle over its (n == m) refl taken not_it;
     coming = k.coming;
     unknown = λ place none. let old : IsUntouched r place = k.unknown place none in record {
       lands = old.lands;
@@ -227,7 +278,7 @@ module _ (jobs : List Job) (r : Readings) (c : Course) (k : Keeps jobs r c) wher
     };
   }
 
-  -- one that gave up may be staged again
+  -- the job that is worked on gave up
   abbrev pub when_gave_up : ℕ → Course
   when_gave_up n = record c { gave_up = λ m. cond (n == m) (suc (c.gave_up m)) (c.gave_up m) }
 
@@ -238,15 +289,17 @@ module _ (jobs : List Job) (r : Readings) (c : Course) (k : Keeps jobs r c) wher
     alone = k.alone;
     flights = k.flights;
     folders = k.folders;
-    few = k.few;
     number = k.number;
     gave_up = λ m other its. ap (λ b. cond b (suc (r.gave_up other.place)) (r.gave_up other.place)) (gives_up_by jobs k.apart n m job other it its)
         ∙ ap (λ x. cond (n == m) (suc x) x) (k.gave_up m other its);
-    unstaged = k.unstaged;
-    unnumbered = λ m past. let old : (c.folder m ≡ 0) × (c.gave_up m ≡ 0) = k.unnumbered m past in
-        (old.0, ap (λ b. cond b (suc (c.gave_up m)) (c.gave_up m)) (ne_eqb n m (λ same. omega (arith, past, k.worked_staged n at_work, same))) ∙ old.1);
+    waiting = k.waiting;
+    unnumbered = λ m past. let old : IsNew c m = k.unnumbered m past in record {
+      unstaged = old.unstaged;
+      untried = ap (λ b. cond b (suc (c.gave_up m)) (c.gave_up m)) (ne_eqb n m (λ same. omega (arith, past, it.within, same))) ∙ old.untried;
+      waits = old.waits;
+    };
     worked = k.worked;
-    worked_staged = k.worked_staged;
+    worked_on = k.worked_on;
     held = k.held;
     coming = k.coming;
     unknown = λ place none. let old : IsUntouched r place = k.unknown place none in record {
@@ -255,6 +308,38 @@ module _ (jobs : List Job) (r : Readings) (c : Course) (k : Keeps jobs r c) wher
       unstaged = old.unstaged;
       untried = ap (λ b. cond b (suc (r.gave_up place)) (r.gave_up place)) (not_found place jobs n job none it.within it.is) ∙ old.untried;
     };
+  }
+
+  -- the job that was worked on waits again
+  abbrev pub when_given_back : ℕ → Course
+  when_given_back n = record c { waits = λ m. cond (n == m) true (c.waits m); at_work = None }
+
+  waiting_again : (n m : ℕ) (job other : Job) → IsJob jobs n job → IsJob jobs m other → c.at_work ≡ Some n → (n == m) ≡ true ⊎ c.waits m ≡ true →
+      holds r other.place ≡ false
+  waiting_again n m job other it its at_work (inl same) =
+      subst (λ (j : Job). holds r j.place ≡ false) (one_job jobs n m job other (eqb-true n m same) it its) (k.worked n job it at_work)
+  waiting_again n m job other it its at_work (inr waits) = k.waiting m other its waits
+
+  pub keeps_given_back : (n : ℕ) (job : Job) → IsJob jobs n job → c.at_work ≡ Some n → Keeps jobs r (when_given_back n)
+  keeps_given_back n job it at_work = record {
+    apart = k.apart;
+    alone = k.alone;
+    flights = k.flights;
+    folders = k.folders;
+    number = k.number;
+    gave_up = k.gave_up;
+    waiting = λ m other its waits. waiting_again n m job other it its at_work (given_or_not (n == m) (c.waits m) waits);
+    unnumbered = λ m past. let old : IsNew c m = k.unnumbered m past in record {
+      unstaged = old.unstaged;
+      untried = old.untried;
+      waits = given_always (n == m) (c.waits m) old.waits;
+    };
+    worked = λ m other its never. absurd cc;
+    worked_on = λ m never. absurd cc;
+    held = λ over m other its taken not_it. let was : ((n == m) ≡ false) × (c.waits m ≡ false) = given_before (n == m) (c.waits m) taken in
+        k.held over m other its was.1 (λ now. eqb-false n m was.0 (some_n n m (sym at_work ∙ now)));
+    coming = k.coming;
+    unknown = k.unknown;
   }
 
   -- its child is started, under a new ticket
@@ -279,7 +364,7 @@ module _ (jobs : List Job) (r : Readings) (c : Course) (k : Keeps jobs r c) wher
     ]
   ]
 
-  started_held : (n : ℕ) (job : Job) (ticket : ℕ) → IsJob jobs n job → c.over ≡ false → (m : ℕ) (other : Job) → IsJob jobs m other → m < c.staged →
+  started_held : (n : ℕ) (job : Job) (ticket : ℕ) → IsJob jobs n job → c.over ≡ false → (m : ℕ) (other : Job) → IsJob jobs m other → c.waits m ≡ false →
       c.at_work ≡ Some n → (test : Bool) → (n == m) ≡ test →
       (is_flying (r.flying ++ (ticket, job.place) ∷ []) other.place || r.at_hand other.place) ≡ true
   started_held n job ticket it over m other its within at_work true same =
@@ -301,20 +386,19 @@ module _ (jobs : List Job) (r : Readings) (c : Course) (k : Keeps jobs r c) wher
         alone = start_flies_apart r.flying ticket job.place k.alone (subst (λ (ns : List ℕ). IsFresh ticket ns) (sym k.flights.their_tickets) fresh) free.0;
         flights = started_flights n job ticket it;
         folders = k.folders;
-        few = k.few;
         number = k.number;
         gave_up = k.gave_up;
-        unstaged = λ m other its past.
+        waiting = λ m other its waits.
             let old : (is_flying r.flying other.place ≡ false) × (r.at_hand other.place ≡ false) =
-            or_parts (is_flying r.flying other.place) (r.at_hand other.place) (k.unstaged m other its past) in
-            let differs : (n == m) ≡ false = ne_eqb n m (λ same. omega (arith, past, k.worked_staged n at_work, same)) in
+            or_parts (is_flying r.flying other.place) (r.at_hand other.place) (k.waiting m other its waits) in
+            let differs : (n == m) ≡ false = other_than c.waits n m (k.worked_on n at_work) waits in
             or_from (is_flying (r.flying ++ (ticket, job.place) ∷ []) other.place) (r.at_hand other.place)
             (flies_by jobs k.apart n m job other it its r.flying ticket
             ∙ or_from (is_flying r.flying other.place) ((n == m) || false) old.0 (or_from (n == m) false differs refl)) old.1;
-        unnumbered = k.unnumbered;
+        unnumbered = λ m past. let old : IsNew c m = k.unnumbered m past in record { unstaged = old.unstaged; untried = old.untried; waits = old.waits };
         worked = λ m other its never. absurd cc;
-        worked_staged = λ m never. absurd cc;
-        held = λ over m other its within other_than. started_held n job ticket it over m other its within at_work (n == m) refl;
+        worked_on = λ m never. absurd cc;
+        held = λ over m other its within not_it. started_held n job ticket it over m other its within at_work (n == m) refl;
         coming = λ place flies. started_coming n job ticket it at_work place (sym (flies_more r.flying ticket job.place place) ∙ flies);
         unknown = λ place none. let old : IsUntouched r place = k.unknown place none in record {
           lands = flies_more r.flying ticket job.place place
@@ -338,7 +422,7 @@ module _ (jobs : List Job) (r : Readings) (c : Course) (k : Keeps jobs r c) wher
 
   -- the flight of a ticket's place in the list is of the job of the number there
   pub keeps_landed : (index n : ℕ) (flight : Flight) (job : Job) → index < length r.flying → slice_index_or r.flying index flight ≡ flight → IsJob jobs n job →
-      job.place ≡ flight.1 → c.at_work ≡ None → n < c.staged →
+      job.place ≡ flight.1 → c.at_work ≡ None → c.waits n ≡ false →
       Keeps jobs (reads_after r (child_exited flight.0)) (when_landed index n)
   keeps_landed index n flight job within is it at at_work staged =
       let lands : is_flying (remove r.flying index) job.place ≡ false =
@@ -350,19 +434,18 @@ module _ (jobs : List Job) (r : Readings) (c : Course) (k : Keeps jobs r c) wher
         alone = subst FlyApart (landed_is_one_less r.flying index flight k.alone.tickets within is) (landing_leaves_apart r.flying flight.0 k.alone);
         flights = landed_flights index within;
         folders = k.folders;
-        few = k.few;
         number = k.number;
         gave_up = k.gave_up;
-        unstaged = λ m other its past.
+        waiting = λ m other its waits.
             let old : (is_flying r.flying other.place ≡ false) × (r.at_hand other.place ≡ false) =
-            or_parts (is_flying r.flying other.place) (r.at_hand other.place) (k.unstaged m other its past) in
+            or_parts (is_flying r.flying other.place) (r.at_hand other.place) (k.waiting m other its waits) in
             or_from (is_flying (remove r.flying index) other.place) (r.at_hand other.place) (fewer_fly r.flying index other.place old.0) old.1;
-        unnumbered = k.unnumbered;
+        unnumbered = λ m past. let old : IsNew c m = k.unnumbered m past in record { unstaged = old.unstaged; untried = old.untried; waits = old.waits };
         worked = λ m other its now. let same : n ≡ m = some_n n m now in
             subst (λ (j : Job). (is_flying (remove r.flying index) j.place || r.at_hand j.place) ≡ false) (one_job jobs n m job other same it its)
             (or_from (is_flying (remove r.flying index) job.place) (r.at_hand job.place) lands
             (ap r.at_hand at ∙ k.coming flight.1 flew));
-        worked_staged = λ m now. let same : n ≡ m = some_n n m now in omega (arith, same, staged);
+        worked_on = λ m now. let same : n ≡ m = some_n n m now in ap c.waits (sym same) ∙ staged;
         held = λ over m other its so not_it.
             let differs : is_same_place flight.1 other.place ≡ false =
             ap (λ (p : JobPlace). is_same_place p other.place) (sym at) ∙ same_by_number jobs k.apart n m job other it its ∙ ne_eqb n m (λ same. not_it (ap Some same)) in
@@ -386,9 +469,9 @@ module _ (jobs : List Job) (r : Readings) (c : Course) (k : Keeps jobs r c) wher
     its_still : IsJob more n job
     its_still = numbered_still jobs more n job leads it
 
-    free_before : (m : ℕ) (other : Job) → IsJob more m other → c.staged ≤ m → holds r other.place ≡ false
-    free_before m other its past = elim (known_or_new jobs more m other leads its) [
-      | inl before ↦ k.unstaged m other before past
+    free_before : (m : ℕ) (other : Job) → IsJob more m other → c.waits m ≡ true → holds r other.place ≡ false
+    free_before m other its waits = elim (known_or_new jobs more m other leads its) [
+      | inl before ↦ k.waiting m other before waits
       | inr new ↦
           let old : IsUntouched r other.place = k.unknown other.place (new_place jobs more m other leads apart its new) in
           or_from (is_flying r.flying other.place) (r.at_hand other.place) old.lands old.away
@@ -397,22 +480,22 @@ module _ (jobs : List Job) (r : Readings) (c : Course) (k : Keeps jobs r c) wher
     number_still : (m : ℕ) (other : Job) → IsJob more m other → r.number other.place ≡ c.folder m
     number_still m other its = elim (known_or_new jobs more m other leads its) [
       | inl before ↦ k.number m other before
-      | inr new ↦ (k.unknown other.place (new_place jobs more m other leads apart its new)).unstaged ∙ sym (k.unnumbered m (omega (arith, k.few, new))).0
+      | inr new ↦ (k.unknown other.place (new_place jobs more m other leads apart its new)).unstaged ∙ sym (k.unnumbered m new).unstaged
     ]
 
     gave_up_still : (m : ℕ) (other : Job) → IsJob more m other → r.gave_up other.place ≡ c.gave_up m
     gave_up_still m other its = elim (known_or_new jobs more m other leads its) [
       | inl before ↦ k.gave_up m other before
-      | inr new ↦ (k.unknown other.place (new_place jobs more m other leads apart its new)).untried ∙ sym (k.unnumbered m (omega (arith, k.few, new))).1
+      | inr new ↦ (k.unknown other.place (new_place jobs more m other leads apart its new)).untried ∙ sym (k.unnumbered m new).untried
     ]
 
-    held_before : c.over ≡ false → (m : ℕ) (other : Job) → IsJob more m other → m < c.staged → (m ≡ n → ⊥) → holds r other.place ≡ true
-    held_before over m other its within not_it = elim (known_or_new jobs more m other leads its) [
-      | inl before ↦ k.held over m other before within (λ now. not_it (some_n m n (sym now ∙ at_work)))
-      | inr new ↦ absurd (omega (arith, k.few, new, within))
+    held_before : c.over ≡ false → (m : ℕ) (other : Job) → IsJob more m other → c.waits m ≡ false → (m ≡ n → ⊥) → holds r other.place ≡ true
+    held_before over m other its taken not_it = elim (known_or_new jobs more m other leads its) [
+      | inl before ↦ k.held over m other before taken (λ now. not_it (some_n m n (sym now ∙ at_work)))
+      | inr new ↦ (let never : true ≡ false = sym (k.unnumbered m new).waits ∙ taken in absurd cc)
     ]
 
-    held_after : c.over ≡ false → (m : ℕ) (other : Job) → IsJob more m other → m < c.staged → (test : Bool) → (n == m) ≡ test →
+    held_after : c.over ≡ false → (m : ℕ) (other : Job) → IsJob more m other → c.waits m ≡ false → (test : Bool) → (n == m) ≡ test →
         (is_flying r.flying other.place || (is_same_place job.place other.place || r.at_hand other.place)) ≡ true
     held_after over m other its within true same =
         or_right (is_flying r.flying other.place) (is_same_place job.place other.place || r.at_hand other.place)
@@ -436,18 +519,20 @@ module _ (jobs : List Job) (r : Readings) (c : Course) (k : Keeps jobs r c) wher
       alone = k.alone;
       flights = record { their_tickets = k.flights.their_tickets; their_jobs = jobs_still jobs more r.flying c.numbers leads k.flights.their_jobs };
       folders = k.folders;
-      few = let longer : length more ≡ length jobs + length leads.rest = ap length leads.is ∙ length-append jobs leads.rest in omega (arith, k.few, longer);
       number = number_still;
       gave_up = gave_up_still;
-      unstaged = λ m other its past.
+      waiting = λ m other its waits.
           let old : (is_flying r.flying other.place ≡ false) × (r.at_hand other.place ≡ false) =
-          or_parts (is_flying r.flying other.place) (r.at_hand other.place) (free_before m other its past) in
-          let differs : (n == m) ≡ false = ne_eqb n m (λ same. omega (arith, past, k.worked_staged n at_work, same)) in
+          or_parts (is_flying r.flying other.place) (r.at_hand other.place) (free_before m other its waits) in
+          let differs : (n == m) ≡ false = other_than c.waits n m (k.worked_on n at_work) waits in
           or_from (is_flying r.flying other.place) (is_same_place job.place other.place || r.at_hand other.place) old.0
           (or_from (is_same_place job.place other.place) (r.at_hand other.place) (same_by_number more apart n m job other its_still its ∙ differs) old.1);
-      unnumbered = k.unnumbered;
+      unnumbered = λ m past.
+          let longer : length more ≡ length jobs + length leads.rest = ap length leads.is ∙ length-append jobs leads.rest in
+          let old : IsNew c m = k.unnumbered m (omega (arith, past, longer)) in
+          record { unstaged = old.unstaged; untried = old.untried; waits = old.waits };
       worked = λ m other its never. absurd cc;
-      worked_staged = λ m never. absurd cc;
+      worked_on = λ m never. absurd cc;
       held = λ over m other its within not_it. held_after over m other its within (n == m) refl;
       coming = λ place flies. coming_by place (is_same_place job.place place) refl flies;
       unknown = λ place none. let old : IsUntouched r place = k.unknown place (unknown_before jobs more place leads none) in record {
@@ -465,7 +550,7 @@ unfolding IsDistinct
 none_alike eq = tt
 
 abbrev pub first_course : Course
-first_course = record { tickets = []; numbers = []; staged = 0; folder = λ n. 0; gave_up = λ n. 0; folders = 0; at_work = None; over = false }
+first_course = record { tickets = []; numbers = []; waits = λ n. true; folder = λ n. 0; gave_up = λ n. 0; folders = 0; at_work = None; over = false }
 
 pub keeps_at_first : (jobs : List Job) → AreApart jobs → Keeps jobs (readings []) first_course
 keeps_at_first jobs apart = record {
@@ -473,14 +558,13 @@ keeps_at_first jobs apart = record {
   alone = record { tickets = none_alike nat_eq; jobs = none_alike is_same_place };
   flights = record { their_tickets = refl; their_jobs = tt };
   folders = refl;
-  few = omega arith;
   number = λ n job it. refl;
   gave_up = λ n job it. refl;
-  unstaged = λ n job it past. refl;
-  unnumbered = λ n past. (refl, refl);
+  waiting = λ n job it waits. refl;
+  unnumbered = λ n past. record { unstaged = refl; untried = refl; waits = refl };
   worked = λ n job it never. absurd cc;
-  worked_staged = λ n never. absurd cc;
-  held = λ over n job it within not_it. absurd (omega (arith, within));
+  worked_on = λ n never. absurd cc;
+  held = λ over n job it taken not_it. let never : true ≡ false = taken in absurd cc;
   coming = λ place flies. refl;
   unknown = λ place none. record { lands = refl; away = refl; unstaged = refl; untried = refl };
 }

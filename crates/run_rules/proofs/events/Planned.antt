@@ -12,8 +12,8 @@ use Rattle.run_rules.specs.declared.request.Pair.{Pair}
 use Rattle.job_graph.specs.Jobs.{Job}
 use Rattle.run_rules.specs.Scene.{Scene}
 use Rattle.run_rules.specs.Events.{nothing_due, Progress, in_flight, is_at_hand, is_held, unfolding_at}
-use Rattle.run_rules.specs.End.{settled}
-use Rattle.run_rules.specs.Plans.{is_idle, is_planning, mark_at, mark_if_held, LoadsHeld}
+use Rattle.run_rules.specs.End.{is_lost_collect, settled}
+use Rattle.run_rules.specs.Plans.{InForce, is_idle, is_planning, mark_at, mark_if_held}
 use Rattle.run_rules.specs.Run.{Goes, begins, asks, Replans}
 use Rattle.run_rules.proofs.events.Flights.{is_flying}
 use Rattle.run_rules.proofs.events.Places.{AreApart, IsJob, number_is}
@@ -30,39 +30,40 @@ module _ (s : Scene) where
   abbrev pub marks_after : Progress → List Mark → List Mark
   marks_after f old = cond (is_planning s f) (loading f) old
 
-  replans_by : (f : Progress) (old : List Mark) (planning : Bool) → MatchBool planning (LoadsHeld s f (cond planning (loading f) old)) (cond planning (loading f) old ≡ old)
+  replans_by : (f : Progress) (old : List Mark) (planning : Bool) → MatchBool planning (InForce s f (cond planning (loading f) old)) (cond planning (loading f) old ≡ old)
   replans_by f old true = refl
   replans_by f old false = refl
 
-  pub replans : (f : Progress) (old : List Mark) → Replans s (LoadsHeld s) f old (marks_after f old)
+  pub replans : (f : Progress) (old : List Mark) → Replans s (InForce s) f old (marks_after f old)
   replans f old = replans_by f old (is_planning s f)
 
   -- the plan in force follows from the one before
   pub record FollowsPlan (f : Progress) (marks : List Mark) : Type 0 where
     pub old : List Mark
-    pub replanned : Replans s (LoadsHeld s) f old marks
+    pub replanned : Replans s (InForce s) f old marks
 
-  pub in_force : {t : List Pair} {f : Progress} {marks : List Mark} → Goes s (LoadsHeld s) t f marks → FollowsPlan f marks
+  pub in_force : {t : List Pair} {f : Progress} {marks : List Mark} → Goes s (InForce s) t f marks → FollowsPlan f marks
   in_force (begins marks plans) = record { old = []; replanned = plans }
   in_force (asks t f old p work new marks goes allowed steps plans) = record { old = old; replanned = plans }
 
-  -- where nothing is due, nothing is settled and a job is not at hand, it was made there
-  planning_there : (f : Progress) (n : ℕ) (job : Job) → f.work ≡ nothing_due → settled s f.events ≡ None → IsJob (jobs_in f) n job →
-      is_at_hand f.events job.place ≡ false → is_planning s f ≡ true
-  planning_there f n job idle still it away =
-      ap (λ w. is_idle w && is_none (settled s f.events) && list_any (λ (j : Job). not (is_at_hand f.events j.place)) (jobs_in f)) idle
+  -- where nothing is due, no collect has failed, nothing is settled and a job is not at hand, it was made there
+  planning_there : (f : Progress) (n : ℕ) (job : Job) → f.work ≡ nothing_due → list_any is_lost_collect f.events ≡ false → settled s f.events ≡ None →
+      IsJob (jobs_in f) n job → is_at_hand f.events job.place ≡ false → is_planning s f ≡ true
+  planning_there f n job idle collects still it away =
+      ap (λ w. is_idle w && not (list_any is_lost_collect f.events) && is_none (settled s f.events) && list_any (λ (j : Job). not (is_at_hand f.events j.place)) (jobs_in f)) idle
+      ∙ ap (λ b. not b && is_none (settled s f.events) && list_any (λ (j : Job). not (is_at_hand f.events j.place)) (jobs_in f)) collects
       ∙ ap (λ o. is_none o && list_any (λ (j : Job). not (is_at_hand f.events j.place)) (jobs_in f)) still
       ∙ list_any_at (λ (j : Job). not (is_at_hand f.events j.place)) (jobs_in f) n job it.within
       (ap (λ (j : Job). not (is_at_hand f.events j.place)) it.is ∙ ap not away)
 
-  pub loads_held : {t : List Pair} {f : Progress} {marks : List Mark} (n : ℕ) (job : Job) → Goes s (LoadsHeld s) t f marks → f.work ≡ nothing_due →
-      settled s f.events ≡ None → IsJob (jobs_in f) n job → is_at_hand f.events job.place ≡ false → LoadsHeld s f marks
-  loads_held {f = f} {marks = marks} n job goes idle still it away =
+  pub loads_held : {t : List Pair} {f : Progress} {marks : List Mark} (n : ℕ) (job : Job) → Goes s (InForce s) t f marks → f.work ≡ nothing_due →
+      list_any is_lost_collect f.events ≡ false → settled s f.events ≡ None → IsJob (jobs_in f) n job → is_at_hand f.events job.place ≡ false → InForce s f marks
+  loads_held {f = f} {marks = marks} n job goes idle collects still it away =
       let plan : FollowsPlan f marks = in_force goes in
-      subst (λ b. MatchBool b (LoadsHeld s f marks) (marks ≡ plan.old)) (planning_there f n job idle still it away) plan.replanned
+      subst (λ b. MatchBool b (InForce s f marks) (marks ≡ plan.old)) (planning_there f n job idle collects still it away) plan.replanned
 
   -- the mark of a job is that of its number
-  pub mark_is : (f : Progress) (marks : List Mark) (n : ℕ) (job : Job) → AreApart (jobs_in f) → IsJob (jobs_in f) n job → LoadsHeld s f marks →
+  pub mark_is : (f : Progress) (marks : List Mark) (n : ℕ) (job : Job) → AreApart (jobs_in f) → IsJob (jobs_in f) n job → InForce s f marks →
       mark_at s marks f.events job.place ≡ mark_if_held (is_held f.events job.place)
   mark_is f marks n job apart it loads =
       ap (λ k. mark marks k) (number_is (jobs_in f) apart n job it)
@@ -71,10 +72,10 @@ module _ (s : Scene) where
       ∙ ap (λ (j : Job). mark_if_held (is_held f.events j.place)) it.is
 
   -- a job that is not held is computed
-  pub computed : {t : List Pair} {f : Progress} {marks : List Mark} (n : ℕ) (job : Job) → Goes s (LoadsHeld s) t f marks → f.work ≡ nothing_due →
-      settled s f.events ≡ None → AreApart (jobs_in f) → IsJob (jobs_in f) n job → is_held f.events job.place ≡ false →
+  pub computed : {t : List Pair} {f : Progress} {marks : List Mark} (n : ℕ) (job : Job) → Goes s (InForce s) t f marks → f.work ≡ nothing_due →
+      list_any is_lost_collect f.events ≡ false → settled s f.events ≡ None → AreApart (jobs_in f) → IsJob (jobs_in f) n job → is_held f.events job.place ≡ false →
       mark_at s marks f.events job.place ≡ Compute
-  computed {f = f} {marks = marks} n job goes idle still apart it free =
+  computed {f = f} {marks = marks} n job goes idle collects still apart it free =
       mark_is f marks n job apart it
-      (loads_held n job goes idle still it (or_parts (is_flying (in_flight f.events) job.place) (is_at_hand f.events job.place) free).1)
+      (loads_held n job goes idle collects still it (or_parts (is_flying (in_flight f.events) job.place) (is_at_hand f.events job.place) free).1)
       ∙ ap mark_if_held free

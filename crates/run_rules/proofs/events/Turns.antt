@@ -2,7 +2,7 @@
 use Rattle.std.specs.Prelude.{◌<◌, ◌≤◌, slice_index_or}
 use Rattle.std.specs.List.{AllZip, remove}
 use Rattle.std.specs.Map.{keys_of, values_of}
-use Rattle.std.proofs.Common.{◌≡◌, ◌∙◌, ◌⊎◌, inl, inr, ◌+◌, ℕ, zero, suc, true, false, List, [], ◌∷◌, length, None, Some, refl, sym, ap, subst, arith}
+use Rattle.std.proofs.Common.{◌≡◌, ◌∙◌, inl, inr, ◌+◌, ℕ, zero, suc, Bool, true, false, List, [], ◌∷◌, length, None, Some, refl, sym, ap, subst, arith}
 use Rattle.std.proofs.lemmas.Bool.{cases_lt, or_parts}
 use Rattle.std.proofs.lemmas.List.{length-map}
 use Rattle.plan_checker.specs.declared.plan.Mark.{Mark}
@@ -14,16 +14,18 @@ use Rattle.job_graph.specs.Made.{fields_moved}
 use Rattle.run_rules.specs.Delivered.{source_place}
 use Rattle.run_rules.specs.Folders.{in_folder}
 use Rattle.job_graph.specs.Jobs.{Job}
+use Rattle.job_graph.specs.Words.{JobPlace}
 use Rattle.run_rules.specs.Scene.{Scene}
-use Rattle.run_rules.specs.Events.{Progress, number_at}
+use Rattle.run_rules.specs.Events.{Progress, is_held, number_at}
 use Rattle.run_rules.specs.Allowed.{IsFree, IsBusy, MayStage}
-use Rattle.run_rules.specs.Plans.{LoadsHeld}
+use Rattle.run_rules.specs.Plans.{InForce, number_of}
 use Rattle.run_rules.specs.Run.{Goes}
 use Rattle.run_rules.proofs.events.Asks.{busy_when_full, busy_when_held, may_stage}
 use Rattle.run_rules.proofs.events.Course.{Course, IsAt, Keeps, flies_there, keys_removed}
 use Rattle.run_rules.proofs.events.Flights.{Flight, is_flying, landed_is_one_less, tickets_landed}
-use Rattle.run_rules.proofs.events.Places.{IsJob}
-use Rattle.run_rules.proofs.events.Planned.{jobs_in}
+use Rattle.run_rules.proofs.Places.{same_place}
+use Rattle.run_rules.proofs.events.Places.{IsFound, IsJob, found_is, number_is}
+use Rattle.run_rules.proofs.events.Planned.{computed, jobs_in}
 use Rattle.run_rules.proofs.events.Tally.{Readings, readings}
 
 -- the job whose child has the ticket at this place in the list
@@ -57,16 +59,16 @@ module _ (jobs : List Job) (r : Readings) (c : Course) (k : Keeps jobs r c) wher
       (subst (λ (ns : List ℕ). index < length ns) (sym k.flights.their_tickets) within)
       (subst (λ (ns : List ℕ). slice_index_or ns index ticket ≡ ticket) (sym k.flights.their_tickets) is)
 
-  staged_by : (number : ℕ) (job : Job) → IsJob jobs number job → is_flying r.flying job.place ≡ true → (number < c.staged) ⊎ (c.staged ≤ number) → number < c.staged
-  staged_by number job it flies (inl within) = within
-  staged_by number job it flies (inr past) =
-      let lands : is_flying r.flying job.place ≡ false = (or_parts (is_flying r.flying job.place) (r.at_hand job.place) (k.unstaged number job it past)).0 in
+  taken_by : (number : ℕ) (job : Job) → IsJob jobs number job → is_flying r.flying job.place ≡ true → (test : Bool) → c.waits number ≡ test → c.waits number ≡ false
+  taken_by number job it flies true waits =
+      let lands : is_flying r.flying job.place ≡ false = (or_parts (is_flying r.flying job.place) (r.at_hand job.place) (k.waiting number job it waits)).0 in
       let never : true ≡ false = sym flies ∙ lands in absurd cc
+  taken_by number job it flies false taken = taken
 
-  -- a job in flight was staged
-  pub flies_staged : (index ticket : ℕ) (at : FliesAt jobs r.flying c.numbers index ticket) → at.number < c.staged
-  flies_staged index ticket at =
-      staged_by at.number at.job at.it (flies_there r.flying index (ticket, at.job.place) at.within at.flight) (cases_lt at.number c.staged)
+  -- a job in flight waits for nothing
+  pub flies_taken : (index ticket : ℕ) (at : FliesAt jobs r.flying c.numbers index ticket) → c.waits at.number ≡ false
+  flies_taken index ticket at =
+      taken_by at.number at.job at.it (flies_there r.flying index (ticket, at.job.place) at.within at.flight) (c.waits at.number) refl
 
   -- the tickets that are left once a child has ended
   pub tickets_left : (index ticket : ℕ) → FliesAt jobs r.flying c.numbers index ticket → remove c.tickets index ≡ without ticket c.tickets
@@ -87,27 +89,36 @@ module _ (jobs : List Job) (r : Readings) (c : Course) (k : Keeps jobs r c) wher
 -- Where nothing is due, and nothing is worked on
 
 module _ (s : Scene) (f : Progress) (marks : List Mark) (c : Course) (k : Keeps (jobs_in s f) (readings f.events) c) (free : IsFree s f) where
-  -- nothing more can be staged where the slots are taken, or each known job was staged
+  -- nothing more can be staged where the slots are taken, or no job waits
   pub busy_when_taken : s.options.slots ≤ length c.tickets → IsBusy s f marks
   busy_when_taken taken = busy_when_full s f marks free (omega (arith, taken, so_many (jobs_in s f) (readings f.events) c k))
 
-  pub busy_when_staged : c.over ≡ false → c.at_work ≡ None → length (jobs_in s f) ≤ c.staged → IsBusy s f marks
-  busy_when_staged going idle all =
+  pub busy_when_none_waits : c.over ≡ false → c.at_work ≡ None → ((n : ℕ) → n < length (jobs_in s f) → c.waits n ≡ false) → IsBusy s f marks
+  busy_when_none_waits going idle none =
       busy_when_held s f marks free
-      (λ n job it. k.held going n job it (omega (arith, it.within, all)) (λ at_work. let never : None ≡ Some n = sym idle ∙ at_work in absurd cc))
+      (λ n job it. k.held going n job it (none n it.within) (λ at_work. let never : None ≡ Some n = sym idle ∙ at_work in absurd cc))
 
-  -- the first job that was never staged may be
-  pub next_may_stage : {t : List Pair} (job : Job) (plan : StagePlan) → Goes s (LoadsHeld s) t f marks → IsJob (jobs_in s f) c.staged job →
+  -- a job that waits may be staged
+  pub waiting_may_stage : {t : List Pair} (n : ℕ) (job : Job) (plan : StagePlan) → Goes s (InForce s) t f marks → IsJob (jobs_in s f) n job → c.waits n ≡ true →
       length c.tickets < s.options.slots → IsPlan false (in_folder s.options.work (c.folders + 1)) (fields_moved (source_place (number_at f.events) s.options.work) job.inputs) plan →
       MayStage s f marks job.place plan (c.folders + 1)
-  next_may_stage job plan goes it slot staged =
-      may_stage s f marks c.staged job plan (c.folders + 1) goes free k.apart it (k.unstaged c.staged job it (omega arith))
+  waiting_may_stage n job plan goes it waits slot staged =
+      may_stage s f marks n job plan (c.folders + 1) free k.apart it
+      (computed s n job goes free.still.idle free.still.collects free.still.unsettled k.apart it (k.waiting n job it waits)) (k.waiting n job it waits)
       (omega (arith, slot, so_many (jobs_in s f) (readings f.events) c k)) (ap (λ n. n + 1) k.folders) staged
 
-  -- and so may one that gave up
-  pub again_may_stage : {t : List Pair} (n : ℕ) (job : Job) (plan : StagePlan) → Goes s (LoadsHeld s) t f marks → IsJob (jobs_in s f) n job → c.at_work ≡ Some n →
-      length c.tickets < s.options.slots → IsPlan false (in_folder s.options.work (c.folders + 1)) (fields_moved (source_place (number_at f.events) s.options.work) job.inputs) plan →
-      MayStage s f marks job.place plan (c.folders + 1)
-  again_may_stage n job plan goes it at_work slot staged =
-      may_stage s f marks n job plan (c.folders + 1) goes free k.apart it (k.worked n job it at_work)
-      (omega (arith, slot, so_many (jobs_in s f) (readings f.events) c k)) (ap (λ n. n + 1) k.folders) staged
+  -- none before the lowest one that waits may be
+  pub lowest_first : (n : ℕ) → c.over ≡ false → c.at_work ≡ None → ((m : ℕ) → m < n → c.waits m ≡ false) → (other : JobPlace) (its : StagePlan) (folder : ℕ) →
+      MayStage s f marks other its folder → n ≤ number_of other (jobs_in s f)
+  lowest_first n going idle none other its folder may =
+      let it : IsFound (jobs_in s f) other may.job = found_is (jobs_in s f) other may.job may.known in
+      let at : may.job.place ≡ other = same_place may.job.place other it.same in
+      let number : number_of other (jobs_in s f) ≡ it.number =
+      ap (λ (p : JobPlace). number_of p (jobs_in s f)) (sym at) ∙ number_is (jobs_in s f) k.apart it.number may.job it.there in
+      elim (cases_lt it.number n) [
+        | inl below ↦
+            let held : is_held f.events may.job.place ≡ true =
+            k.held going it.number may.job it.there (none it.number below) (λ at_work. let never : None ≡ Some it.number = sym idle ∙ at_work in absurd cc) in
+            let never : true ≡ false = sym (subst (λ (p : JobPlace). is_held f.events p ≡ true) at held) ∙ may.not_held in absurd cc
+        | inr past ↦ omega (arith, past, number)
+      ]

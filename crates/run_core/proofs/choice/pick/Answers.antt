@@ -1,32 +1,40 @@
-use Rattle.std.proofs.Common.{◌≡◌, ◌∙◌, ℕ, true, false, sym, subst}
+use Rattle.std.specs.Prelude.{◌≢◌, IfOk}
+use Rattle.std.proofs.Common.{◌≡◌, ◌∙◌, [], sym, subst}
+use Rattle.run_core.specs.declared.state.Course.{Course}
 use Rattle.run_core.specs.declared.state.Turn.{Turn}
-use Rattle.run_core.specs.inner.Picks.{Picks, Stages}
+use Rattle.run_core.specs.inner.Picks.{Delivers, Picks, Stages}
+use Rattle.run_core.specs.inner.Turn.{collects}
 use Rattle.run_core.proofs.Choices.{picks_result, picks_stage, picks_wait}
 use Rattle.run_core.proofs.Choosing.{is_none}
 use Rattle.run_core.proofs.Lists.{counted, if_ok, uncounted}
 use Rattle.run_core.proofs.choice.pick.Goals as goal
 
-pub returns-then-can_stage-clause-is : goal.returns-then-can_stage-clause-is
-returns-then-can_stage-clause-is c =
-    if_ok c.staging.result
+pub returns-in-Some-clause-is : goal.returns-in-Some-clause-is
+returns-in-Some-clause-is c =
+    subst (λ (looked : Course). IfOk c.staging.result (λ turn. Picks c.args.given.now c.args.course.now turn looked)) (sym c.next_to_stage.ensures.same)
+    (if_ok c.staging.result
     (λ turn st.
-    picks_stage c.args.given.now c.args.course.now (is_none c.args.course.now.end (sym c.is_some.ensures ∙ c.if-is_some.false)) turn
-    (c.can_stage.ensures.0 c.if-can_stage.true).0 (c.can_stage.ensures.0 c.if-can_stage.true).1
-    (subst (λ (n : ℕ). Stages c.args.given.now c.args.course.now n turn) (c.len.ensures ∙ c.args.course.now.jobs.ok.0) st))
-    c.staging.ensures
+    picks_stage c.args.given.now c.args.course.now (is_none c.args.course.now.end (sym c.is_some.ensures ∙ c.if-is_some.false)) c.in-Some.number turn c.in-Some.ensures.found
+    (subst (λ (looked : Course). Stages c.args.given.now looked c.in-Some.number turn) c.next_to_stage.ensures.same st))
+    c.staging.ensures)
 
 pub returns-then-is_empty-clause-is : goal.returns-then-is_empty-clause-is
 returns-then-is_empty-clause-is c =
-    if_ok c.delivery.result
+    let none : c.next_to_stage.new.course.tickets.items ≡ [] =
+    counted c.next_to_stage.new.course.tickets.items c.next_to_stage.new.course.tickets.len c.next_to_stage.new.course.tickets.ok.0 (sym c.is_empty.ensures ∙ c.if-is_empty.true) in
+    subst (λ (looked : Course). IfOk c.delivery.result (λ turn. Picks c.args.given.now c.args.course.now turn looked)) (sym c.next_to_stage.ensures.same)
+    (if_ok c.delivery.result
     (λ turn d.
-    picks_result c.args.given.now c.args.course.now (is_none c.args.course.now.end (sym c.is_some.ensures ∙ c.if-is_some.false)) turn
-    (λ slot more. let never : true ≡ false = sym (c.can_stage.ensures.1 (slot, more)) ∙ c.if-can_stage.false in absurd cc)
-    (counted c.args.course.now.tickets.items c.args.course.now.tickets.len c.args.course.now.tickets.ok.0 (sym c.is_empty.ensures ∙ c.if-is_empty.true)) d)
-    c.delivery.ensures
+    picks_result c.args.given.now c.args.course.now (is_none c.args.course.now.end (sym c.is_some.ensures ∙ c.if-is_some.false)) turn c.in_default.ensures.found
+    (subst (λ (looked : Course). looked.tickets.items ≡ []) c.next_to_stage.ensures.same none)
+    (subst (λ (looked : Course). Delivers c.args.given.now looked turn) c.next_to_stage.ensures.same d))
+    c.delivery.ensures)
 
 pub returns-clause-is : goal.returns-clause-is
 returns-clause-is c =
-    subst (λ (turn : Turn). Picks c.args.given.now c.args.course.now turn c.args.course.now) (sym c.collecting.ensures)
-    (picks_wait c.args.given.now c.args.course.now (is_none c.args.course.now.end (sym c.is_some.ensures ∙ c.if-is_some.false))
-    (λ slot more. let never : true ≡ false = sym (c.can_stage.ensures.1 (slot, more)) ∙ c.if-can_stage.false in absurd cc)
-    (uncounted c.args.course.now.tickets.items c.args.course.now.tickets.len c.args.course.now.tickets.ok.0 (sym c.is_empty.ensures ∙ c.if-is_empty.false)))
+    let some : c.next_to_stage.new.course.tickets.items ≢ [] =
+    uncounted c.next_to_stage.new.course.tickets.items c.next_to_stage.new.course.tickets.len c.next_to_stage.new.course.tickets.ok.0 (sym c.is_empty.ensures ∙ c.if-is_empty.false) in
+    subst (λ (turn : Turn). Picks c.args.given.now c.args.course.now turn c.next_to_stage.new.course) (sym c.collecting.ensures)
+    (subst (λ (looked : Course). Picks c.args.given.now c.args.course.now collects looked) (sym c.next_to_stage.ensures.same)
+    (picks_wait c.args.given.now c.args.course.now (is_none c.args.course.now.end (sym c.is_some.ensures ∙ c.if-is_some.false)) c.in_default.ensures.found
+    (subst (λ (looked : Course). looked.tickets.items ≢ []) c.next_to_stage.ensures.same some)))

@@ -1,5 +1,5 @@
 use Rattle.std.proofs.lemmas.Result.{err_from_is_err_and}
-use Rattle.job_graph.specs.inner.Views.{job_of as job_seen}
+use Rattle.job_graph.specs.KnownJobs.{job_of as job_seen}
 use Rattle.run_core.specs.inner.Course.{known_in, place_at}
 use Rattle.run_core.proofs.Telling.{told_none, told_place}
 use Rattle.run_core.proofs.course.learn.Goals as goal

@@ -1,5 +1,5 @@
 use Rattle.std.proofs.Common.{◌≡◌, drop, length, map}
-use Rattle.job_graph.specs.inner.Views.{job_of}
+use Rattle.job_graph.specs.KnownJobs.{job_of}
 use Rattle.run_core.specs.inner.Course.{number_in}
 use Rattle.run_core.specs.inner.Places.{number_at_source}
 use Rattle.run_core.proofs.places.number_in.Given as goal

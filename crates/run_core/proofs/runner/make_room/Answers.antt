@@ -21,7 +21,7 @@ returns-in-Ok c =
       past = c.reserve.ensures.past;
       known = c.reserve.ensures.known;
       room = has_room fits;
-      one_more = record { tickets = λ takes. c.in-Ok.ensures.tickets; flights = λ takes. c.in-Ok.ensures.flights; jobs = λ number is. c.in-Ok.ensures.jobs };
+      one_more = record { tickets = λ takes. c.in-Ok.ensures.tickets; flights = λ takes. c.in-Ok.ensures.flights };
     }
 
 pub returns-in-Err : goal.returns-in-Err

@@ -1,5 +1,5 @@
 use Rattle.std.proofs.Common.{sym, subst}
-use Rattle.job_graph.specs.inner.Views.{job_of}
+use Rattle.job_graph.specs.KnownJobs.{job_of}
 use Rattle.run_core.specs.declared.state.JobNext.{JobNext}
 use Rattle.run_core.specs.inner.Picks.{Turns, badly, for_now, well}
 use Rattle.run_core.proofs.Lists.{if_ok}

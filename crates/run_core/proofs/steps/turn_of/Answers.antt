@@ -1,5 +1,5 @@
 use Rattle.std.proofs.Common.{sym, subst}
-use Rattle.job_graph.specs.inner.Views.{job_of as job_seen}
+use Rattle.job_graph.specs.KnownJobs.{job_of as job_seen}
 use Rattle.run_core.specs.declared.state.JobNext.{JobNext}
 use Rattle.run_core.specs.inner.Course.{known_in}
 use Rattle.run_core.specs.inner.Picks.{Turns, fails}

@@ -1,0 +1,18 @@
+use Rattle.std.proofs.Common.{◌≡◌, ◌∙◌, ◌≤◌, ◌<◌, ◌++◌, ◌∷◌, [], ℕ, List, length, refl, sym, ap, subst, arith}
+use Rattle.run_core.specs.declared.job_states.JobState.{JobState}
+use Rattle.run_core.specs.inner.JobStates.{NoneWaits, staged_in, untouched}
+use Rattle.run_core.proofs.States.{none_waits_still, staged_past}
+use Rattle.run_core.proofs.job_states.JobStates.reach.Goals as goal
+
+pub loop-self-preserved : goal.loop-self-preserved
+loop-self-preserved c =
+    let states : List JobState = c.loop-self.self-inside.states.items in
+    let past : length states ≤ c.args.number = omega (arith, c.len.ensures, c.loop-self-test.true) in
+    record {
+      same = λ folder.
+          ap (staged_in c.args.number folder) c.in_ok-push.ensures.items
+          ∙ staged_past states c.args.number folder past ∙ c.loop-self.invariant.same folder;
+      within = omega (arith, c.loop-self.invariant.within, c.in_ok-push.ensures.len);
+      below = subst (λ (now : List JobState). NoneWaits now c.loop-self.self-inside.lowest) (sym c.in_ok-push.ensures.items)
+          (none_waits_still states c.loop-self.self-inside.lowest c.loop-self.invariant.within c.loop-self.invariant.below);
+    }

@@ -1,0 +1,13 @@
+use Rattle.std.proofs.Common.{◌≡◌, ◌≤◌, ◌-◌, ◌+◌, ℕ, length}
+use Rattle.run_core.specs.inner.JobStates.{NoneWaits, staged_in}
+use Rattle.run_core.proofs.job_states.JobStates.reach.Given as goal
+
+abbrev pub invariant-loop-self : goal.invariant-loop-self
+invariant-loop-self l = record {
+  same : (folder : ℕ) → staged_in l.number folder l.self-inside.states.items ≡ staged_in l.number folder l.initial.self-inside.states.items;
+  within : l.self-inside.lowest ≤ length l.self-inside.states.items;
+  below : NoneWaits l.self-inside.states.items l.self-inside.lowest;
+}
+
+abbrev pub decreases-loop-self : goal.decreases-loop-self
+decreases-loop-self l = l.number + 1 - length l.self-inside.states.items

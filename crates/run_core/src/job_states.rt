@@ -1,0 +1,122 @@
+//! What has become of each job.
+ghost use Rattle.std.specs.Prelude.{◌≡◌, ◌<◌, ◌+◌, ◌^◌, ℕ, [], OnOk, MatchOption, length};
+ghost use Rattle.run_core.specs.inner.JobStates.{IsLowest, NoneWaits, given_up_in, staged_in, state_at};
+
+use std::alloc::{AllocError, Global};
+use std::marker::Model;
+
+/// What has become of a job.
+#[derive(Drop)]
+pub(crate) struct JobState {
+    /// Whether it may be staged: it never was, or it failed temporarily and may be tried again.
+    pub waits: bool,
+    /// The number of the folders that it was staged in last; 0 where it never was.
+    pub folder: u64,
+    /// How often it failed temporarily.
+    pub gave_up: u64,
+}
+
+/// What has become of the jobs, by number. A job past the last of these was never touched.
+#[derive(Drop)]
+pub(crate) struct JobStates {
+    states: Vec<JobState>,
+    /// No job below this number waits, so the next to be staged is looked for from here on.
+    lowest: usize,
+}
+
+impl Model for JobStates {
+    ghost use Rattle.std.specs.Prelude.{List};
+    ghost use Rattle.std.specs.Coded.{coded_list};
+    ghost use Rattle.run_core.specs.contracts.job_states.JobState as state;
+    ghost use Rattle.run_core.specs.declared.job_states.JobState.{JobState};
+    ghost use Rattle.run_core.specs.inner.LowestWaiting.{IsLookedFor};
+
+    ghost Value = { List JobState };
+
+    ghost coded = { coded_list state.the_row.coded };
+
+    ghost view = { λ fields. fields.states.items };
+
+    ghost invariant = { IsLookedFor };
+}
+
+impl JobStates {
+    /// No job was touched.
+    pub(crate) fn new(alloc: Global) -> JobStates
+        ensures { result ≡ [] }
+    {
+        JobStates {
+            states: Vec::new(alloc),
+            lowest: 0,
+        }
+    }
+
+    /// The states of the jobs that were touched, by number.
+    pub(crate) fn as_slice(&self) -> &[JobState]
+        ensures { result.now ≡ self.now }
+    {
+        self.states.as_slice()
+    }
+
+    /// How often the job failed temporarily.
+    pub(crate) fn tries(&self, number: usize) -> u64
+        requires { number < length self.now }
+        ensures { result ≡ (state_at self.now number).gave_up }
+    {
+        self.states[number].gave_up
+    }
+
+    /// The lowest job of the first so many that waits.
+    pub(crate) fn first_waiting(&mut self, count: usize) -> Option<usize>
+        ensures same { self.new ≡ self.old }
+        ensures found { MatchOption result (NoneWaits self.old count) (IsLowest self.old count) }
+    {
+        while self.lowest < self.states.len() && !self.states[self.lowest].waits {
+            self.lowest += 1;
+        }
+        if self.lowest < count {
+            return Some(self.lowest);
+        }
+        None
+    }
+
+    /// The job has these folders, and waits no more.
+    pub(crate) fn stage(&mut self, number: usize, folder: u64) -> Result<(), AllocError>
+        ensures { OnOk result (self.new ≡ staged_in number folder self.old) }
+    {
+        self.reach(number)?;
+        let state = &mut self.states[number];
+        state.waits = false;
+        state.folder = folder;
+        Ok(())
+    }
+
+    /// The job failed temporarily once more, and waits again.
+    pub(crate) fn give_up(&mut self, number: usize)
+        requires within { number < length self.old }
+        requires few { (state_at self.old number).gave_up + 1 < 2 ^ 64 }
+        ensures { self.new ≡ given_up_in number self.old }
+    {
+        let state = &mut self.states[number];
+        state.gave_up += 1;
+        state.waits = true;
+        if number < self.lowest {
+            self.lowest = number;
+        }
+    }
+
+    /// Adds jobs that were never touched, up to the one of this number.
+    fn reach(&mut self, number: usize) -> Result<(), AllocError>
+        ensures reached { OnOk result (number < length self.new) }
+        ensures same { (folder : ℕ) → staged_in number folder self.new ≡ staged_in number folder self.old }
+    {
+        while self.states.len() <= number {
+            self.states.push(JobState {
+                waits: true,
+                folder: 0,
+                gave_up: 0,
+            })?;
+        }
+        Ok(())
+    }
+}
