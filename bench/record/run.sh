@@ -1,7 +1,7 @@
 #!/bin/bash
 # How long a record of 1,000 and of 100,000 rows takes to open, to find 1,000 keys that are there and 1,000 that are not, and to
 # put 1,000 rows, beside Python's sqlite3 with the same statements, a log (WAL) and a sync for each commit, in one run:
-# medians of five, each program once in turn, in microseconds, and the ratios. And what opening takes for each 1,000 rows.
+# medians of five, each program once in turn, in microseconds, and the ratios.
 set -euo pipefail
 here=$(cd "$(dirname "$0")" && pwd)
 cd "$here/../../crates/record_rows"

@@ -4,7 +4,7 @@ use Rattle.std.proofs.lemmas.List as lists
 use Rattle.serde_json.specs.Data.{Data}
 use Rattle.serde_json.specs.View.{view, items_view, items_of}
 use Rattle.serde_json.specs.declared.value.Value.{Value as Json}
-use Rattle.job_record.specs.declared.row.Found.{Found}
+use Rattle.staging.specs.declared.found.Found.{Found}
 use Rattle.serde_json.specs.Written.{has_float, items_have_float}
 use Rattle.job_record.specs.Texts.{found_in, list_in, found_json, files_json}
 

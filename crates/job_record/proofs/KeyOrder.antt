@@ -12,7 +12,7 @@ use Rattle.sqlite.specs.Query.{Output, output, output_cmp, matches, inner, end, 
 use Rattle.sqlite_value.proofs.OrderLemmas.{value_cmp-Text}
 use Rattle.sqlite_rules.specs.Lists.{Has}
 use Rattle.sqlite_rules.proofs.ProbeLemmas.{has_mapped}
-use Rattle.job_record.specs.declared.row.Row.{Row}
+use Rattle.job_rows.specs.declared.row.Row.{Row}
 use Rattle.job_record.specs.Columns.{IsRowOf, AreRowsOf}
 use Rattle.job_record.specs.Map.{by_key}
 use Rattle.job_record.proofs.Compiled.{columns, list_query}

@@ -5,15 +5,12 @@ use Rattle.sqlite.specs.Order.{Row as Columns}
 use Rattle.sqlite.specs.Tree.{Trees}
 use Rattle.sqlite_schema.specs.declared.command.Returning.{Returning}
 use Rattle.sqlite_resolve.specs.declared.compiled.Compiled.{Compiled}
-use Rattle.sqlite.specs.State.{State, HasCleanDisk, ShowsRows, Shown}
+use Rattle.sqlite.specs.State.{State, HasCleanDisk, ShowsRows, Shown, QueriesRow}
 use Rattle.sqlite.specs.Held.{Held, state}
-use Rattle.job_record.specs.declared.row.Row.{Row}
 use Rattle.job_record.specs.declared.fault.RecordFault.{RecordFault}
-use Rattle.job_record.specs.Statements.{list_text}
-use Rattle.job_record.specs.Log.{outcome}
-use Rattle.job_record.specs.RecordMap.{Lists}
+use Rattle.job_record.specs.Statements.{version_text}
 use Rattle.job_record.specs.Map.{held}
-use Rattle.job_record.specs.Opening.{ReadsRecord, Opens}
+use Rattle.job_record.specs.Opening.{ReadsVersion, Opens}
 use Rattle.job_record.specs.OpenMap.{OpensAs, RefusesAs, CrashesAs}
 use Rattle.job_record.specs.Crash.{OpensSafely, RefusesSafely}
 use Rattle.job_record.proofs.MapSteps.{same_shows}
@@ -29,14 +26,14 @@ module _ (sql : List ℕ) (params : Columns) (old new : State) where
   unfolding Shown
   shown_open rows h = rows_open h.0 _ rows h.0.returning h.2
 
-module _ {S : Type 0} (g : Ghosts S) where
-  lists_open : (old new : Held S) (rows : Result (List Row) RecordFault) → Lists g old new rows → Ok tt ≡ outcome rows → IsTrue (state g new).is_open
-  lists_open old new (Ok rows) h is = shown_open list_text [] (state g old) (state g new) h.0 h.1
-  lists_open old new (Err f) h is = absurd (let e : Ok tt ≡ Err f = is in cc)
+  row_open : (row : Columns) → QueriesRow sql params old new (Ok row) → IsTrue new.is_open
+  unfolding QueriesRow
+  row_open row (inl h) = h.1.0.is_open
+  row_open row (inr h) = shown_open h.0 h.1
 
-  reads_open : (old new : Held S) → ReadsRecord g old new (Ok tt) → IsTrue (state g new).is_open
-  reads_open old new (inl h) = absurd (true≢false (sym h.0))
-  reads_open old new (inr h) = lists_open h.0 new h.2 h.3 h.4
+module _ {S : Type 0} (g : Ghosts S) where
+  reads_open : (old new : Held S) → ReadsVersion (state g old) (state g new) (Ok tt) → IsTrue (state g new).is_open
+  reads_open old new h = row_open version_text [] (state g old) (state g new) h.0 h.1
 
   opens_open : (old new : Held S) → Opens g old new (Ok tt) → IsTrue (state g new).is_open
   opens_open old new (inl h) = absurd (let e = h.1 in cc)

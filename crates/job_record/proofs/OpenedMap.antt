@@ -13,21 +13,18 @@ use Rattle.sqlite.specs.Held.{Held, state}
 use Rattle.sqlite.proofs.Callers.{IsPlain, unchanged_then, never_commits}
 use Rattle.sqlite.proofs.StateLemmas.{survives_then, survives_weaker}
 use Rattle.sqlite_resolve.specs.declared.error.CompileError.TheVariants.{NoSuchTable}
-use Rattle.job_record.specs.declared.row.Row.{Row}
 use Rattle.job_record.specs.declared.fault.RecordFault.{RecordFault}
 use Rattle.job_record.specs.declared.fault.RecordFault.TheVariants.{NotARecord, WrongVersion, NoRow, Store, OutOfMemory}
 use Rattle.job_record.specs.Tables.{no_schema, record_schema}
 use Rattle.job_record.specs.Statements.{version_text, list_text}
-use Rattle.job_record.specs.Log.{outcome}
-use Rattle.job_record.specs.RecordMap.{Lists}
 use Rattle.job_record.specs.Map.{held_in, held, IsKeyed, IsRecord, IsSame, Stands}
-use Rattle.job_record.specs.Opening.{HasTables, ReadsVersion, MakesTables, Makes, IsReady, ReadsRecord, GoesBack, IsUnready, Opens}
+use Rattle.job_record.specs.Opening.{HasTables, ReadsVersion, MakesTables, Makes, IsReady, GoesBack, IsUnready, Opens}
 use Rattle.job_record.specs.OpenMap.{IsBlank, IsEmptyRecord, OpensAs, RefusesAs, AreEmptyRecord, CrashesAs}
-use Rattle.job_record.specs.inner.Crash.{CommitsTables, CommitsReady, CommitsReading, OpensMap}
+use Rattle.job_record.specs.inner.Crash.{CommitsTables, CommitsReady, OpensMap}
 use Rattle.job_record.proofs.Compiled.{list_plain, version_plain, version_absent}
 use Rattle.job_record.proofs.Made.{AreMade, tables_made}
-use Rattle.job_record.proofs.MapSteps.{same_shows, undone_stands, list_is_map}
-use Rattle.job_record.proofs.Reading.{row_same, error_same, shown_same, list_is_plain}
+use Rattle.job_record.proofs.MapSteps.{same_shows, undone_stands}
+use Rattle.job_record.proofs.Reading.{row_same, error_same, list_is_plain}
 
 keyed_none : IsKeyed []
 keyed_none = record { ids = λ r h. absurd h; rowids = λ a b h. absurd h; keys = λ a b h. absurd h }
@@ -83,37 +80,8 @@ module _ {S : Type 0} (g : Ghosts S) where
     version_stands (Store e) (inr h) = undone_stands (state g old) (state g new) it (inl (row_same version_text [] (state g old) (state g new) (version_is_plain (state g old) it) h.0 h.1))
     version_stands OutOfMemory h = absurd h
 
-    rows_same : (rows : Result (List Row) RecordFault) → Lists g old new rows → Ok tt ≡ outcome rows → IsUnchanged (state g old) (state g new)
-    rows_same (Ok rows) h is = shown_same list_text [] (state g old) (state g new) (list_is_plain (state g old) (state g new) it) h.0 h.1
-    rows_same (Err f) h is = absurd (let e : Ok tt ≡ Err f = is in cc)
-
-    rows_stand : (f : RecordFault) (rows : Result (List Row) RecordFault) → Lists g old new rows → Err f ≡ outcome rows → Stands (state g old) (state g new)
-    rows_stand f (Ok rows) h is = absurd (let e : Err f ≡ Ok tt = is in cc)
-    rows_stand f (Err NotARecord) h is = let m = list_is_map g old new (Err NotARecord) h it in undone_stands (state g old) (state g new) it (inl m.4)
-    rows_stand f (Err WrongVersion) h is = absurd h
-    rows_stand f (Err NoRow) h is = absurd h
-    rows_stand f (Err (Store e)) h is = list_is_map g old new (Err (Store e)) h it
-    rows_stand f (Err OutOfMemory) h is = list_is_map g old new (Err OutOfMemory) h it
-
-  module _ (old new : Held S) (it : IsRecord (state g old)) where
-    reads_same : ReadsRecord g old new (Ok tt) → IsUnchanged (state g old) (state g new)
-    reads_same (inl h) = absurd (true≢false (sym h.0))
-    reads_same (inr h) =
-        let first = version_same old h.0 it h.1 in
-        let mid = (same_shows (state g old) (state g h.0) it first).1 in
-        unchanged_then (state g old) (state g h.0) (state g new) first (rows_same h.0 new mid h.2 h.3 h.4)
-
-    reads_stand : (f : RecordFault) → ReadsRecord g old new (Err f) → Stands (state g old) (state g new)
-    reads_stand f (inl h) = version_stands old new it f h.1
-    reads_stand f (inr h) =
-        let first = same_shows (state g old) (state g h.0) it (version_same old h.0 it h.1) in
-        stands_then (state g old) (state g h.0) (state g new) first.0 (rows_stand h.0 new first.1 f h.2 h.3 h.4)
-
-    reads_nothing : (trees : Trees) → CommitsReading g old trees → ⊥
-    reads_nothing trees (inl h) = never_commits version_text [] (state g old) trees (version_is_plain (state g old) it) h
-    reads_nothing trees (inr h) =
-        let mid = (same_shows (state g old) (state g h.0) it (version_same old h.0 it h.1)).1 in
-        never_commits list_text [] (state g h.0) trees (list_is_plain (state g h.0) (state g new) mid) h.2
+    version_commits_nothing : (trees : Trees) → CommitsShowing version_text [] (state g old) trees → ⊥
+    version_commits_nothing trees = never_commits version_text [] (state g old) trees (version_is_plain (state g old) it)
 
   -- ---- the tables are there, or are made
 
@@ -150,12 +118,12 @@ module _ {S : Type 0} (g : Ghosts S) where
     opens_as (inr h) = record {
       made = λ b.
           let r = ready_blank old h.0 b h.1 in
-          let u = same_shows (state g h.0) (state g new) r.0 (reads_same h.0 new r.0 h.2) in
+          let u = same_shows (state g h.0) (state g new) r.0 (version_same h.0 new r.0 h.2) in
           (u.1, λ k. u.0 k ∙ r.1 k);
       taken = λ it.
           let first = ready_taken old h.0 it h.1 in
           let at = (same_shows (state g old) (state g h.0) it first).1 in
-          let u = unchanged_then (state g old) (state g h.0) (state g new) first (reads_same h.0 new at h.2) in
+          let u = unchanged_then (state g old) (state g h.0) (state g new) first (version_same h.0 new at h.2) in
           (u, (same_shows (state g old) (state g new) it u).1);
     }
 
@@ -177,10 +145,10 @@ module _ {S : Type 0} (g : Ghosts S) where
     refuses_as : (f : RecordFault) → Opens g old new (Err f) → RefusesAs (state g old) (state g new)
     refuses_as f (inl h) = record { blank = λ b open_now. inl (unready_blank h.0 h.2 b open_now); taken = unready_taken h.0 h.2 }
     refuses_as f (inr h) = record {
-      blank = λ b open_now. let r = ready_blank old h.0 b h.1 in inr (empty_stands (state g h.0) (state g new) r (reads_stand h.0 new r.0 f h.2) open_now);
+      blank = λ b open_now. let r = ready_blank old h.0 b h.1 in inr (empty_stands (state g h.0) (state g new) r (version_stands h.0 new r.0 f h.2) open_now);
       taken = λ it.
           let at = same_shows (state g old) (state g h.0) it (ready_taken old h.0 it h.1) in
-          stands_then (state g old) (state g h.0) (state g new) at.0 (reads_stand h.0 new at.1 f h.2);
+          stands_then (state g old) (state g h.0) (state g new) at.0 (version_stands h.0 new at.1 f h.2);
     }
 
     pub opens_map : (r : Result (Unit {0}) RecordFault) → Opens g old new r → OpensMap (state g old) (state g new) r
@@ -204,11 +172,11 @@ module _ {S : Type 0} (g : Ghosts S) where
       taken = λ it. survives_weaker (state g old) (state g new) _ _ (λ clean trees h. has_both (state g old) it h.0) s;
     }
 
-  pub ready_crashes : (old mid new : Held S) → (HasCleanDisk (state g new) → IsReady g old mid) → Survives (state g old) (state g mid) (CommitsReady g old) → Survives (state g mid) (state g new) (CommitsReading g mid) → CrashesAs (state g old) (state g new)
+  pub ready_crashes : (old mid new : Held S) → (HasCleanDisk (state g new) → IsReady g old mid) → Survives (state g old) (state g mid) (CommitsReady g old) → Survives (state g mid) (state g new) (CommitsShowing version_text [] (state g mid)) → CrashesAs (state g old) (state g new)
   ready_crashes old mid new ready one two = record {
     blank = λ b.
-        survives_then (state g old) (state g mid) (state g new) _ _ _ (λ clean. empty_trees old mid b) (λ clean trees h. absurd (reads_nothing mid new (ready_blank old mid b (ready clean)).0 trees h)) one two;
+        survives_then (state g old) (state g mid) (state g new) _ _ _ (λ clean. empty_trees old mid b) (λ clean trees h. absurd (version_commits_nothing mid new (ready_blank old mid b (ready clean)).0 trees h)) one two;
     taken = λ it.
         survives_then (state g old) (state g mid) (state g new) _ _ _ (λ clean trees h. has_both (state g old) it h.0)
-        (λ clean trees h. reads_nothing mid new (same_shows (state g old) (state g mid) it (ready_taken old mid it (ready clean))).1 trees h) one two;
+        (λ clean trees h. version_commits_nothing mid new (same_shows (state g old) (state g mid) it (ready_taken old mid it (ready clean))).1 trees h) one two;
   }

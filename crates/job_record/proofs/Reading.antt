@@ -22,7 +22,7 @@ use Rattle.sqlite_rules.specs.Lists.{Has}
 use Rattle.job_record.specs.Tables.{record_schema}
 use Rattle.job_record.specs.Statements.{find_text, list_text}
 use Rattle.std.specs.List.Sorted.{IsSorted}
-use Rattle.job_record.specs.declared.row.Row.{Row as Job}
+use Rattle.job_rows.specs.declared.row.Row.{Row as Job}
 use Rattle.job_record.specs.Columns.{AreRowsOf}
 use Rattle.job_record.specs.Map.{IsRecord, held, by_key}
 use Rattle.job_record.proofs.KeyOrder.{rows_sorted}

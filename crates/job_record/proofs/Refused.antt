@@ -5,7 +5,7 @@ use Rattle.sqlite.specs.declared.error.Error.{Error}
 use Rattle.sqlite.specs.State.{State, KeepsCommit, Executes}
 use Rattle.sqlite.specs.Held.{Held, state}
 use Rattle.sqlite.proofs.InsideLemmas.{fails_whole, unchanged_keeps}
-use Rattle.job_record.specs.declared.row.Row.{Row}
+use Rattle.job_rows.specs.declared.row.Row.{Row}
 use Rattle.job_record.specs.declared.fault.RecordFault.{RecordFault}
 use Rattle.job_record.specs.declared.fault.RecordFault.TheVariants.{NotARecord, WrongVersion, NoRow, Store, OutOfMemory}
 use Rattle.job_record.specs.Statements.{put_text, put_params, key_params}

@@ -2,7 +2,7 @@
 use Rattle.std.proofs.Common.{inl, inr, ◌≡◌, ℕ, ◌+◌, ◌<◌, suc, List, [], ◌∷◌, ◌++◌, take, drop, drop-cons, length, get_or, refl, sym, ap, subst, ◌∙◌}
 use Rattle.std.proofs.lemmas.List as lists
 use Rattle.sqlite.specs.Order.{Row as Columns}
-use Rattle.job_record.specs.declared.row.Row.{Row}
+use Rattle.job_rows.specs.declared.row.Row.{Row}
 use Rattle.job_record.specs.declared.texts.Stored.{Stored}
 use Rattle.job_record.specs.declared.fault.RecordFault.{RecordFault}
 use Rattle.job_record.specs.Columns.{AreColumnsOf, IsRowOf, IsUnread, AreRowsOf, Misreads}

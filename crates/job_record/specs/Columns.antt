@@ -7,7 +7,7 @@ use Rattle.sqlite.specs.Order.{Row as Columns, column}
 use Rattle.sqlite.specs.declared.error.Error.{Error}
 use Rattle.sqlite.specs.declared.error.Error.TheVariants.{SqliteFailure}
 use Rattle.sqlite.specs.declared.error.ErrorCode.TheVariants as code
-use Rattle.job_record.specs.declared.row.Row.{Row}
+use Rattle.job_rows.specs.declared.row.Row.{Row}
 use Rattle.job_record.specs.declared.texts.Stored.{Stored}
 use Rattle.job_record.specs.declared.fault.RecordFault.{RecordFault}
 use Rattle.job_record.specs.declared.fault.RecordFault.TheVariants.{NotARecord, Store, OutOfMemory}

@@ -1,7 +1,10 @@
--- What the log gains by a command: one entry, of the command, its key, and whether it was done or refused. And the short names of refusals.
-use Rattle.std.specs.Prelude.{◌≡◌, ◌⊎◌, ℕ, List, [], ◌∷◌, ◌++◌, codes, Result, Ok, Err}
-use Rattle.job_record.specs.declared.log.Command.{Command}
-use Rattle.job_record.specs.declared.log.Entry.{Entry}
+-- What the log gains by a command, and the short names of refusals.
+use Rattle.std.specs.Prelude.{◌≡◌, ℕ, List, ◌++◌, codes, Option, Some, None, Result, Ok, Err}
+use Rattle.job_rows.specs.declared.log.Command.{Command}
+use Rattle.job_rows.specs.declared.log.Entry.{Entry}
+use Rattle.job_rows.specs.declared.refusal.RecordRefusal.{RecordRefusal}
+use Rattle.job_rows.specs.declared.refusal.RecordRefusal.TheVariants as refusal
+use Rattle.job_rows.specs.Log.{entries_of}
 use Rattle.job_record.specs.declared.fault.RecordFault.{RecordFault}
 use Rattle.job_record.specs.declared.fault.RecordFault.TheVariants.{NotARecord, WrongVersion, NoRow, Store, OutOfMemory}
 
@@ -13,13 +16,15 @@ code_of NoRow = codes "R3"
 code_of (Store cause) = codes "R4"
 code_of OutOfMemory = codes "OutOfMemory"
 
--- done, or the refusal
-abbrev pub outcome : {T : Type 0} → Result T RecordFault → Result (Unit {0}) RecordFault
-outcome (Ok value) = Ok tt
-outcome (Err fault) = Err fault
+-- what the log says of a command: done, its refusal, or nothing where memory ran out
+abbrev pub told_of : {T : Type 0} → Result T RecordFault → Option (Result (Unit {0}) RecordRefusal)
+told_of (Ok value) = Some (Ok tt)
+told_of (Err NotARecord) = Some (Err refusal.NotARecord)
+told_of (Err WrongVersion) = Some (Err refusal.WrongVersion)
+told_of (Err NoRow) = Some (Err refusal.NoRow)
+told_of (Err (Store cause)) = Some (Err refusal.Store)
+told_of (Err OutOfMemory) = None
 
--- A command that runs out of memory may add none.
+-- one entry, of the command, its key, and whether it was done or refused; none where memory ran out
 abbrev pub Logs : {T : Type 0} → Command → List ℕ → Result T RecordFault → List Entry → List Entry → Type 0
-Logs command key result old new =
-    (new ≡ old ++ record { command = command; key = key; answer = outcome result } ∷ [])
-    ⊎ ((result ≡ Err OutOfMemory) × (new ≡ old))
+Logs command key result old new = new ≡ old ++ entries_of command key (told_of result)

@@ -12,7 +12,7 @@ use Rattle.sqlite.specs.Tree.{rowid}
 use Rattle.sqlite.specs.Effect.{IsDatabase}
 use Rattle.sqlite.specs.State.{State, IsUnchanged}
 use Rattle.sqlite_rules.specs.Lists.{Has}
-use Rattle.job_record.specs.declared.row.Row.{Row}
+use Rattle.job_rows.specs.declared.row.Row.{Row}
 use Rattle.job_record.specs.declared.fault.RecordFault.{RecordFault}
 use Rattle.job_record.specs.declared.fault.RecordFault.TheVariants.{NotARecord, NoRow}
 use Rattle.job_record.specs.Statements.{put_params}

@@ -1,5 +1,5 @@
 -- When a store opens as a record, and why it is refused.
-use Rattle.std.specs.Prelude.{◌≡◌, ◌≢◌, ◌⊎◌, ℕ, ℤ, pos, List, [], Bool, true, false, IsOk, IsErr, IsTrue, Result, Ok, Err}
+use Rattle.std.specs.Prelude.{◌≡◌, ◌≢◌, ◌⊎◌, ℕ, ℤ, pos, List, [], Bool, true, false, IsOk, IsTrue, Result, Ok, Err}
 use Rattle.sqlite.specs.Order.{Row as Columns, column}
 use Rattle.sqlite.specs.Store.{Ghosts}
 use Rattle.sqlite.specs.Schema.{Schema}
@@ -12,12 +12,9 @@ use Rattle.sqlite.specs.State.{State, Shows, IsUnchanged, IsNotRun, Executes, Ex
 use Rattle.sqlite.specs.Steps.{FailsToCommit}
 use Rattle.sqlite.specs.Held.{Held, state}
 use Rattle.sqlite_resolve.specs.declared.error.CompileError.TheVariants.{NoSuchTable, NoSuchColumn}
-use Rattle.job_record.specs.declared.row.Row.{Row}
 use Rattle.job_record.specs.declared.fault.RecordFault.{RecordFault}
 use Rattle.job_record.specs.declared.fault.RecordFault.TheVariants.{NotARecord, WrongVersion, NoRow, Store, OutOfMemory}
 use Rattle.job_record.specs.Statements.{make_meta, make_job, note_version, version_text, list_text}
-use Rattle.job_record.specs.Log.{outcome}
-use Rattle.job_record.specs.RecordMap.{Lists}
 
 -- ---- the tables, as the queries on them find them
 
@@ -103,12 +100,6 @@ module _ {S : Type 0} (g : Ghosts S) where
       (HasTables (state g old).now.schema true × IsUnchanged (state g old) (state g at))
       ⊎ (HasTables (state g old).now.schema false × (found : Held S) × IsUnchanged (state g old) (state g found) × Makes found at)
 
-  -- the version is read, and where it is 1 all rows
-  abbrev pub ReadsRecord : Held S → Held S → Result (Unit {0}) RecordFault → Type 0
-  ReadsRecord old new result =
-      (IsErr result × ReadsVersion (state g old) (state g new) result)
-      ⊎ ((mid : Held S) × ReadsVersion (state g old) (state g mid) (Ok tt) × (rows : Result (List Row) RecordFault) × Lists g mid new rows × (result ≡ outcome rows))
-
   -- ---- why it is not ready
 
   abbrev pub CannotRead : List ℕ → Held S → Held S → Error → Type 0
@@ -140,7 +131,7 @@ module _ {S : Type 0} (g : Ghosts S) where
   IsUnready old new fault =
       ((fault ≡ NotARecord) × IsHalf (state g old).now.schema × IsUnchanged (state g old) (state g new)) ⊎ ((e : Error) × (fault ≡ Store e) × (FailsToLook old new e ⊎ IsUnmade old new e))
 
-  -- Both tables or neither: R1 for anything else, and then the record is read.
+  -- Both tables or neither: R1 for anything else, and then the version is read. No row is.
   abbrev pub Opens : Held S → Held S → Result (Unit {0}) RecordFault → Type 0
   Opens old new result =
-      ((fault : RecordFault) × (result ≡ Err fault) × IsUnready old new fault) ⊎ ((at : Held S) × IsReady old at × ReadsRecord at new result)
+      ((fault : RecordFault) × (result ≡ Err fault) × IsUnready old new fault) ⊎ ((at : Held S) × IsReady old at × ReadsVersion (state g at) (state g new) result)

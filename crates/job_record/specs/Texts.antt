@@ -1,4 +1,4 @@
--- The texts in which a row is kept: the outputs as the canonical text of a value, the files as a list of
+-- The texts in which a row is kept: the outputs as the canonical text of the object that they are, the files as a list of
 -- `[name, is_dir, size, sum]`.
 use Rattle.std.specs.Prelude.{◌≡◌, ℕ, Bool, List, [], ◌∷◌, map, Option, Some, None, option_map, option_and_then, Ok}
 use Rattle.serde_json.specs.Data.{Data, boolean, number, string, array, unsigned, Items, no_items, item}
@@ -8,8 +8,9 @@ use Rattle.serde_json.specs.Read.{read}
 use Rattle.serde_json.specs.Written.{compact_text}
 use Rattle.cwl_value.specs.Json.{json_of}
 use Rattle.cwl_value.specs.Texts.{ReadsAs}
-use Rattle.job_record.specs.declared.row.Found.{Found}
-use Rattle.job_record.specs.declared.row.Row.{Row}
+use Rattle.cwl_value.specs.declared.value.Value.{Fields}
+use Rattle.staging.specs.declared.found.Found.{Found}
+use Rattle.job_rows.specs.declared.row.Row.{Row}
 use Rattle.job_record.specs.declared.texts.Stored.{Stored}
 
 abbrev pub found_json : Found → Data
@@ -22,7 +23,7 @@ files_json files = array (items_of (map found_json files))
 abbrev pub texts_of : Row → Stored
 texts_of row = record {
   key = row.key;
-  outputs = compact_text (json_of row.outputs);
+  outputs = compact_text (json_of (Fields row.outputs));
   files = compact_text (files_json row.files);
   cost = row.cost;
   archived = row.archived;
@@ -62,7 +63,7 @@ ReadsAsFiles text files = (d : Data) × (read text ≡ Some d) × (files_in d �
 -- the texts read as this row
 pub record ReadsAsRow (s : Stored) (row : Row) : Type 0 where
   pub key : row.key ≡ s.key
-  pub outputs : ReadsAs s.outputs (Ok row.outputs)
+  pub outputs : ReadsAs s.outputs (Ok (Fields row.outputs))
   pub files : ReadsAsFiles s.files row.files
   pub cost : row.cost ≡ s.cost
   pub archived : row.archived ≡ s.archived

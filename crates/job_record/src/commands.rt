@@ -1,19 +1,19 @@
 //! The commands, from rows to the statements of their tables.
 
-ghost use Rattle.std.specs.Prelude.{◌≡◌, ◌+◌, ◌≤◌, [], Any, IfOk, IfErr, OnOk};
+ghost use Rattle.std.specs.Prelude.{◌≡◌, ◌+◌, ◌++◌, ◌≤◌, [], Any, IfOk, IfErr, OnOk};
 ghost use Rattle.std.specs.Vec.{vec_len, vec_capacity};
 ghost use Rattle.sqlite.specs.State.{HasCleanDisk, Survives, CommitsBy, CommitsShowing};
 ghost use Rattle.sqlite.specs.Held.{state};
+ghost use Rattle.job_rows.specs.Log.{entries_of};
 ghost use Rattle.job_record.specs.Statements.{find_text, list_text, put_text, key_params, put_params};
 ghost use Rattle.job_record.specs.Columns.{IsRowOf, IsUnread, AreRowsOf, Misreads};
 ghost use Rattle.job_record.specs.RecordMap.{Finds, Puts, Lists, changed};
 ghost use Rattle.job_record.specs.inner.Crash.{RunsOpen, ChangesOpen};
 
 use crate::fault::RecordFault;
-use crate::log::Entry;
-use crate::row::Row;
 use crate::tables;
 use crate::texts::{row_of, stored_of};
+use job_rows::{Command, Entry, RecordRefusal, Row};
 use plain_data::{Items, Text};
 use sqlite::{Alter, Connection, Error, Row as Columns};
 use std::alloc::{AllocError, Global};
@@ -26,6 +26,25 @@ pub fn room(alloc: Global, log: &mut Vec<Entry>, key: &str) -> Result<Text, Allo
 {
     log.reserve(1)?;
     Text::from_text(alloc, key)
+}
+
+/// Notes in the log what a command was answered, where there is something to tell.
+pub fn note(
+    log: &mut Vec<Entry>,
+    command: Command,
+    key: Text,
+    told: Option<Result<(), RecordRefusal>>,
+)
+    requires { vec_len log.old + 1 ≤ vec_capacity log.old }
+    ensures { log.new.items ≡ log.old.items ++ entries_of command key told }
+{
+    if let Some(answer) = told {
+        log.push_reserved(Entry {
+            command,
+            key,
+            answer,
+        });
+    }
 }
 
 /// The row of a key, if there is one.

@@ -1,3 +1,7 @@
+ghost use Rattle.std.specs.Prelude.{◌≡◌};
+ghost use Rattle.job_record.specs.Log.{told_of};
+
+use job_rows::RecordRefusal;
 use sqlite::Error as StoreError;
 use std::alloc::{AllocError, AllocFailed};
 use std::fmt;
@@ -78,5 +82,19 @@ impl From<StoreError> for RecordFault {
 
     fn from(cause: StoreError) -> RecordFault {
         RecordFault::Store(cause)
+    }
+}
+
+/// What the log says of a command: done, its refusal, or nothing where memory ran out.
+pub fn told_of<T>(answer: &Result<T, RecordFault>) -> Option<Result<(), RecordRefusal>>
+    ensures { result ≡ told_of answer.now }
+{
+    match answer {
+        Ok(_) => Some(Ok(())),
+        Err(RecordFault::NotARecord) => Some(Err(RecordRefusal::NotARecord)),
+        Err(RecordFault::WrongVersion) => Some(Err(RecordRefusal::WrongVersion)),
+        Err(RecordFault::NoRow) => Some(Err(RecordRefusal::NoRow)),
+        Err(RecordFault::Store(_)) => Some(Err(RecordRefusal::Store)),
+        Err(RecordFault::OutOfMemory) => None,
     }
 }

@@ -11,15 +11,11 @@
 mod commands;
 mod fault;
 mod laws;
-mod log;
 mod making;
 mod record;
-mod row;
 mod tables;
 mod texts;
 
 pub use fault::RecordFault;
 pub use laws::see_record;
-pub use log::{Command, Entry};
 pub use record::JobRecord;
-pub use row::{Found, Row};

@@ -4,22 +4,16 @@ ghost use Rattle.std.specs.Prelude.{◌≡◌, ◌⊎◌, [], false, IfOk, IfErr
 ghost use Rattle.sqlite.specs.State.{HasCleanDisk, IsUnchanged, Survives, CommitsShowing};
 ghost use Rattle.sqlite.specs.Held.{state};
 ghost use Rattle.job_record.specs.declared.fault.RecordFault.TheVariants.{NotARecord, Store};
-ghost use Rattle.job_record.specs.Log.{outcome};
 ghost use Rattle.job_record.specs.Statements.{version_text};
-ghost use Rattle.job_record.specs.Opening.{HasTable, HasTables, LacksColumn, both_of, VersionIn, ReadsVersion, GoesBack, Makes, FailsToMake, IsReady, ReadsRecord, CannotRead, IsUnready, Opens};
+ghost use Rattle.job_record.specs.Opening.{HasTable, HasTables, LacksColumn, both_of, VersionIn, ReadsVersion, GoesBack, Makes, FailsToMake, IsReady, CannotRead, IsUnready, Opens};
 ghost use Rattle.job_record.specs.OpenMap.{CrashesAs};
-ghost use Rattle.job_record.specs.inner.Crash.{CommitsTables, CommitsReady, CommitsReading, OpensMap};
+ghost use Rattle.job_record.specs.inner.Crash.{CommitsTables, CommitsReady, OpensMap};
 ghost use Rattle.job_record.specs.inner.Lacking.{lacking};
 
-use crate::commands::read_all;
 use crate::fault::RecordFault;
-use crate::row::Row;
 use crate::tables::{self, LIST, VERSION_TEXT, misread};
-use plain_data::Items;
 use sqlite::{Alter, Connection, Error, Row as Columns};
 use sqlite_resolve::CompileError;
-use std::alloc::Global;
-use std::mem;
 
 const VERSION: i64 = 1;
 
@@ -30,15 +24,15 @@ const MAKE_JOB: &str =
 
 const NOTE_VERSION: &str = "INSERT INTO meta (name, value) VALUES ('version', 1)";
 
-/// Makes the tables where the store has neither, and reads what they hold.
-pub fn open_tables<S: Alter>(alloc: Global, conn: &mut Connection<S>) -> Result<(), RecordFault>
+/// Makes the tables where the store has neither, and reads their version.
+pub fn open_tables<S: Alter>(conn: &mut Connection<S>) -> Result<(), RecordFault>
     requires { conn.old.in_transaction ≡ false }
     ensures opens { HasCleanDisk (state S.Store conn.new) → Opens S.Store conn.old conn.new result }
     ensures map { HasCleanDisk (state S.Store conn.new) → OpensMap (state S.Store conn.old) (state S.Store conn.new) result }
     ensures crash { CrashesAs (state S.Store conn.old) (state S.Store conn.new) }
 {
     make_ready(conn)?;
-    read_record(alloc, conn)
+    check_version(conn)
 }
 
 // Makes both tables where there is neither.
@@ -116,27 +110,6 @@ fn make_tables<S: Alter>(conn: &mut Connection<S>) -> Result<(), Error>
     making.execute(MAKE_JOB, &[])?;
     making.execute(NOTE_VERSION, &[])?;
     making.commit()
-}
-
-// The version, and each row where it is 1.
-fn read_record<S: Alter>(alloc: Global, conn: &mut Connection<S>) -> Result<(), RecordFault>
-    ensures reads { HasCleanDisk (state S.Store conn.new) → ReadsRecord S.Store conn.old conn.new result }
-    ensures survives { Survives (state S.Store conn.old) (state S.Store conn.new) (CommitsReading S.Store conn.old) }
-{
-    check_version(conn)?;
-    outcome_of(read_all(alloc, conn))
-}
-
-fn outcome_of(rows: Result<Items<Row>, RecordFault>) -> Result<(), RecordFault>
-    ensures { result ≡ outcome rows }
-{
-    match rows {
-        Ok(rows) => {
-            mem::drop(rows);
-            Ok(())
-        }
-        Err(fault) => Err(fault),
-    }
 }
 
 // R2 for another version, and R1 where there is none.

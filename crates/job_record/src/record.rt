@@ -10,12 +10,11 @@ ghost use Rattle.job_record.specs.Opening.{Opens};
 ghost use Rattle.job_record.specs.OpenMap.{OpensAs, RefusesAs, CrashesAs};
 ghost use Rattle.job_record.specs.Crash.{sets, unarchives, forgets, ChangesSafely, ReadsSafely, OpensSafely, RefusesSafely};
 
-use crate::commands::{change_of, look_up, read_all, room, set};
-use crate::fault::RecordFault;
-use crate::log::{Command, Entry};
+use crate::commands::{change_of, look_up, note, read_all, room, set};
+use crate::fault::{RecordFault, told_of};
 use crate::making::open_tables;
-use crate::row::Row;
 use crate::tables;
+use job_rows::{Command, Entry, Row};
 use plain_data::Items;
 use sqlite::{Alter, Connection};
 use std::alloc::Global;
@@ -39,13 +38,13 @@ impl<S: Alter + Drop> Drop for JobRecord<S> {
 }
 
 impl<S: Alter + Drop> JobRecord<S> {
-    /// Opens the record in a store, or makes one where the store has neither of its tables. Reads every row. A refusal
-    /// hands the connection back.
+    /// Opens the record in a store, or makes one where the store has neither of its tables. Looks at the tables and the
+    /// version, and at no row: `find` and `list` refuse the rows that do not read. A refusal hands the connection back.
     ///
     /// # Errors
     ///
-    /// R1 where the store has one table without the other, a table without a column, no version, or a row that does not
-    /// read; R2 where the version is another one; R4; out of memory.
+    /// R1 where the store has one table without the other, a table without a column, or no version; R2 where the version
+    /// is another one; R4.
     pub fn open_record(
         alloc: Global,
         mut conn: Connection<S>,
@@ -61,7 +60,7 @@ impl<S: Alter + Drop> JobRecord<S> {
         ensures safe_refused { IfErr result (λ left. HasCleanDisk (state S.Store left.1) → RefusesSafely (state S.Store conn) (state S.Store left.1)) }
         ensures log { IfOk result (λ opened. opened.log.items ≡ []) }
     {
-        match open_tables(alloc, &mut conn) {
+        match open_tables(&mut conn) {
             Ok(()) => Ok(JobRecord {
                 alloc,
                 conn,
@@ -107,15 +106,7 @@ impl<S: Alter> JobRecord<S> {
     {
         let noted = room(self.alloc, &mut self.log, key)?;
         let answer = look_up(self.alloc, &mut self.conn, key);
-        let outcome = match &answer {
-            Ok(_) => Ok(()),
-            Err(fault) => Err(*fault),
-        };
-        self.log.push_reserved(Entry {
-            command: Command::Find,
-            key: noted,
-            answer: outcome,
-        });
+        note(&mut self.log, Command::Find, noted, told_of(&answer));
         answer
     }
 
@@ -135,11 +126,7 @@ impl<S: Alter> JobRecord<S> {
     {
         let noted = room(self.alloc, &mut self.log, row.key.as_str())?;
         let answer = set(self.alloc, &mut self.conn, row);
-        self.log.push_reserved(Entry {
-            command: Command::Put,
-            key: noted,
-            answer,
-        });
+        note(&mut self.log, Command::Put, noted, told_of(&answer));
         answer
     }
 
@@ -159,11 +146,7 @@ impl<S: Alter> JobRecord<S> {
     {
         let noted = room(self.alloc, &mut self.log, key)?;
         let answer = change_of(tables::drop_archive(&mut self.conn, key));
-        self.log.push_reserved(Entry {
-            command: Command::DropArchive,
-            key: noted,
-            answer,
-        });
+        note(&mut self.log, Command::DropArchive, noted, told_of(&answer));
         answer
     }
 
@@ -183,11 +166,7 @@ impl<S: Alter> JobRecord<S> {
     {
         let noted = room(self.alloc, &mut self.log, key)?;
         let answer = change_of(tables::forget(&mut self.conn, key));
-        self.log.push_reserved(Entry {
-            command: Command::Forget,
-            key: noted,
-            answer,
-        });
+        note(&mut self.log, Command::Forget, noted, told_of(&answer));
         answer
     }
 

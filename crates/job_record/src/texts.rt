@@ -3,16 +3,20 @@
 ghost use Rattle.std.specs.Prelude.{◌≡◌, Some, None, Ok, IfOk, IfErr, option_map};
 ghost use Rattle.serde_json.specs.View.{view, items_view};
 ghost use Rattle.serde_json.specs.Written.{compact_text};
+ghost use Rattle.cwl_value.specs.Json.{json_of};
 ghost use Rattle.cwl_value.specs.Texts.{ReadsAs};
+ghost use Rattle.cwl_value.specs.declared.value.Value.{Fields};
 ghost use Rattle.job_record.specs.Texts.{found_json, files_json, found_in, list_in, text_at, flag_at, number_at, ReadsAsFiles, texts_of, ReadsAsRow};
 ghost use Rattle.job_record.specs.Columns.{Misreads};
 
 use crate::fault::RecordFault;
-use crate::row::{Found, Row};
-use cwl_value::{Value, ValueRefusal, canonical_text, read_value};
-use plain_data::{Items, Text};
+use cwl_value::{Value, ValueRefusal, canonical_text, copy_fields, read_value};
+use job_rows::Row;
+use plain_data::{Items, Keyed, Text};
 use serde_json::Value as Json;
+use staging::Found;
 use std::alloc::{AllocError, Global};
+use std::mem;
 
 /// A row as the table has it.
 #[derive(Drop)]
@@ -30,7 +34,7 @@ pub fn stored_of(alloc: Global, row: &Row) -> Result<Stored, AllocError>
 {
     Ok(Stored {
         key: row.key.copied(alloc)?,
-        outputs: canonical_text(alloc, &row.outputs)?,
+        outputs: outputs_text(alloc, &row.outputs)?,
         files: files_text(alloc, &row.files)?,
         cost: row.cost,
         archived: row.archived,
@@ -55,12 +59,26 @@ pub fn row_of(alloc: Global, stored: Stored) -> Result<Row, RecordFault>
     }
 }
 
-fn read_outputs(alloc: Global, text: &Text) -> Result<Value, RecordFault>
-    ensures ok { IfOk result (λ v. ReadsAs text.now (Ok v)) }
-    ensures err { IfErr result (Misreads ((v : _) → ¬ ReadsAs text.now (Ok v))) }
+fn outputs_text(alloc: Global, outputs: &Keyed<Value>) -> Result<Text, AllocError>
+    ensures { IfOk result (λ text. text ≡ compact_text (json_of (Fields outputs.now))) }
+{
+    let object = Value::Fields(copy_fields(alloc, outputs)?);
+    let text = canonical_text(alloc, &object);
+    mem::drop(object);
+    text
+}
+
+// Named outputs: any other value, a File among them, is R1.
+fn read_outputs(alloc: Global, text: &Text) -> Result<Keyed<Value>, RecordFault>
+    ensures ok { IfOk result (λ outputs. ReadsAs text.now (Ok (Fields outputs))) }
+    ensures err { IfErr result (Misreads ((outputs : _) → ¬ ReadsAs text.now (Ok (Fields outputs)))) }
 {
     match read_value(alloc, text.as_str().as_bytes()) {
-        Ok(outputs) => Ok(outputs),
+        Ok(Value::Fields(outputs)) => Ok(outputs),
+        Ok(other) => {
+            mem::drop(other);
+            Err(RecordFault::NotARecord)
+        }
         Err(ValueRefusal::OutOfMemory) => Err(RecordFault::OutOfMemory),
         Err(_) => Err(RecordFault::NotARecord),
     }

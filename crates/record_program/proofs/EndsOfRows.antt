@@ -1,6 +1,6 @@
 -- What is answered on rows ends the command.
 use Rattle.std.proofs.Common.{List, Result, Ok, Err, inl, inr, subst, sym}
-use Rattle.job_record.specs.declared.row.Row.{Row}
+use Rattle.job_rows.specs.declared.row.Row.{Row}
 use Rattle.job_record.specs.declared.fault.RecordFault.{RecordFault}
 use Rattle.job_record.specs.declared.fault.RecordFault.TheVariants.{OutOfMemory}
 use Rattle.record_program.specs.Endings.{Ends, IsEnding, shows, faulty}

@@ -1,7 +1,7 @@
 -- How the command ends, and what it then writes.
 use Rattle.std.specs.Prelude.{◌≡◌, ◌⊎◌, ℕ, List, ◌++◌, Option, Result, Ok, Err, codes, flat_map}
 use Rattle.std.specs.Io.KnownBytes.{Appends}
-use Rattle.job_record.specs.declared.row.Row.{Row}
+use Rattle.job_rows.specs.declared.row.Row.{Row}
 use Rattle.job_record.specs.declared.fault.RecordFault.{RecordFault}
 use Rattle.job_record.specs.declared.fault.RecordFault.TheVariants.{OutOfMemory}
 use Rattle.job_record.specs.Log.{code_of}

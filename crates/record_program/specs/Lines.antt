@@ -2,8 +2,8 @@
 use Rattle.std.specs.Prelude.{ℕ, ◌-◌, ◌^◌, min, Bool, if◌then◌else◌, List, [], ◌∷◌, ◌++◌, codes, decimal, bytes_eq, sum_by, flat_map}
 use Rattle.hex.specs.Hex.{encode_lower}
 use Rattle.sha1.specs.Sha1.{sha1}
-use Rattle.job_record.specs.declared.row.Found.{Found}
-use Rattle.job_record.specs.declared.row.Row.{Row}
+use Rattle.staging.specs.declared.found.Found.{Found}
+use Rattle.job_rows.specs.declared.row.Row.{Row}
 
 -- the SHA-1 of a key in lower case digits, which names its folder in the archive
 abbrev pub key_sum : List ℕ → List ℕ

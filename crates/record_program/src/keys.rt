@@ -3,7 +3,7 @@ ghost use Rattle.std.specs.Prelude.{◌≡◌, IfOk, bytes_eq};
 ghost use Rattle.record_program.specs.Lines.{key_sum, keys_with};
 
 use crate::lines::sum_of_key;
-use job_record::Row;
+use job_rows::Row;
 use plain_data::{Items, Text};
 use std::alloc::{AllocError, Global};
 

@@ -2,9 +2,10 @@
 ghost use Rattle.std.specs.Prelude.{◌≡◌, ◌++◌, IfOk, OnOk, string_bytes, flat_map};
 ghost use Rattle.record_program.specs.Lines.{bytes_of, kept_word, key_sum, spaced, line_of};
 
-use job_record::{Found, Row};
+use job_rows::Row;
 use plain_data::Text;
 use sha1::Sha1;
+use staging::Found;
 use std::alloc::{AllocError, Global};
 
 /// Returns the lines of these rows, in their order.

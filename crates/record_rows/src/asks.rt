@@ -1,7 +1,8 @@
 //! Commands over any store, and what they are answered.
 
 use crate::rows::{put_comma, put_row, put_rows};
-use job_record::{Command, Entry, JobRecord, RecordFault, Row as RecordRow};
+use job_record::{JobRecord, RecordFault};
+use job_rows::{Command, Entry, Row as RecordRow};
 use plain_data::Items;
 use row_io::AnswerText;
 use sqlite::{Alter, Connection, Error, Row as Columns};
@@ -80,7 +81,10 @@ fn put_entry(out: &mut AnswerText, entry: &Entry) {
     out.put(",");
     out.put_quoted(entry.key.as_str());
     out.put(",");
-    put_outcome(out, entry.answer);
+    match entry.answer {
+        Ok(()) => out.put("\"done\""),
+        Err(refusal) => out.put_quoted(refusal.code()),
+    }
     out.put("]");
 }
 

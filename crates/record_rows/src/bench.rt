@@ -2,9 +2,9 @@
 
 use crate::asks::opened;
 use crate::fill::number_at;
-use cwl_value::Value;
-use job_record::{JobRecord, RecordFault, Row as RecordRow};
-use plain_data::{Items, Text};
+use job_record::{JobRecord, RecordFault};
+use job_rows::Row as RecordRow;
+use plain_data::{Items, Keyed, Text};
 use row_io::{Row, RowFault};
 use sqlite::{Alter, Connection};
 use std::alloc::Global;
@@ -147,7 +147,7 @@ fn row_of(alloc: Global, at: u64) -> Result<RecordRow, RowFault> {
     let key = key_of(alloc, at, "")?;
     Ok(RecordRow {
         key: Text::from_string(key),
-        outputs: Value::Whole(7),
+        outputs: Keyed::new(alloc),
         files: Items::new(alloc),
         // The file's row has a cost of one less: SQLite writes nothing where a row stays as it is.
         cost: at.saturating_add(2),

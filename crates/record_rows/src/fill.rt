@@ -79,7 +79,7 @@ fn row_text(alloc: Global, at: u64) -> Result<String, RowFault> {
     let cost = at.saturating_add(1);
     let even = at % 2 == 0;
     Ok(format!(in alloc;
-        "{{\"archived\":{archived},\"cost\":{cost},\"files\":[{{\"is_dir\":false,\"name\":\"out.txt\",\"size\":{at},\"sum\":\"a9993e364706816aba3e25717850c26c9cd0d89d\"}}],\"key\":\"{at:08}\",\"outputs\":{even}}}"
+        "{{\"archived\":{archived},\"cost\":{cost},\"files\":[{{\"is_dir\":false,\"name\":\"out.txt\",\"size\":{at},\"sum\":\"a9993e364706816aba3e25717850c26c9cd0d89d\"}}],\"key\":\"{at:08}\",\"outputs\":{{\"even\":{even}}}}}"
     )?)
 }
 

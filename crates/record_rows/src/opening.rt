@@ -1,37 +1,45 @@
 //! Records opened on stores that SQL has made, and on files of any bytes.
 
-use crate::asks::put_fault;
-use crate::store::Disks;
+use crate::asks::{Ask, put_fault};
+use crate::store::{Disks, Store};
 use row_io::{AnswerText, Row, RowFault};
 use std::alloc::Global;
 use std::mem;
 
-/// How the store opens as a record that the row's SQL has made, and what the row's query then shows of it.
+/// How the store opens as a record that the row's SQL has made, what it then finds for the row's key, where it has one, and
+/// what the row's query shows of it.
 pub(crate) fn opened(alloc: Global, row: &Row) -> Result<String, RowFault> {
     let sql = row.text("sql")?;
     let query = row.text("show")?;
     let mut out = AnswerText::new(alloc);
     out.put("[");
     let disks = Disks::fresh(alloc).run(alloc, sql, &mut out);
-    let disks = told(alloc, disks, &mut out);
+    let disks = told(alloc, disks, row.text("find").ok(), &mut out);
     out.put(",");
     mem::drop(disks.run(alloc, query, &mut out));
     out.put("]");
     out.finish()
 }
 
-// Writes how the files open, and gives them back.
-fn told(alloc: Global, disks: Disks, out: &mut AnswerText) -> Disks {
+// Writes how the files open, and what is found there, and gives them back.
+fn told(alloc: Global, disks: Disks, find: Option<&str>, out: &mut AnswerText) -> Disks {
     match disks.open(alloc) {
-        Ok(store) => {
-            out.put("\"opened\"");
-            store.close()
-        }
+        Ok(store) => found_in(alloc, store, find, out),
         Err((fault, disks)) => {
             put_fault(out, fault);
             disks
         }
     }
+}
+
+fn found_in(alloc: Global, store: Store, find: Option<&str>, out: &mut AnswerText) -> Disks {
+    let mut store = store;
+    out.put("\"opened\"");
+    if let Some(key) = find {
+        out.put(",");
+        store.ask(alloc, Ask::Find(key), out);
+    }
+    store.close()
 }
 
 /// How files open whose database has these bytes, and whether the bytes are as they were.
@@ -51,7 +59,7 @@ fn put_opened(alloc: Global, bytes: &[u8], out: &mut AnswerText) {
 
 fn put_told(alloc: Global, disks: Disks, bytes: &[u8], out: &mut AnswerText) {
     out.put("[");
-    let disks = told(alloc, disks, out);
+    let disks = told(alloc, disks, None, out);
     out.put(",");
     out.put_flag(disks.bytes() == bytes);
     out.put("]");

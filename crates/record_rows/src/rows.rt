@@ -1,11 +1,12 @@
 //! Rows of the record, from JSON and back.
 
-use cwl_value::{Value, canonical_text, from_json};
-use job_record::{Found, Row};
-use plain_data::{Items, Text};
+use cwl_value::{Value, canonical_text, copy_fields, from_json};
+use job_rows::Row;
+use plain_data::{Items, Keyed, Text};
 use row_io::{AnswerText, RowFault};
 use serde_json::Value as Json;
-use std::alloc::Global;
+use staging::Found;
+use std::alloc::{AllocError, Global};
 
 // The members of a row's object.
 #[derive(Clone, Copy)]
@@ -36,7 +37,7 @@ fn made(alloc: Global, wanted: &Wanted<'_>) -> Result<Row, RowFault> {
     let key = Text::from_text(alloc, wanted.key)?;
     let files = files_of(alloc, wanted.files)?;
     Ok(Row {
-        outputs: value_of(alloc, wanted.outputs)?,
+        outputs: outputs_of(alloc, wanted.outputs)?,
         key,
         files,
         cost: wanted.cost,
@@ -44,8 +45,11 @@ fn made(alloc: Global, wanted: &Wanted<'_>) -> Result<Row, RowFault> {
     })
 }
 
-fn value_of(alloc: Global, json: &Json) -> Result<Value, RowFault> {
-    from_json(alloc, json).map_err(|_refusal| RowFault::BadArgument)
+fn outputs_of(alloc: Global, json: &Json) -> Result<Keyed<Value>, RowFault> {
+    match from_json(alloc, json) {
+        Ok(Value::Fields(outputs)) => Ok(outputs),
+        _ => Err(RowFault::BadArgument),
+    }
 }
 
 fn files_of(alloc: Global, list: &[Json]) -> Result<Items<Found>, RowFault> {
@@ -116,11 +120,16 @@ fn put_number(out: &mut AnswerText, number: u64) {
     out.put_whole(i64::try_from(number).unwrap_or(i64::MAX));
 }
 
-fn put_outputs(alloc: Global, out: &mut AnswerText, outputs: &Value) {
-    match canonical_text(alloc, outputs) {
+fn put_outputs(alloc: Global, out: &mut AnswerText, outputs: &Keyed<Value>) {
+    match outputs_text(alloc, outputs) {
         Ok(text) => out.put(text.as_str()),
         Err(_) => out.put("?"),
     }
+}
+
+fn outputs_text(alloc: Global, outputs: &Keyed<Value>) -> Result<Text, AllocError> {
+    let object = Value::Fields(copy_fields(alloc, outputs)?);
+    canonical_text(alloc, &object)
 }
 
 fn put_files(out: &mut AnswerText, files: &[Found]) {

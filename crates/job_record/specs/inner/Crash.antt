@@ -1,12 +1,11 @@
 -- What the parts of an opening and of a command may leave to a crash, and what an opening makes of the map.
-use Rattle.std.specs.Prelude.{◌≡◌, ◌⊎◌, List, [], Result, Ok, Err, false, IsTrue, IsErr}
+use Rattle.std.specs.Prelude.{◌≡◌, ◌⊎◌, Result, Ok, Err, false, IsTrue, IsErr}
 use Rattle.sqlite.specs.Store.{Ghosts}
 use Rattle.sqlite.specs.Tree.{Trees}
-use Rattle.sqlite.specs.State.{State, IsUnchanged, CommitsShowing}
+use Rattle.sqlite.specs.State.{State, IsUnchanged}
 use Rattle.sqlite.specs.Held.{Held, state}
 use Rattle.job_record.specs.declared.fault.RecordFault.{RecordFault}
-use Rattle.job_record.specs.Statements.{version_text, list_text}
-use Rattle.job_record.specs.Opening.{HasTables, ReadsVersion, MakesTables}
+use Rattle.job_record.specs.Opening.{HasTables, MakesTables}
 use Rattle.job_record.specs.OpenMap.{OpensAs, RefusesAs}
 
 module _ {S : Type 0} (g : Ghosts S) where
@@ -16,11 +15,6 @@ module _ {S : Type 0} (g : Ghosts S) where
 
   abbrev pub CommitsReady : Held S → Trees → Type 0
   CommitsReady old trees = HasTables (state g old).now.schema false × (found : Held S) × IsUnchanged (state g old) (state g found) × CommitsTables found trees
-
-  -- the query for the version, and where it is 1 the one for all rows
-  abbrev pub CommitsReading : Held S → Trees → Type 0
-  CommitsReading old trees =
-      CommitsShowing version_text [] (state g old) trees ⊎ ((mid : Held S) × ReadsVersion (state g old) (state g mid) (Ok tt) × CommitsShowing list_text [] (state g mid) trees)
 
 abbrev pub OpensMap : State → State → Result (Unit {0}) RecordFault → Type 0
 OpensMap old new (Ok done) = OpensAs old new

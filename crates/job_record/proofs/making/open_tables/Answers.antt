@@ -18,14 +18,14 @@ pub returns-in_err-make_ready-clause-crash : goal.returns-in_err-make_ready-clau
 returns-in_err-make_ready-clause-crash g c = unready_crashes g.S.Store c.args.conn.now c.make_ready.new.conn c.make_ready.ensures.survives
 
 pub returns-clause-opens : goal.returns-clause-opens
-returns-clause-opens g c clean = inr (c.make_ready.new.conn, c.in_ok-make_ready.ensures.ok (was_clean _ _ _ c.read_record.ensures.survives clean), c.read_record.ensures.reads clean)
+returns-clause-opens g c clean = inr (c.make_ready.new.conn, c.in_ok-make_ready.ensures.ok (was_clean _ _ _ c.check_version.ensures.survives clean), c.check_version.ensures.reads clean)
 
 pub returns-clause-map : goal.returns-clause-map
 returns-clause-map g c clean =
-    opens_map g.S.Store c.args.conn.now c.read_record.new.conn _
-    (inr (c.make_ready.new.conn, c.in_ok-make_ready.ensures.ok (was_clean _ _ _ c.read_record.ensures.survives clean), c.read_record.ensures.reads clean))
+    opens_map g.S.Store c.args.conn.now c.check_version.new.conn _
+    (inr (c.make_ready.new.conn, c.in_ok-make_ready.ensures.ok (was_clean _ _ _ c.check_version.ensures.survives clean), c.check_version.ensures.reads clean))
 
 pub returns-clause-crash : goal.returns-clause-crash
 returns-clause-crash g c =
-    ready_crashes g.S.Store c.args.conn.now c.make_ready.new.conn c.read_record.new.conn (λ clean. c.in_ok-make_ready.ensures.ok (was_clean _ _ _ c.read_record.ensures.survives clean)) c.make_ready.ensures.survives
-    c.read_record.ensures.survives
+    ready_crashes g.S.Store c.args.conn.now c.make_ready.new.conn c.check_version.new.conn (λ clean. c.in_ok-make_ready.ensures.ok (was_clean _ _ _ c.check_version.ensures.survives clean)) c.make_ready.ensures.survives
+    c.check_version.ensures.survives

@@ -1,7 +1,7 @@
-use crate::fault::RecordFault;
+use crate::RecordRefusal;
 use plain_data::Text;
 
-/// The commands that the log tells of.
+/// The commands of a record.
 #[derive(Clone, Copy, Debug, PartialEq, Eq)]
 pub enum Command {
     Find,
@@ -10,10 +10,10 @@ pub enum Command {
     Forget,
 }
 
-/// A command of the log: what was asked, under which key, and whether it was done or refused.
+/// One line of a record's log: what was asked, under which key, and whether it was done or refused.
 #[derive(Drop)]
 pub struct Entry {
     pub command: Command,
     pub key: Text,
-    pub answer: Result<(), RecordFault>,
+    pub answer: Result<(), RecordRefusal>,
 }

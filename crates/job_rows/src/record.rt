@@ -1,0 +1,38 @@
+ghost use Rattle.std.specs.Prelude.{◌≡◌, ◌++◌, List};
+ghost use Rattle.job_rows.specs.declared.log.Entry.{Entry};
+ghost use Rattle.job_rows.specs.declared.log.Command.TheVariants as command;
+ghost use Rattle.job_rows.specs.Log.{entries_of, told_of};
+ghost use Rattle.job_rows.specs.Map.{RowMap, Finds, Puts, Drops};
+
+use crate::{RecordError, Row};
+use plain_data::Text;
+
+/// Where a run looks jobs up and puts them: a finite map from key to row.
+///
+/// Each call makes room for its entry in the log, acts, and adds the entry. One that runs out of memory adds none. A
+/// call that is refused changes no row.
+pub trait Record {
+    /// What was asked so far, oldest first.
+    ghost log: { Self → List Entry };
+
+    /// What the record is kept on has returned what was written to it so far.
+    ghost is_sound: { Self → Type 0 };
+
+    /// These rows, and no others, are what the record holds.
+    ghost holds: { Self → RowMap → Type 0 };
+
+    /// Returns the row of a key, if there is one. R1 where it does not read.
+    fn find(&mut self, key: &Text) -> Result<Option<Row>, RecordError>
+        ensures logged { log self.new ≡ log self.old ++ entries_of command.Find key.now (told_of result) }
+        ensures finds { is_sound self.new → (map : RowMap) → holds self.old map → Finds map key.now result × holds self.new map };
+
+    /// Sets the row of its key.
+    fn put(&mut self, row: &Row) -> Result<(), RecordError>
+        ensures logged { log self.new ≡ log self.old ++ entries_of command.Put row.now.key (told_of result) }
+        ensures puts { is_sound self.new → (map : RowMap) → holds self.old map → Puts (holds self.new) map row.now result };
+
+    /// Notes that the archive of a key is gone. R3 where no row has the key.
+    fn drop_archive(&mut self, key: &Text) -> Result<(), RecordError>
+        ensures logged { log self.new ≡ log self.old ++ entries_of command.DropArchive key.now (told_of result) }
+        ensures drops { is_sound self.new → (map : RowMap) → holds self.old map → Drops (holds self.new) map key.now result };
+}
