@@ -9,7 +9,7 @@ use plain_data::Text;
 use plan_checker::Broken;
 use proc_host::HostFault;
 use record_program::Ending;
-use run_core::Cause;
+use run_core::{Cause, CollectCause};
 use std::alloc::{AllocError, Global};
 use std::io;
 use std::io::Write;
@@ -146,13 +146,13 @@ fn cause_words(
 ) -> Result<String, AllocError> {
     match cause {
         Cause::Equation(cause) => equation_words(alloc, cause),
-        Cause::Contents(fault) => format!(in alloc; "{fault}"),
         Cause::Build(fault) => format!(in alloc; "no command: {fault}"),
         Cause::Exit(Some(code)) => {
             format!(in alloc; "the command of {place} ended with code {code}{hint}")
         }
         Cause::Exit(None) => format!(in alloc; "the command of {place} ended by a signal{hint}"),
-        Cause::Collect(fault) => format!(in alloc; "no outputs: {fault}"),
+        Cause::Collect(CollectCause::Input(fault)) => format!(in alloc; "{fault}"),
+        Cause::Collect(CollectCause::Output(fault)) => format!(in alloc; "no outputs: {fault}"),
     }
 }
 

@@ -10,7 +10,7 @@ use Rattle.job_graph.specs.declared.fault.UnfoldError.{UnfoldError}
 use Rattle.job_graph.specs.declared.fault.UnfoldError.TheVariants.{Refused, OutOfMemory}
 use Rattle.job_graph.specs.declared.fault.UnfoldFault.{UnfoldFault}
 use Rattle.job_graph.specs.declared.unfolding.Unfolding.{Unfolding}
-use Rattle.run_rules.specs.declared.outcome.Report.{Report}
+use Rattle.run_rules.specs.declared.outcome.Outcome.{Outcome}
 use Rattle.run_rules.specs.declared.outcome.RunFault.{RunFault}
 use Rattle.run_core.specs.declared.state.Course.{Course}
 use Rattle.run_core.specs.inner.Course.{known_in, past_of, place_at, with_end}
@@ -44,7 +44,7 @@ knows_told one old new done tells past = λ walks learned kept is k.
     let now : IsTold one kept new.known (Ok done) = tells kept is in
     knows now.told new (learns_by walks learned one kept now.told (Ok done) k now.learns) now.is past
 
-module _ (old : Course) (fault : UnfoldFault) (end : Result Report RunFault) (ends : end ≡ end_by fault) where
+module _ (old : Course) (fault : UnfoldFault) (end : Result Outcome RunFault) (ends : end ≡ end_by fault) where
   pub fails_told : (one : Resolved) (told new : Course) (error : UnfoldError) →
       ((kept : Unfolding) → old.known ≡ Some kept → IsTold one kept told.known (Err error)) → error ≡ Refused fault → past_of told ≡ past_of old →
       past_of new ≡ with_end end (past_of told) → new.known ≡ told.known → Learns one old new
@@ -54,11 +54,11 @@ module _ (old : Course) (fault : UnfoldFault) (end : Result Report RunFault) (en
       let alike : AnswersAlike kept now.told = now.alike in
       fails fault new (learns_by walks learned one kept now.told (Err (Refused fault)) k now.learns).0
       (ap known_in (same ∙ now.is) ∙ alike.jobs ∙ sym (ap known_in is))
-      (settles ∙ ap (λ (e : Result Report RunFault). with_end e (past_of told)) ends ∙ ap (with_end (end_by fault)) past)
+      (settles ∙ ap (λ (e : Result Outcome RunFault). with_end e (past_of told)) ends ∙ ap (with_end (end_by fault)) past)
 
   pub fails_first : (walks : Walker) (learned : List Resolved) (new : Course) (error : UnfoldError) →
       Blames (unfolded walks learned).fault error → error ≡ Refused fault → past_of new ≡ with_end end (past_of old) → new.known ≡ old.known →
       IsUnfolded walks learned old new
   fails_first walks learned new error blames refused settles same =
       fails fault new (subst (λ (e : UnfoldError). Blames (unfolded walks learned).fault e) refused blames) (ap known_in same)
-      (settles ∙ ap (λ (e : Result Report RunFault). with_end e (past_of old)) ends)
+      (settles ∙ ap (λ (e : Result Outcome RunFault). with_end e (past_of old)) ends)

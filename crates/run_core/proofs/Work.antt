@@ -14,7 +14,7 @@ place_of nothing_due = []
 place_of (input_heads_due place staged todo read) = place
 place_of (start_due place inputs launch) = place
 place_of (scan_due place millis) = place
-place_of (output_heads_due place found todo read) = place
+place_of (output_heads_due place millis found todo read) = place
 
 module _ (s : Scene) (es : List Event) where
   pub due_is : (work : Work) → due_in s es work ≡ option_map (λ (call : HostRequest). Request.Host (place_of work) call) (call_for s.options (number_at es (place_of work)) work)
@@ -23,8 +23,8 @@ module _ (s : Scene) (es : List Event) where
   due_is (input_heads_due place staged (path ∷ todo) read) = refl
   due_is (start_due place inputs launch) = refl
   due_is (scan_due place millis) = refl
-  due_is (output_heads_due place found [] read) = refl
-  due_is (output_heads_due place found (name ∷ todo) read) = refl
+  due_is (output_heads_due place millis found [] read) = refl
+  due_is (output_heads_due place millis found (name ∷ todo) read) = refl
 
   -- the call of the folders that the job was staged in last is due
   pub due_of : (work : Work) (folder : ℕ) (call : HostRequest) → number_at es (place_of work) ≡ folder → call_for s.options folder work ≡ Some call →

@@ -12,6 +12,7 @@ use Rattle.proc_host.specs.declared.call.HostRequest.{HostRequest}
 use Rattle.staging.specs.Groups.{path_in}
 use Rattle.staging.specs.declared.found.Found.{Found}
 use Rattle.run_rules.specs.declared.outcome.Cause.{Cause}
+use Rattle.run_rules.specs.declared.outcome.CollectCause.{CollectCause}
 use Rattle.job_graph.specs.Words.{Name, Fields}
 use Rattle.collected_outputs.specs.Contents.{Heads}
 use Rattle.run_rules.specs.CollectsOn.{CollectsOn, left_of}
@@ -56,20 +57,20 @@ starts_by site staged read inputs next filled (has_none fault is) =
     record { on = λ place given. started.has_no_launch inputs fault filled is; calls = tt }
 
 pub starts_not : (site : Site) (staged : Fields) (read : Heads) (fault : ContentsFault) → with_contents site.tool.now.inputs staged read ≡ Err fault →
-    Starts site staged read [] (JobNext.Fails (Cause.Contents fault))
+    Starts site staged read [] (JobNext.Fails (Cause.Collect (CollectCause.Input fault)))
 starts_not site staged read fault is = record { on = λ place given. started.has_no_contents fault is; calls = tt }
 
 pub reads_name : (site : Site) (kept : Kept) (reading : Reading) (rest : List Name) (name : Name) → reading.left ≡ rest ++ name ∷ [] → length reading.left < 2 ^ 64 →
-    Collects site kept reading.found reading.heads (reverse reading.left)
+    Collects site kept reading.millis reading.found reading.heads (reverse reading.left)
     (JobNext.Asks (HostRequest.Head (path_in (out_folder site.options.now.work site.folder) name) (limit_of name)) (JobPhase.Reading kept reading))
 reads_name site kept reading rest name is few =
     let first : reverse reading.left ≡ name ∷ reverse rest = turned reading.left rest name is in
     record {
       on = λ place inputs begun same.
-          subst (λ (todo : List Name). CollectsOn place (job_at_site site place inputs) begun reading.found reading.heads todo
-          (output_heads_due place reading.found todo reading.heads) []) (sym first) (collected.reads_on name (reverse rest));
+          subst (λ (todo : List Name). CollectsOn place (job_at_site site place inputs) begun reading.millis reading.found reading.heads todo
+          (output_heads_due place reading.millis reading.found todo reading.heads) []) (sym first) (collected.reads_on name (reverse rest));
       calls = record {
-        due = ap (λ (todo : List Name). call_for site.options.now site.folder (output_heads_due [] reading.found todo reading.heads)) first;
+        due = ap (λ (todo : List Name). call_for site.options.now site.folder (output_heads_due [] reading.millis reading.found todo reading.heads)) first;
         fits = few;
       };
       keeps = refl;
@@ -79,15 +80,16 @@ reads_name site kept reading rest name is few =
 left_same : (kept : Kept) (begun : Started) (found : List Found) (read : Heads) → IsKept kept begun → left_by kept found read ≡ left_of begun found read
 left_same kept begun found read same = rw (same.inputs, same.stdout, same.stderr) refl
 
-pub collects_by : (site : Site) (kept : Kept) (found : List Found) (read : Heads) (next : JobNext) → Gathers site kept found read next → Collects site kept found read [] next
-collects_by site kept found read next (gives outputs is) =
+pub collects_by : (site : Site) (kept : Kept) (millis : ℕ) (found : List Found) (read : Heads) (next : JobNext) → Gathers site kept found read next →
+    Collects site kept millis found read [] next
+collects_by site kept millis found read next (gives outputs is) =
     record {
       on = λ place inputs begun same.
           collected.collects outputs (subst (λ (left : Left). IsCollected left site.tool.now.outputs (Ok outputs)) (left_same kept begun found read same) is);
       calls = tt;
       keeps = tt;
     }
-collects_by site kept found read next (gives_none fault is) =
+collects_by site kept millis found read next (gives_none fault is) =
     record {
       on = λ place inputs begun same.
           collected.collects_none fault (subst (λ (left : Left). IsCollected left site.tool.now.outputs (Err fault)) (left_same kept begun found read same) is);
@@ -108,12 +110,13 @@ starts_past site old bytes now next puts staged on =
     }
 
 pub collects_past : (site : Site) (kept : Kept) (old : Reading) (bytes : List ℕ) (now : Reading) (next : JobNext) → PutsNext old.left old.heads bytes now.left now.heads → now.found ≡ old.found →
-    Collects site kept now.found now.heads (reverse now.left) next → CollectsPast site kept old bytes next
-collects_past site kept old bytes now next puts found on =
+    now.millis ≡ old.millis → Collects site kept now.millis now.found now.heads (reverse now.left) next → CollectsPast site kept old bytes next
+collects_past site kept old bytes now next puts found millis on =
     record {
       each = λ rest name is.
           let turn : IsTurn old.left old.heads bytes rest name now.left now.heads = turn_of old.left old.heads bytes rest name is puts in
-          subst (λ (left : List Name). Collects site kept old.found (with_value name bytes old.heads) (reverse left) next) turn.left_is
-          (subst (λ (heads : Heads). Collects site kept old.found heads (reverse now.left) next) turn.found_is
-          (subst (λ (all : List Found). Collects site kept all now.heads (reverse now.left) next) found on));
+          subst (λ (left : List Name). Collects site kept old.millis old.found (with_value name bytes old.heads) (reverse left) next) turn.left_is
+          (subst (λ (heads : Heads). Collects site kept old.millis old.found heads (reverse now.left) next) turn.found_is
+          (subst (λ (all : List Found). Collects site kept old.millis all now.heads (reverse now.left) next) found
+          (subst (λ (n : ℕ). Collects site kept n now.found now.heads (reverse now.left) next) millis on)));
     }

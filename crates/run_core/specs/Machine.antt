@@ -1,6 +1,6 @@
 -- A machine as its callers see it.
 use Rattle.std.specs.Prelude.{ℕ, List, Result}
-use Rattle.run_rules.specs.declared.outcome.Report.{Report}
+use Rattle.run_rules.specs.declared.outcome.Outcome.{Outcome}
 use Rattle.run_rules.specs.declared.outcome.RunFault.{RunFault}
 use Rattle.run_rules.specs.declared.request.Pair.{Pair}
 use Rattle.run_rules.specs.declared.request.Request.{Request}
@@ -10,7 +10,7 @@ use Rattle.run_rules.specs.declared.setting.Setting.{Setting}
 pub data Mode : Type 0 where
   is_going : Mode
   is_draining : Mode
-  is_over : Result Report RunFault → Mode
+  is_over : Result Outcome RunFault → Mode
 
 -- what its run is of, what it asked and was answered, what it asks now, the tickets of the children in flight while it asks
 -- something, how many answers it takes at most, and how far it is

@@ -8,12 +8,12 @@ ghost use Rattle.run_core.specs.inner.Turns.{PutsNext};
 ghost use Rattle.run_rules.specs.Folders.{out_folder};
 ghost use Rattle.staging.specs.Groups.{path_in as path_under};
 
-use crate::Cause;
 use crate::folders::{out_folder, path_in};
 use crate::site::Site;
 use crate::state::{JobNext, JobPhase, Kept, Reading};
 use crate::turn::failing;
 use crate::turns::{last_first, put_next};
+use crate::{Cause, CollectCause};
 use collected_outputs::{CollectError, StreamNames, collect_outputs, head_limit, heads_wanted};
 use plain_data::{Items, Keyed, Text};
 use proc_host::HostRequest;
@@ -46,11 +46,12 @@ pub(crate) fn listed(
     alloc: Global,
     site: Site<'_, '_>,
     kept: Kept,
+    millis: u64,
     found: &Items<Found>,
 ) -> Result<JobNext, AllocError>
-    ensures { IfOk result (CollectsFirst site.entry kept found.now) }
+    ensures { IfOk result (CollectsFirst site.entry kept millis found.now) }
 {
-    match first_reading(alloc, site, &kept, found) {
+    match first_reading(alloc, site, &kept, millis, found) {
         Ok(reading) => read_on(alloc, site, kept, reading),
         Err(error) => {
             mem::drop(kept);
@@ -64,13 +65,16 @@ fn first_reading(
     alloc: Global,
     site: Site<'_, '_>,
     kept: &Kept,
+    millis: u64,
     found: &Items<Found>,
 ) -> Result<Reading, AllocError>
+    ensures millis { IfOk result (λ reading. reading.millis ≡ millis) }
     ensures found { IfOk result (λ reading. reading.found ≡ found.now) }
     ensures left { IfOk result (λ reading. AreHeadsWanted (listing_of found.now) kept.now.inputs site.entry.tool.now.outputs (reverse reading.left)) }
     ensures heads { IfOk result (λ reading. reading.heads ≡ []) }
 {
     Ok(Reading {
+        millis,
         left: names_left(alloc, site, kept, found.as_slice())?,
         found: listing_in(alloc, found)?,
         heads: Keyed::new(alloc),
@@ -110,6 +114,7 @@ pub(crate) fn read(
 fn put_head(alloc: Global, reading: &mut Reading, bytes: &Items<u8>) -> Result<(), AllocError>
     ensures puts { OnOk result (PutsNext reading.old.left reading.old.heads bytes.now reading.new.left reading.new.heads) }
     ensures found { reading.new.found ≡ reading.old.found }
+    ensures millis { reading.new.millis ≡ reading.old.millis }
 {
     let bytes = Items::from_vec(bytes.as_slice().to_vec(alloc)?);
     put_next(&mut reading.left, &mut reading.heads, bytes)
@@ -122,7 +127,7 @@ fn read_on(
     kept: Kept,
     reading: Reading,
 ) -> Result<JobNext, AllocError>
-    ensures { IfOk result (Collects site.entry kept reading.found reading.heads (reverse reading.left)) }
+    ensures { IfOk result (Collects site.entry kept reading.millis reading.found reading.heads (reverse reading.left)) }
 {
     // That a list has fewer items than 2^64 is a fact of its type.
     let _few = reading.left.len();
@@ -187,7 +192,9 @@ fn gathered(
         &reading.heads,
     ) {
         Ok(outputs) => Ok(JobNext::Gives(outputs)),
-        Err(CollectError::Refused(fault)) => Ok(failing(Cause::Collect(fault))),
+        Err(CollectError::Refused(fault)) => Ok(failing(Cause::Collect(CollectCause::Output(
+            fault,
+        )))),
         Err(CollectError::OutOfMemory) => Err(AllocError),
     }
 }

@@ -8,8 +8,8 @@ ghost use Rattle.run_core.specs.inner.Turn.{permanent};
 
 use crate::job_states::JobStates;
 use crate::state::{Course, Flight, Kept};
-use crate::turn::{permanent, reported};
-use crate::{Cause, Outcome, Report, RunFault};
+use crate::turn::permanent;
+use crate::{Cause, Outcome, RunFault};
 use cwl_value::{Value, copy_job};
 use job_graph::{Job, KnownJob, UnfoldError, UnfoldFault, Unfolding};
 use plain_data::Keyed;
@@ -50,7 +50,7 @@ pub(crate) fn job_of<'s, 'a>(course: &'s Course<'a>, number: usize) -> &'s Job<'
 }
 
 /// Settles the end by a failure, where nothing has settled it before.
-pub(crate) fn settle(course: &mut Course<'_>, end: Result<Report, RunFault>)
+pub(crate) fn settle(course: &mut Course<'_>, end: Result<Outcome, RunFault>)
     ensures past { past_of course.new ≡ with_end end (past_of course.old) }
     ensures known { course.new.known ≡ course.old.known }
 {
@@ -62,12 +62,12 @@ pub(crate) fn settle(course: &mut Course<'_>, end: Result<Report, RunFault>)
 }
 
 /// The end by a fault of what is known.
-pub(crate) fn end_by(alloc: Global, fault: UnfoldFault) -> Result<Report, RunFault>
+pub(crate) fn end_by(fault: UnfoldFault) -> Result<Outcome, RunFault>
     ensures { result ≡ end_by fault }
 {
     match fault {
         UnfoldFault::TooManyJobs => Err(RunFault::TooManyJobs),
-        UnfoldFault::Fault(place, cause) => permanent(alloc, place, Cause::Equation(cause)),
+        UnfoldFault::Fault(place, cause) => permanent(place, Cause::Equation(cause)),
     }
 }
 
@@ -137,7 +137,7 @@ pub(crate) fn note_failure(
     ensures known { course.new.known ≡ course.old.known }
 {
     let place = copy_job(alloc, &job_of(course, number).place)?;
-    settle(course, permanent(alloc, place, cause));
+    settle(course, permanent(place, cause));
     Ok(())
 }
 
@@ -161,7 +161,7 @@ pub(crate) fn note_giving_up(
         return Ok(());
     }
     let place = copy_job(alloc, &job_of(course, number).place)?;
-    settle(course, reported(alloc, Outcome::TemporaryFail(place)));
+    settle(course, Ok(Outcome::TemporaryFail(place)));
     Ok(())
 }
 
@@ -187,7 +187,7 @@ pub(crate) fn note_success(
     match learn(alloc, course, number, outputs) {
         Ok(()) => Ok(()),
         Err(UnfoldError::Refused(fault)) => {
-            settle(course, end_by(alloc, fault));
+            settle(course, end_by(fault));
             Ok(())
         }
         Err(UnfoldError::OutOfMemory) => Err(AllocError),

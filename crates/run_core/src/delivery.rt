@@ -42,7 +42,7 @@ pub(crate) fn delivery(
     }
     let located = located(alloc, &values);
     mem::drop(values);
-    Ok(succeeded(alloc, located?))
+    Ok(succeeded(located?))
 }
 
 /// The outputs of the process. They are there where no job is left, as `job_graph` says of an accepted process.
@@ -116,12 +116,12 @@ fn plan_of(
 }
 
 /// The result's files are where they are wanted: the outputs that name them are the end.
-pub(crate) fn delivered(alloc: Global, phase: &mut Phase) -> Turn
+pub(crate) fn delivered(phase: &mut Phase) -> Turn
     ensures { result ≡ succeeds (delivered_in phase.old) }
 {
     let outputs = match phase {
         Phase::Delivering(outputs) => mem::replace(outputs, Value::Null),
         _ => Value::Null,
     };
-    succeeded(alloc, outputs)
+    succeeded(outputs)
 }

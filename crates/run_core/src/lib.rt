@@ -28,6 +28,7 @@ mod turn;
 mod turns;
 
 pub use run_rules::{
-    Answer, Cause, Note, Options, Outcome, Pair, PlanNote, Report, Request, RunFault, Setting,
+    Answer, Cause, CollectCause, Note, Options, Outcome, Pair, PlanNote, Report, Request, RunFault,
+    Setting,
 };
 pub use runner::RunCore;

@@ -109,7 +109,7 @@ fn know<'a>(
             Ok(())
         }
         Err(UnfoldError::Refused(fault)) => {
-            settle(course, end_by(alloc, fault));
+            settle(course, end_by(fault));
             Ok(())
         }
         Err(UnfoldError::OutOfMemory) => Err(AllocError),

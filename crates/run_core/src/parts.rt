@@ -1,6 +1,6 @@
 //! Parts of a phase, taken out of it.
 ghost use Rattle.std.specs.Prelude.{◌≡◌};
-ghost use Rattle.run_core.specs.inner.Parts.{filling_in, job_in, kept_in, measuring_in, nothing_filled, nothing_kept, nothing_measured, nothing_read, reading_in};
+ghost use Rattle.run_core.specs.inner.Parts.{filling_in, job_in, kept_in, measuring_in, millis_in, nothing_filled, nothing_kept, nothing_measured, nothing_read, reading_in};
 
 use crate::state::{Filling, JobPhase, Kept, Measuring, Phase, Reading};
 use plain_data::{Items, Keyed};
@@ -28,6 +28,16 @@ pub(crate) fn kept_in(alloc: Global, phase: &mut Phase) -> Kept
         Phase::Working(_, JobPhase::Scanning(kept, _)) => mem::replace(kept, none),
         Phase::Working(_, JobPhase::Reading(kept, _)) => mem::replace(kept, none),
         _ => none,
+    }
+}
+
+/// For how many milliseconds the child ran whose output folder is listed.
+pub(crate) fn millis_in(phase: &Phase) -> u64
+    ensures { result ≡ millis_in phase.now }
+{
+    match phase {
+        Phase::Working(_, JobPhase::Scanning(_, millis)) => *millis,
+        _ => 0,
     }
 }
 
@@ -68,6 +78,7 @@ pub(crate) fn reading_in(alloc: Global, phase: &mut Phase) -> Reading
     ensures job { job_in phase.new ≡ job_in phase.old }
 {
     let none = Reading {
+        millis: 0,
         found: Items::new(alloc),
         left: Items::new(alloc),
         heads: Keyed::new(alloc),

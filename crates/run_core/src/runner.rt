@@ -4,7 +4,7 @@ ghost use Rattle.run_rules.specs.declared.outcome.RunFault.{RunFault};
 ghost use Rattle.run_rules.specs.declared.request.Request.{Request};
 ghost use Rattle.run_rules.specs.Answers.{MayAnswer, flying_after};
 ghost use Rattle.run_rules.specs.Blame.{BlamesRightly};
-ghost use Rattle.run_rules.specs.Reports.{entries_of, Concludes};
+ghost use Rattle.run_rules.specs.Reports.{entries_of, reported, Concludes};
 ghost use Rattle.job_graph.specs.Words.{JobPlace};
 ghost use Rattle.run_core.specs.declared.state.Phase.{Phase};
 ghost use Rattle.run_core.specs.Core.{IsLost, MayAsk, Begins, Took, GaveUp};
@@ -23,11 +23,11 @@ use crate::parts::job_in;
 use crate::state::{Course, Given, Phase, Turn};
 use crate::steps::follows;
 use crate::turn::{ended, given_up, lost};
-use crate::{Answer, Options, Pair, Report, Request, RunFault};
+use crate::{Answer, Options, Outcome, Pair, Report, Request, RunFault};
 use cwl_value::Value;
 use document_links::Process;
 use job_graph::see_ids;
-use plain_data::Keyed;
+use plain_data::{Items, Keyed};
 use run_rules::an_honest_run_is_reported_rightly;
 use std::alloc::{AllocError, Global};
 use std::marker::Model;
@@ -171,7 +171,7 @@ impl<'a> RunCore<'a> {
     {
         an_honest_run_is_reported_rightly();
         let RunCore {
-            alloc: _,
+            alloc,
             given,
             pairs,
             course,
@@ -180,7 +180,7 @@ impl<'a> RunCore<'a> {
         mem::drop(given);
         mem::drop(pairs);
         mem::drop(course);
-        phase_outcome(turn)
+        reported(alloc, phase_outcome(turn))
     }
 }
 
@@ -302,8 +302,22 @@ fn told_of(phase: &Phase) -> Result<(), RunFault>
     }
 }
 
-/// What `finish` answers after the last turn.
-fn phase_outcome(turn: Turn) -> Result<Report, RunFault>
+/// The report of what came of the process.
+fn reported(alloc: Global, outcome: Result<Outcome, RunFault>) -> Result<Report, RunFault>
+    ensures { result ≡ reported outcome }
+{
+    match outcome {
+        Ok(outcome) => Ok(Report {
+            outcome,
+            plans: Items::new(alloc),
+            notes: Items::new(alloc),
+        }),
+        Err(fault) => Err(fault),
+    }
+}
+
+/// What came of the process by the last turn.
+fn phase_outcome(turn: Turn) -> Result<Outcome, RunFault>
     requires { IsEnded turn.phase }
     ensures { turn.phase ≡ Phase.Ended result }
 {
@@ -312,8 +326,8 @@ fn phase_outcome(turn: Turn) -> Result<Report, RunFault>
     outcome_of(phase)
 }
 
-/// What it answers at the end.
-fn outcome_of(phase: Phase) -> Result<Report, RunFault>
+/// What came of it by the last phase.
+fn outcome_of(phase: Phase) -> Result<Outcome, RunFault>
     requires { IsEnded phase }
     ensures { phase ≡ Phase.Ended result }
 {

@@ -9,12 +9,12 @@ ghost use Rattle.run_core.specs.inner.Due.{Launches, Starts, StartsPast, kept_of
 ghost use Rattle.run_core.specs.inner.Turns.{PutsNext};
 ghost use Rattle.run_rules.specs.Folders.{runtime_of};
 
-use crate::Cause;
 use crate::folders::runtime_of;
 use crate::site::Site;
 use crate::state::{Filling, JobNext, JobPhase, Kept};
 use crate::turn::failing;
 use crate::turns::{last_first, put_next};
+use crate::{Cause, CollectCause};
 use command_line::{BuildError, Launch, build};
 use cwl_value::{Value, copy_fields};
 use input_files::{ContentsError, MOST_CONTENTS, heads_wanted, with_contents};
@@ -102,7 +102,9 @@ fn inputs_filled(alloc: Global, site: Site<'_, '_>, filling: Filling) -> Result<
     mem::drop(heads);
     match found {
         Ok(inputs) => launched(alloc, site, inputs),
-        Err(ContentsError::Refused(fault)) => Ok(failing(Cause::Contents(fault))),
+        Err(ContentsError::Refused(fault)) => Ok(failing(Cause::Collect(CollectCause::Input(
+            fault,
+        )))),
         Err(ContentsError::OutOfMemory) => Err(AllocError),
     }
 }

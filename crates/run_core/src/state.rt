@@ -1,7 +1,7 @@
 //! Where a run is: what its events have brought about so far, and what it waits for.
 
 use crate::job_states::JobStates;
-use crate::{Cause, Options, Report, Request, RunFault};
+use crate::{Cause, Options, Outcome, Request, RunFault};
 use cwl_value::Value;
 use document_links::Process;
 use job_graph::Unfolding;
@@ -50,6 +50,8 @@ pub(crate) struct Filling {
 /// Files of a job's output folder whose first bytes are read.
 #[derive(Drop)]
 pub(crate) struct Reading {
+    /// For how many milliseconds its child ran.
+    pub millis: u64,
     /// All that was found in the folder.
     pub found: Items<Found>,
     /// The names of the files that are still to be read; the last comes next.
@@ -97,8 +99,8 @@ pub(crate) enum Phase {
     Delivering(Value),
     /// The end of a child, after memory ran out.
     Draining,
-    /// Nothing: this is what `finish` answers.
-    Ended(Result<Report, RunFault>),
+    /// Nothing: this came of the process, and `finish` reports it.
+    Ended(Result<Outcome, RunFault>),
 }
 
 /// What the machine asks, and waits for.
@@ -131,5 +133,5 @@ pub(crate) struct Course<'a> {
     /// The jobs that are known, once all input files are measured.
     pub known: Option<Unfolding<'a>>,
     /// The failure that settled the end.
-    pub end: Option<Result<Report, RunFault>>,
+    pub end: Option<Result<Outcome, RunFault>>,
 }

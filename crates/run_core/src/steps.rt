@@ -51,7 +51,7 @@ pub(crate) fn follows<'a>(
             Request::Host(_, HostRequest::Stage(plan, _)) => {
                 staged(alloc, given, course, job_in(&turn.phase), &plan.value)
             }
-            _ => Ok(delivered(alloc, &mut turn.phase)),
+            _ => Ok(delivered(&mut turn.phase)),
         },
         HostAnswer::Measured(measure) => measured(alloc, given, course, &mut turn.phase, measure),
         HostAnswer::Started(ticket) => started(alloc, given, course, &mut turn.phase, *ticket),
@@ -218,12 +218,13 @@ fn on_listing(
 ) -> Result<Turn, AllocError>
     requires ready { IsReady course.old }
     requires number { job_in phase.old < length course.old.jobs }
-    ensures is { IfOk result (λ turn. AfterListing given.now course.old (job_in phase.old) (kept_in phase.old) found.now turn course.new) }
+    ensures is { IfOk result (λ turn. AfterListing given.now course.old (job_in phase.old) (kept_in phase.old) (millis_in phase.old) found.now turn course.new) }
     ensures flying { OnErr result (course.new.tickets.items ≡ course.old.tickets.items) }
 {
     let number = job_in(phase);
+    let millis = millis_in(phase);
     let kept = kept_in(alloc, phase);
-    let next = listed(alloc, site_of(given, course, number), kept, found)?;
+    let next = listed(alloc, site_of(given, course, number), kept, millis, found)?;
     turn_of(alloc, given, course, number, next)
 }
 

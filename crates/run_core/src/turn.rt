@@ -3,28 +3,17 @@ ghost use Rattle.std.specs.Prelude.{◌≡◌, IfOk};
 ghost use Rattle.run_core.specs.declared.state.JobNext.{JobNext as Next};
 ghost use Rattle.run_core.specs.inner.Course.{past_of};
 ghost use Rattle.run_core.specs.inner.Turn.{collects, ends, given_up, lost_after, permanent, root_asks, succeeds, waits, works};
-ghost use Rattle.run_rules.specs.Reports.{reported};
 
 use crate::state::{Course, JobNext, JobPhase, Phase, Turn};
-use crate::{Cause, Outcome, Report, Request, RunFault};
+use crate::{Cause, Outcome, Request, RunFault};
 use cwl_value::{JobPlace, Value, copy_job};
 use plain_data::Items;
 use proc_host::HostRequest;
 use std::alloc::{AllocError, Global};
 use std::mem;
 
-pub(crate) fn reported(alloc: Global, outcome: Outcome) -> Result<Report, RunFault>
-    ensures { result ≡ reported outcome }
-{
-    Ok(Report {
-        outcome,
-        plans: Items::new(alloc),
-        notes: Items::new(alloc),
-    })
-}
-
 /// The run has ended so.
-pub(crate) fn ended(outcome: Result<Report, RunFault>) -> Turn
+pub(crate) fn ended(outcome: Result<Outcome, RunFault>) -> Turn
     ensures { result ≡ ends outcome }
 {
     Turn {
@@ -33,10 +22,10 @@ pub(crate) fn ended(outcome: Result<Report, RunFault>) -> Turn
     }
 }
 
-pub(crate) fn succeeded(alloc: Global, outputs: Value) -> Turn
+pub(crate) fn succeeded(outputs: Value) -> Turn
     ensures { result ≡ succeeds outputs }
 {
-    ended(reported(alloc, Outcome::Success(outputs)))
+    ended(Ok(Outcome::Success(outputs)))
 }
 
 fn root_asks(alloc: Global, request: HostRequest) -> Request
@@ -114,8 +103,8 @@ pub(crate) fn failing(cause: Cause) -> JobNext
 }
 
 /// The job at a place gives no outputs, and would give none if it were started again.
-pub(crate) fn permanent(alloc: Global, place: JobPlace, cause: Cause) -> Result<Report, RunFault>
+pub(crate) fn permanent(place: JobPlace, cause: Cause) -> Result<Outcome, RunFault>
     ensures { result ≡ permanent place cause }
 {
-    reported(alloc, Outcome::PermanentFail(place, cause))
+    Ok(Outcome::PermanentFail(place, cause))
 }

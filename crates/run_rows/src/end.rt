@@ -4,7 +4,7 @@ use cwl_value::{JobPlace, Value, canonical_text, place_text};
 use input_files::ContentsFault;
 use plain_data::Text;
 use row_io::{RowFault, quoted};
-use run_core::{Cause, Outcome, Report, RunFault};
+use run_core::{Cause, CollectCause, Outcome, Report, RunFault};
 use std::alloc::{AllocError, Global};
 
 /// How a run ended, as JSON.
@@ -55,8 +55,8 @@ fn cause_text(alloc: Global, cause: &Cause) -> Result<Text, AllocError> {
         Cause::Build(fault) => format!(in alloc; "Build {}", fault.code())?,
         Cause::Exit(Some(code)) => format!(in alloc; "Exit {code}")?,
         Cause::Exit(None) => String::from_str(alloc, "Exit by a signal")?,
-        Cause::Contents(fault) => contents_text(alloc, fault)?,
-        Cause::Collect(fault) => collect_text(alloc, fault)?,
+        Cause::Collect(CollectCause::Input(fault)) => contents_text(alloc, fault)?,
+        Cause::Collect(CollectCause::Output(fault)) => collect_text(alloc, fault)?,
     }))
 }
 

@@ -148,8 +148,8 @@ module _ (s : Scene) where
   starts_fit es place job known (has_no_launch inputs fault with_them is) = (known, tt)
   starts_fit es place job known (has_no_contents fault is) = (known, tt)
 
-  collects_fit : (es : List Event) (place : JobPlace) (job : Job) {started : Started} {found : List Found} {read : Heads} {todo : List Name} {work : Work} {more : List Event} →
-      IsKnownAt es place → CollectsOn place job started found read todo work more → Fits es more
+  collects_fit : (es : List Event) (place : JobPlace) (job : Job) {started : Started} {millis : ℕ} {found : List Found} {read : Heads} {todo : List Name} {work : Work} {more : List Event} →
+      IsKnownAt es place → CollectsOn place job started millis found read todo work more → Fits es more
   collects_fit es place job known (collects_reading name rest) = tt
   collects_fit es place job known (collects outputs is) = (known, tt)
   collects_fit es place job known (collects_none fault is) = (known, tt)
@@ -174,9 +174,9 @@ module _ (s : Scene) where
   step_fits f marks may (exits_for_now place e job there known class) = (tt, (tt, tt))
   step_fits f marks may (exits_badly place e job there known class) =
       (tt, (known_later f.events (child_exited e.ticket) place job (λ p. refl) refl refl known, tt))
-  step_fits f marks may (scans place folder found job started wanted work more known was wants on) =
+  step_fits f marks may (scans place folder millis found job started wanted work more is known was wants on) =
       collects_fit f.events place job (record { job = job; known = known }) on
-  step_fits f marks may (reads_output place path limit bytes found name todo read job started work more is known was on) =
+  step_fits f marks may (reads_output place path limit bytes millis found name todo read job started work more is known was on) =
       collects_fit f.events place job (record { job = job; known = known }) on
   step_fits f marks may (delivers place plan) = (tt, tt)
   step_fits f marks may loses_collect = (tt, tt)

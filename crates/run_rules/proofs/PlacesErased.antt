@@ -15,7 +15,7 @@ use Rattle.cwl_value.proofs.Induction.{Cases, induction}
 use Rattle.job_graph.specs.Made.{value_moved, file_moved, dir_moved, fields_moved}
 use Rattle.job_graph.specs.Words.{Name, Fields, last_by_name}
 use Rattle.run_rules.specs.Delivered.{located, location_place, object_of, source_place, sources}
-use Rattle.run_rules.specs.Events.{Event, number_at}
+use Rattle.run_rules.specs.Events.{Event, folder_at}
 use Rattle.run_rules.specs.EndsSo.{IsDelivered, no_file, copied}
 use Rattle.run_rules.specs.Scene.{Scene}
 use Rattle.staging.proofs.Erasing.{all_same}
@@ -178,10 +178,10 @@ as_told delivered =
     erased-object (fields_moved location_place delivered) ∙ ap (λ (es : Fields). roll-Value (Value-F.Fields es)) (fields_erased_moved location_place delivered)
 
 module _ (s : Scene) (es : List Event) (outputs : Fields) where
-  sources_erased : fields_erased (sources (number_at es) s.options.work outputs) ≡ last_by_name (fields_erased outputs)
+  sources_erased : fields_erased (sources (folder_at s es) outputs) ≡ last_by_name (fields_erased outputs)
   sources_erased =
-      erased_by_name (fields_moved (source_place (number_at es) s.options.work) outputs)
-      ∙ ap last_by_name (fields_erased_moved (source_place (number_at es) s.options.work) outputs)
+      erased_by_name (fields_moved (source_place (folder_at s es)) outputs)
+      ∙ ap last_by_name (fields_erased_moved (source_place (folder_at s es)) outputs)
 
   pub keeps_the_value : (delivered : Fields) → IsDelivered s es outputs delivered → erased (located delivered) ≡ object_of (fields_erased outputs)
   keeps_the_value delivered (no_file none only) =
@@ -189,5 +189,5 @@ module _ (s : Scene) (es : List Event) (outputs : Fields) where
   keeps_the_value delivered (copied plan is delivery) =
       as_told plan.value ∙ ap (λ (fields : Fields). roll-Value (Value-F.Fields fields))
       (ap fields_erased delivery.value
-      ∙ all_same (λ group. folder_path true s.options.outdir (delivery.number group)) (sources (number_at es) s.options.work outputs)
+      ∙ all_same (λ group. folder_path true s.options.outdir (delivery.number group)) (sources (folder_at s es) outputs)
       ∙ sources_erased)

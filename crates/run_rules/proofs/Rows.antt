@@ -60,7 +60,7 @@ use Rattle.job_graph.specs.Jobs.{Job}
 use Rattle.job_graph.specs.Made.{value_moved, file_moved, dir_moved, made_place}
 use Rattle.job_graph.specs.Words.{Name, Fields, JobPlace}
 use Rattle.run_rules.specs.Delivered.{any_file, has_file_at, location_place, source_place, sources}
-use Rattle.run_rules.specs.Events.{Event, Progress, job_staged, job_started, child_exited, job_succeeded, job_failed, job_failed_for_now, result_delivered, host_failed, collect_failed, nothing_due, start_due, Started, at_first, number_at, unfolding_at}
+use Rattle.run_rules.specs.Events.{Event, Progress, job_staged, job_started, child_exited, job_succeeded, job_failed, job_failed_for_now, result_delivered, host_failed, collect_failed, nothing_due, start_due, Started, at_first, folder_at, unfolding_at}
 use Rattle.run_rules.specs.Folders.{runtime_of}
 use Rattle.run_rules.specs.StartsOn.{has_launch}
 use Rattle.run_rules.specs.CollectsOn.{collects, left_of}
@@ -262,9 +262,9 @@ source = Place.Path (codes "w/j1/out/out.txt")
 abbrev its_group : List Member
 its_group = record { source = codes "w/j1/out/out.txt"; name = codes "out.txt" } ∷ []
 
-its_sources : sources (number_at whole) (codes "w") made_out ≡ out_at source
+its_sources : sources (folder_at s whole) made_out ≡ out_at source
 unfolding digits
-its_sources = ap with_file (file_moves (source_place (number_at whole) (codes "w")) (Place.Made [] (codes "out.txt")) out)
+its_sources = ap with_file (file_moves (source_place (folder_at s whole)) (Place.Made [] (codes "out.txt")) out)
 
 abbrev copied_at : FolderOf → Value
 copied_at folder_of = value.FileVal (roll-FileVal (file_fields (Place.Path (path_in (folder_of its_group) (codes "out.txt"))) out))
@@ -394,7 +394,7 @@ module _ (is : IsLaunch hello abc (runtime_of options 1) its_launch) (collected 
       follows (stages [] staged 1 job (start_due [] abc its_launch) [] refl (has_launch abc its_launch refl is))
       (follows (starts [] abc its_launch 1 refl)
       (follows (exits_well [] (one_ended (Some (pos 0))) job (0, lit< tt, refl) refl refl)
-      (follows (scans [] (codes "w/j1/out") (out ∷ []) job its_start [] nothing_due (job_succeeded [] found_out ∷ []) refl refl unread (collects found_out collected))
+      (follows (scans [] (codes "w/j1/out") (one_ended (Some (pos 0))).millis (out ∷ []) job its_start [] nothing_due (job_succeeded [] found_out ∷ []) refl refl refl unread (collects found_out collected))
       (follows (delivers [] its_plan) stays))))
 
 abbrev started : List Event

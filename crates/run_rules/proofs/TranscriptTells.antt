@@ -61,7 +61,7 @@ module _ (codes : JobPlace → ExitCodes) where
   -- a job whose folder is listed or read next ran well
   abbrev pub WorkTold : List Pair → Work → Type 0
   WorkTold t (scan_due place millis) = RanWell t place (codes place)
-  WorkTold t (output_heads_due place found todo read) = RanWell t place (codes place)
+  WorkTold t (output_heads_due place millis found todo read) = RanWell t place (codes place)
   WorkTold t _ = Unit {0}
 
   -- and the children in flight were started, and each job that succeeded ran well
@@ -103,7 +103,7 @@ module _ (codes : JobPlace → ExitCodes) where
     work_still (input_heads_due place staged todo read) told = tt
     work_still (start_due place inputs launch) told = tt
     work_still (scan_due place millis) told = ran_still place told
-    work_still (output_heads_due place found todo read) told = ran_still place told
+    work_still (output_heads_due place millis found todo read) told = ran_still place told
 
     knows_still : (f : Progress) → Knows t f → Knows (t ++ p ∷ []) f
     knows_still f knows = record {
@@ -122,8 +122,8 @@ module _ (codes : JobPlace → ExitCodes) where
   scanned t s es (input_heads_due at staged (path ∷ todo) read) place folder told is = absurd cc
   scanned t s es (start_due at inputs launch) place folder told is = absurd cc
   scanned t s es (scan_due at millis) place folder told is = let same : at ≡ place = cc in subst (λ (p : JobPlace). RanWell t p (codes p)) same told
-  scanned t s es (output_heads_due at found [] read) place folder told is = absurd cc
-  scanned t s es (output_heads_due at found (name ∷ todo) read) place folder told is = absurd cc
+  scanned t s es (output_heads_due at millis found [] read) place folder told is = absurd cc
+  scanned t s es (output_heads_due at millis found (name ∷ todo) read) place folder told is = absurd cc
 
   module _ (t : List Pair) (s : Scene) (f : Progress) (its_codes : (place : JobPlace) (job : Job) → job_at s f.events place ≡ Some job → job.tool.exit_codes ≡ codes place)
       (marks : List Mark) (knows : Knows t f) where
@@ -188,8 +188,8 @@ module _ (codes : JobPlace → ExitCodes) where
     starts_told (has_no_launch inputs fault with_them is) = quiet_one _ refl (λ at outputs same. cc)
     starts_told (has_no_contents fault is) = quiet_one _ refl (λ at outputs same. cc)
 
-    collects_told : {place : JobPlace} {job : Job} {started : Started} {found : List Found} {read : Heads} {todo : List Name} {work : Work} {more : List Event} →
-        RanWell t place (codes place) → CollectsOn place job started found read todo work more → IsTold t flying work more
+    collects_told : {place : JobPlace} {job : Job} {started : Started} {millis : ℕ} {found : List Found} {read : Heads} {todo : List Name} {work : Work} {more : List Event} →
+        RanWell t place (codes place) → CollectsOn place job started millis found read todo work more → IsTold t flying work more
     collects_told its (collects_reading name rest) = no_event _ its
     collects_told {place = place} its (collects outputs is) = record {
       flights = λ x there. inl there;
@@ -218,9 +218,9 @@ module _ (codes : JobPlace → ExitCodes) where
     }
     step_told now may (exits_for_now place e job there known class) = exits e.ticket (job_failed_for_now place) refl (λ at outputs is. cc)
     step_told now may (exits_badly place e job there known class) = exits e.ticket (job_failed place (Cause.Exit e.code)) refl (λ at outputs is. cc)
-    step_told now may (scans place folder found job started wanted work more known was wants on) =
+    step_told now may (scans place folder millis found job started wanted work more is known was wants on) =
         collects_told (scanned t s f.events f.work place folder knows.work may) on
-    step_told now may (reads_output place path limit bytes found name todo read job started work more is known was on) =
+    step_told now may (reads_output place path limit bytes millis found name todo read job started work more is known was on) =
         collects_told (subst (WorkTold t) is knows.work) on
     step_told now may (delivers place plan) = quiet_one (result_delivered plan) refl (λ at outputs is. cc)
     step_told now may loses_collect = quiet_one collect_failed refl (λ at outputs is. cc)

@@ -184,7 +184,7 @@ module _ (is : (n : ℕ) → IsLaunch tool [] (runtime_of options n) (launch n))
 either_ends : Leads s (at both) (ended 2 well ∷ scanned b ∷ ended 1 badly ∷ []) (at (both ++ came_well 2 b ++ came_badly 1 a))
 either_ends =
     follows (exits_well b (record { ticket = 2; code = well; millis = 1000 }) (job b) (1, lit< tt, refl) refl refl)
-    (follows (scans b (codes "") [] (job b) (started_as 2) [] nothing_due (job_succeeded b [] ∷ []) refl refl (of_outputs [] refl none_asked) (collects [] (collects_nothing 2)))
+    (follows (scans b (codes "") 1000 [] (job b) (started_as 2) [] nothing_due (job_succeeded b [] ∷ []) refl refl refl (of_outputs [] refl none_asked) (collects [] (collects_nothing 2)))
     (follows (exits_badly a (record { ticket = 1; code = badly; millis = 1000 }) (job a) (0, lit< tt, refl) refl refl) stays))
 
 -- First bytes are read one file after another, and the start or the outputs come with the last
@@ -203,14 +203,14 @@ module _ (is : (n : ℕ) → IsLaunch tool [] (runtime_of options n) (launch n))
 collects_what_was_read : (n : ℕ) (read : Heads) → IsCollected (left_of (started_as n) [] read) [] (Ok [])
 collects_what_was_read n read = record { gathered = Ok []; are_gathered = bound [] refl no_outputs; is = refl }
 
-it_is_collected_once_all_is_read : Leads s (record { work = output_heads_due a [] (codes "g" ∷ []) []; events = one ++ child_exited 1 ∷ [] })
+it_is_collected_once_all_is_read : Leads s (record { work = output_heads_due a 1000 [] (codes "g" ∷ []) []; events = one ++ child_exited 1 ∷ [] })
     (read_of (codes "w/j1/out/g") ∷ []) (at (one ++ came_well 1 a))
 it_is_collected_once_all_is_read =
-    follows (reads_output a (codes "w/j1/out/g") 65536 (codes "abc") [] (codes "g") [] [] (job a) (started_as 1) nothing_due (job_succeeded a [] ∷ []) refl refl refl
+    follows (reads_output a (codes "w/j1/out/g") 65536 (codes "abc") 1000 [] (codes "g") [] [] (job a) (started_as 1) nothing_due (job_succeeded a [] ∷ []) refl refl refl
     (collects [] (collects_what_was_read 1 _))) stays
 
 -- what is asked is the first bytes of the next file, in the job's output folder
-the_next_is_asked : due s (record { work = output_heads_due a [] (codes "g" ∷ []) []; events = one ++ child_exited 1 ∷ [] })
+the_next_is_asked : due s (record { work = output_heads_due a 1000 [] (codes "g" ∷ []) []; events = one ++ child_exited 1 ∷ [] })
     ≡ Some (Request.Host a (HostRequest.Head (codes "w/j1/out/g") 65536))
 unfolding digits
 the_next_is_asked = refl

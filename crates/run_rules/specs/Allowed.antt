@@ -11,9 +11,9 @@ use Rattle.run_rules.specs.declared.request.Request.{Request}
 use Rattle.job_graph.specs.Jobs.{Job}
 use Rattle.job_graph.specs.Made.{fields_moved}
 use Rattle.job_graph.specs.Words.{Name, Fields, JobPlace}
-use Rattle.run_rules.specs.Folders.{out_folder, in_folder}
+use Rattle.run_rules.specs.Folders.{in_folder}
 use Rattle.run_rules.specs.Delivered.{any_file, source_place}
-use Rattle.run_rules.specs.Events.{Event, Work, nothing_due, input_heads_due, start_due, scan_due, output_heads_due, Progress, in_flight, is_held, is_measured, is_staging, are_measured, number_at, delivered_at, unfolding_at, job_at}
+use Rattle.run_rules.specs.Events.{Event, Work, nothing_due, input_heads_due, start_due, scan_due, output_heads_due, Progress, in_flight, is_held, is_measured, is_staging, are_measured, delivered_at, folder_at, unfolding_at, job_at}
 use Rattle.run_rules.specs.End.{settled, IsDelivery, is_lost_collect}
 use Rattle.plan_checker.specs.declared.plan.Mark.{Mark}
 use Rattle.plan_checker.specs.declared.plan.Mark.TheVariants.{Compute}
@@ -49,7 +49,7 @@ module _ (s : Scene) where
     pub not_held : is_held f.events place ≡ false
     pub slot : length (in_flight f.events) < s.options.slots
     pub next_number : number ≡ length (filter is_staging f.events) + 1
-    pub staged : IsPlan false (in_folder s.options.work number) (fields_moved (source_place (number_at f.events) s.options.work) job.inputs) plan
+    pub staged : IsPlan false (in_folder s.options.work number) (fields_moved (source_place (folder_at s f.events)) job.inputs) plan
 
   -- nothing more can be staged
   pub record IsBusy (f : Progress) (marks : List Mark) : Type 0 where
@@ -76,20 +76,16 @@ module _ (s : Scene) where
     pub only : delivered_at f.events ≡ None
     pub delivery : IsDelivery s f.events outputs plan
 
-  -- the output folder of the job at a place
-  abbrev pub folder_at : List Event → JobPlace → Name
-  folder_at es place = out_folder s.options.work (number_at es place)
-
   -- the request for the work that is due: first bytes are read, a job's launch is started, and its output folder is listed
   abbrev pub due_in : List Event → Work → Option Request
   due_in es nothing_due = None
   due_in es (input_heads_due place staged [] read) = None
   due_in es (input_heads_due place staged (path ∷ todo) read) = Some (Request.Host place (HostRequest.Head path MOST_CONTENTS))
   due_in es (start_due place inputs launch) = Some (Request.Host place (HostRequest.Start launch))
-  due_in es (scan_due place millis) = Some (Request.Host place (HostRequest.Scan (folder_at es place)))
-  due_in es (output_heads_due place found [] read) = None
-  due_in es (output_heads_due place found (name ∷ todo) read) =
-      Some (Request.Host place (HostRequest.Head (path_in (folder_at es place) name) (limit_of name)))
+  due_in es (scan_due place millis) = Some (Request.Host place (HostRequest.Scan (folder_at s es place)))
+  due_in es (output_heads_due place millis found [] read) = None
+  due_in es (output_heads_due place millis found (name ∷ todo) read) =
+      Some (Request.Host place (HostRequest.Head (path_in (folder_at s es place) name) (limit_of name)))
 
   abbrev pub due : Progress → Option Request
   due f = due_in f.events f.work

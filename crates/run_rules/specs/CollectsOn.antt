@@ -1,6 +1,6 @@
 -- What comes once a job's output folder is listed: first bytes of what was found are read, one file after another, where the outputs ask for
 -- them; then the outputs are collected, or there is a fault why there are none (CWL v1.2, Command Line Tool, "Output binding").
-use Rattle.std.specs.Prelude.{List, [], ◌∷◌, unwrap_or, Ok, Err}
+use Rattle.std.specs.Prelude.{ℕ, List, [], ◌∷◌, unwrap_or, Ok, Err}
 use Rattle.collected_outputs.specs.Collected.{IsCollected}
 use Rattle.collected_outputs.specs.Listing.{listing_of}
 use Rattle.collected_outputs.specs.Outputs.{Left}
@@ -8,6 +8,7 @@ use Rattle.collected_outputs.specs.Patterns.{runtime}
 use Rattle.collected_outputs.specs.declared.fault.OutputFault.{OutputFault}
 use Rattle.staging.specs.declared.found.Found.{Found}
 use Rattle.run_rules.specs.declared.outcome.Cause.{Cause}
+use Rattle.run_rules.specs.declared.outcome.CollectCause.{CollectCause}
 use Rattle.collected_outputs.specs.Contents.{Heads}
 use Rattle.job_graph.specs.Jobs.{Job}
 use Rattle.job_graph.specs.Words.{Name, Fields, JobPlace}
@@ -24,11 +25,12 @@ left_of started found read = record {
   runtime = runtime;
 }
 
--- the job at a place, whose child was started so, with what was found, where these first bytes were read and those of these names are not
-pub data CollectsOn (place : JobPlace) (job : Job) (started : Started) (found : List Found) (read : Heads) : List Name → Work → List Event → Type 0 where
+-- the job at a place, whose child was started so and ran for so long, with what was found, where these first bytes were read and those of
+-- these names are not
+pub data CollectsOn (place : JobPlace) (job : Job) (started : Started) (millis : ℕ) (found : List Found) (read : Heads) : List Name → Work → List Event → Type 0 where
   reads_on : (name : Name) (more : List Name) →
-      CollectsOn place job started found read (name ∷ more) (output_heads_due place found (name ∷ more) read) []
+      CollectsOn place job started millis found read (name ∷ more) (output_heads_due place millis found (name ∷ more) read) []
   collects : (outputs : Fields) → IsCollected (left_of started found read) job.tool.outputs (Ok outputs) →
-      CollectsOn place job started found read [] nothing_due (job_succeeded place outputs ∷ [])
+      CollectsOn place job started millis found read [] nothing_due (job_succeeded place outputs ∷ [])
   collects_none : (fault : OutputFault) → IsCollected (left_of started found read) job.tool.outputs (Err fault) →
-      CollectsOn place job started found read [] nothing_due (job_failed place (Cause.Collect fault) ∷ [])
+      CollectsOn place job started millis found read [] nothing_due (job_failed place (Cause.Collect (CollectCause.Output fault)) ∷ [])

@@ -1,5 +1,5 @@
 -- Where the files of a result are put, and how the result is told.
-use Rattle.std.specs.Prelude.{ℕ, Bool, true, false, ◌++◌, if◌then◌else◌, map, bytes_eq, codes}
+use Rattle.std.specs.Prelude.{Bool, true, false, ◌++◌, if◌then◌else◌, map, bytes_eq, codes}
 use Rattle.std.specs.List.{list_any}
 use Rattle.cwl_value.specs.declared.place.Place.{Place}
 use Rattle.cwl_value.specs.declared.value.Value.{Value, fold-Value, roll-Value}
@@ -7,7 +7,6 @@ use Rattle.cwl_value.specs.declared.value.Value.TheOpen.{Value-F}
 use Rattle.file_values.specs.Location.{location_of}
 use Rattle.job_graph.specs.Made.{fields_moved, some_true}
 use Rattle.job_graph.specs.Words.{Name, Fields, JobPlace, last_by_name}
-use Rattle.run_rules.specs.Folders.{out_folder}
 
 -- Whether there is something to deliver
 
@@ -32,14 +31,14 @@ any_file fields = list_any (λ f. has_file f.1) fields
 abbrev pub made_path : Name → Name → Name
 made_path folder name = if bytes_eq name (codes ".") then folder else folder ++ codes "/" ++ name
 
--- what a job made stands in the folder that its outputs were collected in; any other place stays
-abbrev pub source_place : (JobPlace → ℕ) → Name → Place → Place
-source_place number work (Place.Made job name) = Place.Path (made_path (out_folder work (number job)) name)
-source_place number work place = place
+-- what a job made stands in the folder that has its outputs; any other place stays
+abbrev pub source_place : (JobPlace → Name) → Place → Place
+source_place folder (Place.Made job name) = Place.Path (made_path (folder job) name)
+source_place folder place = place
 
 -- the outputs with each File and Directory where it was made, in the order of their names
-abbrev pub sources : (JobPlace → ℕ) → Name → Fields → Fields
-sources number work outputs = last_by_name (fields_moved (source_place number work) outputs)
+abbrev pub sources : (JobPlace → Name) → Fields → Fields
+sources folder outputs = last_by_name (fields_moved (source_place folder) outputs)
 
 -- How it is told
 

@@ -7,7 +7,7 @@ use Rattle.run_rules.specs.declared.outcome.Cause.{Cause}
 use Rattle.job_graph.specs.Unfold.{Fault, fault_at, too_many_jobs, or_else}
 use Rattle.job_graph.specs.Words.{Fields, JobPlace, is_same_place}
 use Rattle.run_rules.specs.Delivered.{sources}
-use Rattle.run_rules.specs.Events.{Event, job_failed, job_failed_for_now, host_failed, collect_failed, number_at, unfolding_at}
+use Rattle.run_rules.specs.Events.{Event, job_failed, job_failed_for_now, host_failed, collect_failed, folder_at, unfolding_at}
 use Rattle.run_rules.specs.Scene.{Scene}
 
 pub data End : Type 0 where
@@ -63,4 +63,4 @@ module _ (s : Scene) where
 
   -- a plan that puts the files of a result where they are wanted
   abbrev pub IsDelivery : List Event → Fields → StagePlan → Type 0
-  IsDelivery es outputs plan = IsPlan true s.options.outdir (sources (number_at es) s.options.work outputs) plan
+  IsDelivery es outputs plan = IsPlan true s.options.outdir (sources (folder_at s es) outputs) plan

@@ -13,6 +13,7 @@ use Rattle.collected_outputs.specs.Contents.{Heads}
 use Rattle.job_graph.specs.Jobs.{Job}
 use Rattle.job_graph.specs.Unfold.{Resolved, Unfolded, unfolded, nothing_known, is_at}
 use Rattle.job_graph.specs.Words.{Name, Fields, JobPlace, is_same_place}
+use Rattle.run_rules.specs.Folders.{out_folder}
 use Rattle.run_rules.specs.Scene.{Scene}
 
 pub data Event : Type 0 where
@@ -47,8 +48,9 @@ pub data Work : Type 0 where
   start_due : (place : JobPlace) (inputs : Fields) (launch : Launch) → Work
   -- the job's output folder is scanned, its child having ended well after so long
   scan_due : (place : JobPlace) (millis : ℕ) → Work
-  -- first bytes of what was found there are read: of the files of these names, where these were read
-  output_heads_due : (place : JobPlace) (found : List Found) (todo : List Name) (read : Heads) → Work
+  -- first bytes of what was found there are read, its child having ended well after so long: of the files of these names, where these were
+  -- read
+  output_heads_due : (place : JobPlace) (millis : ℕ) (found : List Found) (todo : List Name) (read : Heads) → Work
 
 -- what a transcript has brought about: what is due next, and what has happened
 pub record Progress : Type 0 where
@@ -159,6 +161,10 @@ module _ (s : Scene) where
   -- the known job at a place
   abbrev pub job_at : List Event → JobPlace → Option Job
   job_at es place = find (is_at place) (unfolding_at es).jobs
+
+  -- the folder that has the outputs of the job at a place
+  abbrev pub folder_at : List Event → JobPlace → Name
+  folder_at es place = out_folder s.options.work (number_at es place)
 
 -- before any pair
 abbrev pub at_first : Progress

@@ -35,16 +35,22 @@ entry_of pair = call_entry pair.request pair.answer
 abbrev pub entries_of : List Pair → List Entry
 entries_of t = filter_map entry_of t
 
-abbrev pub reported : Outcome → Result Report RunFault
-reported outcome = Ok (record { outcome = outcome; plans = []; notes = [] })
+-- what came of the process by an end, or why nothing did
+abbrev pub outcome_of : End → Result Outcome RunFault
+outcome_of (succeeds_with outputs delivered) = Ok (Outcome.Success (located delivered))
+outcome_of (fails_permanently place cause) = Ok (Outcome.PermanentFail place cause)
+outcome_of (fails_temporarily place) = Ok (Outcome.TemporaryFail place)
+outcome_of beyond_limits = Err RunFault.TooManyJobs
+outcome_of (ended_by_host fault running) = Err (RunFault.Host fault running)
+
+-- the report of what came of it
+abbrev pub reported : Result Outcome RunFault → Result Report RunFault
+reported (Ok outcome) = Ok (record { outcome = outcome; plans = []; notes = [] })
+reported (Err fault) = Err fault
 
 -- what is reported of an end
 abbrev pub report_of : End → Result Report RunFault
-report_of (succeeds_with outputs delivered) = reported (Outcome.Success (located delivered))
-report_of (fails_permanently place cause) = reported (Outcome.PermanentFail place cause)
-report_of (fails_temporarily place) = reported (Outcome.TemporaryFail place)
-report_of beyond_limits = Err RunFault.TooManyJobs
-report_of (ended_by_host fault running) = Err (RunFault.Host fault running)
+report_of end = reported (outcome_of end)
 
 -- what an outcome says of computing every job, where the input files were measured so: a success is its value, both without
 -- places, and where a job fails permanently there is none

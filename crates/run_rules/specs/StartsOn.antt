@@ -7,6 +7,7 @@ use Rattle.command_line.specs.declared.launch.Launch.{Launch}
 use Rattle.input_files.specs.Contents.{with_contents}
 use Rattle.input_files.specs.declared.fault.ContentsFault.{ContentsFault}
 use Rattle.run_rules.specs.declared.outcome.Cause.{Cause}
+use Rattle.run_rules.specs.declared.outcome.CollectCause.{CollectCause}
 use Rattle.run_rules.specs.declared.setting.Options.{Options}
 use Rattle.collected_outputs.specs.Contents.{Heads}
 use Rattle.job_graph.specs.Jobs.{Job}
@@ -25,4 +26,4 @@ pub data StartsOn (options : Options) (place : JobPlace) (job : Job) (number : �
       IsRefused job.tool inputs (runtime_of options number) fault →
       StartsOn options place job number staged read [] nothing_due (job_failed place (Cause.Build fault) ∷ [])
   has_no_contents : (fault : ContentsFault) → with_contents job.tool.inputs staged read ≡ Err fault →
-      StartsOn options place job number staged read [] nothing_due (job_failed place (Cause.Contents fault) ∷ [])
+      StartsOn options place job number staged read [] nothing_due (job_failed place (Cause.Collect (CollectCause.Input fault)) ∷ [])

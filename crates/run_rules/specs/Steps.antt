@@ -61,14 +61,14 @@ module _ (s : Scene) where
         class_of job.tool.exit_codes e.code ≡ ExitClass.Permanent →
         Steps f (call [] HostRequest.Collect (HostAnswer.Ended e)) nothing_due (child_exited e.ticket ∷ job_failed place (Cause.Exit e.code) ∷ [])
     -- its folder is listed: first bytes of what was found are read next, or its outputs are collected, or there are none
-    scans : (place : JobPlace) (folder : Name) (found : List Found) (job : Job) (started : Started) (wanted : List Name) (work : Work) (more : List Event) →
-        job_at s f.events place ≡ Some job → started_at f.events place ≡ Some started → AreHeadsWanted (listing_of found) started.inputs job.tool.outputs wanted →
-        CollectsOn place job started found [] wanted work more →
+    scans : (place : JobPlace) (folder : Name) (millis : ℕ) (found : List Found) (job : Job) (started : Started) (wanted : List Name) (work : Work)
+        (more : List Event) → f.work ≡ scan_due place millis → job_at s f.events place ≡ Some job → started_at f.events place ≡ Some started → AreHeadsWanted (listing_of found) started.inputs job.tool.outputs wanted →
+        CollectsOn place job started millis found [] wanted work more →
         Steps f (call place (HostRequest.Scan folder) (HostAnswer.Listed found)) work more
     -- and the same where one was read
-    reads_output : (place : JobPlace) (path : Name) (limit : ℕ) (bytes : List ℕ) (found : List Found) (name : Name) (todo : List Name) (read : Heads) (job : Job)
-        (started : Started) (work : Work) (more : List Event) → f.work ≡ output_heads_due place found (name ∷ todo) read → job_at s f.events place ≡ Some job →
-        started_at f.events place ≡ Some started → CollectsOn place job started found (with_value name bytes read) todo work more →
+    reads_output : (place : JobPlace) (path : Name) (limit : ℕ) (bytes : List ℕ) (millis : ℕ) (found : List Found) (name : Name) (todo : List Name) (read : Heads)
+        (job : Job) (started : Started) (work : Work) (more : List Event) → f.work ≡ output_heads_due place millis found (name ∷ todo) read → job_at s f.events place ≡ Some job →
+        started_at f.events place ≡ Some started → CollectsOn place job started millis found (with_value name bytes read) todo work more →
         Steps f (call place (HostRequest.Head path limit) (HostAnswer.FirstBytes bytes)) work more
     delivers : (place : JobPlace) (plan : StagePlan) →
         Steps f (call place (HostRequest.Deliver plan) HostAnswer.Done) nothing_due (result_delivered plan ∷ [])

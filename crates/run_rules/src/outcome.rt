@@ -5,19 +5,26 @@ use input_files::ContentsFault;
 use plain_data::Items;
 use proc_host::HostFault;
 
+/// What of a job's files is refused (G1 to G9).
+#[derive(Drop)]
+pub enum CollectCause {
+    /// The contents of an input.
+    Input(ContentsFault),
+    /// What its child left, which is no output object.
+    Output(OutputFault),
+}
+
 /// Why a job gives no outputs, and would give none if it were started again.
 #[derive(Drop)]
 pub enum Cause {
     /// An input of the process or of one of its steps has no value.
     Equation(job_graph::Cause),
-    /// The contents of an input are refused.
-    Contents(ContentsFault),
     /// There is no launch for it.
     Build(BuildFault),
     /// Its child ended with this code.
     Exit(Option<i32>),
-    /// What its child left is no output object.
-    Collect(OutputFault),
+    /// What it reads or leaves is refused.
+    Collect(CollectCause),
 }
 
 /// What came of a process (CWL v1.2, "Process status": success, permanentFailure, temporaryFailure).

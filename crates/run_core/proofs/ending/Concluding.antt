@@ -1,9 +1,9 @@
 -- What is reported of the machine's run where it has ended.
-use Rattle.std.proofs.Common.{◌≡◌, true, List, [], Result, Err, sym, subst, append-nil}
+use Rattle.std.proofs.Common.{◌≡◌, true, List, [], Result, Ok, Err, IfErr, sym, subst, append-nil}
 use Rattle.plan_checker.specs.declared.plan.Mark.{Mark}
 use Rattle.job_graph.specs.Apart.{ids_differ}
 use Rattle.job_graph.specs.Eval.{World}
-use Rattle.run_rules.specs.declared.outcome.Report.{Report}
+use Rattle.run_rules.specs.declared.outcome.Outcome.{Outcome}
 use Rattle.run_rules.specs.declared.outcome.RunFault.{RunFault}
 use Rattle.run_rules.specs.declared.request.Pair.{Pair}
 use Rattle.run_rules.specs.declared.request.Request.{Request}
@@ -12,7 +12,7 @@ use Rattle.run_rules.specs.End.{End}
 use Rattle.run_rules.specs.EndsSo.{EndsSo}
 use Rattle.run_rules.specs.Events.{Progress, measures}
 use Rattle.run_rules.specs.Honest.{IsHonest}
-use Rattle.run_rules.specs.Reports.{Concludes, IsRight, report_of, whole}
+use Rattle.run_rules.specs.Reports.{Concludes, IsRight, outcome_of, report_of, reported, whole}
 use Rattle.run_rules.specs.Reports as reports
 use Rattle.run_rules.specs.Run.{IsRun}
 use Rattle.run_rules.specs.Scene.{Scene, scene_of}
@@ -34,19 +34,19 @@ ReportsRightly =
 -- On the run
 
 -- the end that it has come to
-record HasEnded (s : Scene) (f : Progress) (marks : List Mark) (result : Result Report RunFault) : Type 0 where
+record HasEnded (s : Scene) (f : Progress) (marks : List Mark) (result : Result Outcome RunFault) : Type 0 where
   pub end : End
   pub so : EndsSo s f marks end
-  pub is : report_of end ≡ result
+  pub is : outcome_of end ≡ result
 
 module _ (s : Scene) (f : Progress) (marks : List Mark) (course : Course) where
-  ended_at : {turn : Turn} (result : Result Report RunFault) → IsAt s f marks course turn → turn.phase ≡ Phase.Ended result → HasEnded s f marks result
+  ended_at : {turn : Turn} (result : Result Outcome RunFault) → IsAt s f marks course turn → turn.phase ≡ Phase.Ended result → HasEnded s f marks result
   ended_at result (measuring found m rest path is left happened none nothing) phase = absurd cc
   ended_at result (staging n job plan r st) phase = absurd cc
   ended_at result (working n job call phase r w) is = absurd cc
   ended_at result (collecting r may) phase = absurd cc
   ended_at result (delivering plan r may going all) phase = absurd cc
-  ended_at result (ended end so) phase = record { end = end; so = so; is = let same : report_of end ≡ result = cc in same }
+  ended_at result (ended end so) phase = record { end = end; so = so; is = let same : outcome_of end ≡ result = cc in same }
 
   asks_no_more : {turn : Turn} → IsAt s f marks course turn → turn.asks ≡ Request.Finished → IsEnded turn.phase
   asks_no_more (measuring found m rest path is left happened none nothing) asks = absurd cc
@@ -56,19 +56,19 @@ module _ (s : Scene) (f : Progress) (marks : List Mark) (course : Course) where
   asks_no_more (delivering plan r may going all) asks = absurd cc
   asks_no_more (ended end so) asks = tt
 
-whole_run : (law : ReportsRightly) (setting : Setting) (t : List Pair) (course : Course) (turn : Turn) (result : Result Report RunFault) → ids_differ setting.process ≡ true →
-    Runs (scene_of setting) t course turn → turn.phase ≡ Phase.Ended result → Concludes setting t result
+whole_run : (law : ReportsRightly) (setting : Setting) (t : List Pair) (course : Course) (turn : Turn) (result : Result Outcome RunFault) → ids_differ setting.process ≡ true →
+    Runs (scene_of setting) t course turn → turn.phase ≡ Phase.Ended result → Concludes setting t (reported result)
 whole_run law setting t course turn result ids runs phase =
     let its : HasEnded (scene_of setting) runs.happened runs.marks result = ended_at (scene_of setting) runs.happened runs.marks course result runs.at phase in
     let run : IsRun setting t its.end = record { happened = runs.happened; marks = runs.marks; goes = runs.goes; ended = its.so } in
-    subst (Concludes setting t) its.is (whole its.end run (λ world honest. law setting t its.end run world ids honest))
+    subst (λ (result : Result Outcome RunFault). Concludes setting t (reported result)) its.is (whole its.end run (λ world honest. law setting t its.end run world ids honest))
 
 -- Off the run
 
-lost_at : (setting : Setting) (t : List Pair) (past : Past) {turn : Turn} (result : Result Report RunFault) → IsLostAt past turn → turn.phase ≡ Phase.Ended result →
-    Concludes setting t (Err RunFault.OutOfMemory) → Concludes setting t result
+lost_at : (setting : Setting) (t : List Pair) (past : Past) {turn : Turn} (result : Result Outcome RunFault) → IsLostAt past turn → turn.phase ≡ Phase.Ended result →
+    Concludes setting t (Err RunFault.OutOfMemory) → Concludes setting t (reported result)
 lost_at setting t past result (draining some) phase told = absurd cc
-lost_at setting t past result lost phase told = let same : Err RunFault.OutOfMemory ≡ result = cc in subst (Concludes setting t) same told
+lost_at setting t past result lost phase told = let same : Err RunFault.OutOfMemory ≡ result = cc in subst (λ (its : Result Outcome RunFault). Concludes setting t (reported its)) same told
 
 lost_asks_no_more : (past : Past) {turn : Turn} → IsLostAt past turn → turn.asks ≡ Request.Finished → IsEnded turn.phase
 lost_asks_no_more past (draining some) asks = absurd cc
@@ -81,15 +81,15 @@ module _ (core : Inside) where
   lost_so (on_run runs) = reports.lost core.pairs.items [] runs.happened runs.marks runs.goes tt (sym (append-nil core.pairs.items))
   lost_so (off_run out) = reports.lost out.front out.tail out.happened out.marks out.goes out.collects out.pairs
 
-  concludes_so : (law : ReportsRightly) (result : Result Report RunFault) → ids_differ core.given.process.now ≡ true → Goes core → core.turn.phase ≡ Phase.Ended result →
-      Concludes (setting_in core.given) core.pairs.items result
+  concludes_so : (law : ReportsRightly) (result : Result Outcome RunFault) → ids_differ core.given.process.now ≡ true → Goes core → core.turn.phase ≡ Phase.Ended result →
+      Concludes (setting_in core.given) core.pairs.items (reported result)
   concludes_so law result ids (on_run runs) phase = whole_run law (setting_in core.given) core.pairs.items core.course core.turn result ids runs phase
   concludes_so law result ids (off_run out) phase =
       lost_at (setting_in core.given) core.pairs.items (past_of core.course) result out.at phase (lost_so (off_run out))
 
   -- where it has ended
-  pub concludes : (law : ReportsRightly) (result : Result Report RunFault) → Stands core → core.turn.phase ≡ Phase.Ended result →
-      Concludes (setting_in core.given) core.pairs.items result
+  pub concludes : (law : ReportsRightly) (result : Result Outcome RunFault) → Stands core → core.turn.phase ≡ Phase.Ended result →
+      Concludes (setting_in core.given) core.pairs.items (reported result)
   concludes law result stands = concludes_so law result stands.ids stands.going
 
   ended_so : Goes core → core.turn.asks ≡ Request.Finished → IsEnded core.turn.phase
@@ -98,3 +98,15 @@ module _ (core : Inside) where
 
   pub has_ended : Stands core → core.turn.asks ≡ Request.Finished → IsEnded core.turn.phase
   has_ended stands = ended_so stands.going
+
+-- Of the report
+
+-- only out of memory is reported as that
+pub reports_lost : (result : Result Outcome RunFault) → reported result ≡ Err RunFault.OutOfMemory → result ≡ Err RunFault.OutOfMemory
+reports_lost (Ok outcome) is = absurd cc
+reports_lost (Err fault) is = is
+
+-- a fault is reported as it is
+pub reports_fault : (P : RunFault → Type 0) (result : Result Outcome RunFault) → IfErr result P → IfErr (reported result) P
+reports_fault P (Ok outcome) holds = tt
+reports_fault P (Err fault) holds = holds

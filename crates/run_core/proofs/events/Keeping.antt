@@ -1,5 +1,5 @@
 -- What the machine keeps goes on with each event: a lemma for each.
-use Rattle.std.specs.Prelude.{◌<◌, ◌≤◌, ◌||◌, Contains, nat_lt, option_map, slice_get, slice_index_or}
+use Rattle.std.specs.Prelude.{Ok, ◌<◌, ◌≤◌, ◌||◌, Contains, nat_lt, option_map, slice_get, slice_index_or}
 use Rattle.std.specs.List.{remove}
 use Rattle.std.proofs.Common.{◌≡◌, ◌∙◌, ◌⊎◌, inl, inr, ◌==◌, ◌+◌, ℕ, zero, suc, Bool, true, false, cond, List, [], ◌∷◌, ◌++◌, length, filter, Option, Some, None, refl, sym, ap, subst, arith, length-append}
 use Rattle.std.proofs.lemmas.Bool.{eqb-true, lt-ltb, le-ltb, or_parts}
@@ -12,12 +12,11 @@ use Rattle.job_graph.specs.Jobs.{Job}
 use Rattle.job_graph.specs.Unfold.{Unfolded, or_else}
 use Rattle.job_graph.specs.Words.{Fields, JobPlace, is_same_place}
 use Rattle.run_rules.specs.declared.outcome.Outcome.{Outcome}
-use Rattle.run_rules.specs.declared.outcome.Report.{Report}
 use Rattle.run_rules.specs.declared.outcome.RunFault.{RunFault}
 use Rattle.std.specs.Prelude.{Result}
 use Rattle.run_rules.specs.End.{End, fails_temporarily, gives_up, settled, settled_by, unfold_end}
 use Rattle.run_rules.specs.Events.{Event, child_exited, in_flight, job_failed_for_now, job_staged, job_started, job_succeeded, started_at, unfolding_at}
-use Rattle.run_rules.specs.Reports.{report_of, reported}
+use Rattle.run_rules.specs.Reports.{outcome_of}
 use Rattle.run_rules.specs.Scene.{Scene}
 use Rattle.run_rules.proofs.Places.{same_place}
 use Rattle.run_rules.proofs.events.Course.{Course as Books, Keeps as AreKept, keeps_at_first, keeps_succeeded}
@@ -62,21 +61,21 @@ never_none None x none = cc
 never_none (Some y) x none = cc
 
 abbrev Outcomes : Type 0
-Outcomes = Result Report RunFault
+Outcomes = Result Outcome RunFault
 
-settles_by : (before after : Option End) (end : End) (kept : Option Outcomes) → kept ≡ option_map report_of before → (before ≡ None → after ≡ Some end) →
-    ((old : End) → before ≡ Some old → after ≡ Some old) → or_else kept (Some (report_of end)) ≡ option_map report_of after
+settles_by : (before after : Option End) (end : End) (kept : Option Outcomes) → kept ≡ option_map outcome_of before → (before ≡ None → after ≡ Some end) →
+    ((old : End) → before ≡ Some old → after ≡ Some old) → or_else kept (Some (outcome_of end)) ≡ option_map outcome_of after
 settles_by None after end kept is first stays =
-    ap (λ (o : Option Outcomes). or_else o (Some (report_of end))) is ∙ sym (ap (option_map report_of) (first refl))
+    ap (λ (o : Option Outcomes). or_else o (Some (outcome_of end))) is ∙ sym (ap (option_map outcome_of) (first refl))
 settles_by (Some old) after end kept is first stays =
-    ap (λ (o : Option Outcomes). or_else o (Some (report_of end))) is ∙ sym (ap (option_map report_of) (stays old refl))
+    ap (λ (o : Option Outcomes). or_else o (Some (outcome_of end))) is ∙ sym (ap (option_map outcome_of) (stays old refl))
 
-none_before : (before : Option End) (kept : Option Outcomes) → kept ≡ option_map report_of before → before ≡ None → kept ≡ None
-none_before before kept is none = is ∙ ap (option_map report_of) none
+none_before : (before : Option End) (kept : Option Outcomes) → kept ≡ option_map outcome_of before → before ≡ None → kept ≡ None
+none_before before kept is none = is ∙ ap (option_map outcome_of) none
 
-pub none_settled : (before : Option End) (kept : Option Outcomes) → kept ≡ option_map report_of before → kept ≡ None → before ≡ None
+pub none_settled : (before : Option End) (kept : Option Outcomes) → kept ≡ option_map outcome_of before → kept ≡ None → before ≡ None
 none_settled None kept is none = refl
-none_settled (Some end) kept is none = let never : None ≡ Some (report_of end) = sym none ∙ is in absurd cc
+none_settled (Some end) kept is none = let never : None ≡ Some (outcome_of end) = sym none ∙ is in absurd cc
 
 -- with nothing to work on no slot more is taken
 idle_slots : (at_work : Option ℕ) (tickets most : ℕ) → tickets + worked at_work ≤ most → tickets + 0 ≤ most
@@ -111,7 +110,7 @@ module _ (s : Scene) (es : List Event) (jobs : List Job) where
     flights = flights_still es (es ++ job_staged job.place (past.folders + 1) ∷ []) jobs jobs past.flights
         (λ place. started_after es (job_staged job.place (past.folders + 1) ∷ []) place) (front_itself jobs) k.flights;
     front = front_still (job_staged job.place (past.folders + 1)) refl k.front;
-    end = k.end ∙ ap (option_map report_of) (sym (settled_quietly s es (job_staged job.place (past.folders + 1) ∷ []) refl));
+    end = k.end ∙ ap (option_map outcome_of) (sym (settled_quietly s es (job_staged job.place (past.folders + 1) ∷ []) refl));
   }
 
   -- its child is started
@@ -162,7 +161,7 @@ module _ (s : Scene) (es : List Event) (jobs : List Job) where
     flights = λ flight there. started_flights past n job inputs launch kept ticket it same k flight
         (Contains-append_cases past.flights (record { job = n; kept = kept } ∷ []) flight there);
     front = front_still (job_started job.place inputs launch ticket) refl k.front;
-    end = k.end ∙ ap (option_map report_of) (sym (settled_quietly s es (job_started job.place inputs launch ticket ∷ []) refl));
+    end = k.end ∙ ap (option_map outcome_of) (sym (settled_quietly s es (job_started job.place inputs launch ticket ∷ []) refl));
   }
 
   -- a child has ended
@@ -206,7 +205,7 @@ module _ (s : Scene) (es : List Event) (jobs : List Job) where
               flights_still es (es ++ child_exited ticket ∷ []) jobs jobs past.flights (λ place. started_after es (child_exited ticket ∷ []) place) (front_itself jobs) k.flights
               other (contains_before past.flights index other there);
           front = front_still (child_exited ticket) refl k.front;
-          end = k.end ∙ ap (option_map report_of) (sym (settled_quietly s es (child_exited ticket ∷ []) refl));
+          end = k.end ∙ ap (option_map outcome_of) (sym (settled_quietly s es (child_exited ticket ∷ []) refl));
         };
       }
 
@@ -247,7 +246,7 @@ module _ (s : Scene) (es : List Event) (jobs : List Job) where
         flights = flights_still es (es ++ job_failed_for_now job.place ∷ []) jobs jobs past.flights
             (λ place. started_after es (job_failed_for_now job.place ∷ []) place) (front_itself jobs) k.flights;
         front = front_still (job_failed_for_now job.place) refl k.front;
-        end = k.end ∙ ap (option_map report_of) (sym (still_by (settled s es) job.place state.gave_up refl (counted_so past n job state it is k) below));
+        end = k.end ∙ ap (option_map outcome_of) (sym (still_by (settled s es) job.place state.gave_up refl (counted_so past n job state it is k) below));
       }
 
   -- it was started again often enough
@@ -260,14 +259,14 @@ module _ (s : Scene) (es : List Event) (jobs : List Job) where
 
   pub too_often_keeps : (past : Past) (n : ℕ) (job : Job) (state : JobState) → IsJob jobs n job → slice_get past.jobs n ≡ Some state → s.options.retries ≤ state.gave_up →
       Keeps s es jobs past (Some n) →
-      Keeps s (es ++ job_failed_for_now job.place ∷ []) jobs (with_end (reported (Outcome.TemporaryFail job.place)) past) None
+      Keeps s (es ++ job_failed_for_now job.place ∷ []) jobs (with_end (Ok (Outcome.TemporaryFail job.place)) past) None
   too_often_keeps past n job state it is often k = record {
     gave_up = once_more n k.gave_up;
     few = k.few;
-    books = books_after (job_failed_for_now job.place) jobs (course_of (with_end (reported (Outcome.TemporaryFail job.place)) past) None (once_more n k.gave_up))
-        (keeps_end jobs (reads_after (readings es) (job_failed_for_now job.place)) past (Some n) (once_more n k.gave_up) (reported (Outcome.TemporaryFail job.place))
+    books = books_after (job_failed_for_now job.place) jobs (course_of (with_end (Ok (Outcome.TemporaryFail job.place)) past) None (once_more n k.gave_up))
+        (keeps_end jobs (reads_after (readings es) (job_failed_for_now job.place)) past (Some n) (once_more n k.gave_up) (Ok (Outcome.TemporaryFail job.place))
         (keeps_failing jobs (readings es) past k.gave_up n job it k.books));
-    counts = λ still m. absurd (never_none past.end (reported (Outcome.TemporaryFail job.place)) still);
+    counts = λ still m. absurd (never_none past.end (Ok (Outcome.TemporaryFail job.place)) still);
     retries = k.retries;
     slots = idle_slots (Some n) (length past.tickets) s.options.slots k.slots;
     flights = flights_still es (es ++ job_failed_for_now job.place ∷ []) jobs jobs past.flights
@@ -280,14 +279,14 @@ module _ (s : Scene) (es : List Event) (jobs : List Job) where
   -- a failure settles the end
   pub failed_keeps : (past : Past) (at_work : Option ℕ) (e : Event) (end : End) → is_aside e ≡ true → teaches e ≡ false →
       ((place : JobPlace) → started_at (es ++ e ∷ []) place ≡ started_at es place) → settled_by s es e ≡ Some end → Keeps s es jobs past at_work →
-      Keeps s (es ++ e ∷ []) jobs (with_end (report_of end) past) None
+      Keeps s (es ++ e ∷ []) jobs (with_end (outcome_of end) past) None
   failed_keeps past at_work e end aside none same is k = record {
     gave_up = k.gave_up;
     few = k.few;
-    books = books_after e jobs (course_of (with_end (report_of end) past) None k.gave_up)
-        (subst (λ (r : Readings). AreKept jobs r (course_of (with_end (report_of end) past) None k.gave_up)) (sym (nothing_read (readings es) e aside))
-        (keeps_end jobs (readings es) past at_work k.gave_up (report_of end) k.books));
-    counts = λ still m. absurd (never_none past.end (report_of end) still);
+    books = books_after e jobs (course_of (with_end (outcome_of end) past) None k.gave_up)
+        (subst (λ (r : Readings). AreKept jobs r (course_of (with_end (outcome_of end) past) None k.gave_up)) (sym (nothing_read (readings es) e aside))
+        (keeps_end jobs (readings es) past at_work k.gave_up (outcome_of end) k.books));
+    counts = λ still m. absurd (never_none past.end (outcome_of end) still);
     retries = k.retries;
     slots = idle_slots at_work (length past.tickets) s.options.slots k.slots;
     flights = flights_still es (es ++ e ∷ []) jobs jobs past.flights same (front_itself jobs) k.flights;
@@ -311,7 +310,7 @@ module _ (s : Scene) (es : List Event) (jobs : List Job) where
     slots = k.slots;
     flights = flights_still es (es ++ e ∷ []) jobs jobs past.flights same (front_itself jobs) k.flights;
     front = front_still e none k.front;
-    end = k.end ∙ ap (option_map report_of) (sym still);
+    end = k.end ∙ ap (option_map outcome_of) (sym still);
   }
 
   -- a job's outputs were collected
@@ -337,18 +336,18 @@ module _ (s : Scene) (es : List Event) (jobs : List Job) where
       slots = idle_slots (Some n) (length past.tickets) s.options.slots k.slots;
       flights = success_flights;
       front = front;
-      end = k.end ∙ ap (option_map report_of) (sym still);
+      end = k.end ∙ ap (option_map outcome_of) (sym still);
     }
 
     -- and an equation fails by them
     pub success_fails_keeps : (end : End) → settled s es ≡ None → settled s (es ++ job_succeeded job.place outputs ∷ []) ≡ Some end →
-        Keeps s (es ++ job_succeeded job.place outputs ∷ []) more (with_end (report_of end) past) None
+        Keeps s (es ++ job_succeeded job.place outputs ∷ []) more (with_end (outcome_of end) past) None
     success_fails_keeps end none is = record {
       gave_up = k.gave_up;
       few = success_few;
-      books = books_after (job_succeeded job.place outputs) more (course_of (with_end (report_of end) past) None k.gave_up)
-          (keeps_end more (reads_after (readings es) (job_succeeded job.place outputs)) past None k.gave_up (report_of end) success_kept);
-      counts = λ still m. absurd (never_none past.end (report_of end) still);
+      books = books_after (job_succeeded job.place outputs) more (course_of (with_end (outcome_of end) past) None k.gave_up)
+          (keeps_end more (reads_after (readings es) (job_succeeded job.place outputs)) past None k.gave_up (outcome_of end) success_kept);
+      counts = λ still m. absurd (never_none past.end (outcome_of end) still);
       retries = k.retries;
       slots = idle_slots (Some n) (length past.tickets) s.options.slots k.slots;
       flights = success_flights;
@@ -368,22 +367,22 @@ module _ (s : Scene) (es : List Event) (jobs : List Job) where
     slots = omega arith;
     flights = λ flight there. absurd (omega (arith, there.1));
     front = leads;
-    end = sym (ap (option_map report_of) none);
+    end = sym (ap (option_map outcome_of) none);
   }
 
   pub first_fails_keeps : (end : End) → readings es ≡ readings [] → AreApart jobs → IsFront jobs (unfolding_at s es).jobs → settled s es ≡ Some end →
-      Keeps s es jobs (with_end (report_of end) nothing_past) None
+      Keeps s es jobs (with_end (outcome_of end) nothing_past) None
   first_fails_keeps end nothing apart leads is = record {
     gave_up = λ m. 0;
     few = omega arith;
-    books = keeps_end jobs (readings es) nothing_past None (λ m. 0) (report_of end)
+    books = keeps_end jobs (readings es) nothing_past None (λ m. 0) (outcome_of end)
         (subst (λ (r : Readings). AreKept jobs r (course_of nothing_past None (λ m. 0))) (sym nothing) (keeps_at_first jobs apart));
-    counts = λ still m. absurd (never_none None (report_of end) still);
+    counts = λ still m. absurd (never_none None (outcome_of end) still);
     retries = λ m. omega arith;
     slots = omega arith;
     flights = λ flight there. absurd (omega (arith, there.1));
     front = leads;
-    end = sym (ap (option_map report_of) is);
+    end = sym (ap (option_map outcome_of) is);
   }
 
 -- known jobs that are the first of those of the rules still are

@@ -8,7 +8,7 @@ use Rattle.std.proofs.lemmas.List.{map-append}
 use Rattle.std.proofs.lemmas.Option.{get_or_from_slice_get, slice_get-map, slice_get_within}
 use Rattle.command_line.specs.declared.launch.Launch.{Launch}
 use Rattle.proc_host.specs.Tickets.{IsFresh, without}
-use Rattle.run_rules.specs.declared.outcome.Report.{Report}
+use Rattle.run_rules.specs.declared.outcome.Outcome.{Outcome}
 use Rattle.run_rules.specs.declared.outcome.RunFault.{RunFault}
 use Rattle.job_graph.specs.Words.{Fields}
 use Rattle.job_graph.specs.Jobs.{Job}
@@ -201,11 +201,11 @@ module _ (jobs : List Job) (r : Readings) (past : Past) (g : ℕ → ℕ) (n : �
 
 -- The end is settled
 
-some_end : (first : Option (Result Report RunFault)) (end : Result Report RunFault) → true ≡ is_some (or_else first (Some end))
+some_end : (first : Option (Result Outcome RunFault)) (end : Result Outcome RunFault) → true ≡ is_some (or_else first (Some end))
 some_end None end = refl
 some_end (Some first) end = refl
 
-pub keeps_end : (jobs : List Job) (r : Readings) (past : Past) (at_work : Option ℕ) (g : ℕ → ℕ) (end : Result Report RunFault) → AreKept jobs r (course_of past at_work g) →
+pub keeps_end : (jobs : List Job) (r : Readings) (past : Past) (at_work : Option ℕ) (g : ℕ → ℕ) (end : Result Outcome RunFault) → AreKept jobs r (course_of past at_work g) →
     AreKept jobs r (course_of (with_end end past) None g)
 keeps_end jobs r past at_work g end k =
     subst (λ over. AreKept jobs r (record (course_of past None g) { over = over })) (some_end past.end end) (gives_over jobs r (course_of past at_work g) k)

@@ -1,5 +1,5 @@
 -- What a course reflects goes on with each event: a lemma for each.
-use Rattle.std.specs.Prelude.{◌<◌, ◌≤◌, ◌||◌, Contains, IsSome, is_some, Result, Err, option_map}
+use Rattle.std.specs.Prelude.{Ok, ◌<◌, ◌≤◌, ◌||◌, Contains, IsSome, is_some, Result, Err, option_map}
 use Rattle.std.specs.List.{list_any}
 use Rattle.std.proofs.Common.{◌≡◌, ◌∙◌, ◌+◌, ℕ, Bool, true, false, List, [], ◌∷◌, ◌++◌, length, Option, Some, None, refl, sym, ap, subst}
 use Rattle.std.proofs.lemmas.Bool.{or_from}
@@ -15,11 +15,10 @@ use Rattle.job_graph.specs.Unfold.{Fault, Resolved, Unfolded, outputs_at, unfold
 use Rattle.job_graph.specs.Words.{Fields, JobPlace}
 use Rattle.run_rules.specs.declared.outcome.Cause.{Cause}
 use Rattle.run_rules.specs.declared.outcome.Outcome.{Outcome}
-use Rattle.run_rules.specs.declared.outcome.Report.{Report}
 use Rattle.run_rules.specs.declared.outcome.RunFault.{RunFault}
 use Rattle.run_rules.specs.End.{End, beyond_limits, ended_by_host, fails_permanently, fault_end, is_lost_collect, settled, settled_by}
 use Rattle.run_rules.specs.Events.{Event, child_exited, delivered_at, delivered_if, in_flight, job_at, job_failed, job_failed_for_now, job_staged, job_started, job_succeeded, host_failed, measures, number_at, resolved, started_at, unfolding_at}
-use Rattle.run_rules.specs.Reports.{report_of, reported}
+use Rattle.run_rules.specs.Reports.{outcome_of}
 use Rattle.run_rules.specs.Scene.{Scene}
 use Rattle.run_rules.proofs.events.Known.{IsFront, found_still, front_itself, is_measure, measured_still, measures_stay, resolved_stay, teaches, unfolding_learns}
 use Rattle.run_rules.proofs.events.Places.{AreApart, IsJob, found_at}
@@ -95,7 +94,7 @@ not_open None some none = let never : false ≡ true = some in cc
 not_open (Some x) some none = let never : Some x ≡ None = none in cc
 
 -- what was settled stays
-settled_late : (kept : Option (Result Report RunFault)) (before after : Option End) → kept ≡ option_map report_of before → IsSome kept →
+settled_late : (kept : Option (Result Outcome RunFault)) (before after : Option End) → kept ≡ option_map outcome_of before → IsSome kept →
     ((old : End) → before ≡ Some old → after ≡ Some old) → after ≡ before
 settled_late kept None after is some stays = absurd (not_open kept some is)
 settled_late kept (Some old) after is some stays = stays old refl
@@ -109,7 +108,7 @@ pub fault_ends : (fault : UnfoldFault) → fault_end (Some (fault_of fault)) ≡
 fault_ends UnfoldFault.TooManyJobs = refl
 fault_ends (UnfoldFault.Fault place cause) = refl
 
-pub end_reported : (fault : UnfoldFault) → report_of (end_of fault) ≡ end_by fault
+pub end_reported : (fault : UnfoldFault) → outcome_of (end_of fault) ≡ end_by fault
 end_reported UnfoldFault.TooManyJobs = refl
 end_reported (UnfoldFault.Fault place cause) = refl
 
@@ -207,9 +206,9 @@ module _ (s : Scene) where
   -- a failure settles the end
   failure_reflects : (es : List Event) (old new : Course) (at_work : Option ℕ) (e : Event) (end : End) → is_plain e ≡ true → is_aside e ≡ true →
       ((place : JobPlace) → started_at (es ++ e ∷ []) place ≡ started_at es place) → settled_by s es e ≡ Some end →
-      past_of new ≡ with_end (report_of end) (past_of old) → new.known ≡ old.known → Reflects s es old at_work → Reflects s (es ++ e ∷ []) new None
+      past_of new ≡ with_end (outcome_of end) (past_of old) → new.known ≡ old.known → Reflects s es old at_work → Reflects s (es ++ e ∷ []) new None
   failure_reflects es old new at_work e end plain aside same is past known r =
-      reflects_on es e old new (with_end (report_of end) (past_of old)) at_work None plain past known (λ still. absurd (never_none old.end (report_of end) still)) r
+      reflects_on es e old new (with_end (outcome_of end) (past_of old)) at_work None plain past known (λ still. absurd (never_none old.end (outcome_of end) still)) r
       (failed_keeps s es (known_in old.known) (past_of old) at_work e end aside (plain_teaches_nothing e plain) same is r.keeps)
 
   pub job_failed_reflects : (es : List Event) (old new : Course) (at_work : Option ℕ) (place : JobPlace) (cause : Cause) →
@@ -231,9 +230,9 @@ module _ (s : Scene) where
       (gave_up_keeps s es (known_in old.known) (past_of old) n job state it is below r.keeps)
   gave_up_reflects es old new n job past it (too_often state is often) same known r =
       let place : place_at (known_in old.known) n ≡ job.place = place_there (known_in old.known) n job it in
-      reflects_on es (job_failed_for_now job.place) old new (with_end (reported (Outcome.TemporaryFail job.place)) (past_of old)) (Some n) None refl
-      (same ∙ ap (λ (p : JobPlace). with_end (reported (Outcome.TemporaryFail p)) (past_of old)) place) known
-      (λ still. absurd (never_none old.end (reported (Outcome.TemporaryFail job.place)) still)) r
+      reflects_on es (job_failed_for_now job.place) old new (with_end (Ok (Outcome.TemporaryFail job.place)) (past_of old)) (Some n) None refl
+      (same ∙ ap (λ (p : JobPlace). with_end (Ok (Outcome.TemporaryFail p)) (past_of old)) place) known
+      (λ still. absurd (never_none old.end (Ok (Outcome.TemporaryFail job.place)) still)) r
       (too_often_keeps s es (known_in old.known) (past_of old) n job state it is often r.keeps)
 
   -- outputs that come once the end is settled
@@ -301,8 +300,8 @@ module _ (s : Scene) where
     learns_fault : (fault : UnfoldFault) (new : Course) → (unfolded walks (resolved es ++ one ∷ [])).fault ≡ Some (fault_of fault) → known_in new.known ≡ known_in old.known →
         past_of new ≡ with_end (end_by fault) (past_of old) → Reflects s (es ++ e ∷ []) new None
     learns_fault fault new is known past = record {
-      keeps = moved (es ++ e ∷ []) (known_in old.known) (with_end (report_of (end_of fault)) (past_of old)) None new known
-          (past ∙ ap (λ (end : Result Report RunFault). with_end end (past_of old)) (sym (end_reported fault)))
+      keeps = moved (es ++ e ∷ []) (known_in old.known) (with_end (outcome_of (end_of fault)) (past_of old)) None new known
+          (past ∙ ap (λ (end : Result Outcome RunFault). with_end end (past_of old)) (sym (end_reported fault)))
           (success_fails_keeps s es (known_in old.known) (past_of old) n job outputs it r.keeps (known_in old.known) (front_itself (known_in old.known)) r.keeps.books.apart leads
           (end_of fault) unsettled (settled_then (Some (fault_of fault)) is ∙ fault_ends fault));
       measured = λ still. absurd (never_none old.end (end_by fault) (ap (λ (p : Past). p.end) (sym past) ∙ still));

@@ -58,11 +58,11 @@ input_asks options course place n folder staged (path ∷ todo) read call phase 
     let same : HostRequest.Head path MOST_CONTENTS ≡ call = cc in
     subst (λ (c : HostRequest). AsksOf course (Request.Host place c) (Phase.Working n phase)) same (fits path MOST_CONTENTS)
 
-output_asks : (options : Options) (course : Course) (place : JobPlace) (n folder : ℕ) (found : List Found) (todo : List Name) (read : Heads) (call : HostRequest) (phase : JobPhase) →
-    call_for options folder (output_heads_due [] found todo read) ≡ Some call → ((path : Name) (limit : ℕ) → AsksOf course (Request.Host place (HostRequest.Head path limit)) (Phase.Working n phase)) →
+output_asks : (options : Options) (course : Course) (place : JobPlace) (n folder millis : ℕ) (found : List Found) (todo : List Name) (read : Heads) (call : HostRequest) (phase : JobPhase) →
+    call_for options folder (output_heads_due [] millis found todo read) ≡ Some call → ((path : Name) (limit : ℕ) → AsksOf course (Request.Host place (HostRequest.Head path limit)) (Phase.Working n phase)) →
     AsksOf course (Request.Host place call) (Phase.Working n phase)
-output_asks options course place n folder found [] read call phase due fits = let never : None ≡ Some call = due in absurd cc
-output_asks options course place n folder found (name ∷ todo) read call phase due fits =
+output_asks options course place n folder millis found [] read call phase due fits = let never : None ≡ Some call = due in absurd cc
+output_asks options course place n folder millis found (name ∷ todo) read call phase due fits =
     let same : HostRequest.Head (path_in (out_folder options.work folder) name) (limit_of name) ≡ call = cc in
     subst (λ (c : HostRequest). AsksOf course (Request.Host place c) (Phase.Working n phase)) same (fits (path_in (out_folder options.work folder) name) (limit_of name))
 
@@ -80,7 +80,7 @@ work_asks options course place n folder call (JobPhase.Scanning kept millis) due
     let same : HostRequest.Scan (out_folder options.work folder) ≡ call = cc in
     subst (λ (c : HostRequest). AsksOf course (Request.Host place c) (Phase.Working n (JobPhase.Scanning kept millis))) same within
 work_asks options course place n folder call (JobPhase.Reading kept reading) due fits within =
-    output_asks options course place n folder reading.found (reverse reading.left) reading.heads call (JobPhase.Reading kept reading) due (λ path limit. within)
+    output_asks options course place n folder reading.millis reading.found (reverse reading.left) reading.heads call (JobPhase.Reading kept reading) due (λ path limit. within)
 
 -- a job in flight was touched
 flies_below : (jobs : List Job) (r : Readings) (past : Past) (at_work : Option ℕ) (g : ℕ → ℕ) → AreKept jobs r (course_of past at_work g) → (n : ℕ) → Flies jobs r.flying n →

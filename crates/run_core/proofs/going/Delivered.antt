@@ -14,6 +14,7 @@ use Rattle.run_rules.specs.Allowed.{IsBusy, IsFree, MayDeliver}
 use Rattle.run_rules.specs.Delivered.{located, sources}
 use Rattle.run_rules.specs.End.{succeeds_with}
 use Rattle.run_rules.specs.EndsSo.{copied, succeeds}
+use Rattle.run_rules.specs.Folders.{out_folder}
 use Rattle.run_rules.specs.Events.{Event, Progress, nothing_due, number_at, result_delivered}
 use Rattle.run_rules.specs.Plans.{InForce}
 use Rattle.run_rules.specs.Run.{Goes}
@@ -85,7 +86,7 @@ module _ (s : Scene) (t : List Pair) (f : Progress) (marks : List Mark) (goes : 
         (succeeds may.outputs plan.value busy_then (in_flight_after f.events (e ∷ []) ∙ may.landed)
         (ap (λ (u : Unfolded). u.result) (unfolding_stays s f.events (e ∷ []) refl) ∙ may.result)
         (copied plan (delivered_after f.events (e ∷ []))
-        (subst (λ (number : JobPlace → ℕ). IsPlan true s.options.outdir (sources number s.options.work may.outputs) plan) same_numbers may.delivery)));
+        (subst (λ (number : JobPlace → ℕ). IsPlan true s.options.outdir (sources (λ place. out_folder s.options.work (number place)) may.outputs) plan) same_numbers may.delivery)));
   }
 
   pub delivery_goes_on : (turn : Turn) (new : Course) → (turn ≡ succeeds_so (located plan.value)) × (new ≡ old) →

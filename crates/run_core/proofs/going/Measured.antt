@@ -23,14 +23,14 @@ use Rattle.job_graph.specs.Jobs.{Job, Walker}
 use Rattle.job_graph.specs.Paths.{input_paths}
 use Rattle.job_graph.specs.Unfold.{Fault, Resolved, Unfolded, nothing_known, or_else, unfolded}
 use Rattle.job_graph.specs.Words.{Name, JobPlace, is_same_place}
-use Rattle.run_rules.specs.declared.outcome.Report.{Report}
+use Rattle.run_rules.specs.declared.outcome.Outcome.{Outcome}
 use Rattle.run_rules.specs.declared.outcome.RunFault.{RunFault}
 use Rattle.run_rules.specs.declared.request.Pair.{Pair}
 use Rattle.run_rules.specs.Allowed.{MayMeasure}
 use Rattle.run_rules.specs.End.{End, ended_by_host, fault_end, is_lost_collect, settled, settled_from, unfold_end}
 use Rattle.run_rules.specs.Events.{Event, Progress, are_measured, delivered_if, file_measured, host_failed, is_measured, measures, measures_after, nothing_due, resolved, unfolding_at}
 use Rattle.run_rules.specs.Plans.{InForce}
-use Rattle.run_rules.specs.Reports.{report_of}
+use Rattle.run_rules.specs.Reports.{outcome_of}
 use Rattle.run_rules.specs.Run.{Goes}
 use Rattle.run_rules.specs.Scene.{Scene}
 use Rattle.run_rules.specs.Steps.{call, measures_file, progress_with}
@@ -195,11 +195,11 @@ module _ (s : Scene) (once : Once s.paths) where
       first_fault : (fault : UnfoldFault) (new : Course) → (unfolded walks []).fault ≡ Some (fault_of fault) → known_in new.known ≡ known_in old.known →
           past_of new ≡ with_end (end_by fault) (past_of old) → Reflects s (measured_by found) new None
       first_fault fault new is known past =
-          let after : past_of new ≡ with_end (report_of (end_of fault)) nothing_past =
-          past ∙ ap (λ (p : Past). with_end (end_by fault) p) nothing ∙ ap (λ (end : Result Report RunFault). with_end end nothing_past) (sym (end_reported fault)) in
-          let is_open : new.end ≡ None → ⊥ = λ still. never_none None (report_of (end_of fault)) (ap (λ (p : Past). p.end) (sym after) ∙ still) in
+          let after : past_of new ≡ with_end (outcome_of (end_of fault)) nothing_past =
+          past ∙ ap (λ (p : Past). with_end (end_by fault) p) nothing ∙ ap (λ (end : Result Outcome RunFault). with_end end nothing_past) (sym (end_reported fault)) in
+          let is_open : new.end ≡ None → ⊥ = λ still. never_none None (outcome_of (end_of fault)) (ap (λ (p : Past). p.end) (sym after) ∙ still) in
           record {
-            keeps = moved s (measured_by found) [] (with_end (report_of (end_of fault)) nothing_past) None new (known ∙ ap known_in none) after
+            keeps = moved s (measured_by found) [] (with_end (outcome_of (end_of fault)) nothing_past) None new (known ∙ ap known_in none) after
                 (first_fails_keeps s (measured_by found) [] (end_of fault) (nothing_happened found) (none_alike is_same_place)
                 (record { rest = (unfolding_at s (measured_by found)).jobs; is = refl }) (settled_then (Some (fault_of fault)) is ∙ fault_ends fault));
             measured = λ still. absurd (is_open still);
@@ -290,7 +290,7 @@ module _ (s : Scene) (given : Given) (its : IsOf s given) (laws : Laws s) (picks
     measure_fault_reflects old new nothing none past known =
         let es : List Event = measured_by found in
         let after : past_of new ≡ with_end (Err (RunFault.Host HostFault.Measure [])) nothing_past = past ∙ ap (λ (p : Past). with_end (Err (RunFault.Host HostFault.Measure [])) p) nothing in
-        let is_open : new.end ≡ None → ⊥ = λ still. never_none None (report_of (ended_by_host HostFault.Measure [])) (ap (λ (p : Past). p.end) (sym after) ∙ still) in
+        let is_open : new.end ≡ None → ⊥ = λ still. never_none None (outcome_of (ended_by_host HostFault.Measure [])) (ap (λ (p : Past). p.end) (sym after) ∙ still) in
         record {
           keeps = moved s (measured_by found ++ host_failed [] HostFault.Measure ∷ []) [] (with_end (Err (RunFault.Host HostFault.Measure [])) nothing_past) None new
               (ap known_in (known ∙ none)) after

@@ -1,5 +1,5 @@
 -- Where nothing is due, what the machine turns to is what its run may ask then, or how it ends.
-use Rattle.std.specs.Prelude.{◌<◌, ◌≤◌, ◌≢◌, ◌||◌, Contains, IsSome, is_some, Result, option_map, unwrap_or}
+use Rattle.std.specs.Prelude.{Ok, ◌<◌, ◌≤◌, ◌≢◌, ◌||◌, Contains, IsSome, is_some, Result, option_map, unwrap_or}
 use Rattle.std.proofs.Common.{◌≡◌, ◌∙◌, ◌+◌, ℕ, Bool, true, false, cond, List, [], ◌∷◌, length, find, Option, Some, None, refl, sym, ap, subst, arith}
 use Rattle.plan_checker.specs.declared.plan.Mark.{Mark}
 use Rattle.staging.specs.Plan.{IsPlan}
@@ -9,7 +9,6 @@ use Rattle.job_graph.specs.Made.{fields_moved, value_moved}
 use Rattle.job_graph.specs.Unfold.{Resolved, Unfolded, outputs_at, unfolded}
 use Rattle.job_graph.specs.Words.{Fields, JobPlace, is_same_place, last_by_name}
 use Rattle.run_rules.specs.declared.outcome.Outcome.{Outcome}
-use Rattle.run_rules.specs.declared.outcome.Report.{Report}
 use Rattle.run_rules.specs.declared.outcome.RunFault.{RunFault}
 use Rattle.run_rules.specs.declared.request.Pair.{Pair}
 use Rattle.run_rules.specs.declared.setting.Options.{Options}
@@ -17,10 +16,10 @@ use Rattle.run_rules.specs.Allowed.{IsBusy, IsFree}
 use Rattle.run_rules.specs.Delivered.{any_file, located, source_place, sources}
 use Rattle.run_rules.specs.End.{End, settled, succeeds_with}
 use Rattle.run_rules.specs.EndsSo.{fails, no_file, succeeds}
-use Rattle.run_rules.specs.Events.{Event, Progress, in_flight, is_at_hand, job_succeeded, measures, nothing_due, number_at, resolved, unfolding_at}
-use Rattle.run_rules.specs.Folders.{in_folder}
+use Rattle.run_rules.specs.Events.{Event, Progress, in_flight, is_at_hand, job_succeeded, folder_at, measures, nothing_due, number_at, resolved, unfolding_at}
+use Rattle.run_rules.specs.Folders.{in_folder, out_folder}
 use Rattle.run_rules.specs.Plans.{InForce}
-use Rattle.run_rules.specs.Reports.{report_of, reported}
+use Rattle.run_rules.specs.Reports.{outcome_of}
 use Rattle.run_rules.specs.Run.{Goes}
 use Rattle.run_rules.specs.Scene.{Scene}
 use Rattle.run_rules.proofs.PlacesErased.{map_by_name}
@@ -83,20 +82,20 @@ known_outputs (Some kept) walks learned outputs known is = ap (λ (o : Option Fi
 
 -- Ends
 
-record IsSettled (s : Scene) (es : List Event) (told : Result Report RunFault) : Type 0 where
+record IsSettled (s : Scene) (es : List Event) (told : Result Outcome RunFault) : Type 0 where
   pub end : End
   pub is : settled s es ≡ Some end
-  pub tells : report_of end ≡ told
+  pub tells : outcome_of end ≡ told
 
-settled_so : (s : Scene) (es : List Event) (o : Option End) (told : Result Report RunFault) → settled s es ≡ o → option_map report_of o ≡ Some told → IsSettled s es told
+settled_so : (s : Scene) (es : List Event) (o : Option End) (told : Result Outcome RunFault) → settled s es ≡ o → option_map outcome_of o ≡ Some told → IsSettled s es told
 settled_so s es None told is tells = let never : None ≡ Some told = tells in absurd cc
-settled_so s es (Some end) told is tells = record { end = end; is = is; tells = let same : report_of end ≡ told = cc in same }
+settled_so s es (Some end) told is tells = record { end = end; is = is; tells = let same : outcome_of end ≡ told = cc in same }
 
-record HasEnd (o : Option (Result Report RunFault)) : Type 0 where
-  pub told : Result Report RunFault
+record HasEnd (o : Option (Result Outcome RunFault)) : Type 0 where
+  pub told : Result Outcome RunFault
   pub is : o ≡ Some told
 
-end_there : (o : Option (Result Report RunFault)) → IsSome o → HasEnd o
+end_there : (o : Option (Result Outcome RunFault)) → IsSome o → HasEnd o
 end_there None some = let never : false ≡ true = some in absurd cc
 end_there (Some told) some = record { told = told; is = refl }
 
@@ -139,21 +138,21 @@ module _ (s : Scene) (f : Progress) (course : Course) (at_work : Option ℕ) (r 
 module _ (s : Scene) (given : Given) (same : given.options ≡ s.options) where
   -- files are copied from where the jobs that made them left them
   sources_same : (es : List Event) (course : Course) (at_work : Option ℕ) → Reflects s es course at_work → (values : Fields) →
-      fields_moved (source_place (number_at es) s.options.work) values ≡ sources_in given.options course values
+      fields_moved (source_place (folder_at s es)) values ≡ sources_in given.options course values
   sources_same es course at_work r values =
-      ap (λ (number : JobPlace → ℕ). fields_moved (source_place number s.options.work) values) (numbers_same s es course at_work r)
+      ap (λ (number : JobPlace → ℕ). fields_moved (source_place (λ place. out_folder s.options.work (number place))) values) (numbers_same s es course at_work r)
       ∙ ap (λ (o : Options). sources_in o course values) (sym same)
 
   plan_same : (es : List Event) (course : Course) (at_work : Option ℕ) → Reflects s es course at_work → (n : ℕ) {turn : Turn} (st : Stages given course n turn) →
-      IsPlan false (in_folder s.options.work (course.folders + 1)) (fields_moved (source_place (number_at es) s.options.work) st.job.inputs) st.plan
+      IsPlan false (in_folder s.options.work (course.folders + 1)) (fields_moved (source_place (folder_at s es)) st.job.inputs) st.plan
   plan_same es course at_work r n st =
       subst (λ (values : Fields). IsPlan false (in_folder s.options.work (course.folders + 1)) values st.plan) (sym (sources_same es course at_work r st.job.inputs))
       (subst (λ (o : Options). IsPlan false (in_folder o.work (course.folders + 1)) (sources_in given.options course st.job.inputs) st.plan) same st.is_plan)
 
   delivery_same : (es : List Event) (course : Course) (at_work : Option ℕ) → Reflects s es course at_work → (outputs : Fields) → outputs_in course.known ≡ outputs →
-      sources (number_at es) s.options.work outputs ≡ sources_in given.options course (last_by_name (outputs_in course.known))
+      sources (folder_at s es) outputs ≡ sources_in given.options course (last_by_name (outputs_in course.known))
   delivery_same es course at_work r outputs kept =
-      sym (map_by_name (value_moved (source_place (number_at es) s.options.work)) outputs)
+      sym (map_by_name (value_moved (source_place (folder_at s es))) outputs)
       ∙ sources_same es course at_work r (last_by_name outputs)
       ∙ ap (λ (values : Fields). sources_in given.options course (last_by_name values)) (sym kept)
 
@@ -185,10 +184,10 @@ module _ (s : Scene) (given : Given) (same : given.options ≡ s.options) where
           collecting r (may_collect_settled s f marks (first.ticket, flies.job.place) so.end idle r.collects flies.there so.is)
 
       -- and then it ends
-      ended_so : (told : Result Report RunFault) → course.end ≡ Some told → course.tickets.items ≡ [] → (new : Course) → IsAt s f marks new (ends told)
+      ended_so : (told : Result Outcome RunFault) → course.end ≡ Some told → course.tickets.items ≡ [] → (new : Course) → IsAt s f marks new (ends told)
       ended_so told is none new =
           let so : IsSettled s f.events told = settled_so s f.events (settled s f.events) told refl (sym r.keeps.end ∙ is) in
-          subst (λ (end : Result Report RunFault). IsAt s f marks new (ends end)) so.tells
+          subst (λ (end : Result Outcome RunFault). IsAt s f marks new (ends end)) so.tells
           (ended so.end (fails so.end idle r.collects (none_in_flight s f.events course None r none) so.is))
 
       module _ (going : course.end ≡ None) where
@@ -258,9 +257,9 @@ module _ (s : Scene) (given : Given) (same : given.options ≡ s.options) where
               (subst (λ (o : Options). IsPlan true o.outdir (sources_in given.options course (last_by_name (outputs_in course.known))) d.plan) same d.is_plan)))
               going all)
 
-          succeeded_at_once : HasResult → any_file (outputs_in course.known) ≡ false → IsAt s f marks course (ends (reported (Outcome.Success (located (last_by_name (outputs_in course.known))))))
+          succeeded_at_once : HasResult → any_file (outputs_in course.known) ≡ false → IsAt s f marks course (ends (Ok (Outcome.Success (located (last_by_name (outputs_in course.known))))))
           succeeded_at_once result no_files =
-              subst (λ (outputs : Fields). IsAt s f marks course (ends (reported (Outcome.Success (located (last_by_name outputs)))))) (sym result.kept)
+              subst (λ (outputs : Fields). IsAt s f marks course (ends (Ok (Outcome.Success (located (last_by_name outputs)))))) (sym result.kept)
               (ended (succeeds_with result.outputs (last_by_name result.outputs))
               (succeeds result.outputs (last_by_name result.outputs) (busy_if_none_waits all) (none_in_flight s f.events course None r none) result.result
               (no_file (ap any_file (sym result.kept) ∙ no_files) r.undelivered)))

@@ -26,10 +26,10 @@ inputs_alike : (options : Options) (folder : ℕ) (place : JobPlace) (staged : F
 inputs_alike options folder place staged [] read = refl
 inputs_alike options folder place staged (path ∷ todo) read = refl
 
-outputs_alike : (options : Options) (folder : ℕ) (place : JobPlace) (found : List Found) (todo : List Name) (read : Heads) →
-    call_for options folder (output_heads_due place found todo read) ≡ call_for options folder (output_heads_due [] found todo read)
-outputs_alike options folder place found [] read = refl
-outputs_alike options folder place found (name ∷ todo) read = refl
+outputs_alike : (options : Options) (folder : ℕ) (place : JobPlace) (millis : ℕ) (found : List Found) (todo : List Name) (read : Heads) →
+    call_for options folder (output_heads_due place millis found todo read) ≡ call_for options folder (output_heads_due [] millis found todo read)
+outputs_alike options folder place millis found [] read = refl
+outputs_alike options folder place millis found (name ∷ todo) read = refl
 
 -- what is asked for a job is one of these
 abbrev pub IsForJob : HostRequest → Type 0
@@ -44,11 +44,11 @@ input_for_job options folder place staged [] read call is = absurd cc
 input_for_job options folder place staged (path ∷ todo) read (HostRequest.Head one limit) is = tt
 input_for_job options folder place staged (path ∷ todo) read call is = absurd cc
 
-output_for_job : (options : Options) (folder : ℕ) (place : JobPlace) (found : List Found) (todo : List Name) (read : Heads) (call : HostRequest) →
-    call_for options folder (output_heads_due place found todo read) ≡ Some call → IsForJob call
-output_for_job options folder place found [] read call is = absurd cc
-output_for_job options folder place found (name ∷ todo) read (HostRequest.Head one limit) is = tt
-output_for_job options folder place found (name ∷ todo) read call is = absurd cc
+output_for_job : (options : Options) (folder : ℕ) (place : JobPlace) (millis : ℕ) (found : List Found) (todo : List Name) (read : Heads) (call : HostRequest) →
+    call_for options folder (output_heads_due place millis found todo read) ≡ Some call → IsForJob call
+output_for_job options folder place millis found [] read call is = absurd cc
+output_for_job options folder place millis found (name ∷ todo) read (HostRequest.Head one limit) is = tt
+output_for_job options folder place millis found (name ∷ todo) read call is = absurd cc
 
 starting_for_job : (options : Options) (folder : ℕ) (place : JobPlace) (kept : Kept) (call : HostRequest) →
     call_for options folder (work_of place call (JobPhase.Starting kept)) ≡ Some call → IsForJob call
@@ -67,7 +67,7 @@ for_job options folder place call (JobPhase.Filling filling) is =
 for_job options folder place call (JobPhase.Starting kept) is = starting_for_job options folder place kept call is
 for_job options folder place call (JobPhase.Scanning kept millis) is = scan_for_job options folder place millis call is
 for_job options folder place call (JobPhase.Reading kept reading) is =
-    output_for_job options folder place reading.found (reverse reading.left) reading.heads call is
+    output_for_job options folder place reading.millis reading.found (reverse reading.left) reading.heads call is
 
 module _ (s : Scene) (f : Progress) (marks : List Mark) where
   -- the work is that, of the job in these folders
@@ -91,8 +91,8 @@ module _ (s : Scene) (f : Progress) (marks : List Mark) where
   due_at place folder call (JobPhase.Starting kept) is number calls = due_starting place kept folder call is number calls
   due_at place folder call (JobPhase.Scanning kept millis) is number calls = due_by place (scan_due place millis) folder call is refl number calls
   due_at place folder call (JobPhase.Reading kept reading) is number calls =
-      due_by place (output_heads_due place reading.found (reverse reading.left) reading.heads) folder call is refl number
-      (outputs_alike s.options folder place reading.found (reverse reading.left) reading.heads ∙ calls)
+      due_by place (output_heads_due place reading.millis reading.found (reverse reading.left) reading.heads) folder call is refl number
+      (outputs_alike s.options folder place reading.millis reading.found (reverse reading.left) reading.heads ∙ calls)
 
   allowed_by : (place : JobPlace) (call : HostRequest) → IsForJob call → due s f ≡ Some (Request.Host place call) → Allowed s f marks (Request.Host place call)
   allowed_by place (HostRequest.Head path limit) its is = is

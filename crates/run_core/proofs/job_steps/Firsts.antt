@@ -40,14 +40,14 @@ pub first_input : (options : Options) (folder : ℕ) (staged : Fields) (read : H
 first_input options folder staged read left path limit due = input_by options folder staged read left (reverse left) path limit refl due
 
 -- and a file of the output folder is one of those that are left
-output_by : (options : Options) (folder : ℕ) (found : List Found) (read : Heads) (left todo : List Name) (call : HostRequest) → reverse left ≡ todo →
-    call_for options folder (output_heads_due [] found todo read) ≡ Some call → HasFirst left
-output_by options folder found read left [] call turned due = absurd cc
-output_by options folder found read left (name ∷ todo) call turned due = record { name = name; first = first_by left name todo turned }
+output_by : (options : Options) (folder millis : ℕ) (found : List Found) (read : Heads) (left todo : List Name) (call : HostRequest) → reverse left ≡ todo →
+    call_for options folder (output_heads_due [] millis found todo read) ≡ Some call → HasFirst left
+output_by options folder millis found read left [] call turned due = absurd cc
+output_by options folder millis found read left (name ∷ todo) call turned due = record { name = name; first = first_by left name todo turned }
 
-pub first_output : (options : Options) (folder : ℕ) (found : List Found) (read : Heads) (left : List Name) (call : HostRequest) →
-    call_for options folder (output_heads_due [] found (reverse left) read) ≡ Some call → HasFirst left
-first_output options folder found read left call due = output_by options folder found read left (reverse left) call refl due
+pub first_output : (options : Options) (folder millis : ℕ) (found : List Found) (read : Heads) (left : List Name) (call : HostRequest) →
+    call_for options folder (output_heads_due [] millis found (reverse left) read) ≡ Some call → HasFirst left
+first_output options folder millis found read left call due = output_by options folder millis found read left (reverse left) call refl due
 
 -- nor is a folder listed then
 pub never_input : (options : Options) (folder : ℕ) (staged : Fields) (read : Heads) (todo : List Name) (its_folder : Name) →
@@ -55,10 +55,10 @@ pub never_input : (options : Options) (folder : ℕ) (staged : Fields) (read : H
 never_input options folder staged read [] its_folder due = cc
 never_input options folder staged read (name ∷ todo) its_folder due = cc
 
-pub never_output : (options : Options) (folder : ℕ) (found : List Found) (read : Heads) (todo : List Name) (its_folder : Name) →
-    call_for options folder (output_heads_due [] found todo read) ≡ Some (HostRequest.Scan its_folder) → ⊥
-never_output options folder found read [] its_folder due = cc
-never_output options folder found read (name ∷ todo) its_folder due = cc
+pub never_output : (options : Options) (folder millis : ℕ) (found : List Found) (read : Heads) (todo : List Name) (its_folder : Name) →
+    call_for options folder (output_heads_due [] millis found todo read) ≡ Some (HostRequest.Scan its_folder) → ⊥
+never_output options folder millis found read [] its_folder due = cc
+never_output options folder millis found read (name ∷ todo) its_folder due = cc
 
 -- nor is a child started
 pub input_starts_none : (options : Options) (folder : ℕ) (staged : Fields) (read : Heads) (todo : List Name) (launch : Launch) →
@@ -66,7 +66,7 @@ pub input_starts_none : (options : Options) (folder : ℕ) (staged : Fields) (re
 input_starts_none options folder staged read [] launch due = cc
 input_starts_none options folder staged read (name ∷ todo) launch due = cc
 
-pub output_starts_none : (options : Options) (folder : ℕ) (found : List Found) (read : Heads) (todo : List Name) (launch : Launch) →
-    call_for options folder (output_heads_due [] found todo read) ≡ Some (HostRequest.Start launch) → ⊥
-output_starts_none options folder found read [] launch due = cc
-output_starts_none options folder found read (name ∷ todo) launch due = cc
+pub output_starts_none : (options : Options) (folder millis : ℕ) (found : List Found) (read : Heads) (todo : List Name) (launch : Launch) →
+    call_for options folder (output_heads_due [] millis found todo read) ≡ Some (HostRequest.Start launch) → ⊥
+output_starts_none options folder millis found read [] launch due = cc
+output_starts_none options folder millis found read (name ∷ todo) launch due = cc

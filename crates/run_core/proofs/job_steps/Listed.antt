@@ -26,7 +26,7 @@ use Rattle.run_core.specs.declared.state.Phase.{Phase}
 use Rattle.run_core.specs.declared.state.Turn.{Turn}
 use Rattle.run_core.specs.inner.Due.{call_for, events_next, work_next}
 use Rattle.run_core.specs.inner.Keeps.{Reflects}
-use Rattle.run_core.specs.inner.Parts.{kept_in}
+use Rattle.run_core.specs.inner.Parts.{kept_in, millis_in}
 use Rattle.run_core.specs.inner.Picks.{AfterListing}
 use Rattle.run_core.specs.inner.Standing.{IsWorking, Runs}
 use Rattle.run_core.proofs.events.Reflecting.{Laws, folder_there, known_there}
@@ -43,12 +43,12 @@ module _ (s : Scene) (given : Given) (same : given.options ≡ s.options) (laws 
     folder = (state_at old.jobs n).folder
 
     module _ (kept : Kept) (millis : ℕ) (is : IsWorking s f old n job (HostRequest.Scan its_folder) (JobPhase.Scanning kept millis))
-        (after : AfterListing given old n kept found turn new) where
+        (after : AfterListing given old n kept millis found turn new) where
       fits : Fits s.options folder job after.site
       fits = site_fits s.options given same old n job after.site is.it after.is_site
 
-      on : CollectsOn job.place job is.on.started found [] after.collects.wanted (work_next job.place after.next) (events_next job.place after.next)
-      on = collects_at s.options folder job after.site fits f.events kept found [] after.collects.wanted after.next is.on after.collects.on
+      on : CollectsOn job.place job is.on.started millis found [] after.collects.wanted (work_next job.place after.next) (events_next job.place after.next)
+      on = collects_at s.options folder job after.site fits f.events kept millis found [] after.collects.wanted after.next is.on after.collects.on
 
       wanted : AreHeadsWanted (listing_of found) is.on.started.inputs job.tool.outputs after.collects.wanted
       wanted =
@@ -57,8 +57,8 @@ module _ (s : Scene) (given : Given) (same : given.options ≡ s.options) (laws 
 
       step : Steps s f (call job.place (HostRequest.Scan its_folder) (HostAnswer.Listed found)) (work_next job.place after.next) (events_next job.place after.next)
       step =
-          scans job.place its_folder found job is.on.started after.collects.wanted (work_next job.place after.next) (events_next job.place after.next)
-          (known_there s f.events old (Some n) n job is.it r) is.on.at wanted on
+          scans job.place its_folder millis found job is.on.started after.collects.wanted (work_next job.place after.next) (events_next job.place after.next)
+          is.due (known_there s f.events old (Some n) n job is.it r) is.on.at wanted on
 
       its_goes : Goes s (InForce s) (t ++ call job.place (HostRequest.Scan its_folder) (HostAnswer.Listed found) ∷ [])
           (progress_with f (work_next job.place after.next) (events_next job.place after.next))
@@ -76,17 +76,17 @@ module _ (s : Scene) (given : Given) (same : given.options ≡ s.options) (laws 
             (progress_with f (work_next job.place after.next) (events_next job.place after.next))
             (marks_after s (progress_with f (work_next job.place after.next) (events_next job.place after.next)) marks) its_goes
             f.events old n job r is.it after.next turn new refl refl
-            (collects_call s.options folder job after.site fits kept found [] after.collects.wanted after.next after.collects.on)
-            (works_started f.events job kept is.on.started found [] after.collects.wanted after.next is.on after.collects.on.keeps on)
+            (collects_call s.options folder job after.site fits kept millis found [] after.collects.wanted after.next after.collects.on)
+            (works_started f.events job kept is.on.started millis found [] after.collects.wanted after.next is.on after.collects.on.keeps on)
             after.turns;
       }
 
     -- a folder is listed in no other phase
-    pub listing_goes_on : (phase : JobPhase) → IsWorking s f old n job (HostRequest.Scan its_folder) phase → AfterListing given old n (kept_in (Phase.Working n phase)) found turn new →
+    pub listing_goes_on : (phase : JobPhase) → IsWorking s f old n job (HostRequest.Scan its_folder) phase → AfterListing given old n (kept_in (Phase.Working n phase)) (millis_in (Phase.Working n phase)) found turn new →
         Runs s (t ++ call job.place (HostRequest.Scan its_folder) (HostAnswer.Listed found) ∷ []) new turn
     listing_goes_on (JobPhase.Filling filling) is after =
         absurd (never_input s.options folder filling.staged filling.heads (reverse filling.left) its_folder is.calls.due)
     listing_goes_on (JobPhase.Starting kept) is after = let never : call_for s.options folder nothing_due ≡ Some (HostRequest.Scan its_folder) = is.calls.due in absurd cc
     listing_goes_on (JobPhase.Scanning kept millis) is after = scan_goes_on kept millis is after
     listing_goes_on (JobPhase.Reading kept reading) is after =
-        absurd (never_output s.options folder reading.found reading.heads (reverse reading.left) its_folder is.calls.due)
+        absurd (never_output s.options folder reading.millis reading.found reading.heads (reverse reading.left) its_folder is.calls.due)

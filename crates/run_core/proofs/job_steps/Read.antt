@@ -45,7 +45,7 @@ module _ (s : Scene) (given : Given) (same : given.options ≡ s.options) (laws 
     module _ (kept : Kept) (reading : Reading) (is : IsWorking s f old n job (HostRequest.Head path limit) (JobPhase.Reading kept reading))
         (after : AfterOutputHead given old n kept reading bytes turn new) where
       next_file : HasFirst reading.left
-      next_file = first_output s.options folder reading.found reading.heads reading.left (HostRequest.Head path limit) is.calls.due
+      next_file = first_output s.options folder reading.millis reading.found reading.heads reading.left (HostRequest.Head path limit) is.calls.due
 
       abbrev read : Heads
       read = with_value next_file.name bytes reading.heads
@@ -56,17 +56,17 @@ module _ (s : Scene) (given : Given) (same : given.options ≡ s.options) (laws 
       fits : Fits s.options folder job after.site
       fits = site_fits s.options given same old n job after.site is.it after.is_site
 
-      its_collects : Collects after.site kept reading.found read todo after.next
+      its_collects : Collects after.site kept reading.millis reading.found read todo after.next
       its_collects = after.collects.each next_file.first.rest next_file.name next_file.first.is
 
-      on : CollectsOn job.place job is.on.started reading.found read todo (work_next job.place after.next) (events_next job.place after.next)
-      on = collects_at s.options folder job after.site fits f.events kept reading.found read todo after.next is.on its_collects
+      on : CollectsOn job.place job is.on.started reading.millis reading.found read todo (work_next job.place after.next) (events_next job.place after.next)
+      on = collects_at s.options folder job after.site fits f.events kept reading.millis reading.found read todo after.next is.on its_collects
 
       step : Steps s f (call job.place (HostRequest.Head path limit) (HostAnswer.FirstBytes bytes)) (work_next job.place after.next) (events_next job.place after.next)
       step =
-          reads_output job.place path limit bytes reading.found next_file.name todo reading.heads job is.on.started (work_next job.place after.next)
+          reads_output job.place path limit bytes reading.millis reading.found next_file.name todo reading.heads job is.on.started (work_next job.place after.next)
           (events_next job.place after.next)
-          (is.due ∙ ap (λ (names : List Name). output_heads_due job.place reading.found names reading.heads) next_file.first.turned)
+          (is.due ∙ ap (λ (names : List Name). output_heads_due job.place reading.millis reading.found names reading.heads) next_file.first.turned)
           (known_there s f.events old (Some n) n job is.it r) is.on.at on
 
       its_goes : Goes s (InForce s) (t ++ call job.place (HostRequest.Head path limit) (HostAnswer.FirstBytes bytes) ∷ [])
@@ -85,8 +85,8 @@ module _ (s : Scene) (given : Given) (same : given.options ≡ s.options) (laws 
             (progress_with f (work_next job.place after.next) (events_next job.place after.next))
             (marks_after s (progress_with f (work_next job.place after.next) (events_next job.place after.next)) marks) its_goes
             f.events old n job r is.it after.next turn new refl refl
-            (collects_call s.options folder job after.site fits kept reading.found read todo after.next its_collects)
-            (works_started f.events job kept is.on.started reading.found read todo after.next is.on its_collects.keeps on)
+            (collects_call s.options folder job after.site fits kept reading.millis reading.found read todo after.next its_collects)
+            (works_started f.events job kept is.on.started reading.millis reading.found read todo after.next is.on its_collects.keeps on)
             after.turns;
       }
 

@@ -62,15 +62,15 @@ module _ (options : Options) (folder : ℕ) (job : Job) (site : Site) (fits : Fi
   starts_call staged read todo next starts = calls_at next starts.calls
 
   -- and so does one whose child has ended
-  pub collects_at : (es : List Event) (kept : Kept) (found : List Found) (read : Heads) (todo : List Name) (next : JobNext) (begun : HasStarted es job.place kept) →
-      Collects site kept found read todo next → CollectsOn job.place job begun.started found read todo (work_next job.place next) (events_next job.place next)
-  collects_at es kept found read todo next begun collects =
-      subst (λ (j : Job). CollectsOn job.place j begun.started found read todo (work_next job.place next) (events_next job.place next)) its_job
+  pub collects_at : (es : List Event) (kept : Kept) (millis : ℕ) (found : List Found) (read : Heads) (todo : List Name) (next : JobNext) (begun : HasStarted es job.place kept) →
+      Collects site kept millis found read todo next → CollectsOn job.place job begun.started millis found read todo (work_next job.place next) (events_next job.place next)
+  collects_at es kept millis found read todo next begun collects =
+      subst (λ (j : Job). CollectsOn job.place j begun.started millis found read todo (work_next job.place next) (events_next job.place next)) its_job
       (collects.on job.place job.inputs begun.started begun.kept_is)
 
-  pub collects_call : (kept : Kept) (found : List Found) (read : Heads) (todo : List Name) (next : JobNext) → Collects site kept found read todo next →
+  pub collects_call : (kept : Kept) (millis : ℕ) (found : List Found) (read : Heads) (todo : List Name) (next : JobNext) → Collects site kept millis found read todo next →
       CallsNext options folder next
-  collects_call kept found read todo next collects = calls_at next collects.calls
+  collects_call kept millis found read todo next collects = calls_at next collects.calls
 
 -- What is kept of a job that goes on
 
@@ -84,12 +84,12 @@ works_unstarted es options job folder staged read todo (JobNext.Asks call (JobPh
 works_unstarted es options job folder staged read todo (JobNext.Fails cause) on = tt
 works_unstarted es options job folder staged read todo (JobNext.Gives outputs) on = tt
 
-pub works_started : (es : List Event) (job : Job) (kept : Kept) (started : Started) (found : List Found) (read : Heads) (todo : List Name) (next : JobNext) →
+pub works_started : (es : List Event) (job : Job) (kept : Kept) (started : Started) (millis : ℕ) (found : List Found) (read : Heads) (todo : List Name) (next : JobNext) →
     HasStarted es job.place kept → KeepsStill kept next →
-    CollectsOn job.place job started found read todo (work_next job.place next) (events_next job.place next) → WorksNext es job.place next
-works_started es job kept started found read todo (JobNext.Asks call (JobPhase.Filling filling)) begun keeps on = tt
-works_started es job kept started found read todo (JobNext.Asks call (JobPhase.Starting now)) begun keeps on = tt
-works_started es job kept started found read todo (JobNext.Asks call (JobPhase.Scanning now millis)) begun keeps on = elim on [ ]
-works_started es job kept started found read todo (JobNext.Asks call (JobPhase.Reading now reading)) begun keeps on = subst (HasStarted es job.place) (sym keeps) begun
-works_started es job kept started found read todo (JobNext.Fails cause) begun keeps on = tt
-works_started es job kept started found read todo (JobNext.Gives outputs) begun keeps on = tt
+    CollectsOn job.place job started millis found read todo (work_next job.place next) (events_next job.place next) → WorksNext es job.place next
+works_started es job kept started millis found read todo (JobNext.Asks call (JobPhase.Filling filling)) begun keeps on = tt
+works_started es job kept started millis found read todo (JobNext.Asks call (JobPhase.Starting now)) begun keeps on = tt
+works_started es job kept started millis found read todo (JobNext.Asks call (JobPhase.Scanning now so_long)) begun keeps on = elim on [ ]
+works_started es job kept started millis found read todo (JobNext.Asks call (JobPhase.Reading now reading)) begun keeps on = subst (HasStarted es job.place) (sym keeps) begun
+works_started es job kept started millis found read todo (JobNext.Fails cause) begun keeps on = tt
+works_started es job kept started millis found read todo (JobNext.Gives outputs) begun keeps on = tt

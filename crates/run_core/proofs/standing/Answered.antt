@@ -11,7 +11,7 @@ use Rattle.cwl_process.specs.declared.tool.Tool.{Tool}
 use Rattle.job_graph.specs.declared.unfolding.Unfolding.{Unfolding}
 use Rattle.run_rules.specs.Answers.{MayAnswer, by_host}
 use Rattle.run_rules.specs.Blame.{IsToBlame, WereStarted, logged_answers}
-use Rattle.run_rules.specs.declared.outcome.Report.{Report}
+use Rattle.run_rules.specs.declared.outcome.Outcome.{Outcome}
 use Rattle.run_rules.specs.declared.outcome.RunFault.{RunFault}
 use Rattle.run_rules.specs.declared.request.Answer.{Answer}
 use Rattle.run_rules.specs.declared.request.Request.{Request}
@@ -37,7 +37,7 @@ abbrev pub host_answer : Answer → HostAnswer
 host_answer (Answer.Host answer) = answer
 
 -- nothing is asked at the end
-pub asks_none : (course : Course) (place : JobPlace) (call : HostRequest) (outcome : Result Report RunFault) → AsksOf course (Request.Host place call) (Phase.Ended outcome) → ⊥
+pub asks_none : (course : Course) (place : JobPlace) (call : HostRequest) (outcome : Result Outcome RunFault) → AsksOf course (Request.Host place call) (Phase.Ended outcome) → ⊥
 asks_none course place (HostRequest.Measure path) outcome fits = fits
 asks_none course place (HostRequest.Stage plan folder) outcome fits = fits
 asks_none course place (HostRequest.Start launch) outcome fits = fits

@@ -27,6 +27,7 @@ use Rattle.staging.specs.declared.found.Found.{Found}
 use Rattle.job_graph.specs.Jobs.{Job}
 use Rattle.job_graph.specs.Words.{Name, Fields, JobPlace}
 use Rattle.run_rules.specs.declared.outcome.Cause.{Cause}
+use Rattle.run_rules.specs.declared.outcome.CollectCause.{CollectCause}
 use Rattle.run_rules.specs.declared.request.Answer.{Answer}
 use Rattle.run_rules.specs.declared.request.Pair.{Pair}
 use Rattle.run_rules.specs.declared.request.Request.{Request}
@@ -73,10 +74,10 @@ record SomeStart (options : Options) (place : JobPlace) (job : Job) (number : �
   starts : StartsOn options place job number staged read todo work more
 
 -- a job's outputs, or what is read for them, whatever they are
-record SomeEnd (place : JobPlace) (job : Job) (started : Started) (found : List Found) (read : Heads) (todo : List Name) : Type 0 where
+record SomeEnd (place : JobPlace) (job : Job) (started : Started) (millis : ℕ) (found : List Found) (read : Heads) (todo : List Name) : Type 0 where
   work : Work
   more : List Event
-  ends : CollectsOn place job started found read todo work more
+  ends : CollectsOn place job started millis found read todo work more
 
 module _ (options : Options) (place : JobPlace) (job : Job) (number : ℕ) (launches : LaunchOrRefusal) (ids : IsDistinct bytes_eq (keys_of job.tool.inputs)) where
   launched : (staged : Fields) (read : Heads) (own : Fields) → with_contents job.tool.inputs staged read ≡ Ok own →
@@ -88,20 +89,20 @@ module _ (options : Options) (place : JobPlace) (job : Job) (number : ℕ) (laun
 
   filled : (staged : Fields) (read : Heads) (r : Result Fields ContentsFault) → with_contents job.tool.inputs staged read ≡ r → SomeStart options place job number staged read []
   filled staged read (Ok own) is = launched staged read own is (launches job.tool own (runtime_of options number) ids)
-  filled staged read (Err fault) is = record { work = nothing_due; more = job_failed place (Cause.Contents fault) ∷ []; starts = has_no_contents fault is }
+  filled staged read (Err fault) is = record { work = nothing_due; more = job_failed place (Cause.Collect (CollectCause.Input fault)) ∷ []; starts = has_no_contents fault is }
 
   a_start : (staged : Fields) (read : Heads) (todo : List Name) → SomeStart options place job number staged read todo
   a_start staged read [] = filled staged read (with_contents job.tool.inputs staged read) refl
   a_start staged read (path ∷ todo) = record { work = input_heads_due place staged (path ∷ todo) read; more = []; starts = reads_on path todo }
 
-module _ (place : JobPlace) (job : Job) (started : Started) (found : List Found) (outputs : EveryFolderHasOutputsOrAFault) where
-  gathered : (read : Heads) (c : Collected) → IsCollected (left_of started found read) job.tool.outputs c → SomeEnd place job started found read []
+module _ (place : JobPlace) (job : Job) (started : Started) (millis : ℕ) (found : List Found) (outputs : EveryFolderHasOutputsOrAFault) where
+  gathered : (read : Heads) (c : Collected) → IsCollected (left_of started found read) job.tool.outputs c → SomeEnd place job started millis found read []
   gathered read (Ok its) is = record { work = nothing_due; more = job_succeeded place its ∷ []; ends = collects its is }
-  gathered read (Err fault) is = record { work = nothing_due; more = job_failed place (Cause.Collect fault) ∷ []; ends = collects_none fault is }
+  gathered read (Err fault) is = record { work = nothing_due; more = job_failed place (Cause.Collect (CollectCause.Output fault)) ∷ []; ends = collects_none fault is }
 
-  an_end : (read : Heads) (todo : List Name) → SomeEnd place job started found read todo
+  an_end : (read : Heads) (todo : List Name) → SomeEnd place job started millis found read todo
   an_end read [] = let its = outputs (left_of started found read) job.tool.outputs in gathered read its.0 its.1
-  an_end read (name ∷ todo) = record { work = output_heads_due place found (name ∷ todo) read; more = []; ends = reads_more name todo }
+  an_end read (name ∷ todo) = record { work = output_heads_due place millis found (name ∷ todo) read; more = []; ends = reads_more name todo }
 
 -- the file whose turn it is
 pub record IsNext (todo : List Name) : Type 0 where
@@ -114,10 +115,10 @@ pub input_next : (options : Options) (folder : ℕ) (call : HostRequest) (staged
 input_next options folder call staged read [] is = absurd cc
 input_next options folder call staged read (name ∷ todo) is = (record { name = name; rest = todo; is = refl }, cc)
 
-pub output_next : (options : Options) (folder : ℕ) (call : HostRequest) (found : List Found) (read : Heads) (todo : List Name) →
-    call_for options folder (output_heads_due [] found todo read) ≡ Some call → IsNext todo
-output_next options folder call found read [] is = absurd cc
-output_next options folder call found read (name ∷ todo) is = record { name = name; rest = todo; is = refl }
+pub output_next : (options : Options) (folder : ℕ) (call : HostRequest) (millis : ℕ) (found : List Found) (read : Heads) (todo : List Name) →
+    call_for options folder (output_heads_due [] millis found todo read) ≡ Some call → IsNext todo
+output_next options folder call millis found read [] is = absurd cc
+output_next options folder call millis found read (name ∷ todo) is = record { name = name; rest = todo; is = refl }
 
 -- the call for the work on a job is no collect
 no_collect : (options : Options) (folder : ℕ) (work : Work) → call_for options folder work ≡ Some HostRequest.Collect → ⊥
@@ -126,8 +127,8 @@ no_collect options folder (input_heads_due place staged [] read) is = cc
 no_collect options folder (input_heads_due place staged (path ∷ todo) read) is = cc
 no_collect options folder (start_due place inputs launch) is = cc
 no_collect options folder (scan_due place millis) is = cc
-no_collect options folder (output_heads_due place found [] read) is = cc
-no_collect options folder (output_heads_due place found (name ∷ todo) read) is = cc
+no_collect options folder (output_heads_due place millis found [] read) is = cc
+no_collect options folder (output_heads_due place millis found (name ∷ todo) read) is = cc
 
 some_there : (jobs : List Job) (number : ℕ) (job : Job) → IsJob jobs number job → slice_get jobs number ≡ Some job
 some_there jobs number job it = slice_get-get_or jobs number job it.within ∙ ap Some it.is
@@ -167,23 +168,23 @@ module _ (s : Scene) (t : List Pair) (f : Progress) (marks : List Mark) (course 
         (due ∙ ap (λ (todo : List Name). input_heads_due job.place filling.staged todo filling.heads) (next.is ∙ ap (λ (n : Name). n ∷ next.rest) (sym turn)))
         at_place its.starts)
 
-    scan_anyway : (folder : Name) (found : List Found) (kept : Kept) → HasStarted f.events job.place kept → Allowed s f marks (Request.Host job.place (HostRequest.Scan folder)) →
+    scan_anyway : (folder : Name) (millis : ℕ) (found : List Found) (kept : Kept) → f.work ≡ scan_due job.place millis → HasStarted f.events job.place kept → Allowed s f marks (Request.Host job.place (HostRequest.Scan folder)) →
         GoesOn s (t ++ noted (Request.Host job.place (HostRequest.Scan folder)) (Answer.Host (HostAnswer.Listed found)) ∷ [])
-    scan_anyway folder found kept has allowed =
+    scan_anyway folder millis found kept due has allowed =
         let wants = can.heads (listing_of found) has.started.inputs job.tool.outputs in
-        let its : SomeEnd job.place job has.started found [] wants.0 = an_end job.place job has.started found can.outputs [] wants.0 in
-        goes_with _ its.work its.more allowed (scans job.place folder found job has.started wants.0 its.work its.more at_place has.at wants.1 its.ends)
+        let its : SomeEnd job.place job has.started millis found [] wants.0 = an_end job.place job has.started millis found can.outputs [] wants.0 in
+        goes_with _ its.work its.more allowed (scans job.place folder millis found job has.started wants.0 its.work its.more due at_place has.at wants.1 its.ends)
 
     read_anyway : (path : Name) (limit : ℕ) (bytes : List ℕ) (kept : Kept) (reading : Reading) → IsNext (reverse reading.left) → HasStarted f.events job.place kept →
-        f.work ≡ output_heads_due job.place reading.found (reverse reading.left) reading.heads →
+        f.work ≡ output_heads_due job.place reading.millis reading.found (reverse reading.left) reading.heads →
         Allowed s f marks (Request.Host job.place (HostRequest.Head path limit)) →
         GoesOn s (t ++ noted (Request.Host job.place (HostRequest.Head path limit)) (Answer.Host (HostAnswer.FirstBytes bytes)) ∷ [])
     read_anyway path limit bytes kept reading next has due allowed =
-        let its : SomeEnd job.place job has.started reading.found (with_value next.name bytes reading.heads) next.rest =
-        an_end job.place job has.started reading.found can.outputs (with_value next.name bytes reading.heads) next.rest in
+        let its : SomeEnd job.place job has.started reading.millis reading.found (with_value next.name bytes reading.heads) next.rest =
+        an_end job.place job has.started reading.millis reading.found can.outputs (with_value next.name bytes reading.heads) next.rest in
         goes_with _ its.work its.more allowed
-        (reads_output job.place path limit bytes reading.found next.name next.rest reading.heads job has.started its.work its.more
-        (due ∙ ap (λ (todo : List Name). output_heads_due job.place reading.found todo reading.heads) next.is) at_place has.at its.ends)
+        (reads_output job.place path limit bytes reading.millis reading.found next.name next.rest reading.heads job has.started its.work its.more
+        (due ∙ ap (λ (todo : List Name). output_heads_due job.place reading.millis reading.found todo reading.heads) next.is) at_place has.at its.ends)
 
     work_anyway : (call : HostRequest) (phase : JobPhase) (answer : HostAnswer) → CanAnswer course.tickets.items call answer → IsWorking s f course number job call phase →
         AsksOf course (Request.Host job.place call) (Phase.Working number phase) → Allowed s f marks (Request.Host job.place call) →
@@ -193,9 +194,9 @@ module _ (s : Scene) (t : List Pair) (f : Progress) (marks : List Mark) (course 
         fill_anyway path limit bytes filling next.0 next.1 w.due allowed
     work_anyway call (JobPhase.Starting kept) answer (is_started launch ticket fresh) w fits allowed =
         goes_with _ nothing_due (job_started job.place kept.inputs launch ticket ∷ []) allowed (starts job.place kept.inputs launch ticket w.due)
-    work_anyway call (JobPhase.Scanning kept millis) answer (is_listed folder found) w fits allowed = scan_anyway folder found kept w.on allowed
+    work_anyway call (JobPhase.Scanning kept millis) answer (is_listed folder found) w fits allowed = scan_anyway folder millis found kept w.due w.on allowed
     work_anyway call (JobPhase.Reading kept reading) answer (is_read path limit bytes short) w fits allowed =
-        read_anyway path limit bytes kept reading (output_next s.options (state_at course.jobs number).folder (HostRequest.Head path limit) reading.found reading.heads (reverse reading.left) w.calls.due)
+        read_anyway path limit bytes kept reading (output_next s.options (state_at course.jobs number).folder (HostRequest.Head path limit) reading.millis reading.found reading.heads (reverse reading.left) w.calls.due)
         w.on w.due allowed
     work_anyway call phase answer (has_failed its) w fits allowed =
         fails_anyway job.place call (λ collects. no_collect s.options (state_at course.jobs number).folder (work_of [] call phase) (w.calls.due ∙ ap Some collects)) allowed

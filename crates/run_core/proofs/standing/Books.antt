@@ -7,7 +7,7 @@ use Rattle.plan_checker.specs.declared.graph.TheConstants.{MOST_VERTICES}
 use Rattle.proc_host.specs.declared.call.Entry.{Entry}
 use Rattle.proc_host.specs.declared.call.HostAnswer.{HostAnswer}
 use Rattle.job_graph.specs.Unfold.{or_else}
-use Rattle.run_rules.specs.declared.outcome.Report.{Report}
+use Rattle.run_rules.specs.declared.outcome.Outcome.{Outcome}
 use Rattle.run_rules.specs.declared.outcome.RunFault.{RunFault}
 use Rattle.run_rules.specs.declared.setting.Options.{Options}
 use Rattle.run_rules.specs.Blame.{WereStarted, logged_answers}
@@ -31,14 +31,14 @@ pub record BooksAt (options : Options) (entries : List Entry) (past : Past) (num
   pub bounded : IsBounded options (with_staging number past)
   pub blames : BlamesSoFar entries past
 
-settled_with : (entries : List Entry) (first : Option (Result Report RunFault)) (end its : Result Report RunFault) →
-    ((one : Result Report RunFault) → first ≡ Some one → SettlesRightly entries one) → SettlesRightly entries end → or_else first (Some end) ≡ Some its →
+settled_with : (entries : List Entry) (first : Option (Result Outcome RunFault)) (end its : Result Outcome RunFault) →
+    ((one : Result Outcome RunFault) → first ≡ Some one → SettlesRightly entries one) → SettlesRightly entries end → or_else first (Some end) ≡ Some its →
     SettlesRightly entries its
-settled_with entries None end its before now is = let same : end ≡ its = cc in subst (λ (e : Result Report RunFault). SettlesRightly entries e) same now
+settled_with entries None end its before now is = let same : end ≡ its = cc in subst (λ (e : Result Outcome RunFault). SettlesRightly entries e) same now
 settled_with entries (Some one) end its before now is = before its is
 
 module _ (options : Options) (entries : List Entry) (past : Past) where
-  pub books_end : (end : Result Report RunFault) → SettlesRightly entries end → Books options entries past → Books options entries (with_end end past)
+  pub books_end : (end : Result Outcome RunFault) → SettlesRightly entries end → Books options entries past → Books options entries (with_end end past)
   books_end end now books = record {
     bounded = record { jobs = books.bounded.jobs; retries = books.bounded.retries; folders = books.bounded.folders };
     blames = record {

@@ -10,7 +10,7 @@ use Rattle.cwl_process.specs.declared.tool.Tool.{Tool}
 use Rattle.job_graph.specs.Unfold.{or_else}
 use Rattle.job_graph.specs.Words.{Name}
 use Rattle.run_rules.specs.Answers.{MayAnswer, by_host}
-use Rattle.run_rules.specs.declared.outcome.Report.{Report}
+use Rattle.run_rules.specs.declared.outcome.Outcome.{Outcome}
 use Rattle.run_rules.specs.declared.outcome.RunFault.{RunFault}
 use Rattle.run_rules.specs.declared.request.Answer.{Answer}
 use Rattle.run_rules.specs.declared.request.Request.{Request}
@@ -77,7 +77,7 @@ below_soon a one w few falls = omega (arith, few, falls)
 two_less : 2 ≤ many_files + 3
 two_less = omega arith
 
-settled_by : (first : Option (Result Report RunFault)) (end : Result Report RunFault) → IsSome (or_else first (Some end))
+settled_by : (first : Option (Result Outcome RunFault)) (end : Result Outcome RunFault) → IsSome (or_else first (Some end))
 settled_by None end = refl
 settled_by (Some one) end = refl
 
@@ -92,7 +92,7 @@ module _ (given : Given) (old : Course) where
   Fewer turn new weight = answers_left given.options (past_of new) turn.phase < weight_of_past given.options (past_of old) + weight
 
   -- at an end none comes
-  none_left : (outcome : Result Report RunFault) (turn : Turn) (new : Course) (weight : ℕ) → turn.phase ≡ Phase.Ended outcome → 0 < weight → Fewer turn new weight
+  none_left : (outcome : Result Outcome RunFault) (turn : Turn) (new : Course) (weight : ℕ) → turn.phase ≡ Phase.Ended outcome → 0 < weight → Fewer turn new weight
   none_left outcome turn new weight is some =
       ended_none (answers_left given.options (past_of new) turn.phase) Before weight (ap (answers_left given.options (past_of new)) is) some
 
@@ -165,7 +165,7 @@ module _ (given : Given) (old : Course) where
         let shorter : length reading.left ≡ length last.rest + 1 = one_longer reading.left last.rest last.name last.is in
         let turned : length (reverse last.rest) ≡ length last.rest = turned_long last.rest in
         turns_fewer number after.next (2 + length (reverse last.rest)) (2 + length reading.left) (omega arith)
-        (collects_by_names after.site kept reading.found _ (reverse last.rest) after.next (after.collects.each last.rest last.name last.is))
+        (collects_by_names after.site kept reading.millis reading.found _ (reverse last.rest) after.next (after.collects.each last.rest last.name last.is))
         (omega (arith, shorter, turned)) after.turns
 
     end_fewer : (landed : Course) (flight : Flight) (tool : Tool) (ending : ChildEnd) → (landed.end ≡ None → KnowsSome landed) →
@@ -212,7 +212,7 @@ module _ (given : Given) (old : Course) where
         fault_fewer (fault_of call) turn new (many_files + 6) (omega arith) follows
     step_fewer asks (Phase.Working number (JobPhase.Scanning kept millis)) answer (by_host place request its (is_listed folder found)) fits goes knows bounded some follows =
         turns_fewer knows turn new number follows.next (many_files + 2) (many_files + 3) (omega arith)
-        (collects_by_lists follows.site kept found [] follows.collects.wanted follows.next follows.collects.on) (omega arith) follows.turns
+        (collects_by_lists follows.site kept millis found [] follows.collects.wanted follows.next follows.collects.on) (omega arith) follows.turns
     step_fewer asks (Phase.Working number (JobPhase.Scanning kept millis)) answer (by_host place request its (has_failed call)) fits goes knows bounded some follows =
         fault_fewer (fault_of call) turn new (many_files + 3) (omega arith) follows
     step_fewer asks (Phase.Working number (JobPhase.Reading kept reading)) answer (by_host place request its (is_read path limit bytes short)) fits goes knows bounded some follows =

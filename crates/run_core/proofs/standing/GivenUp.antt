@@ -7,7 +7,7 @@ use Rattle.plan_checker.specs.declared.plan.Mark.{Mark}
 use Rattle.run_rules.specs.Events.{Progress}
 use Rattle.run_rules.specs.Reports.{entries_of}
 use Rattle.run_rules.specs.Scene.{Scene, scene_of}
-use Rattle.run_rules.specs.declared.outcome.Report.{Report}
+use Rattle.run_rules.specs.declared.outcome.Outcome.{Outcome}
 use Rattle.run_rules.specs.declared.outcome.RunFault.{RunFault}
 use Rattle.run_rules.specs.declared.request.Request.{Request}
 use Rattle.run_rules.specs.declared.setting.Options.{Options}
@@ -55,7 +55,7 @@ lost_ahead_at past lost = omega arith
 -- Where it asks something, it has not ended
 
 module _ (s : Scene) (f : Progress) (marks : List Mark) (course : Course) where
-  asks_none_at : {turn : Turn} → IsAt s f marks course turn → (outcome : Result Report RunFault) → turn.phase ≡ Phase.Ended outcome → turn.asks ≡ Request.Finished
+  asks_none_at : {turn : Turn} → IsAt s f marks course turn → (outcome : Result Outcome RunFault) → turn.phase ≡ Phase.Ended outcome → turn.asks ≡ Request.Finished
   asks_none_at (measuring found m rest path is left happened none nothing) outcome phase = absurd cc
   asks_none_at (staging n job plan r st) outcome phase = absurd cc
   asks_none_at (working n job call phase r w) outcome is = absurd cc
@@ -63,7 +63,7 @@ module _ (s : Scene) (f : Progress) (marks : List Mark) (course : Course) where
   asks_none_at (delivering plan r may going all) outcome phase = absurd cc
   asks_none_at (ended end so) outcome phase = refl
 
-lost_asks_none : (past : Past) {turn : Turn} → IsLostAt past turn → (outcome : Result Report RunFault) → turn.phase ≡ Phase.Ended outcome → turn.asks ≡ Request.Finished
+lost_asks_none : (past : Past) {turn : Turn} → IsLostAt past turn → (outcome : Result Outcome RunFault) → turn.phase ≡ Phase.Ended outcome → turn.asks ≡ Request.Finished
 lost_asks_none past (draining some) outcome phase = absurd cc
 lost_asks_none past lost outcome phase = refl
 
@@ -99,7 +99,7 @@ module _ (core : Inside) (asks : core.turn.asks ≢ Request.Finished) where
   abbrev s : Scene
   s = scene_of (setting_in core.given)
 
-  not_ended : Goes core → (outcome : Result Report RunFault) → core.turn.phase ≡ Phase.Ended outcome → ⊥
+  not_ended : Goes core → (outcome : Result Outcome RunFault) → core.turn.phase ≡ Phase.Ended outcome → ⊥
   not_ended (on_run runs) outcome phase = asks (asks_none_at s runs.happened runs.marks core.course runs.at outcome phase)
   not_ended (off_run out) outcome phase = asks (lost_asks_none past out.at outcome phase)
 

@@ -7,7 +7,7 @@ use Rattle.job_graph.specs.declared.unfolding.Unfolding.{Unfolding}
 use Rattle.job_graph.specs.declared.fault.UnfoldFault.{UnfoldFault}
 use Rattle.job_graph.specs.Jobs.{Job, Walker}
 use Rattle.job_graph.specs.Unfold.{Resolved}
-use Rattle.run_rules.specs.declared.outcome.Report.{Report}
+use Rattle.run_rules.specs.declared.outcome.Outcome.{Outcome}
 use Rattle.run_rules.specs.declared.outcome.RunFault.{RunFault}
 use Rattle.run_rules.specs.declared.setting.Options.{Options}
 use Rattle.run_rules.specs.Blame.{BlamesRightly}
@@ -45,7 +45,7 @@ abbrev pub MayKnow : Course → Phase → Type 0
 MayKnow course (Phase.Measuring measuring) = Unit {0}
 MayKnow course phase = course.end ≡ None → KnowsSome course
 
-rightly : (entries : List Entry) (end : Result Report RunFault) → SettlesRightly entries end → IfErr end (BlamesRightly entries)
+rightly : (entries : List Entry) (end : Result Outcome RunFault) → SettlesRightly entries end → IfErr end (BlamesRightly entries)
 rightly entries (Ok report) settles = tt
 rightly entries (Err (RunFault.Host fault running)) settles = settles
 rightly entries (Err RunFault.TooManyJobs) settles = tt
@@ -62,14 +62,14 @@ learns_by walks learned one old new None is knows learns = absurd knows
 learns_by walks learned one old new (Some kept) is knows learns = learns walks learned kept is knows
 
 module _ (options : Options) (entries : List Entry) where
-  pub leaves_end : (end : Result Report RunFault) (turn : Turn) (new : Course) → turn.phase ≡ Phase.Ended end → SettlesRightly entries end → Leaves options entries turn new
+  pub leaves_end : (end : Result Outcome RunFault) (turn : Turn) (new : Course) → turn.phase ≡ Phase.Ended end → SettlesRightly entries end → Leaves options entries turn new
   leaves_end end turn new is settles = record {
     bounded = subst (λ (p : Phase). StaysBounded options (past_of new) p) (sym is) tt;
     blames = subst (λ (p : Phase). Blames entries (past_of new) p) (sym is) (rightly entries end settles);
     not_lost = λ lost.
         let same : Phase.Ended end ≡ Phase.Ended (Err RunFault.OutOfMemory) = sym is ∙ lost in
         let it : end ≡ Err RunFault.OutOfMemory = cc in
-        subst (λ (e : Result Report RunFault). SettlesRightly entries e) it settles;
+        subst (λ (e : Result Outcome RunFault). SettlesRightly entries e) it settles;
     goes = λ drains. let same : Phase.Ended end ≡ Phase.Draining = sym is ∙ drains in cc;
   }
 

@@ -67,29 +67,29 @@ starts_at_most site staged read todo (JobNext.Gives outputs) starts = omega arit
 
 -- Once its child has ended
 
-module _ (place : JobPlace) (job : Job) (started : Started) (found : List Found) (read : Heads) where
+module _ (place : JobPlace) (job : Job) (started : Started) (millis : ℕ) (found : List Found) (read : Heads) where
   -- where nothing has happened, more is read
-  reads_still : {todo : List Name} {work : Work} {more : List Event} → CollectsOn place job started found read todo work more → more ≡ [] →
-      work ≡ output_heads_due place found todo read
+  reads_still : {todo : List Name} {work : Work} {more : List Event} → CollectsOn place job started millis found read todo work more → more ≡ [] →
+      work ≡ output_heads_due place millis found todo read
   reads_still (reads_more name more) none = refl
   reads_still (collects outputs is) none = absurd cc
   reads_still (collects_none fault is) none = absurd cc
 
 abbrev outputs_left : Work → List Name
-outputs_left (output_heads_due place found todo read) = todo
+outputs_left (output_heads_due place millis found todo read) = todo
 outputs_left work = []
 
 pub record IsLight (phase : JobPhase) (todo : List Name) : Type 0 where
   pub by_names : weight_of_job phase ≤ 2 + length todo
   pub by_lists : weight_of_job phase ≤ many_files + 2
 
-light : (call : HostRequest) (phase : JobPhase) (found : List Found) (todo : List Name) (read : Heads) → work_of [] call phase ≡ output_heads_due [] found todo read →
-    FitsCall call phase → IsLight phase todo
-light call (JobPhase.Filling filling) found todo read is fits = absurd cc
-light (HostRequest.Start launch) (JobPhase.Starting kept) found todo read is fits = absurd cc
-light call (JobPhase.Starting kept) found todo read is fits = absurd fits
-light call (JobPhase.Scanning kept millis) found todo read is fits = absurd cc
-light call (JobPhase.Reading kept reading) found todo read is fits =
+light : (call : HostRequest) (phase : JobPhase) (millis : ℕ) (found : List Found) (todo : List Name) (read : Heads) →
+    work_of [] call phase ≡ output_heads_due [] millis found todo read → FitsCall call phase → IsLight phase todo
+light call (JobPhase.Filling filling) millis found todo read is fits = absurd cc
+light (HostRequest.Start launch) (JobPhase.Starting kept) millis found todo read is fits = absurd cc
+light call (JobPhase.Starting kept) millis found todo read is fits = absurd fits
+light call (JobPhase.Scanning kept so_long) millis found todo read is fits = absurd cc
+light call (JobPhase.Reading kept reading) millis found todo read is fits =
     let same : reverse reading.left ≡ todo = ap outputs_left is in
     let long : length (reverse reading.left) ≡ length todo = ap length same in
     let turned : length (reverse reading.left) ≡ length reading.left = length-reverse reading.left in
@@ -103,20 +103,20 @@ some_start kept =
 kept_so : (kept : Kept) → IsKept kept (some_start kept)
 kept_so kept = record { inputs = refl; stdout = refl; stderr = refl }
 
-collects_light : (site : Site) (kept : Kept) (found : List Found) (read : Heads) (todo : List Name) (call : HostRequest) (phase : JobPhase) →
-    Collects site kept found read todo (JobNext.Asks call phase) → IsLight phase todo
-collects_light site kept found read todo call phase it =
-    light call phase found todo read
-    (reads_still [] _ (some_start kept) found read (it.on [] [] (some_start kept) (kept_so kept)) refl) it.calls.fits
+collects_light : (site : Site) (kept : Kept) (millis : ℕ) (found : List Found) (read : Heads) (todo : List Name) (call : HostRequest) (phase : JobPhase) →
+    Collects site kept millis found read todo (JobNext.Asks call phase) → IsLight phase todo
+collects_light site kept millis found read todo call phase it =
+    light call phase millis found todo read
+    (reads_still [] _ (some_start kept) millis found read (it.on [] [] (some_start kept) (kept_so kept)) refl) it.calls.fits
 
-pub collects_by_names : (site : Site) (kept : Kept) (found : List Found) (read : Heads) (todo : List Name) (next : JobNext) → Collects site kept found read todo next →
+pub collects_by_names : (site : Site) (kept : Kept) (millis : ℕ) (found : List Found) (read : Heads) (todo : List Name) (next : JobNext) → Collects site kept millis found read todo next →
     weight_next next ≤ 2 + length todo
-collects_by_names site kept found read todo (JobNext.Asks call phase) it = (collects_light site kept found read todo call phase it).by_names
-collects_by_names site kept found read todo (JobNext.Fails cause) it = omega arith
-collects_by_names site kept found read todo (JobNext.Gives outputs) it = omega arith
+collects_by_names site kept millis found read todo (JobNext.Asks call phase) it = (collects_light site kept millis found read todo call phase it).by_names
+collects_by_names site kept millis found read todo (JobNext.Fails cause) it = omega arith
+collects_by_names site kept millis found read todo (JobNext.Gives outputs) it = omega arith
 
-pub collects_by_lists : (site : Site) (kept : Kept) (found : List Found) (read : Heads) (todo : List Name) (next : JobNext) → Collects site kept found read todo next →
+pub collects_by_lists : (site : Site) (kept : Kept) (millis : ℕ) (found : List Found) (read : Heads) (todo : List Name) (next : JobNext) → Collects site kept millis found read todo next →
     weight_next next ≤ many_files + 2
-collects_by_lists site kept found read todo (JobNext.Asks call phase) it = (collects_light site kept found read todo call phase it).by_lists
-collects_by_lists site kept found read todo (JobNext.Fails cause) it = omega arith
-collects_by_lists site kept found read todo (JobNext.Gives outputs) it = omega arith
+collects_by_lists site kept millis found read todo (JobNext.Asks call phase) it = (collects_light site kept millis found read todo call phase it).by_lists
+collects_by_lists site kept millis found read todo (JobNext.Fails cause) it = omega arith
+collects_by_lists site kept millis found read todo (JobNext.Gives outputs) it = omega arith

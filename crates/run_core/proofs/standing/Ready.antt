@@ -5,7 +5,7 @@ use Rattle.workflow_check.specs.Checked.{fault_in}
 use Rattle.job_graph.specs.Apart.{ids_differ}
 use Rattle.run_rules.specs.Answers.{MayAnswer}
 use Rattle.run_rules.specs.Scene.{Scene, scene_of}
-use Rattle.run_rules.specs.declared.outcome.Report.{Report}
+use Rattle.run_rules.specs.declared.outcome.Outcome.{Outcome}
 use Rattle.run_rules.specs.declared.outcome.RunFault.{RunFault}
 use Rattle.run_rules.specs.declared.request.Answer.{Answer}
 use Rattle.run_rules.specs.declared.setting.Options.{Options}
@@ -48,7 +48,7 @@ few_of : (options : Options) (past : Past) → IsWithinLimits options → past.f
 few_of options past limits few = omega (arith, few, limits.retries)
 
 few_folders : (options : Options) (past : Past) (phase : Phase) → IsWithinLimits options → (phase ≡ Phase.Draining → ⊥) →
-    ((outcome : Result Report RunFault) → phase ≡ Phase.Ended outcome → ⊥) → StaysBounded options past phase → past.folders + 2 < 2 ^ 64
+    ((outcome : Result Outcome RunFault) → phase ≡ Phase.Ended outcome → ⊥) → StaysBounded options past phase → past.folders + 2 < 2 ^ 64
 few_folders options past Phase.Draining limits goes asks bounded = absurd (goes refl)
 few_folders options past (Phase.Ended outcome) limits goes asks bounded = absurd (asks outcome refl)
 few_folders options past (Phase.Staging number) limits goes asks bounded =

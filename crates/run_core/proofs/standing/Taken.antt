@@ -14,7 +14,7 @@ use Rattle.run_rules.specs.Answers.{MayAnswer, by_host, flying_after}
 use Rattle.run_rules.specs.Blame.{BlamesRightly, IsToBlame, WereStarted, logged_answers}
 use Rattle.run_rules.specs.Reports.{entries_of, entry_of}
 use Rattle.run_rules.specs.Scene.{Scene, scene_of}
-use Rattle.run_rules.specs.declared.outcome.Report.{Report}
+use Rattle.run_rules.specs.declared.outcome.Outcome.{Outcome}
 use Rattle.run_rules.specs.declared.outcome.RunFault.{RunFault}
 use Rattle.run_rules.specs.declared.request.Answer.{Answer}
 use Rattle.run_rules.specs.declared.request.Pair.{Pair}
@@ -91,13 +91,13 @@ module _ (entries more : List Entry) (told : (answer : HostAnswer) → Contains 
   blame_more : (fault : HostFault) (running : List ℕ) → IsToBlame entries fault running → IsToBlame more fault running
   blame_more fault running blame = record { failed = told (HostAnswer.Failed fault) blame.failed; started = started_more running blame.started }
 
-  settles_more : (end : Result Report RunFault) → SettlesRightly entries end → SettlesRightly more end
+  settles_more : (end : Result Outcome RunFault) → SettlesRightly entries end → SettlesRightly more end
   settles_more (Ok report) settles = tt
   settles_more (Err (RunFault.Host fault running)) settles = blame_more fault running settles
   settles_more (Err RunFault.TooManyJobs) settles = tt
   settles_more (Err RunFault.OutOfMemory) settles = absurd settles
 
-  ends_more : (outcome : Result Report RunFault) → IfErr outcome (BlamesRightly entries) → IfErr outcome (BlamesRightly more)
+  ends_more : (outcome : Result Outcome RunFault) → IfErr outcome (BlamesRightly entries) → IfErr outcome (BlamesRightly more)
   ends_more (Ok report) blames = tt
   ends_more (Err (RunFault.Host fault running)) blames = blame_more fault running blames
   ends_more (Err RunFault.TooManyJobs) blames = tt
@@ -167,17 +167,17 @@ pub asks_some : {tickets : List ℕ} {asks : Request} {answer : Answer} → MayA
 asks_some (by_host place request answer can) = λ none. cc
 
 pub not_ended : (course : Course) {tickets : List ℕ} {asks : Request} {answer : Answer} (phase : Phase) → MayAnswer tickets asks answer → AsksOf course asks phase →
-    (outcome : Result Report RunFault) → phase ≡ Phase.Ended outcome → ⊥
+    (outcome : Result Outcome RunFault) → phase ≡ Phase.Ended outcome → ⊥
 not_ended course phase (by_host place request answer can) fits outcome is =
     asks_none course place request outcome (subst (λ (p : Phase). AsksOf course (Request.Host place request) p) is fits)
 
-pub left_now : (options : Options) (past : Past) (phase : Phase) → (phase ≡ Phase.Draining → ⊥) → ((outcome : Result Report RunFault) → phase ≡ Phase.Ended outcome → ⊥) →
+pub left_now : (options : Options) (past : Past) (phase : Phase) → (phase ≡ Phase.Draining → ⊥) → ((outcome : Result Outcome RunFault) → phase ≡ Phase.Ended outcome → ⊥) →
     answers_left options past phase ≡ weight_of_past options past + weight_of phase
 left_now options past Phase.Draining goes asks = absurd (goes refl)
 left_now options past (Phase.Ended outcome) goes asks = absurd (asks outcome refl)
 left_now options past phase goes asks = refl
 
-pub ahead_now : (past : Past) (phase : Phase) → (phase ≡ Phase.Draining → ⊥) → ((outcome : Result Report RunFault) → phase ≡ Phase.Ended outcome → ⊥) →
+pub ahead_now : (past : Past) (phase : Phase) → (phase ≡ Phase.Draining → ⊥) → ((outcome : Result Outcome RunFault) → phase ≡ Phase.Ended outcome → ⊥) →
     pairs_ahead past phase ≡ length past.tickets + 2
 ahead_now past Phase.Draining goes asks = absurd (goes refl)
 ahead_now past (Phase.Ended outcome) goes asks = absurd (asks outcome refl)

@@ -1,12 +1,10 @@
 -- What a run has come to, and what each event makes of it.
-use Rattle.std.specs.Prelude.{◌≡◌, ◌<◌, ◌≤◌, ℕ, ◌+◌, cond, List, [], ◌∷◌, ◌++◌, Option, Some, None, Result, map, option_map, slice_get, unwrap_or}
+use Rattle.std.specs.Prelude.{Ok, ◌≡◌, ◌<◌, ◌≤◌, ℕ, ◌+◌, cond, List, [], ◌∷◌, ◌++◌, Option, Some, None, Result, map, option_map, slice_get, unwrap_or}
 use Rattle.std.specs.List.{remove, zip}
 use Rattle.job_graph.specs.declared.unfolding.Unfolding.{Unfolding}
 use Rattle.run_rules.specs.declared.outcome.Outcome.{Outcome}
-use Rattle.run_rules.specs.declared.outcome.Report.{Report}
 use Rattle.run_rules.specs.declared.outcome.RunFault.{RunFault}
 use Rattle.job_graph.specs.Jobs.{Job}
-use Rattle.run_rules.specs.Reports.{reported}
 use Rattle.job_graph.specs.Unfold.{or_else}
 use Rattle.job_graph.specs.Words.{JobPlace, is_same_place}
 use Rattle.run_core.specs.declared.state.Course.{Course}
@@ -26,7 +24,7 @@ pub record Past : Type 0 where
   pub flights : List Flight
   pub jobs : List JobState
   pub folders : ℕ
-  pub end : Option (Result Report RunFault)
+  pub end : Option (Result Outcome RunFault)
 
 abbrev pub past_of : Course → Past
 past_of course = record {
@@ -55,7 +53,7 @@ number_in (job ∷ jobs) [] place = 0
 number_in (job ∷ jobs) (state ∷ states) place = cond (is_same_place job.place place) state.folder (number_in jobs states place)
 
 -- the first failure settles the end
-abbrev pub with_end : Result Report RunFault → Past → Past
+abbrev pub with_end : Result Outcome RunFault → Past → Past
 with_end end past = record past { end = or_else past.end (Some end) }
 
 abbrev pub with_staging : ℕ → Past → Past
@@ -82,4 +80,4 @@ pub record TakesOut (ticket : ℕ) (flight : Flight) (old new : Past) : Type 0 w
 pub data GivesUp (jobs : List Job) (number retries : ℕ) (old : Past) : Past → Type 0 where
   again : (state : JobState) → slice_get old.jobs number ≡ Some state → state.gave_up < retries → GivesUp jobs number retries old (with_giving_up number old)
   too_often : (state : JobState) → slice_get old.jobs number ≡ Some state → retries ≤ state.gave_up →
-      GivesUp jobs number retries old (with_end (reported (Outcome.TemporaryFail (place_at jobs number))) old)
+      GivesUp jobs number retries old (with_end (Ok (Outcome.TemporaryFail (place_at jobs number))) old)

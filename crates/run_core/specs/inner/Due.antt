@@ -15,6 +15,7 @@ use Rattle.proc_host.specs.declared.call.HostRequest.{HostRequest}
 use Rattle.staging.specs.Groups.{path_in}
 use Rattle.staging.specs.declared.found.Found.{Found}
 use Rattle.run_rules.specs.declared.outcome.Cause.{Cause}
+use Rattle.run_rules.specs.declared.outcome.CollectCause.{CollectCause}
 use Rattle.run_rules.specs.declared.setting.Options.{Options}
 use Rattle.job_graph.specs.Words.{Name, Fields, JobPlace}
 use Rattle.collected_outputs.specs.Contents.{Heads}
@@ -36,7 +37,7 @@ work_of place call (JobPhase.Filling filling) = input_heads_due place filling.st
 work_of place (HostRequest.Start launch) (JobPhase.Starting kept) = start_due place kept.inputs launch
 work_of place call (JobPhase.Starting kept) = nothing_due
 work_of place call (JobPhase.Scanning kept millis) = scan_due place millis
-work_of place call (JobPhase.Reading kept reading) = output_heads_due place reading.found (reverse reading.left) reading.heads
+work_of place call (JobPhase.Reading kept reading) = output_heads_due place reading.millis reading.found (reverse reading.left) reading.heads
 
 -- the call for that work, of a job in the folders of this number
 abbrev pub call_for : Options → ℕ → Work → Option HostRequest
@@ -45,8 +46,8 @@ call_for options folder (input_heads_due place staged [] read) = None
 call_for options folder (input_heads_due place staged (path ∷ todo) read) = Some (HostRequest.Head path MOST_CONTENTS)
 call_for options folder (start_due place inputs launch) = Some (HostRequest.Start launch)
 call_for options folder (scan_due place millis) = Some (HostRequest.Scan (out_folder options.work folder))
-call_for options folder (output_heads_due place found [] read) = None
-call_for options folder (output_heads_due place found (name ∷ todo) read) =
+call_for options folder (output_heads_due place millis found [] read) = None
+call_for options folder (output_heads_due place millis found (name ∷ todo) read) =
     Some (HostRequest.Head (path_in (out_folder options.work folder) name) (limit_of name))
 
 abbrev pub work_next : JobPlace → JobNext → Work
@@ -112,10 +113,11 @@ pub record Starts (site : Site) (staged : Fields) (read : Heads) (todo : List Na
       StartsOn site.options.now place (job_at_site site place inputs) site.folder staged read todo (work_next place next) (events_next place next)
   pub calls : CallsNext site.options.now site.folder next
 
--- the job whose child ended well goes on so, where this was found, these first bytes were read and those of these names are not
-pub record Collects (site : Site) (kept : Kept) (found : List Found) (read : Heads) (todo : List Name) (next : JobNext) : Type 0 where
+-- the job whose child ended well after so long goes on so, where this was found, these first bytes were read and those of these names are
+-- not
+pub record Collects (site : Site) (kept : Kept) (millis : ℕ) (found : List Found) (read : Heads) (todo : List Name) (next : JobNext) : Type 0 where
   pub on : (place : JobPlace) (inputs : Fields) (started : Started) → IsKept kept started →
-      CollectsOn place (job_at_site site place inputs) started found read todo (work_next place next) (events_next place next)
+      CollectsOn place (job_at_site site place inputs) started millis found read todo (work_next place next) (events_next place next)
   pub calls : CallsNext site.options.now site.folder next
   pub keeps : KeepsStill kept next
 
@@ -137,16 +139,16 @@ pub record StartsPast (site : Site) (filling : Filling) (bytes : List ℕ) (next
 
 pub record CollectsPast (site : Site) (kept : Kept) (reading : Reading) (bytes : List ℕ) (next : JobNext) : Type 0 where
   pub each : (rest : List Name) (name : Name) → reading.left ≡ rest ++ name ∷ [] →
-      Collects site kept reading.found (with_value name bytes reading.heads) (reverse rest) next
+      Collects site kept reading.millis reading.found (with_value name bytes reading.heads) (reverse rest) next
 
 -- the folder is listed: the files that the outputs ask for are read
-pub record CollectsFirst (site : Site) (kept : Kept) (found : List Found) (next : JobNext) : Type 0 where
+pub record CollectsFirst (site : Site) (kept : Kept) (millis : ℕ) (found : List Found) (next : JobNext) : Type 0 where
   pub wanted : List Name
   pub are : AreHeadsWanted (listing_of found) kept.inputs site.tool.now.outputs wanted
-  pub on : Collects site kept found [] wanted next
+  pub on : Collects site kept millis found [] wanted next
 
 -- the outputs are collected, or there is a cause why there are none
 pub data Gathers (site : Site) (kept : Kept) (found : List Found) (read : Heads) : JobNext → Type 0 where
   gives : (outputs : Fields) → IsCollected (left_by kept found read) site.tool.now.outputs (Ok outputs) → Gathers site kept found read (JobNext.Gives outputs)
   gives_none : (fault : OutputFault) → IsCollected (left_by kept found read) site.tool.now.outputs (Err fault) →
-      Gathers site kept found read (JobNext.Fails (Cause.Collect fault))
+      Gathers site kept found read (JobNext.Fails (Cause.Collect (CollectCause.Output fault)))

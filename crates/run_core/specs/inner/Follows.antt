@@ -18,7 +18,7 @@ use Rattle.run_core.specs.declared.state.Phase.{Phase}
 use Rattle.run_core.specs.declared.state.Turn.{Turn}
 use Rattle.run_core.specs.inner.Course.{Past, known_in, past_of}
 use Rattle.run_core.specs.inner.Measures.{TakesMeasure}
-use Rattle.run_core.specs.inner.Parts.{job_in, kept_in, measuring_in, reading_in}
+use Rattle.run_core.specs.inner.Parts.{job_in, kept_in, measuring_in, millis_in, reading_in}
 use Rattle.run_core.specs.inner.Picks.{AfterChild, AfterFault, AfterInputHead, AfterListing, AfterOutputHead, AfterStaging, AfterStart, delivered_in}
 use Rattle.run_core.specs.inner.Standing.{pairs_ahead}
 use Rattle.run_core.specs.inner.Turn.{ends, lost_after, succeeds}
@@ -88,7 +88,7 @@ FollowsFrom given old before (Answer.Host HostAnswer.Done) turn new = AfterDone 
 FollowsFrom given old before (Answer.Host (HostAnswer.Measured measure)) turn new = TakesMeasure given old (measuring_in before.phase) measure turn new
 FollowsFrom given old before (Answer.Host (HostAnswer.Started ticket)) turn new = AfterStart given old (job_in before.phase) (kept_in before.phase) ticket turn new
 FollowsFrom given old before (Answer.Host (HostAnswer.Ended ending)) turn new = AfterEnding given old before.phase ending turn new
-FollowsFrom given old before (Answer.Host (HostAnswer.Listed found)) turn new = AfterListing given old (job_in before.phase) (kept_in before.phase) found turn new
+FollowsFrom given old before (Answer.Host (HostAnswer.Listed found)) turn new = AfterListing given old (job_in before.phase) (kept_in before.phase) (millis_in before.phase) found turn new
 FollowsFrom given old before (Answer.Host (HostAnswer.FirstBytes bytes)) turn new = AfterBytes given old before.phase bytes turn new
 FollowsFrom given old before (Answer.Host (HostAnswer.Failed fault)) turn new = AfterFailure given old before fault turn new
 

@@ -4,7 +4,7 @@ use Rattle.std.specs.List.{list_any}
 use Rattle.job_graph.specs.Jobs.{Job}
 use Rattle.run_rules.specs.End.{is_lost_collect, settled}
 use Rattle.run_rules.specs.Events.{Event, Started, are_measured, delivered_at, measures, resolved, started_at, unfolding_at}
-use Rattle.run_rules.specs.Reports.{report_of}
+use Rattle.run_rules.specs.Reports.{outcome_of}
 use Rattle.run_rules.specs.Scene.{Scene}
 use Rattle.run_rules.proofs.events.Course.{Course as Books, Keeps as AreKept}
 use Rattle.run_rules.proofs.events.Known.{IsFront}
@@ -58,7 +58,7 @@ pub record Keeps (s : Scene) (es : List Event) (jobs : List Job) (past : Past) (
   pub slots : length past.tickets + worked at_work ≤ s.options.slots
   pub flights : (flight : Flight) → Contains past.flights flight → KeepsFlight es jobs flight
   pub front : IsFront jobs (unfolding_at s es).jobs
-  pub end : past.end ≡ option_map report_of (settled s es)
+  pub end : past.end ≡ option_map outcome_of (settled s es)
 
 -- a course is what has happened, with the number of the job that is worked on: no collect has failed, nothing was delivered, and unless
 -- the end is settled each input file is measured and all is known by the rules

@@ -9,7 +9,7 @@ use Rattle.job_graph.specs.Unfold.{Resolved, unfolded}
 use Rattle.job_graph.specs.Unfolding.{AnswersAlike, Learns as LearnsPlace}
 pub use Rattle.job_graph.specs.Unfolding.{Knows, fault_of}
 use Rattle.run_rules.specs.declared.outcome.Cause.{Cause}
-use Rattle.run_rules.specs.declared.outcome.Report.{Report}
+use Rattle.run_rules.specs.declared.outcome.Outcome.{Outcome}
 use Rattle.run_rules.specs.declared.outcome.RunFault.{RunFault}
 use Rattle.run_core.specs.declared.state.Course.{Course}
 use Rattle.run_core.specs.inner.Course.{known_in, past_of, with_end}
@@ -21,7 +21,7 @@ IsKnown walks learned None = ⊥
 IsKnown walks learned (Some kept) = Knows walks learned kept
 
 -- the end by a fault
-abbrev pub end_by : UnfoldFault → Result Report RunFault
+abbrev pub end_by : UnfoldFault → Result Outcome RunFault
 end_by UnfoldFault.TooManyJobs = Err RunFault.TooManyJobs
 end_by (UnfoldFault.Fault place cause) = permanent place (Cause.Equation cause)
 

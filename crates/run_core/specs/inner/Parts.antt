@@ -14,7 +14,7 @@ abbrev pub nothing_filled : Filling
 nothing_filled = record { staged = []; left = []; heads = [] }
 
 abbrev pub nothing_read : Reading
-nothing_read = record { found = []; left = []; heads = [] }
+nothing_read = record { millis = 0; found = []; left = []; heads = [] }
 
 abbrev pub nothing_measured : Measuring
 nothing_measured = record { left = []; measures = [] }
@@ -25,6 +25,11 @@ kept_in (Phase.Working job (JobPhase.Starting kept)) = kept
 kept_in (Phase.Working job (JobPhase.Scanning kept millis)) = kept
 kept_in (Phase.Working job (JobPhase.Reading kept reading)) = kept
 kept_in phase = nothing_kept
+
+-- for how long its child ran, where its folder is listed
+abbrev pub millis_in : Phase → ℕ
+millis_in (Phase.Working job (JobPhase.Scanning kept millis)) = millis
+millis_in phase = 0
 
 abbrev pub measuring_in : Phase → Measuring
 measuring_in (Phase.Measuring measuring) = measuring

@@ -13,15 +13,15 @@ use Rattle.staging.specs.declared.found.Found.{Found}
 use Rattle.staging.specs.declared.plan.StagePlan.{StagePlan}
 use Rattle.staging.specs.Plan.{IsPlan}
 use Rattle.run_rules.specs.declared.outcome.Cause.{Cause}
-use Rattle.run_rules.specs.declared.outcome.Report.{Report}
+use Rattle.run_rules.specs.declared.outcome.Outcome.{Outcome}
 use Rattle.run_rules.specs.declared.outcome.RunFault.{RunFault}
 use Rattle.run_rules.specs.declared.request.Request.{Request}
 use Rattle.run_rules.specs.declared.setting.Options.{Options}
 use Rattle.run_rules.specs.Delivered.{any_file, located, source_place}
-use Rattle.run_rules.specs.Folders.{in_folder}
+use Rattle.run_rules.specs.Folders.{in_folder, out_folder}
 use Rattle.job_graph.specs.Jobs.{Job}
 use Rattle.job_graph.specs.Made.{fields_moved}
-use Rattle.job_graph.specs.Words.{Fields, last_by_name}
+use Rattle.job_graph.specs.Words.{Name, Fields, JobPlace, last_by_name}
 use Rattle.run_core.specs.declared.site.Site.{Site}
 use Rattle.run_core.specs.declared.state.Course.{Course}
 use Rattle.run_core.specs.declared.state.Filling.{Filling}
@@ -40,10 +40,14 @@ use Rattle.run_core.specs.inner.JobStates.{IsLowest, NoneWaits}
 use Rattle.run_core.specs.inner.Knows.{Learns, outputs_in}
 use Rattle.run_core.specs.inner.Turn.{collects, ends, permanent, root_asks, succeeds, works}
 
+-- the folder that has the outputs of the job at a place
+abbrev pub folder_in : Options → Course → JobPlace → Name
+folder_in options course place = out_folder options.work (number_in (known_in course.known) course.jobs place)
+
 -- the values, where files that jobs made are at their paths
 abbrev pub sources_in : Options → Course → Fields → Fields
 sources_in options course values =
-    fields_moved (source_place (number_in (known_in course.known) course.jobs) options.work) values
+    fields_moved (source_place (folder_in options course)) values
 
 -- the job of a number is to be staged
 pub record Stages (given : Given) (course : Course) (number : ℕ) (turn : Turn) : Type 0 where
@@ -82,7 +86,7 @@ pub record MayBeNext (given : Given) (course : Course) (number : ℕ) : Type 0 w
 -- where nothing is due
 pub data Picks (given : Given) (old : Course) : Turn → Course → Type 0 where
   drains : (new : Course) → IsSome old.end → old.tickets.items ≢ [] → past_of new ≡ past_of old → new.known ≡ old.known → Picks given old collects new
-  ends_so : (end : Result Report RunFault) (new : Course) → old.end ≡ Some end → old.tickets.items ≡ [] → new.tickets.items ≡ [] → new.known ≡ old.known →
+  ends_so : (end : Result Outcome RunFault) (new : Course) → old.end ≡ Some end → old.tickets.items ≡ [] → new.tickets.items ≡ [] → new.known ≡ old.known →
       Picks given old (ends end) new
   stages : (number : ℕ) (turn : Turn) (new : Course) → old.end ≡ None → length old.tickets.items < given.options.slots →
       IsLowest old.jobs (length (known_in old.known)) number → Stages given old number turn → past_of new ≡ past_of old → new.known ≡ old.known → Picks given old turn new
@@ -172,11 +176,11 @@ pub record AfterChild (given : Given) (old : Course) (ending : ChildEnd) (turn :
   pub is_job : slice_get (known_in landed.known) flight.job ≡ Some job
   pub ends : AfterEnd given landed flight job.tool ending turn new
 
-pub record AfterListing (given : Given) (old : Course) (number : ℕ) (kept : Kept) (found : List Found) (turn : Turn) (new : Course) : Type 0 where
+pub record AfterListing (given : Given) (old : Course) (number : ℕ) (kept : Kept) (millis : ℕ) (found : List Found) (turn : Turn) (new : Course) : Type 0 where
   pub site : Site
   pub is_site : IsSite given old number site
   pub next : JobNext
-  pub collects : CollectsFirst site kept found next
+  pub collects : CollectsFirst site kept millis found next
   pub turns : Turns given old number next turn new
 
 pub record AfterOutputHead (given : Given) (old : Course) (number : ℕ) (kept : Kept) (reading : Reading) (bytes : List ℕ) (turn : Turn) (new : Course) : Type 0 where

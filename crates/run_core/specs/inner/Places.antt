@@ -7,6 +7,7 @@ use Rattle.cwl_value.specs.declared.value.DirVal.{DirVal, fold-DirVal}
 use Rattle.job_graph.specs.KnownJobs.{job_of}
 use Rattle.job_graph.specs.Words.{JobPlace}
 use Rattle.run_rules.specs.Delivered.{source_place, location_place}
+use Rattle.run_rules.specs.Folders.{out_folder}
 use Rattle.job_graph.specs.Made.{file_moved, dir_moved}
 use Rattle.run_core.specs.declared.places.Sources.{Sources}
 use Rattle.run_core.specs.declared.places.Way.{Way}
@@ -31,7 +32,7 @@ number_at_source sources place = number_in (map (λ known. job_of known.job) sou
 
 -- what a job made is at its path
 abbrev pub left_place : Sources → Place → Place
-left_place sources place = source_place (number_at_source sources) sources.work.now place
+left_place sources place = source_place (λ job. out_folder sources.work.now (number_at_source sources job)) place
 
 abbrev pub place_by : Way → Place → Place
 place_by (way.Left sources) place = left_place sources place

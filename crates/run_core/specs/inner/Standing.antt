@@ -7,7 +7,7 @@ use Rattle.staging.specs.declared.measure.Measure.{Measure}
 use Rattle.staging.specs.declared.plan.StagePlan.{StagePlan}
 use Rattle.job_graph.specs.Jobs.{Job}
 use Rattle.job_graph.specs.Words.{JobPlace, Name}
-use Rattle.run_rules.specs.declared.outcome.Report.{Report}
+use Rattle.run_rules.specs.declared.outcome.Outcome.{Outcome}
 use Rattle.run_rules.specs.declared.outcome.RunFault.{RunFault}
 use Rattle.run_rules.specs.declared.request.Pair.{Pair}
 use Rattle.run_rules.specs.declared.request.Request.{Request}
@@ -18,7 +18,7 @@ use Rattle.run_rules.specs.End.{End}
 use Rattle.run_rules.specs.EndsSo.{EndsSo}
 use Rattle.run_rules.specs.Events.{Event, Progress, Started, nothing_due, started_at}
 use Rattle.run_rules.specs.Plans.{InForce}
-use Rattle.run_rules.specs.Reports.{AreWaits, report_of}
+use Rattle.run_rules.specs.Reports.{AreWaits, outcome_of}
 use Rattle.run_rules.specs.Run.{Goes}
 use Rattle.run_rules.specs.Scene.{Scene}
 use Rattle.run_rules.proofs.events.Places.{IsJob}
@@ -76,7 +76,7 @@ pub data IsAt (s : Scene) (f : Progress) (marks : List Mark) (course : Course) :
   delivering : (plan : StagePlan) → Reflects s f.events course None → MayDeliver s f marks [] plan → course.end ≡ None →
       NoneWaits course.jobs (length (known_in course.known)) →
       IsAt s f marks course (waits (HostRequest.Deliver plan) (Phase.Delivering (located plan.value)))
-  ended : (end : End) → EndsSo s f marks end → IsAt s f marks course (ends (report_of end))
+  ended : (end : End) → EndsSo s f marks end → IsAt s f marks course (ends (outcome_of end))
 
 -- a run so far, and where the machine is in it
 pub record Runs (s : Scene) (t : List Pair) (course : Course) (turn : Turn) : Type 0 where
@@ -102,7 +102,7 @@ pub record RanOut (s : Scene) (t : List Pair) (past : Past) (turn : Turn) : Type
   pub at : IsLostAt past turn
 
 -- a failure that settled the end: one of the host's blames it rightly, and memory that ran out settles none
-abbrev pub SettlesRightly : List Entry → Result Report RunFault → Type 0
+abbrev pub SettlesRightly : List Entry → Result Outcome RunFault → Type 0
 SettlesRightly entries (Ok report) = Unit {0}
 SettlesRightly entries (Err (RunFault.Host fault running)) = IsToBlame entries fault running
 SettlesRightly entries (Err RunFault.TooManyJobs) = Unit {0}
@@ -111,7 +111,7 @@ SettlesRightly entries (Err RunFault.OutOfMemory) = ⊥
 -- what it knows of its host while it goes on: the children in flight were started, and what settled the end blames it rightly
 pub record BlamesSoFar (entries : List Entry) (past : Past) : Type 0 where
   pub flying : WereStarted entries past.tickets
-  pub settled : (end : Result Report RunFault) → past.end ≡ Some end → SettlesRightly entries end
+  pub settled : (end : Result Outcome RunFault) → past.end ≡ Some end → SettlesRightly entries end
 
 -- and an end by the host's fault blames it rightly
 abbrev pub Blames : List Entry → Past → Phase → Type 0

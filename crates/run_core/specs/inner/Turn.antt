@@ -1,13 +1,11 @@
 -- What the machine may wait for.
-use Rattle.std.specs.Prelude.{ℕ, List, [], ◌∷◌, Result, Err}
+use Rattle.std.specs.Prelude.{Ok, ℕ, List, [], ◌∷◌, Result, Err}
 use Rattle.cwl_value.specs.declared.value.Value.{Value}
 use Rattle.proc_host.specs.declared.call.HostRequest.{HostRequest}
 use Rattle.run_rules.specs.declared.outcome.Cause.{Cause}
 use Rattle.run_rules.specs.declared.outcome.Outcome.{Outcome}
-use Rattle.run_rules.specs.declared.outcome.Report.{Report}
 use Rattle.run_rules.specs.declared.outcome.RunFault.{RunFault}
 use Rattle.run_rules.specs.declared.request.Request.{Request}
-use Rattle.run_rules.specs.Reports.{reported}
 use Rattle.job_graph.specs.Words.{JobPlace}
 use Rattle.run_core.specs.declared.state.JobPhase.{JobPhase}
 use Rattle.run_core.specs.declared.state.Phase.{Phase}
@@ -23,7 +21,7 @@ waits call phase = record { asks = root_asks call; phase = phase }
 abbrev pub collects : Turn
 collects = waits HostRequest.Collect Phase.Collecting
 
-abbrev pub ends : Result Report RunFault → Turn
+abbrev pub ends : Result Outcome RunFault → Turn
 ends outcome = record { asks = Request.Finished; phase = Phase.Ended outcome }
 
 abbrev pub IsEnded : Phase → Type 0
@@ -31,13 +29,13 @@ IsEnded (Phase.Ended outcome) = Unit {0}
 IsEnded phase = ⊥
 
 abbrev pub succeeds : Value → Turn
-succeeds outputs = ends (reported (Outcome.Success outputs))
+succeeds outputs = ends (Ok (Outcome.Success outputs))
 
 abbrev pub works : JobPlace → ℕ → HostRequest → JobPhase → Turn
 works place number call phase = record { asks = Request.Host place call; phase = Phase.Working number phase }
 
-abbrev pub permanent : JobPlace → Cause → Result Report RunFault
-permanent place cause = reported (Outcome.PermanentFail place cause)
+abbrev pub permanent : JobPlace → Cause → Result Outcome RunFault
+permanent place cause = Ok (Outcome.PermanentFail place cause)
 
 -- memory ran out while these children are in flight
 abbrev pub lost_with : List ℕ → Turn

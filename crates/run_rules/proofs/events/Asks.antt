@@ -13,7 +13,7 @@ use Rattle.run_rules.specs.Folders.{in_folder}
 use Rattle.job_graph.specs.Jobs.{Job}
 use Rattle.run_rules.specs.Scene.{Scene}
 use Rattle.run_rules.specs.Delivered.{any_file, source_place}
-use Rattle.run_rules.specs.Events.{Work, nothing_due, Progress, in_flight, is_held, is_staging, delivered_at, number_at, unfolding_at}
+use Rattle.run_rules.specs.Events.{Work, nothing_due, Progress, in_flight, is_held, is_staging, delivered_at, folder_at, unfolding_at}
 use Rattle.run_rules.specs.End.{End, settled, IsDelivery, is_lost_collect}
 use Rattle.run_rules.specs.Allowed.{IsFree, MayStage, IsBusy, MayCollect, MayDeliver, due, due_in}
 use Rattle.run_rules.specs.Plans.{mark_at}
@@ -31,7 +31,7 @@ module _ (s : Scene) (f : Progress) (marks : List Mark) where
   -- a job may be staged that the plan computes and that is not held
   pub may_stage : (n : ℕ) (job : Job) (plan : StagePlan) (number : ℕ) → IsFree s f → AreApart (jobs_in s f) →
       IsJob (jobs_in s f) n job → mark_at s marks f.events job.place ≡ Compute → is_held f.events job.place ≡ false → length (in_flight f.events) < s.options.slots →
-      number ≡ length (filter is_staging f.events) + 1 → IsPlan false (in_folder s.options.work number) (fields_moved (source_place (number_at f.events) s.options.work) job.inputs) plan →
+      number ≡ length (filter is_staging f.events) + 1 → IsPlan false (in_folder s.options.work number) (fields_moved (source_place (folder_at s f.events)) job.inputs) plan →
       MayStage s f marks job.place plan number
   may_stage n job plan number free apart it computed away slot next staged = record {
     free = free;

@@ -16,7 +16,7 @@ use Rattle.run_rules.specs.Folders.{in_folder}
 use Rattle.job_graph.specs.Jobs.{Job}
 use Rattle.job_graph.specs.Words.{JobPlace}
 use Rattle.run_rules.specs.Scene.{Scene}
-use Rattle.run_rules.specs.Events.{Progress, is_held, number_at}
+use Rattle.run_rules.specs.Events.{Progress, folder_at, is_held}
 use Rattle.run_rules.specs.Allowed.{IsFree, IsBusy, MayStage}
 use Rattle.run_rules.specs.Plans.{InForce, number_of}
 use Rattle.run_rules.specs.Run.{Goes}
@@ -100,7 +100,7 @@ module _ (s : Scene) (f : Progress) (marks : List Mark) (c : Course) (k : Keeps 
 
   -- a job that waits may be staged
   pub waiting_may_stage : {t : List Pair} (n : ℕ) (job : Job) (plan : StagePlan) → Goes s (InForce s) t f marks → IsJob (jobs_in s f) n job → c.waits n ≡ true →
-      length c.tickets < s.options.slots → IsPlan false (in_folder s.options.work (c.folders + 1)) (fields_moved (source_place (number_at f.events) s.options.work) job.inputs) plan →
+      length c.tickets < s.options.slots → IsPlan false (in_folder s.options.work (c.folders + 1)) (fields_moved (source_place (folder_at s f.events)) job.inputs) plan →
       MayStage s f marks job.place plan (c.folders + 1)
   waiting_may_stage n job plan goes it waits slot staged =
       may_stage s f marks n job plan (c.folders + 1) free k.apart it
