@@ -192,9 +192,10 @@ fn gathered(
         &reading.heads,
     ) {
         Ok(outputs) => Ok(JobNext::Gives(outputs)),
-        Err(CollectError::Refused(fault)) => Ok(failing(Cause::Collect(CollectCause::Output(
-            fault,
-        )))),
+        Err(CollectError::Refused(fault)) => {
+            let cause = CollectCause::Output(fault);
+            Ok(failing(Cause::Collect(cause)))
+        }
         Err(CollectError::OutOfMemory) => Err(AllocError),
     }
 }

@@ -3,7 +3,7 @@ ghost use Rattle.std.specs.Prelude.{◌≡◌, ◌<◌, ◌+◌, ◌^◌, ◌∷
 ghost use Rattle.run_core.specs.declared.state.Phase.{Phase as Waits};
 ghost use Rattle.run_core.specs.inner.Course.{known_in};
 ghost use Rattle.run_core.specs.inner.Follows.{AfterBytes, AfterFailure, AsksIn, CanStage, Drains, FollowsFrom, IsLeftAfter, IsOneLess, IsReady, IsReadyFor};
-ghost use Rattle.run_core.specs.inner.Parts.{filling_in, job_in, kept_in, reading_in};
+ghost use Rattle.run_core.specs.inner.Parts.{filling_in, job_in, kept_in, millis_in, reading_in};
 ghost use Rattle.run_core.specs.inner.Picks.{AfterChild, AfterInputHead, AfterListing, AfterOutputHead, AfterStaging, AfterStart, AfterTemporary, IsScanned, IsSite, Turns};
 ghost use Rattle.run_core.specs.inner.Standing.{HasRoom};
 ghost use Rattle.run_rules.specs.Answers.{MayAnswer};
@@ -15,7 +15,7 @@ use crate::course::{
 };
 use crate::delivery::delivered;
 use crate::measuring::measured;
-use crate::parts::{filling_in, job_in, kept_in, reading_in};
+use crate::parts::{filling_in, job_in, kept_in, millis_in, reading_in};
 use crate::site::Site;
 use crate::starts::{filled, filled_first};
 use crate::state::{Course, Flight, Given, JobNext, JobPhase, Phase, Turn};
