@@ -5,18 +5,20 @@ names nothing of a File but its contents, its names and how many of them there a
 """
 
 import re
-from typing import Any, Dict, Iterable, List, NamedTuple, Optional, Tuple
+from typing import Any, Dict, FrozenSet, Iterable, List, NamedTuple, Optional, Tuple
 
 from .marked import Fields, Items
 from .references import JAVASCRIPT, NAME, faults
 
 START = re.compile(r"\$[({]")
+# The name of `self` among what is loaded; no input has it.
+SELF = "#self"
 OPENERS = {"(": ")", "{": "}"}
 VARIABLE = re.compile(r"(?<![\w$.])(inputs|self|runtime|globalThis|eval|Function|require|process)(?![\w$])")
 SEGMENT = re.compile(r"""\s*(?:\.\s*([A-Za-z_]\w*)|\[\s*(?:([0-9]+)|'([^'\\]*)'|"([^"\\]*)")\s*\])""")
 # What a File has here and in cwltool alike.
 ALIKE = ("contents", "basename", "nameroot", "nameext", "class", "length")
-INNER = ("listing", "secondaryFiles")
+INNER = ("listing",)
 PLAIN_TYPES = ("null", "boolean", "int", "long", "string")
 
 
@@ -28,11 +30,15 @@ class Part(NamedTuple):
 
 
 class Known(NamedTuple):
-    """What is known where an expression stands: the inputs that may hold Files, and whether `self` may, and listings are there."""
+    """What is known where an expression stands: the inputs that may hold Files, those with contents, and whether listings are there.
 
-    files: "frozenset[str]"
-    self_is_plain: bool
+    `self` may hold Files unless it is plain, and has their contents where it is among what is `loaded`.
+    """
+
+    files: FrozenSet[str]
+    loaded: FrozenSet[str]
     has_listings: bool
+    self_is_plain: bool = False
 
 
 def is_javascript(value: Any) -> bool:
@@ -87,20 +93,36 @@ def why_not(code: str, known: Known) -> Optional[str]:
     """Returns why an expression may give another value here than in cwltool, or None."""
     if re.search(r"\blisting\b", code) and not known.has_listings:
         return "a listing is named, and whether there is one is up to the version and to LoadListingRequirement"
+    if "\\u" in code:
+        return "a name may be written with \\u"
     for it in VARIABLE.finditer(code):
         name, segments = it[1], segments_of(code, it.end())
         if name == "inputs":
-            if not known.files:
-                continue
-            if not segments or segments[0].isdigit():
-                return "inputs are named as a whole, and there are Files among them"
-            if segments[0] in known.files and not is_alike(segments[1:]):
-                return f"more than the contents and names of {segments[0]} is asked for, which may be a File"
+            if not segments and (known.files or not re.match(r"\s*\[", code[it.end() : it.end() + 9])):
+                return "inputs are named as a whole: their order is another one, and there may be Files among them"
+            if segments and segments[0] in known.files and not is_alike(segments[1:], segments[0] in known.loaded):
+                return f"more than the names, or loaded contents, of {segments[0]} is asked for, which may be a File"
         elif name != "self":
             return f"{name} is named"
-        elif not known.self_is_plain and not is_alike(segments):
-            return "more than the contents and names of self is asked for, which may be a File"
+        elif not known.self_is_plain and not is_alike(segments, SELF in known.loaded):
+            return "more than the names, or loaded contents, of self is asked for, which may be a File"
     return None
+
+
+def names_any(text: str) -> bool:
+    """Says whether a text of expressionLib may name something of a tool."""
+    return bool(VARIABLE.search(text) or re.search(r"\blisting\b|\\u", text))
+
+
+def safe_parts(text: Any, known: Known, reasons: Dict[str, str]) -> Optional[List[Part]]:
+    """Returns the parts of a text whose expressions give the same here, or None, and then puts the reason under the text."""
+    parts = parts_of(text) if isinstance(text, str) else None
+    for it in parts or []:
+        reason = why_not(it.text, known) if it.is_code else None
+        if reason:
+            reasons[text] = reason
+            return None
+    return parts
 
 
 def segments_of(code: str, at: int) -> List[str]:
@@ -114,11 +136,11 @@ def segments_of(code: str, at: int) -> List[str]:
         at = it.end()
 
 
-def is_alike(segments: List[str]) -> bool:
+def is_alike(segments: List[str], has_contents: bool) -> bool:
     """Says whether these lead to something that a File has here and in cwltool alike."""
     for it in segments:
         if it in ALIKE:
-            return True
+            return it != "contents" or has_contents
         if not it.isdigit() and it not in INNER:
             return False
     return False
@@ -146,3 +168,11 @@ def parameters(section: Any) -> List[Tuple[str, Any]]:
 def types_of(section: Any) -> Dict[str, Any]:
     """Returns the types of parameters by the last parts of their names."""
     return {name.rpartition("#")[2].rpartition("/")[2]: it.get("type") if isinstance(it, Fields) else it for name, it in parameters(section)}
+
+
+def mentioned(names: Iterable[str], texts: Iterable[str], known: Known) -> List[str]:
+    """Returns the names of inputs that expressions may mean: all where there are no Files, which cost most, among them."""
+    if not known.files:
+        return list(names)
+    words = set(re.findall(r"\w+", " ".join(texts)))
+    return [it for it in names if words.issuperset(re.findall(r"\w+", it))]

@@ -70,7 +70,7 @@ class Import:
     def process(self, path: str, fragment: str, scope: Scope, node: Any, key: Any) -> str:
         """Writes a process of a document, once for each set of requirements around it. Returns the name of its file."""
         around = tuple((name, id(it.fields), it.is_hint) for name, it in sorted(scope.carried.items()))
-        asked = (path, fragment, around, tuple(sorted(scope.names)), None if scope.library is None else tuple(scope.library))
+        asked = (path, fragment, around, tuple(sorted(scope.names)), scope.library)
         if (path, fragment) in self.open:
             raise fault_at(f"{os.path.basename(path)}{'#' + fragment if fragment else ''} runs itself", node, key)
         if asked in self.written:

@@ -2,7 +2,7 @@
 
 import json
 import shutil
-from typing import Any, Iterable, List, NamedTuple, Optional
+from typing import Any, Iterable, List, NamedTuple, Optional, Tuple
 
 from .expressions import Part
 from .marked import Fields, list_of, object_of
@@ -68,7 +68,7 @@ def is_there() -> bool:
     return shutil.which(COMMAND) is not None
 
 
-def evaluator(node: Fields, inputs: Iterable[Fields], outputs: Iterable[Fields], library: List[str], tasks: List[Task], hidden: Iterable[str] = ()) -> Evaluator:
+def evaluator(node: Fields, inputs: Iterable[Fields], outputs: Iterable[Fields], library: Tuple[str, ...], tasks: List[Task], hidden: Iterable[str] = ()) -> Evaluator:
     """Returns the tool of these tasks. Hidden inputs are no part of `inputs` in JavaScript."""
     told = [{**task._asdict(), "parts": [it._asdict() for it in task.parts]} for task in tasks]
     plan = json.dumps({"library": library, "hidden": list(hidden), "tasks": told})

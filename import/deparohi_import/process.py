@@ -25,7 +25,7 @@ class Scope(NamedTuple):
 
     carried: Dict[str, Asked]
     names: Dict[str, Any]
-    library: Library = None
+    library: Optional[Library] = None
 
 
 class Rewriter:
@@ -39,14 +39,15 @@ class Rewriter:
     def process(self, raw: Fields, scope: Scope) -> Fields:
         """Returns the process in the forms of v1.2, without its version."""
         library = self.javascript.library(raw, scope.library)
-        raw = self.javascript.without(raw, kind_of(raw), library)
+        raw = self.javascript.without(raw, kind_of(raw), library, "LoadListingRequirement" not in scope.carried)
         kind = kind_of(raw)
         names = {**scope.names, **named_types(raw)}
         outer, self.types = self.types, Types(self.findings, names)
         self.types.members = outer.members
         made = raw.like()
         if kind in OTHER_CLASSES:
-            self.findings.add(LEFT, raw, "class", kind, f"this runner has no {kind}: {OTHER_CLASSES[kind]}")
+            reason = self.javascript.reasons.get(raw["expression"]) if isinstance(raw.get("expression"), str) else None
+            self.findings.add(LEFT, raw, "class", kind, f"this runner has no {kind}: {OTHER_CLASSES[kind]}" + (f" ({reason})" if reason else ""))
             self.copy_rest(made, raw, ())
         elif kind in ("CommandLineTool", "Workflow"):
             requirements, hints, below = self.requirements.kept(raw, {} if isinstance(raw, Evaluator) else scope.carried, copied)
@@ -97,7 +98,8 @@ class Rewriter:
         """Finds what the runner refuses in a text that may have references."""
         if isinstance(value, str):
             for feature, words in faults(value, folders, runtime):
-                self.findings.add(LEFT, node, key, feature, words)
+                reason = self.javascript.reasons.get(value)
+                self.findings.add(LEFT, node, key, feature, f"{words} ({reason})" if reason else words)
 
     def no_expression(self, node: Any, key: str, where: str) -> None:
         value = node.get(key)

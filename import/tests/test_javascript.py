@@ -92,6 +92,30 @@ class Left(InFolder):
                 # A call makes JavaScript of what could be a reference.
                 self.leaves(TOOL + ASKED + ENDS + f'arguments: ["$(String({code}))"]\n', "JavaScript 7")
 
+    def test_contents_are_there_where_they_are_loaded(self) -> None:
+        text = TOOL + ASKED + "inputs: {f: {type: File, LOADS}}\noutputs: {o: {type: int, outputBinding: {glob: x, SELF, outputEval: '$(self[0].contents.length + inputs.f.contents.length)'}}}\n"
+        self.leaves(text.replace("LOADS", "loadContents: true").replace("SELF", "loadContents: false"), "JavaScript 6")
+        self.leaves(text.replace("LOADS", "loadContents: false").replace("SELF", "loadContents: true"), "JavaScript 6")
+        if node.is_there():
+            self.leaves(text.replace("LOADS", "loadContents: true").replace("SELF", "loadContents: true"))
+
+    def test_listings_that_are_surely_there(self) -> None:
+        tool = "class: CommandLineTool\nbaseCommand: x\ninputs: {d: Directory}\noutputs: []\narguments: ['$(inputs.d.listing.length + 1)']\nrequirements: {InlineJavascriptRequirement: {}MORE}\n"
+        deep = ", LoadListingRequirement: {loadListing: deep_listing}"
+        self.leaves("cwlVersion: v1.2\n" + tool.replace("MORE", ""), "JavaScript 6")
+        self.leaves("cwlVersion: v1.2\n" + tool.replace("Directory}", "{type: Directory, loadListing: no_listing}}").replace("MORE", deep), "JavaScript 6")
+        if node.is_there():
+            self.leaves("cwlVersion: v1.0\n" + tool.replace("MORE", ""))
+            self.leaves("cwlVersion: v1.2\n" + tool.replace("MORE", deep))
+        inner = "\n".join(" " * 6 + it for it in tool.replace("MORE", "").splitlines())
+        outer = "class: Workflow\nrequirements: {LoadListingRequirement: {loadListing: no_listing}}\ninputs: {d: Directory}\noutputs: []\nsteps:\n  s:\n    in: {d: d}\n    out: []\n    run:\n"
+        self.leaves("cwlVersion: v1.0\n" + outer + "      cwlVersion: v1.0\n" + inner + "\n", "JavaScript 16")
+
+    def test_libraries_that_name_what_is_around_or_are_long(self) -> None:
+        for library in ("function f() { return inputs.f.path; }", "var self = 1;", "x" * 130_000):
+            self.leaves(TOOL + f"requirements: {{InlineJavascriptRequirement: {{expressionLib: ['{library}']}}}}\n" + ENDS + "arguments: ['$(1 + 1)']\n", "JavaScript 7")
+        self.leaves(TOOL + ASKED + ENDS + "arguments: ['$(1 + " + "1" * 130_000 + ")']\n", "JavaScript 7")
+
     def test_places_that_are_not_evaluated(self) -> None:
         self.leaves(TOOL + ASKED + ENDS + "arguments: [{position: '$(1 + 1)', valueFrom: x}]\n", "expression in position 7")
         self.leaves(TOOL + ASKED + "inputs: []\noutputs:\n  o: {type: File, outputBinding: {glob: x, outputEval: '$(self[0] || null)'}}\n", "JavaScript 7")
