@@ -13,5 +13,6 @@ pub mod Object
 pub mod Outputs
 pub mod Patterns
 pub mod Readable
+pub mod Throughout
 pub mod Values
 pub mod inner

@@ -14,11 +14,11 @@ use Rattle.input_files.specs.Measured.{Measures, is_there, as_measured}
 use Rattle.input_files.specs.Present.{all_true}
 use Rattle.input_files.specs.Paths.{Paths, joined, paths_of}
 
-no_left : (a b : Bool) → (a || b) ≡ false → a ≡ false
+pub no_left : (a b : Bool) → (a || b) ≡ false → a ≡ false
 no_left true b is = is
 no_left false b is = refl
 
-no_right : (a b : Bool) → (a || b) ≡ false → b ≡ false
+pub no_right : (a b : Bool) → (a || b) ≡ false → b ≡ false
 no_right true b is = absurd (true≢false is)
 no_right false b is = is
 

@@ -15,7 +15,7 @@ use Rattle.input_files.specs.Given.{Name, Fields}
 use Rattle.input_files.specs.Contents.{Asked, Heads, field_loaded}
 use Rattle.input_files.specs.Paths.{Paths, with_new, each_once}
 
-names_kept : (asked : Asked) (heads : Heads) (fields : Fields) → names (map (field_loaded asked heads) fields) ≡ names fields
+pub names_kept : (asked : Asked) (heads : Heads) (fields : Fields) → names (map (field_loaded asked heads) fields) ≡ names fields
 names_kept asked heads [] = refl
 names_kept asked heads (field ∷ more) = ap (λ l. field.0 ∷ l) (names_kept asked heads more)
 

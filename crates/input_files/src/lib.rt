@@ -31,7 +31,10 @@ mod there;
 pub use contents::{MOST_CONTENTS, heads_wanted, with_contents};
 pub use fault::{ContentsError, ContentsFault, InputError, InputFault};
 pub use inputs::inputs_for;
-pub use laws::values_without_files_stay;
+pub use laws::{
+    contents_are_those_asked, measured_values_say_what_is_there, paths_are_those_needed,
+    values_without_files_stay,
+};
 pub use measured::as_measured;
 pub use names::each_once;
 pub use parameter::Parameter;
