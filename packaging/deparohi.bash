@@ -2,7 +2,7 @@
 _deparohi() {
     local word=${COMP_WORDS[COMP_CWORD]} before=${COMP_WORDS[COMP_CWORD - 1]} command=${COMP_WORDS[1]} every="--explain --quiet --help"
     if [ "$COMP_CWORD" -eq 1 ]; then
-        COMPREPLY=($(compgen -W "run check record demo help --help" -- "$word"))
+        COMPREPLY=($(compgen -W "run check record demo help --help --version" -- "$word"))
         return
     fi
     case $before in

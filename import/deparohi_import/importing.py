@@ -8,6 +8,7 @@ from .fault import ImportFault
 from .findings import LEFT, REWRITTEN, Findings
 from .folder import INPUTS, Folder, reference_to
 from .loading import Library, fault_at, graph_of
+from .javascript import JavaScript
 from .marked import Fields, Items
 from .names import short
 from .places import SCHEME, NotAFile, path_of, split_fragment
@@ -35,10 +36,10 @@ class Packed:
 class Import:
     """The import of one document, with its input object."""
 
-    def __init__(self, folder: Folder, forced: Set[str]) -> None:
+    def __init__(self, folder: Folder, forced: Set[str], evaluates: bool = True) -> None:
         self.folder, self.findings, self.library = folder, Findings(), Library()
         self.values = Values(self.findings, folder.file, folder.folder)
-        self.rewriter = Rewriter(self.findings, Requirements(self.findings, forced), self.values, self.run_named)
+        self.rewriter = Rewriter(self.findings, Requirements(self.findings, forced), self.values, self.run_named, JavaScript(self.findings, evaluates))
         self.written: Dict[Tuple, str] = {}
         self.open: List[Tuple] = []
         self.upgraded: Dict[str, Fields] = {}
@@ -69,7 +70,7 @@ class Import:
     def process(self, path: str, fragment: str, scope: Scope, node: Any, key: Any) -> str:
         """Writes a process of a document, once for each set of requirements around it. Returns the name of its file."""
         around = tuple((name, id(it.fields), it.is_hint) for name, it in sorted(scope.carried.items()))
-        asked = (path, fragment, around, tuple(sorted(scope.names)))
+        asked = (path, fragment, around, tuple(sorted(scope.names)), scope.library)
         if (path, fragment) in self.open:
             raise fault_at(f"{os.path.basename(path)}{'#' + fragment if fragment else ''} runs itself", node, key)
         if asked in self.written:
@@ -104,12 +105,12 @@ class Import:
         names = {**scope.names, **known.names}
         wanted = short(fragment) if fragment else "main"
         if wanted in known.processes:
-            return known.processes[wanted], Scope(scope.carried, names)
+            return known.processes[wanted], scope._replace(names=names)
         alone = [] if fragment else unnamed(processes)
         if len(alone) == 1:
             if len(processes) > 1:
                 self.findings.add(REWRITTEN, alone[0], None, "$graph", "there is no process main, and this is the only one that no other runs")
-            return alone[0], Scope(scope.carried, names)
+            return alone[0], scope._replace(names=names)
         ids = ", ".join(list(known.processes)[:20])
         words = f"the packed document has no process {wanted}; it has {ids}"
         raise ImportFault(words, path, whole.line_of("$graph")) if node is None else fault_at(words, node, key)

@@ -46,3 +46,35 @@ class Items(list):
 
 
 Marked = Union[Fields, Items]
+
+
+def copied(value: Any) -> Any:
+    """Returns a copy of which entries may be changed."""
+    if isinstance(value, Fields):
+        made: Any = value.like()
+        for key, it in value.items():
+            made.put(key, copied(it), value.line_of(key))
+        return made
+    if isinstance(value, Items):
+        made = value.like()
+        for at, it in enumerate(value):
+            made.add(copied(it), value.line_at(at))
+        return made
+    return value
+
+
+def object_of(node: Any, key: Any = None, **entries: Any) -> Fields:
+    """Returns an object with these entries, of the place of an entry of a node."""
+    line = node.line if key is None else node.line_of(key) if isinstance(node, Fields) else node.line_at(key)
+    made = Fields(node.file, line)
+    for name, it in entries.items():
+        made.put({"of_class": "class", "into": "in"}.get(name, name), it)
+    return made
+
+
+def list_of(node: Any, items: Any) -> Items:
+    """Returns a list of these items, of the place of a node."""
+    made = Items(node.file, node.line)
+    for it in items:
+        made.add(it, getattr(it, "line", None))
+    return made

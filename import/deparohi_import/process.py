@@ -3,8 +3,11 @@
 from typing import Any, Callable, Dict, NamedTuple, Optional, Set, Tuple
 
 from .findings import IGNORED, LEFT, WRONG, Findings
-from .marked import Fields, Items
+from .javascript import JavaScript, Library
+from .links import lone_picks
+from .marked import Fields, Items, copied
 from .names import class_name, short, source_name
+from .node import Evaluator
 from .references import faults, has_expression
 from .requirements import Asked, Requirements, ToolTexts, entries
 from .shell import command_of
@@ -18,36 +21,41 @@ DESCRIBING = ("doc", "label", "intent", "format", "streamable")
 
 
 class Scope(NamedTuple):
-    """What a process has from around it: the requirements carried to its tools, and the types that have names."""
+    """What a process has from around it: the requirements carried to its tools, the types that have names, and the expressionLib."""
 
     carried: Dict[str, Asked]
     names: Dict[str, Any]
+    library: Optional[Library] = None
 
 
 class Rewriter:
     """Rewrites the processes of one import. `run_named` gives the name of the written document that a step names."""
 
-    def __init__(self, findings: Findings, requirements: Requirements, values: Values, run_named: Callable[[Fields, str, Scope], str]) -> None:
+    def __init__(self, findings: Findings, requirements: Requirements, values: Values, run_named: Callable[[Fields, str, Scope], str], javascript: JavaScript) -> None:
+        self.javascript = javascript
         self.findings, self.requirements, self.values, self.run_named = findings, requirements, values, run_named
         self.types = Types(findings, {})
 
     def process(self, raw: Fields, scope: Scope) -> Fields:
         """Returns the process in the forms of v1.2, without its version."""
-        kind = class_name(raw["class"]) if isinstance(raw.get("class"), str) else None
+        library = self.javascript.library(raw, scope.library)
+        raw = self.javascript.without(raw, kind_of(raw), library, "LoadListingRequirement" not in scope.carried)
+        kind = kind_of(raw)
         names = {**scope.names, **named_types(raw)}
         outer, self.types = self.types, Types(self.findings, names)
         self.types.members = outer.members
         made = raw.like()
         if kind in OTHER_CLASSES:
-            self.findings.add(LEFT, raw, "class", kind, f"this runner has no {kind}: {OTHER_CLASSES[kind]}")
+            reason = self.javascript.reasons.get(raw["expression"]) if isinstance(raw.get("expression"), str) else None
+            self.findings.add(LEFT, raw, "class", kind, f"this runner has no {kind}: {OTHER_CLASSES[kind]}" + (f" ({reason})" if reason else ""))
             self.copy_rest(made, raw, ())
         elif kind in ("CommandLineTool", "Workflow"):
-            requirements, hints, below = self.requirements.kept(raw, scope.carried, self.copied)
+            requirements, hints, below = self.requirements.kept(raw, {} if isinstance(raw, Evaluator) else scope.carried, copied)
             self.parameters(made, raw, kind)
             if kind == "CommandLineTool":
                 self.tool(made, raw, below, requirements, hints)
             else:
-                self.workflow(made, raw, Scope(below, names))
+                self.workflow(made, raw, Scope(below, names, library))
             self.sections(made, raw, requirements, hints)
             self.copy_rest(made, raw, ("requirements", "hints", "cwlVersion", "$namespaces", "$schemas", "$graph"))
         else:
@@ -84,27 +92,14 @@ class Rewriter:
     def copy_rest(self, made: Fields, raw: Fields, done: Tuple[str, ...]) -> None:
         for key, it in raw.items():
             if key not in made and key not in done and it is not None:
-                made.put(key, self.copied(it), raw.line_of(key))
-
-    def copied(self, value: Any) -> Any:
-        """Returns a copy of which entries may be changed."""
-        if isinstance(value, Fields):
-            made: Any = value.like()
-            for key, it in value.items():
-                made.put(key, self.copied(it), value.line_of(key))
-            return made
-        if isinstance(value, Items):
-            made = value.like()
-            for at, it in enumerate(value):
-                made.add(self.copied(it), value.line_at(at))
-            return made
-        return value
+                made.put(key, copied(it), raw.line_of(key))
 
     def text(self, node: Any, key: Any, value: Any, folders: bool = True, runtime: bool = True) -> None:
         """Finds what the runner refuses in a text that may have references."""
         if isinstance(value, str):
             for feature, words in faults(value, folders, runtime):
-                self.findings.add(LEFT, node, key, feature, words)
+                reason = self.javascript.reasons.get(value)
+                self.findings.add(LEFT, node, key, feature, f"{words} ({reason})" if reason else words)
 
     def no_expression(self, node: Any, key: str, where: str) -> None:
         value = node.get(key)
@@ -191,7 +186,7 @@ class Rewriter:
                 continue
             if isinstance(pattern, str) and "/" in pattern:
                 self.findings.add(LEFT, raw, key, "secondaryFiles with /", "this runner looks for secondary files in the folder of the file")
-        copy = self.copied(value)
+        copy = copied(value)
         for it in copy if isinstance(copy, Items) else [copy]:
             if isinstance(it, Fields) and it.get("required", 0) is None:
                 del it["required"]
@@ -203,7 +198,7 @@ class Rewriter:
         made = raw.like()
         for key, it in raw.items():
             if it is not None:
-                made.put(key, self.copied(it), raw.line_of(key))
+                made.put(key, copied(it), raw.line_of(key))
         self.no_expression(made, "position", "position")
         self.text(made, "valueFrom", made.get("valueFrom"))
         return made
@@ -241,6 +236,8 @@ class Rewriter:
     # ---- workflows
 
     def workflow(self, made: Fields, raw: Fields, scope: Scope) -> None:
+        for it in lone_picks(raw):
+            self.findings.add(LEFT, it, "pickValue", "pickValue of one link", "this runner takes a value that is no list for a list of one here, and cwltool lets it be")
         steps = raw.get("steps")
         whole = (short(raw["id"]) if isinstance(raw.get("id"), str) else "", step_names(steps))
         if isinstance(made.get("outputs"), (Fields, Items)):
@@ -261,7 +258,7 @@ class Rewriter:
 
     def step(self, raw: Fields, scope: Scope, whole: Tuple[str, Set[str]]) -> Fields:
         made = raw.like()
-        requirements, hints, below = self.requirements.kept(raw, scope.carried, self.copied)
+        requirements, hints, below = self.requirements.kept(raw, scope.carried, copied)
         for key, it in raw.items():
             line = raw.line_of(key)
             if it is None or key in ("requirements", "hints", "run"):
@@ -279,7 +276,7 @@ class Rewriter:
             made.put(key, it, line)
         self.sections(made, raw, requirements, hints)
         if "run" in raw:
-            made.put("run", self.run(raw, Scope(below, scope.names)), raw.line_of("run"))
+            made.put("run", self.run(raw, Scope(below, scope.names, self.javascript.library(raw, scope.library))), raw.line_of("run"))
         return made
 
     def run(self, raw: Fields, scope: Scope) -> Any:
@@ -296,7 +293,7 @@ class Rewriter:
         listed = value.like()
         for at, it in enumerate(value):
             if isinstance(it, Fields):
-                it = self.copied(it)
+                it = copied(it)
                 if isinstance(it.get("id"), str):
                     it["id"] = short(it["id"])
             listed.add(short(it) if isinstance(it, str) else it, value.line_at(at))
@@ -353,6 +350,10 @@ class Rewriter:
         for at, it in enumerate(value):
             listed.add(source_name(it, *whole) if isinstance(it, str) else it, value.line_at(at))
         return listed
+
+
+def kind_of(raw: Fields) -> Optional[str]:
+    return class_name(raw["class"]) if isinstance(raw.get("class"), str) else None
 
 
 def typed(value: Fields) -> Fields:

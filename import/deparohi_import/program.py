@@ -27,6 +27,7 @@ def words_of(arguments: List[str]) -> argparse.Namespace:
     parser.add_argument("inputs", metavar="INPUTS", nargs="?", help="the input object, in YAML or JSON")
     parser.add_argument("-o", "--output", metavar="FOLDER", required=True, help="the folder to write, which is made where it is absent")
     parser.add_argument("--quiet", action="store_true", help="print no findings on standard error; they are in the report")
+    parser.add_argument("--leave-javascript", action="store_true", help="leave JavaScript also where node, which can evaluate it, is in PATH")
     for name, option in FORCED.items():
         parser.add_argument(option, dest="forced", action="append_const", const=name, default=[], help=f"take {name} for a hint, which the runner ignores")
     return parser.parse_args(arguments)
@@ -59,7 +60,7 @@ def main(arguments: List[str]) -> int:
 
 def imported(words: argparse.Namespace) -> int:
     folder = Folder(words.output)
-    one = Import(folder, set(words.forced))
+    one = Import(folder, set(words.forced), evaluates=not words.leave_javascript)
     name = one.document(words.file)
     if words.inputs is not None:
         one.inputs(words.inputs)

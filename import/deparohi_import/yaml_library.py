@@ -12,6 +12,9 @@ try:
     def events_of(text: str) -> Iterator[Any]:
         return library.YAML(typ="safe").parse(text)
 
+    def slow_events_of(text: str) -> Iterator[Any]:
+        return library.YAML(typ="safe", pure=True).parse(text)
+
 except ImportError:
     try:
         import yaml as library  # type: ignore
@@ -22,12 +25,17 @@ except ImportError:
         def events_of(text: str) -> Iterator[Any]:
             return library.parse(text, Loader=library.CSafeLoader if FAST else library.SafeLoader)
 
+        def slow_events_of(text: str) -> Iterator[Any]:
+            return library.parse(text, Loader=library.SafeLoader)
+
     except ImportError:
         library = None  # type: ignore
         NAME, FAST = "", False
 
         def events_of(text: str) -> Iterator[Any]:
             raise RuntimeError("no YAML library")
+
+        slow_events_of = events_of
 
 
 YAMLError = library.error.YAMLError if library else ValueError

@@ -1,16 +1,18 @@
 """Makes plain data of the events of the YAML library, with lines, and within limits."""
 
-from typing import Any, Dict, List, Optional
+from typing import Any, Dict, Iterator, List, Optional
 
 from .fault import ImportFault
 from .marked import Fields, Items
 from .scalars import STANDARD, plain_scalar, tagged_scalar
-from .yaml_library import YAMLError, events_of
+from .yaml_library import FAST, YAMLError, events_of, slow_events_of
 
 MOST_NESTING = 100
 MOST_VALUES = 300_000
 MOST_CHARACTERS = 16 << 20
 MERGE = "<<"
+# The parser in C refuses some YAML, as `[int?]`. What it refuses is tried again by the other one, up to this length.
+MOST_SLOW = 1 << 19
 
 
 class Frame:
@@ -141,12 +143,21 @@ class Builder:
 
 def read_yaml(text: str, file: str) -> Any:
     """Returns the data of a YAML text, or raises an ImportFault that says where it is wrong."""
-    builder = Builder(file)
     try:
-        for event in events_of(text):
-            builder.take(event)
+        return built(events_of(text), file)
     except YAMLError as error:
+        if FAST and len(text) <= MOST_SLOW:
+            try:
+                return built(slow_events_of(text), file)
+            except YAMLError:
+                pass
         raise ImportFault(words_of(error, text), file, line_of(error)) from None
+
+
+def built(events: Iterator[Any], file: str) -> Any:
+    builder = Builder(file)
+    for event in events:
+        builder.take(event)
     return builder.root
 
 

@@ -8,11 +8,12 @@ import unittest
 from .helping import HERE, InFolder
 from .test_program import program
 
+from deparohi_import import node
 from deparohi_import.folder import Folder
 from deparohi_import.importing import Import
 
 FORCED = {"boxed": {"DockerRequirement"}}
-NAMES = ("greet", "sort-all", "packed", "pipe", "boxed")
+NAMES = ("greet", "sort-all", "packed", "pipe", "boxed", *(("count",) if node.is_there() else ()))
 
 
 def plain(value):

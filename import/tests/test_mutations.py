@@ -1,4 +1,4 @@
-"""Each value of the examples in turn becomes something odd: the import ends with findings or a fault, and never otherwise."""
+"""Each value of the examples, and of the documents with JavaScript, in turn becomes something odd: the import ends with findings or a fault, and never otherwise."""
 
 import copy
 import os
@@ -52,8 +52,9 @@ class Mutations(InFolder):
                 pass
 
     def test_no_value_stops_the_importer(self) -> None:
-        for name in ("greet", "sort-all", "packed", "pipe", "boxed"):
-            path = os.path.join(HERE, "examples", f"{name}.cwl")
+        examples = [f"examples/{it}" for it in ("greet", "sort-all", "packed", "pipe", "boxed")]
+        for name in [*examples, *(f"tests/javascript/{it}" for it in ("words", "steps"))]:
+            path = os.path.join(HERE, f"{name}.cwl")
             whole = read_file(path)
             for at in range(len(list(places(whole)))):
                 for odd in ODD:

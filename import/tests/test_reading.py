@@ -37,6 +37,10 @@ class Reading(InFolder):
     def test_a_merge_gives_way_to_own_keys(self) -> None:
         self.assertEqual({"x": {"a": 1, "b": 2}, "y": {"a": 3, "b": 2}}, self.of("x: &x {a: 1, b: 2}\ny: {<<: *x, a: 3}\n"))
 
+    def test_question_marks_in_flow_which_the_parser_in_c_refuses(self) -> None:
+        self.assertEqual({"a": ["int?", {"b": "File[]?"}]}, self.of("a: [int?, {b: 'File[]?'}]"))
+        self.refused("a: [int?\n", "not YAML")
+
     def test_lines_are_kept(self) -> None:
         read = self.of("a: 1\nb:\n  - x\n  - y: 2\n")
         self.assertEqual((2, 4, 4), (read.line_of("b"), read["b"].line_at(1), read["b"][1].line_of("y")))

@@ -33,6 +33,17 @@ class Speed(InFolder):
         head = "cwlVersion: v1.2\n$graph:\n- class: Workflow\n  id: main\n  inputs: {a: int}\n  outputs: []\n  steps:\n"
         self.grows(lambda count: head + "".join(f"    s{at}: {{in: {{a: a}}, out: [o], run: '#t{at}'}}\n" for at in range(count)) + "".join(f"- {{id: t{at}, {tool}}}\n" for at in range(count)))
 
+    def test_javascript(self) -> None:
+        head = "cwlVersion: v1.2\nclass: CommandLineTool\nrequirements: {InlineJavascriptRequirement: {}}\nbaseCommand: x\ninputs: {a: int}\n"
+        output = "{type: int, outputBinding: {glob: x, outputEval: '$(1 + 1)'}}"
+        self.grows(lambda count: head + "arguments: [" + "'$(1 + 1)', " * count + "x]\noutputs:\n" + "".join(f"  o{at}: {output}\n" for at in range(count)))
+        self.grows(lambda count: head + "outputs: []\narguments: ['" + "$(a+1)" * 10 * count + "']\n")
+
+    def test_steps_with_javascript(self) -> None:
+        tool = "{class: CommandLineTool, baseCommand: x, inputs: {a: int}, outputs: {o: stdout}}"
+        head = "cwlVersion: v1.2\nclass: Workflow\nrequirements: {InlineJavascriptRequirement: {}}\ninputs: {a: int}\noutputs: []\nsteps:\n"
+        self.grows(lambda count: head + "".join(f"  - {{id: s{at}, in: {{a: a}}, when: '$(inputs.a + 1)', out: [o], run: {tool}}}\n" for at in range(count)))
+
     def test_types(self) -> None:
         self.grows(lambda count: "cwlVersion: v1.2\nclass: CommandLineTool\nbaseCommand: x\noutputs: []\ninputs:\n  a: [" + ", ".join("{type: array, items: int}" for _ in range(5 * count)) + "]\n")
 

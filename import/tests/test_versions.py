@@ -48,7 +48,7 @@ def inputs_of(document):
 class Versions(InFolder):
     def imported_file(self, path: str, name: str):
         folder = Folder(os.path.join(self.path, name))
-        written = Import(folder, set())
+        written = Import(folder, set(), evaluates=False)
         written_name = written.document(path)
         folder.write("")
         with open(os.path.join(folder.path, written_name), encoding="utf-8") as it:

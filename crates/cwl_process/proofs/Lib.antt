@@ -1,8 +1,12 @@
+mod Alike
+mod Defaults
+pub mod EmptyText
 pub mod Forms
+mod Ignored
+mod KeptFields
+pub mod KeptTools
+mod KeptTypes
 pub mod Levels
+mod ReadMaps
 pub mod Requirements
 pub mod Slashes
-pub mod EmptyText
-mod KeptFields
-mod KeptTypes
-pub mod KeptTools

@@ -88,7 +88,8 @@ fn read_acting(
 ) -> Result<Acting, AllocError>
     requires { MayHaveForm Requirements (get field.now (view value.now))
         ⊎ MayHaveForm Hints (get field.now (view value.now)) }
-    ensures { IfOk result (λ acting. acting ≡ inside around.now (acting_at field.now (view value.now))) }
+    ensures { IfOk result
+        (λ acting. acting ≡ inside around.now (acting_at field.now (view value.now))) }
 {
     let own = read_environment(alloc, field, value)?;
     let environment = match own {

@@ -31,7 +31,10 @@ mod workflow;
 pub use acting::{nothing_asked, read_asked};
 pub use document::{read_sound, read_unlinked};
 pub use entries::Entries;
-pub use laws::{levels_never_decide, written_tells_tools_apart};
+pub use laws::{
+    descriptions_are_not_read, fields_left_out_have_their_defaults, levels_never_decide,
+    maps_are_read_as_lists, the_nearest_requirement_counts, written_tells_tools_apart,
+};
 pub use links::{Links, Merge, Pick, Source};
 pub use parameters::default_at;
 pub use parts::{StepParts, read_step_parts, read_workflow_inputs, read_workflow_outputs};

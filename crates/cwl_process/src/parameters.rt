@@ -151,7 +151,8 @@ fn read_output_binding(alloc: Global, value: &Value) -> Result<OutputBinding, Al
 }
 
 fn read_glob(alloc: Global, value: &Value) -> Result<Option<Items<Template>>, AllocError>
-    ensures { IfOk result (λ glob. glob ≡ option_map (λ _. templates_at (codes "glob") (view value.now))
+    ensures { IfOk result (λ glob. glob
+        ≡ option_map (λ _. templates_at (codes "glob") (view value.now))
         (get (codes "glob") (view value.now))) }
 {
     match value.get("glob") {

@@ -116,7 +116,8 @@ fn read_steps(
 ) -> Result<Entries<Step>, AllocError>
     requires { HasForm (form.Objects kind.Step) (view value.now) }
     ensures { IfOk result (λ steps. steps
-        ≡ map (λ e. (e.0, step_in (process_in levels) around.now e.1)) (entries kind.Step (view value.now))) }
+        ≡ map (λ e. (e.0, step_in (process_in levels) around.now e.1))
+        (entries kind.Step (view value.now))) }
 {
     let found = entries(alloc, Kind::Step, value)?;
     let mut made = Vec::new(alloc);
@@ -158,7 +159,8 @@ fn read_step(
 #[tactic(auto, using(crate::proofs::Forms::step_requirements, crate::proofs::Forms::step_hints, crate::proofs::Forms::runs_process))]
 fn run_at(alloc: Global, levels: usize, around: &Asked, value: &Value) -> Result<Run, AllocError>
     requires { IsOf kind.Step (view value.now) }
-    ensures { IfOk result (λ run. run ≡ run_at (process_in levels) (asked_in around.now (view value.now)) (view value.now)) }
+    ensures { IfOk result (λ run. run
+        ≡ run_at (process_in levels) (asked_in around.now (view value.now)) (view value.now)) }
 {
     let asked = read_asked(alloc, around, value)?;
     let Some(found) = value.get("run") else {
@@ -183,7 +185,8 @@ fn named_run(alloc: Global, name: &str, asked: Asked) -> Result<Run, AllocError>
 }
 
 pub(crate) fn step_outputs(alloc: Global, value: &Value) -> Result<Items<Text>, AllocError>
-    ensures { IfOk result (λ outputs. outputs ≡ map step_output_in (list_at (codes "out") (view value.now))) }
+    ensures { IfOk result (λ outputs. outputs
+        ≡ map step_output_in (list_at (codes "out") (view value.now))) }
 {
     let found = list_at(alloc, "out", value)?;
     read_step_outputs(alloc, found.as_slice())
@@ -209,7 +212,8 @@ fn read_step_output(alloc: Global, value: &Value) -> Result<Text, AllocError>
 }
 
 pub(crate) fn scatter_method(value: &Value) -> Option<Method>
-    ensures { result ≡ option_and_then method_named (text_at (codes "scatterMethod") (view value.now)) }
+    ensures { result
+        ≡ option_and_then method_named (text_at (codes "scatterMethod") (view value.now)) }
 {
     let text = value.get("scatterMethod")?.as_str()?;
     match text {

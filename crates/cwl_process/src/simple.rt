@@ -76,7 +76,8 @@ pub(crate) fn list_at<'v>(
     name: &str,
     value: &'v Value,
 ) -> Result<Vec<&'v Value>, AllocError>
-    ensures { IfOk result (λ found. map value_seen found.items ≡ list_at name.now (view value.now)) }
+    ensures { IfOk result
+        (λ found. map value_seen found.items ≡ list_at name.now (view value.now)) }
 {
     match value.get(name) {
         None => Ok(Vec::new(alloc)),

@@ -42,7 +42,8 @@ fn workflow_fault(
     levels: usize,
     value: &Value,
 ) -> Result<Option<DocumentFault>, AllocError>
-    ensures { IfOk result (λ fault. fault ≡ workflow_fault (process_fault levels) (view value.now)) }
+    ensures { IfOk result
+        (λ fault. fault ≡ workflow_fault (process_fault levels) (view value.now)) }
 {
     if let Some(fault) = defaults_fault(alloc, Kind::WorkflowInput, "inputs", value)? {
         return Ok(Some(fault));

@@ -27,9 +27,12 @@ use std::mem;
 
 /// The tool that an object represents, inside of what is asked around it.
 pub fn read_tool(alloc: Global, around: &Asked, value: &Value) -> Result<Tool, AllocError>
-    requires inputs { MayHaveForm (form.Objects kind.ToolInput) (get (codes "inputs") (view value.now)) }
-    requires outputs { MayHaveForm (form.Objects kind.ToolOutput) (get (codes "outputs") (view value.now)) }
-    requires requirements { MayHaveForm form.Requirements (get (codes "requirements") (view value.now)) }
+    requires inputs { MayHaveForm (form.Objects kind.ToolInput)
+        (get (codes "inputs") (view value.now)) }
+    requires outputs { MayHaveForm (form.Objects kind.ToolOutput)
+        (get (codes "outputs") (view value.now)) }
+    requires requirements { MayHaveForm form.Requirements
+        (get (codes "requirements") (view value.now)) }
     requires hints { MayHaveForm form.Hints (get (codes "hints") (view value.now)) }
     requires whole { has_float (kept (form.Object kind.Tool) (view value.now)) ≡ false }
     ensures { IfOk result (λ tool. tool ≡ tool_in around.now (view value.now)) }
@@ -89,8 +92,10 @@ fn read_parameters(
     alloc: Global,
     value: &Value,
 ) -> Result<(Entries<ToolInput>, Entries<ToolOutput>), AllocError>
-    requires inputs { MayHaveForm (form.Objects kind.ToolInput) (get (codes "inputs") (view value.now)) }
-    requires outputs { MayHaveForm (form.Objects kind.ToolOutput) (get (codes "outputs") (view value.now)) }
+    requires inputs { MayHaveForm (form.Objects kind.ToolInput)
+        (get (codes "inputs") (view value.now)) }
+    requires outputs { MayHaveForm (form.Objects kind.ToolOutput)
+        (get (codes "outputs") (view value.now)) }
     ensures { IfOk result (λ made. made ≡ (
       entries_at kind.ToolInput tool_input_in (codes "inputs") (view value.now),
       entries_at kind.ToolOutput tool_output_in (codes "outputs") (view value.now),
@@ -118,7 +123,8 @@ fn written_in(alloc: Global, value: &Value) -> Result<Text, AllocError>
 
 fn read_streams_and_codes(alloc: Global, value: &Value) -> Result<(Streams, ExitCodes), AllocError>
     ensures { IfOk result
-        (λ made. (made.0 ≡ streams_in (view value.now)) × (made.1 ≡ exit_codes_in (view value.now))) }
+        (λ made. (made.0 ≡ streams_in (view value.now))
+        × (made.1 ≡ exit_codes_in (view value.now))) }
 {
     let exit_codes = read_exit_codes(alloc, value)?;
     let streams = read_streams(alloc, value)?;

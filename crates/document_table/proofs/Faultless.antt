@@ -1,13 +1,12 @@
 -- What a value without a fault is made of.
-use Rattle.std.proofs.Common.{◌≡◌, ◌≢◌, ℕ, ◌+◌, List, [], ◌∷◌, ◌++◌, map, Bool, true, false, ◌||◌, Option, Some, None, Ok, Err, refl, sym, ap, subst, ◌∙◌, bytes_eq, codes}
-use Rattle.std.specs.Prelude.{Result, option_map, if◌then◌else◌, ◌&&◌, not, is_none, is_some, unwrap_or, option_and_then}
+use Rattle.std.proofs.Common.{◌≡◌, ℕ, ◌+◌, List, [], ◌∷◌, Bool, true, false, Option, Some, None, Ok, Err, refl, sym, ap, ◌∙◌, bytes_eq, codes}
+use Rattle.std.specs.Prelude.{option_map, if◌then◌else◌, ◌&&◌, not, is_none, is_some, unwrap_or, option_and_then}
 use Rattle.std.proofs.lemmas.Bool.{true≢false}
 use Rattle.std.proofs.lemmas.Option.{none-some}
 use Rattle.std.proofs.lemmas.Bool.{true≢false}
 use Rattle.std.proofs.lemmas.Option.{same_Some}
 use Rattle.std.specs.Option.{option_map_or}
 use Rattle.std.specs.List.{AllByRecursion, list_all}
-use Rattle.std.specs.Map.{keys_of}
 use Rattle.std.specs.Ordering.{nat_cmp, match_ordering}
 use Rattle.std.specs.declared.cmp.Ordering.{Ordering}
 use Rattle.std.specs.declared.cmp.Ordering.TheVariants.{Less, Equal, Greater}
@@ -71,7 +70,7 @@ pub own_none : (form : Form) (ms : Members) → HasForm form (object ms) → own
 own_none form ms none = later_none (fault_in_members (layout_of form (object ms)) ms) (own_fault (layout_of form (object ms)) (object ms)) none
 
 -- the same form, as the row of the name says
-formed_of : (k kind : Kind) (name : List ℕ) (f : Form) → k ≡ kind → form_of kind name ≡ Some f → field_form k name ≡ Ok f
+pub formed_of : (k kind : Kind) (name : List ℕ) (f : Form) → k ≡ kind → form_of kind name ≡ Some f → field_form k name ≡ Ok f
 formed_of k kind name f same formed =
     ap (λ k. field_form k name) same ∙ ap (λ o. option_map_or Ok o (if is_read_over name then Ok form.Anything else Err cause.UnknownField)) formed
 

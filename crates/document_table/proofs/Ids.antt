@@ -1,16 +1,16 @@
 -- The names of what is in a list or a map of objects differ, where the value keeps to its form.
-use Rattle.std.proofs.Common.{◌≡◌, ℕ, List, [], ◌∷◌, ◌++◌, Bool, true, false, ◌||◌, Option, Some, None, String, Global, string_bytes, string_cmp, nat_cmp, Less, refl, sym, ap, subst, ◌∙◌, bytes_eq}
+use Rattle.std.proofs.Common.{◌≡◌, ℕ, List, [], ◌∷◌, ◌++◌, Bool, true, false, ◌||◌, Option, Some, None, String, Global, string_bytes, string_cmp, Less, refl, sym, ap, subst, ◌∙◌, bytes_eq}
 use Rattle.std.specs.Prelude.{option_map, if◌then◌else◌}
 use Rattle.std.specs.Option.{option_map_or}
 use Rattle.std.specs.List.{AllByRecursion, IsDistinct, list_any}
 use Rattle.std.specs.List.Sorted.{IsStrictlySortedBy}
 use Rattle.std.specs.Map.{keys_of}
-use Rattle.std.specs.Cmp.Lexicographic.{nat_list_eq_equiv, slice_cmp}
+use Rattle.std.specs.Cmp.Lexicographic.{nat_list_eq_equiv}
 use Rattle.std.proofs.lemmas.Bool.{true≢false}
 use Rattle.std.proofs.lemmas.List.Folds.{list_any-append}
 use Rattle.std.proofs.lemmas.Map.Text.{is_eq-slice_cmp}
 use Rattle.std.specs.Ordering.{is_eq}
-use Rattle.serde_json.specs.Data.{Data, array, Items, no_items, item, Members}
+use Rattle.serde_json.specs.Data.{Data, array, Items, no_items, item}
 use Rattle.serde_json.specs.View.{members_view}
 use Rattle.serde_json.specs.declared.value.Value.{Value}
 use Rattle.document_table.specs.Entries.{HasForm, entries, listed_entries, mapped_entries}
@@ -25,7 +25,7 @@ use Rattle.document_table.proofs.Faultless.{later_none, some_is_not_none}
 -- ---- lists
 
 -- none of the names is among those before them
-abbrev AreNew : List (List ℕ) → List (List ℕ) → Type 0
+abbrev pub AreNew : List (List ℕ) → List (List ℕ) → Type 0
 AreNew before names = AllByRecursion (λ name. list_any (bytes_eq name) before ≡ false) names
 
 or_false : (a b : Bool) → (a || b) ≡ false → (a ≡ false) × (b ≡ false)

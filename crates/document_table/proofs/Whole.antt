@@ -1,17 +1,16 @@
 -- No value that keeps to the table says a fraction.
 use Rattle.std.proofs.Common.{◌≡◌, ℕ, ◌+◌, List, Bool, true, false, Option, Some, None, Ok, Err, refl, sym, ap, subst, ◌∙◌}
-use Rattle.std.specs.Prelude.{Result, ◌||◌, option_map, option_and_then, unwrap_or, is_some, if◌then◌else◌}
-use Rattle.std.specs.Option.{option_map_or}
+use Rattle.std.specs.Prelude.{Result, ◌||◌, option_map, unwrap_or, if◌then◌else◌}
 use Rattle.std.proofs.lemmas.Bool.{true≢false}
 use Rattle.std.proofs.lemmas.Option.{none-some, same_Some}
 use Rattle.serde_json.specs.Data.{Data, Num, unsigned, negative, float, null, boolean, number, string, array, object, Items, no_items, item, Members, no_members, member}
 use Rattle.serde_json.specs.Written.{has_float, items_have_float, members_have_float}
 use Rattle.document_table.specs.Entries.{HasForm, IsOf, kind_of}
-use Rattle.document_table.specs.Faults.{at, here, under}
+use Rattle.document_table.specs.Faults.{at, here}
 use Rattle.document_table.specs.Kept.{is_kept, kept, kept_form, kept_items, kept_members, put_kept}
 use Rattle.document_table.specs.Layouts.{field_form, layout_of, member_form}
 use Rattle.document_table.specs.Leaves.{item_form, short_form, short_kind, takes_leaf, takes_number, wrong}
-use Rattle.document_table.specs.Walk.{fault_in, fault_in_items, fault_in_members, judged, leaf_fault, listed, or_else, repeat_fault}
+use Rattle.document_table.specs.Walk.{fault_in, fault_in_items, fault_in_members, judged, listed, or_else, repeat_fault}
 use Rattle.document_table.specs.declared.fault.Cause.{Cause}
 use Rattle.document_table.specs.declared.fault.DocumentFault.{DocumentFault}
 use Rattle.document_table.specs.declared.form.Form.{Form}
@@ -74,7 +73,7 @@ no_float_taken form.Value (float x) is taken = absurd (true≢false (sym taken))
 no_float_taken form.Int (float x) is taken = absurd (true≢false (sym taken))
 no_float_taken _ (float x) is taken = absurd (true≢false (sym taken))
 
-taken_of : (f : Form) (test : Bool) → (if test then None else Some (here (wrong f))) ≡ None → test ≡ true
+pub taken_of : (f : Form) (test : Bool) → (if test then None else Some (here (wrong f))) ≡ None → test ≡ true
 taken_of f true none = refl
 taken_of f false none = absurd (some_is_not_none (here (wrong f)) none)
 

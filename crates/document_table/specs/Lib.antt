@@ -3,6 +3,7 @@ pub mod Documents
 pub mod Entries
 pub mod Faults
 pub mod Kept
+pub mod Laws
 pub mod Layouts
 pub mod Leaves
 pub mod Repeats

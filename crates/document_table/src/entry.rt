@@ -32,7 +32,8 @@ pub fn entries<'v>(
     kind: Kind,
     value: &'v Value,
 ) -> Result<Vec<(&'v str, &'v Value)>, AllocError>
-    ensures value { IfOk result (λ found. map entry_seen found.items ≡ entries kind (view value.now)) }
+    ensures value { IfOk result
+        (λ found. map entry_seen found.items ≡ entries kind (view value.now)) }
     ensures ids { OnOk result (HasForm (Objects kind) (view value.now)
         → IsDistinct bytes_eq (keys_of (entries kind (view value.now)))) }
 {

@@ -80,7 +80,8 @@ fn write_leaf(alloc: Global, value: &Value, out: &mut String) -> Result<bool, Al
 /// A member's name with its colon.
 fn write_name(alloc: Global, name: &str, out: &mut String) -> Result<(), AllocError>
     ensures { OnOk result
-        (string_bytes out.new ≡ string_bytes out.old ++ (compact_text (string name.now) ++ 58 ∷ [])) }
+        (string_bytes out.new
+        ≡ string_bytes out.old ++ (compact_text (string name.now) ++ 58 ∷ [])) }
 {
     let name = Value::String(String::from_str(alloc, name)?);
     let text = name.to_string(alloc)?;
@@ -98,7 +99,8 @@ fn write_value(
 ) -> Result<bool, AllocError>
     ensures { IfOk result (λ whole. MatchBool whole
         ((has_float (kept form (view value.now)) ≡ false)
-        × (string_bytes out.new ≡ string_bytes out.old ++ compact_text (kept form (view value.now))))
+        × (string_bytes out.new
+        ≡ string_bytes out.old ++ compact_text (kept form (view value.now))))
         (has_float (kept form (view value.now)) ≡ true)) }
 {
     match value {

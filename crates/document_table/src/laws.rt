@@ -9,6 +9,7 @@ ghost use Rattle.std.specs.Map.{keys_of};
 ghost use Rattle.serde_json.specs.Data.{Items};
 ghost use Rattle.document_table.specs.Entries.{HasForm, IsOf, IsProcess, IsThere, MayHaveForm, entries};
 ghost use Rattle.document_table.specs.Kept.{kept};
+ghost use Rattle.document_table.specs.Laws.{DescriptionsDecideNothing, DocumentsSayTheirClass, DocumentsSayTheirVersion, EachFieldIsKnown, MapsStandForLists};
 ghost use Rattle.document_table.specs.Layouts.{layout_of, subject_of};
 ghost use Rattle.document_table.specs.Table.{form_of, rows_of};
 ghost use Rattle.document_table.specs.declared.form.Form.{Form};
@@ -61,4 +62,29 @@ pub fn processes_are_tools_or_workflows()
 #[tactic(auto, using(crate::proofs::Whole::tool_whole))]
 pub fn tools_say_no_fraction()
     ensures { (d : Data) → IsOf kind.Tool d → has_float (kept (form.Object kind.Tool) d) ≡ false }
+{}
+
+/// A document says the version v1.2, and its class is `CommandLineTool` or `Workflow`.
+#[tactic(auto, using(crate::proofs::Known::document_version, crate::proofs::Known::document_class))]
+pub fn documents_say_version_and_class()
+    ensures version { DocumentsSayTheirVersion }
+    ensures class { DocumentsSayTheirClass }
+{}
+
+/// An object has no field but those that the table has for its kind, those that describe, as `doc`, and extensions.
+#[tactic(auto, using(crate::proofs::Known::each_field_is_known))]
+pub fn each_field_is_known()
+    ensures { EachFieldIsKnown }
+{}
+
+/// What describes an object, as `label`, and what an extension says of it decide nothing: with any value of such a name the object has
+/// the same first fault, or none.
+pub fn descriptions_decide_nothing()
+    ensures { DescriptionsDecideNothing }
+{}
+
+/// A map of objects stands for a list of them, each with its key as its subject, and with a value that is no object in its one field:
+/// where the map is taken, the list is.
+pub fn maps_stand_for_lists()
+    ensures { MapsStandForLists }
 {}

@@ -26,7 +26,9 @@ pub use fault::{Cause, DocumentError, DocumentFault, Way, at, here, under};
 pub use form::{Form, Kind};
 pub use kept::kept_text;
 pub use laws::{
-    entries_have_their_form, fields_have_their_forms, processes_are_tools_or_workflows,
-    required_fields_are_there, subjects_in_a_list_differ, tools_say_no_fraction,
+    descriptions_decide_nothing, documents_say_version_and_class, each_field_is_known,
+    entries_have_their_form, fields_have_their_forms, maps_stand_for_lists,
+    processes_are_tools_or_workflows, required_fields_are_there, subjects_in_a_list_differ,
+    tools_say_no_fraction,
 };
 pub use walk::fault_in;

@@ -231,9 +231,9 @@ abbrev with_file : Value → Fields
 with_file file = (codes "out", file) ∷ []
 
 its_report : report_of (succeeds_with made_out put_out)
-    ≡ reported (Outcome.Success (roll-Value (Value-F.Fields (out_at (Place.Url (codes "file:///out/out.txt"))))))
+    ≡ reported (Ok (Outcome.Success (roll-Value (Value-F.Fields (out_at (Place.Url (codes "file:///out/out.txt")))))))
 its_report =
-    ap (λ (file : Value). reported (Outcome.Success (roll-Value (Value-F.Fields (with_file file)))))
+    ap (λ (file : Value). reported (Ok (Outcome.Success (roll-Value (Value-F.Fields (with_file file))))))
     (file_moves location_place (Place.Path (codes "/out/out.txt")) out)
 
 -- one copy, from the job's output folder to the folder of the outputs

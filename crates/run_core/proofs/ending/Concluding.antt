@@ -1,5 +1,5 @@
 -- What is reported of the machine's run where it has ended.
-use Rattle.std.proofs.Common.{◌≡◌, true, List, [], Result, Ok, Err, IfErr, sym, subst, append-nil}
+use Rattle.std.proofs.Common.{◌≡◌, true, List, [], Result, Ok, Err, IfErr, sym, ap, subst, append-nil}
 use Rattle.plan_checker.specs.declared.plan.Mark.{Mark}
 use Rattle.job_graph.specs.Apart.{ids_differ}
 use Rattle.job_graph.specs.Eval.{World}
@@ -104,7 +104,7 @@ module _ (core : Inside) where
 -- only out of memory is reported as that
 pub reports_lost : (result : Result Outcome RunFault) → reported result ≡ Err RunFault.OutOfMemory → result ≡ Err RunFault.OutOfMemory
 reports_lost (Ok outcome) is = absurd cc
-reports_lost (Err fault) is = is
+reports_lost (Err fault) is = let same : fault ≡ RunFault.OutOfMemory = cc in ap Err same
 
 -- a fault is reported as it is
 pub reports_fault : (P : RunFault → Type 0) (result : Result Outcome RunFault) → IfErr result P → IfErr (reported result) P

@@ -73,4 +73,4 @@ module _ (s : Scene) (given : Given) (picks : PicksAt s given) (t : List Pair) (
     start_goes_on (JobPhase.Scanning kept millis) is after =
         let never : call_for s.options (state_at old.jobs n).folder (scan_due [] millis) ≡ Some (HostRequest.Start launch) = is.calls.due in absurd cc
     start_goes_on (JobPhase.Reading kept reading) is after =
-        absurd (output_starts_none s.options (state_at old.jobs n).folder reading.found reading.heads (reverse reading.left) launch is.calls.due)
+        absurd (output_starts_none s.options (state_at old.jobs n).folder reading.millis reading.found reading.heads (reverse reading.left) launch is.calls.due)

@@ -61,7 +61,7 @@ module _ (s : Scene) where
   works_on_some options folder past number call (JobPhase.Starting kept) due = tt
   works_on_some options folder past number call (JobPhase.Scanning kept millis) due = tt
   works_on_some options folder past number call (JobPhase.Reading kept reading) due =
-      last_of reading.left (output_next options folder call reading.found reading.heads (reverse reading.left) due)
+      last_of reading.left (output_next options folder call reading.millis reading.found reading.heads (reverse reading.left) due)
 
   module _ (f : Progress) (course : Course) where
     looks_at : {marks : List Mark} {turn : Turn} → IsAt s f marks course turn → LooksAtSome (past_of course) turn.phase
