@@ -2,9 +2,11 @@
 ghost use Rattle.std.specs.Prelude.{◌≡◌, ◌≤◌, ◌++◌, ◌∷◌, [], length, IfOk, OnOk, OnErr, Contains};
 ghost use Rattle.proc_host.specs.Log.{answer_behind, entries_of, FailsOnlyBy};
 
+use crate::clearing::clear_job;
 use crate::collecting::next_end;
+use crate::delivering::{Undelivered, deliver_all, missed_result};
 use crate::heads::head_of;
-use crate::layout::{copy_all, lay_out};
+use crate::layout::lay_out;
 use crate::listing::listing_of;
 use crate::measuring::measure_of;
 use crate::noting::{add, make_room, note, refused, told};
@@ -15,6 +17,7 @@ use command_line::Launch;
 use plain_data::{Items, Text};
 use proc_host::{ChildEnd, Entry, HostAnswer, HostError, HostFault, HostRequest};
 use staging::{Found, Measure, StagePlan, listing_in};
+use std::mem;
 use std::process::Stdio;
 
 pub(crate) fn measure<R: World>(
@@ -54,7 +57,7 @@ pub(crate) fn stage<R: World>(
     told(log, request, HostFault::Stage, outcome)
 }
 
-/// Starts the child of a launch under this ticket, whose messages are shown or discarded where no file takes them.
+/// Starts the child of a launch under this ticket, whose messages are shown or kept where no file takes them.
 pub(crate) fn start<R: World>(
     rt: &R,
     log: &mut Vec<Entry>,
@@ -125,9 +128,11 @@ pub(crate) fn collect<R: World>(
     }
 }
 
+/// Lists a folder. Where it is the folder `out` of a job in a work folder that is named, the job's `in` and `tmp` are removed.
 pub(crate) fn scan<R: World>(
     rt: &R,
     log: &mut Vec<Entry>,
+    work: Option<&str>,
     folder: &Text,
 ) -> Result<Items<Found>, HostError>
     ensures logged { log.new.items ≡ log.old.items
@@ -136,7 +141,7 @@ pub(crate) fn scan<R: World>(
 {
     make_room(log)?;
     let request = HostRequest::Scan(folder.copied(rt.alloc())?);
-    match listed_twice(rt, folder) {
+    match listed_twice(rt, work, folder) {
         Ok((listed, noted)) => {
             note(log, request, HostAnswer::Listed(noted));
             Ok(listed)
@@ -167,11 +172,13 @@ pub(crate) fn head<R: World>(
     }
 }
 
+/// Copies results. Where one can't be copied, it is told which, and why, as far as there is room to tell it.
 pub(crate) fn deliver<R: World>(
     rt: &R,
     log: &mut Vec<Entry>,
     outdir: &str,
     plan: &StagePlan,
+    hindered: &mut Option<Undelivered>,
 ) -> Result<(), HostError>
     ensures logged { log.new.items ≡ log.old.items
         ++ entries_of (HostRequest.Deliver plan.now) (answer_behind (λ _. HostAnswer.Done) result) }
@@ -179,7 +186,10 @@ pub(crate) fn deliver<R: World>(
 {
     make_room(log)?;
     let request = HostRequest::Deliver(plan.clone_in(rt.alloc())?);
-    let outcome = copy_all(rt, plan.moves.as_slice(), outdir);
+    let mut at = 0;
+    let outcome = deliver_all(rt, log.as_slice(), plan.moves.as_slice(), outdir, &mut at);
+    let found = missed_result(rt.alloc(), plan.moves.as_slice(), at, outcome);
+    mem::drop(mem::replace(hindered, found));
     told(log, request, HostFault::Deliver, outcome)
 }
 
@@ -200,11 +210,19 @@ fn ended_of<R: World>(
 }
 
 // A listing for the caller, and a copy for the log.
-fn listed_twice<R: World>(rt: &R, folder: &Text) -> Result<(Items<Found>, Items<Found>), Trouble>
+fn listed_twice<R: World>(
+    rt: &R,
+    work: Option<&str>,
+    folder: &Text,
+) -> Result<(Items<Found>, Items<Found>), Trouble>
     ensures { IfOk result (λ pair. pair.0 ≡ pair.1) }
 {
     let listed = listing_of(rt, folder.as_str())?;
     let noted = listing_in(rt.alloc(), &listed)?;
+    if let Some(work) = work {
+        // What can't be removed is in nobody's way.
+        let _cleared = clear_job(rt, work, folder.as_str(), noted.as_slice());
+    }
     Ok((listed, noted))
 }
 

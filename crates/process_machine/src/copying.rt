@@ -1,5 +1,6 @@
 //! Copies of files and folders.
 
+use crate::identity::names;
 use crate::layout::joined;
 use crate::tree::{Below, is_folder, tree_below};
 use crate::trouble::Trouble;
@@ -20,7 +21,7 @@ const OWNERS_RIGHTS: u32 = 0o700;
 ///
 /// Replaces a file or link that is at the path a file is copied to; what the link points to is left alone. A folder
 /// that is at the path stays as it is, and so does a file where a folder is copied to: both are trouble. Where the copy
-/// fails, nothing of it is left.
+/// fails, nothing of it is left. A file that is copied to where it is stays as it is.
 pub(crate) fn copy<R: World>(rt: &R, source: &str, target: &str) -> Result<(), Trouble> {
     if is_folder(rt, source)? {
         copy_folder(rt, source, target)
@@ -77,6 +78,9 @@ fn make_folder<R: World>(rt: &R, source: &str, target: &str) -> Result<(), Troub
 }
 
 fn copy_file<R: World>(rt: &R, source: &str, target: &str) -> Result<(), Trouble> {
+    if names(rt, source, target) {
+        return Ok(());
+    }
     let mut reader = File::open(rt, source)?;
     copy_from(rt, &mut reader, target)
 }

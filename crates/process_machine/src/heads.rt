@@ -25,7 +25,11 @@ pub(crate) fn head_of<R: World>(rt: &R, path: &str, limit: u64) -> Result<Items<
 }
 
 // Reads until there are so many bytes, or the reader is at its end.
-fn first_bytes<F: Read>(alloc: Global, reader: &mut F, limit: u64) -> Result<Vec<u8>, Trouble>
+pub(crate) fn first_bytes<F: Read>(
+    alloc: Global,
+    reader: &mut F,
+    limit: u64,
+) -> Result<Vec<u8>, Trouble>
     ensures { IfOk result (λ bytes. vec_len bytes ≤ limit) }
 {
     let mut block = vec![in alloc; 0u8; BLOCK]?;

@@ -24,7 +24,7 @@ fn lay_out_in<R: World>(rt: &R, folder: &str, plan: &StagePlan) -> Result<(), Tr
     fs::create_dir(rt, folder)?;
     make_parts(rt, folder)?;
     let inputs = joined(rt.alloc(), folder, "in")?;
-    copy_all(rt, plan.moves.as_slice(), inputs.as_str())
+    copy_all(rt, plan.moves.as_slice(), inputs.as_str(), &mut 0)
 }
 
 fn make_parts<R: World>(rt: &R, folder: &str) -> Result<(), Trouble> {
@@ -47,9 +47,15 @@ pub(crate) fn joined(alloc: Global, folder: &str, name: &str) -> Result<String, 
 }
 
 /// Copies files and folders to their targets, each of which has to be below this folder. The folders above a target are
-/// made where they are absent.
-pub(crate) fn copy_all<R: World>(rt: &R, moves: &[Move], below: &str) -> Result<(), Trouble> {
-    for planned in moves {
+/// made where they are absent. Where one fails, `at` is its index.
+pub(crate) fn copy_all<R: World>(
+    rt: &R,
+    moves: &[Move],
+    below: &str,
+    at: &mut usize,
+) -> Result<(), Trouble> {
+    for (index, planned) in moves.iter().enumerate() {
+        *at = index;
         let target = planned.target.as_str();
         if !is_below(target, below) {
             return Err(Trouble::Failed);

@@ -8,18 +8,25 @@
 #![tactic(auto)]
 
 mod calls;
+mod clearing;
 mod collecting;
 mod copying;
+mod delivering;
 mod heads;
+mod identity;
 mod layout;
 mod listing;
 mod machine;
 mod measuring;
+mod messages;
 mod noting;
 mod spawning;
 mod tree;
 mod trouble;
 mod world;
 
+pub use delivering::Undelivered;
 pub use machine::Machine;
+pub use messages::{last_lines, messages_file};
+pub use trouble::Hindrance;
 pub use world::World;

@@ -3,6 +3,7 @@ ghost use Rattle.std.specs.Prelude.{◌≡◌, []};
 ghost use Rattle.proc_host.specs.Tickets.{without};
 
 use crate::calls;
+use crate::delivering::Undelivered;
 use crate::spawning::Flying;
 use crate::world::World;
 use command_line::Launch;
@@ -28,6 +29,10 @@ pub struct Machine<R: World> {
     started: u64,
     // whether messages that no file takes go to the program's own standard error
     shows: bool,
+    // whether the folders `in` and `tmp` of jobs stay
+    keeps: bool,
+    // of the last delivery
+    hindered: Option<Undelivered>,
 }
 
 impl<R: World> Model for Machine<R> {
@@ -60,14 +65,29 @@ impl<R: World> Machine<R> {
             flying: Vec::new(alloc),
             started: 0,
             shows: false,
+            keeps: false,
+            hindered: None,
         }
     }
 
-    /// From now on the messages of a child that no file takes go to the program's own standard error, and are not discarded.
+    /// From now on the messages of a child that no file takes go to the program's own standard error, and not to the file `stderr` in
+    /// the folder of its job.
     pub fn show_messages(&mut self)
         ensures { self.new ≡ self.old }
     {
         self.shows = true;
+    }
+
+    /// From now on the folders `in` and `tmp` of a job stay when its outputs are listed.
+    pub fn keep_folders(&mut self)
+        ensures { self.new ≡ self.old }
+    {
+        self.keeps = true;
+    }
+
+    /// Which result of the last delivery could not be copied, and why, where that is known.
+    pub fn undelivered(&self) -> Option<&Undelivered> {
+        self.hindered.as_ref()
     }
 
     /// What was asked and answered so far, oldest first.
@@ -121,7 +141,8 @@ where
     }
 
     fn scan(&mut self, folder: &Text) -> Result<Items<Found>, HostError> {
-        calls::scan(&self.rt, &mut self.log, folder)
+        let work = cleared_below(&self.work, self.keeps);
+        calls::scan(&self.rt, &mut self.log, work, folder)
     }
 
     fn head(&mut self, path: &Text, limit: u64) -> Result<Items<u8>, HostError> {
@@ -129,7 +150,13 @@ where
     }
 
     fn deliver(&mut self, plan: &StagePlan) -> Result<(), HostError> {
-        calls::deliver(&self.rt, &mut self.log, self.outdir.as_str(), plan)
+        calls::deliver(
+            &self.rt,
+            &mut self.log,
+            self.outdir.as_str(),
+            plan,
+            &mut self.hindered,
+        )
     }
 
     fn close(&mut self, ticket: Ticket) {
@@ -144,4 +171,9 @@ fn remove(running: &mut Vec<u64>, number: u64)
     ensures { running.new.items ≡ without number running.old.items }
 {
     running.retain(|other| *other != number);
+}
+
+// The work folder, where the folders `in` and `tmp` of its jobs are removed.
+fn cleared_below(work: &Text, keeps: bool) -> Option<&str> {
+    if keeps { None } else { Some(work.as_str()) }
 }

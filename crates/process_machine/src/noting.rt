@@ -44,7 +44,7 @@ pub(crate) fn refused(
 {
     match trouble {
         Trouble::OutOfMemory => HostError::OutOfMemory,
-        Trouble::Failed => {
+        Trouble::Failed | Trouble::Hindered(_) => {
             note(log, request, HostAnswer::Failed(fault));
             HostError::Fault(fault)
         }

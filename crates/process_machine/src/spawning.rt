@@ -4,6 +4,7 @@ ghost use Rattle.std.specs.Process.{SameEnv, SameOtherVars, SameProgramAndArgs, 
 ghost use Rattle.process_machine.specs.Launched.{IsOf, Keeps, text_under};
 
 use crate::layout::joined;
+use crate::messages::messages_file;
 use crate::trouble::Trouble;
 use crate::world::World;
 use command_line::{Launch, Variable};
@@ -22,7 +23,7 @@ pub(crate) struct Flying<P: OpenProcess> {
     pub started: Instant,
 }
 
-/// Starts the child of a launch. Its messages are shown or discarded where no file takes them.
+/// Starts the child of a launch. Its messages are shown or kept where no file takes them.
 pub(crate) fn spawned<R: World>(
     rt: &R,
     launch: &Launch,
@@ -158,8 +159,8 @@ where
     Ok(())
 }
 
-// The child's output and messages go to the files of these names in its folder, or nowhere, or the messages to the program's
-// own. Where both have one name, they share one file.
+// The child's output and messages go to the files of these names in its folder. Where both have one name, they share one file. Without
+// a name its output goes nowhere, and its messages to the program's own, or to the file `stderr` of its job.
 fn set_outputs<R: World>(
     rt: &R,
     launch: &Launch,
@@ -174,9 +175,9 @@ where
         (Some(output), Some(messages)) if output.equals(messages) => {
             share_output(rt, &launch.dir, output, command)
         }
-        (output, messages) => {
-            command.stdout(stream_to(rt, &launch.dir, output, false)?);
-            command.stderr(stream_to(rt, &launch.dir, messages, shows)?);
+        (output, _) => {
+            command.stdout(output_to(rt, &launch.dir, output)?);
+            command.stderr(messages_to(rt, launch, shows)?);
             Ok(())
         }
     }
@@ -198,20 +199,47 @@ where
     Ok(())
 }
 
-// A file of this name; without one what the program has itself, or nowhere.
-fn stream_to<R: World>(
-    rt: &R,
-    folder: &Text,
-    name: &Option<Text>,
-    shows: bool,
-) -> Result<Stdio, Trouble>
+// A file of this name, or nowhere.
+fn output_to<R: World>(rt: &R, folder: &Text, name: &Option<Text>) -> Result<Stdio, Trouble>
 where
     R::File: Into<Stdio>,
 {
     match name {
-        None if shows => Ok(Stdio::inherit()),
         None => Ok(Stdio::null()),
         Some(name) => Ok(created(rt, folder, name)?.into()),
+    }
+}
+
+// The file that the launch names; without one what the program has itself, or a file of the job's own.
+fn messages_to<R: World>(rt: &R, launch: &Launch, shows: bool) -> Result<Stdio, Trouble>
+where
+    R::File: Into<Stdio>,
+{
+    match &launch.stderr {
+        Some(name) => Ok(created(rt, &launch.dir, name)?.into()),
+        None if shows => Ok(Stdio::inherit()),
+        None => kept_messages(rt, launch),
+    }
+}
+
+// The job's own file for them; nowhere, where that can't be made.
+fn kept_messages<R: World>(rt: &R, launch: &Launch) -> Result<Stdio, Trouble>
+where
+    R::File: Into<Stdio>,
+{
+    match messages_file(rt.alloc(), launch)? {
+        Some(path) => Ok(file_or_nowhere(rt, &path)),
+        None => Ok(Stdio::null()),
+    }
+}
+
+fn file_or_nowhere<R: World>(rt: &R, path: &Text) -> Stdio
+where
+    R::File: Into<Stdio>,
+{
+    match File::create(rt, path.as_str()) {
+        Ok(file) => file.into(),
+        Err(_) => Stdio::null(),
     }
 }
 

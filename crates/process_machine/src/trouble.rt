@@ -6,7 +6,23 @@ use std::io;
 #[derive(Clone, Copy, Debug, PartialEq, Eq)]
 pub(crate) enum Trouble {
     Failed,
+    /// The system says why.
+    Hindered(Hindrance),
     OutOfMemory,
+}
+
+/// Why a result could not be copied to its target.
+#[derive(Clone, Copy, Debug, PartialEq, Eq)]
+pub enum Hindrance {
+    /// A file that the run was given is there.
+    Given,
+    /// A folder is in the way, or a file where a folder is needed.
+    Taken,
+    /// The system does not allow it.
+    Forbidden,
+    /// There is no room.
+    Full,
+    Other,
 }
 
 impl From<AllocError> for Trouble {
@@ -25,7 +41,29 @@ impl From<io::Error> for Trouble {
     fn from(error: io::Error) -> Trouble {
         match error.kind() {
             io::ErrorKind::OutOfMemory => Trouble::OutOfMemory,
-            _ => Trouble::Failed,
+            kind => Trouble::Hindered(hindrance_of(kind)),
+        }
+    }
+}
+
+fn hindrance_of(kind: io::ErrorKind) -> Hindrance {
+    match kind {
+        io::ErrorKind::AlreadyExists | io::ErrorKind::IsADirectory | io::ErrorKind::NotADirectory =>
+            Hindrance::Taken,
+        io::ErrorKind::PermissionDenied | io::ErrorKind::ReadOnlyFilesystem => {
+            Hindrance::Forbidden
+        }
+        io::ErrorKind::StorageFull | io::ErrorKind::QuotaExceeded => Hindrance::Full,
+        _ => Hindrance::Other,
+    }
+}
+
+impl Trouble {
+    /// Why a copy was not made.
+    pub(crate) fn hindrance(self) -> Hindrance {
+        match self {
+            Trouble::Hindered(why) => why,
+            Trouble::Failed | Trouble::OutOfMemory => Hindrance::Other,
         }
     }
 }

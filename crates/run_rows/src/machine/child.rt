@@ -3,29 +3,56 @@ use crate::machine::place::{below, empty_plan, machine, prepared};
 use command_line::{Launch, Variable};
 use plain_data::{Items, Text};
 use proc_host::{ChildEnd, Host};
+use process_machine::{last_lines, messages_file};
 use row_io::{AnswerText, Row, RowFault};
 use serde_json::Value as Json;
 use std::alloc::Global;
 
-/// How a child of these words ended, and what is in its output folder then.
+/// What a row wants to be told beside an end: the listing of a folder, and the last messages of the child.
+#[derive(Drop)]
+struct Wanted {
+    listed: Option<Text>,
+    last: bool,
+}
+
+/// How a child of these words ended, what is in its output folder then, and after that what the row wants to be told.
 pub fn told_of(rt: &HostRuntime, row: &Row, place: &str) -> Result<String, RowFault> {
     prepared(rt, row, place)?;
     let launch = launch_of(rt.alloc(), row, place)?;
+    let wanted = Wanted {
+        listed: path_of(rt.alloc(), row, "listed", place)?,
+        last: row.find("last").is_some(),
+    };
     let mut host = machine(rt, place)?;
+    if row.find("keeps").is_some() {
+        host.keep_folders();
+    }
     let mut out = AnswerText::new(rt.alloc());
-    stage_and_run(rt.alloc(), &mut host, &launch, &mut out);
+    stage_and_run(rt, &mut host, &launch, &wanted, &mut out);
     out.finish()
 }
 
-fn stage_and_run<H: Host>(alloc: Global, host: &mut H, launch: &Launch, out: &mut AnswerText) {
-    let plan = empty_plan(alloc);
+fn stage_and_run<H: Host>(
+    rt: &HostRuntime,
+    host: &mut H,
+    launch: &Launch,
+    wanted: &Wanted,
+    out: &mut AnswerText,
+) {
+    let plan = empty_plan(rt.alloc());
     match host.stage(&plan, 1) {
-        Ok(()) => run(host, launch, out),
+        Ok(()) => run(rt, host, launch, wanted, out),
         Err(error) => put_fault(out, error),
     }
 }
 
-fn run<H: Host>(host: &mut H, launch: &Launch, out: &mut AnswerText) {
+fn run<H: Host>(
+    rt: &HostRuntime,
+    host: &mut H,
+    launch: &Launch,
+    wanted: &Wanted,
+    out: &mut AnswerText,
+) {
     let ticket = match host.start(launch) {
         Ok(ticket) => ticket,
         Err(error) => return put_fault(out, error),
@@ -33,7 +60,14 @@ fn run<H: Host>(host: &mut H, launch: &Launch, out: &mut AnswerText) {
     let ended = host.collect();
     host.close(ticket);
     match ended {
-        Ok(ending) => put_end(host, &launch.dir, &ending, out),
+        Ok(ending) => {
+            put_end(host, &launch.dir, &ending, out);
+            put_listed(host, &wanted.listed, out);
+            if wanted.last {
+                put_last(rt, launch, out);
+            }
+            out.put("}");
+        }
         Err(error) => put_fault(out, error),
     }
 }
@@ -43,7 +77,30 @@ fn put_end<H: Host>(host: &mut H, folder: &Text, ending: &ChildEnd, out: &mut An
     put_code(out, ending.code);
     out.put(",\"found\":");
     put_folder(host, folder, out);
-    out.put("}");
+}
+
+fn put_listed<H: Host>(host: &mut H, listed: &Option<Text>, out: &mut AnswerText) {
+    if let Some(folder) = listed {
+        out.put(",\"listed\":");
+        put_folder(host, folder, out);
+    }
+}
+
+// Adds the last messages of a launch, or null.
+fn put_last(rt: &HostRuntime, launch: &Launch, out: &mut AnswerText) {
+    out.put(",\"last\":");
+    match messages_file(rt.alloc(), launch) {
+        Ok(Some(file)) => put_lines(rt, file.as_str(), out),
+        Ok(None) => out.put("null"),
+        Err(error) => out.fail(RowFault::from(error)),
+    }
+}
+
+fn put_lines(rt: &HostRuntime, file: &str, out: &mut AnswerText) {
+    match last_lines(rt, file) {
+        Some(lines) => out.put_quoted(lines.as_str()),
+        None => out.put("null"),
+    }
 }
 
 /// Adds what is below a folder.
@@ -69,7 +126,7 @@ pub fn launch_with(
     Ok(Launch {
         words,
         env: env_of(alloc, row)?,
-        stdin: input_of(alloc, row, place)?,
+        stdin: path_of(alloc, row, "stdin", place)?,
         stdout: name_of(alloc, row, "stdout")?,
         stderr: name_of(alloc, row, "stderr")?,
         dir: below(alloc, place, "j1/out")?,
@@ -107,10 +164,15 @@ fn name_of(alloc: Global, row: &Row, argument: &str) -> Result<Option<Text>, Row
     }
 }
 
-// The file that the child reads, by its name in the row's folder.
-fn input_of(alloc: Global, row: &Row, place: &str) -> Result<Option<Text>, RowFault> {
-    match row.find("stdin") {
+// The file or folder of this argument, by its name in the row's folder.
+fn path_of(
+    alloc: Global,
+    row: &Row,
+    argument: &str,
+    place: &str,
+) -> Result<Option<Text>, RowFault> {
+    match row.find(argument) {
         None => Ok(None),
-        Some(_) => Ok(Some(below(alloc, place, row.text("stdin")?)?)),
+        Some(_) => Ok(Some(below(alloc, place, row.text(argument)?)?)),
     }
 }

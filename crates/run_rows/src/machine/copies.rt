@@ -3,20 +3,71 @@ use crate::machine::listing::put_fault;
 use crate::machine::place::{below, machine, prepared};
 use plain_data::{Items, Keyed, Text};
 use proc_host::{Host, HostError};
+use process_machine::{Hindrance, Machine, Undelivered, World};
 use row_io::{AnswerText, Row, RowFault};
 use serde_json::Value as Json;
 use staging::{Move, StagePlan};
 use std::alloc::Global;
 
-/// What a stage or a delivery of these moves answers, and what the row's folder holds then.
+/// What a stage or a delivery of these moves answers, once these paths were measured, and what the row's folder holds then.
 pub fn told_of(rt: &HostRuntime, row: &Row, place: &str) -> Result<String, RowFault> {
     prepared(rt, row, place)?;
     let plan = plan_of(rt.alloc(), row, place)?;
     let folder = Text::from_text(rt.alloc(), place)?;
     let mut host = machine(rt, place)?;
+    measure_all(rt.alloc(), &mut host, row, place)?;
     let mut out = AnswerText::new(rt.alloc());
     copy(&mut host, row, &plan, &folder, &mut out);
+    if row.find("why").is_some() {
+        put_why(&host, place, &mut out);
+    }
+    out.put("}");
     out.finish()
+}
+
+// Adds which result could not be copied, and why.
+fn put_why<R: World>(host: &Machine<R>, place: &str, out: &mut AnswerText) {
+    out.put(",\"why\":");
+    match host.undelivered() {
+        None => out.put("null"),
+        Some(Undelivered { target, why }) => {
+            let name = target.as_str().strip_prefix(place).unwrap_or("");
+            out.put("[");
+            out.put_quoted(name);
+            out.put(",");
+            out.put_quoted(hindrance_name(*why));
+            out.put("]");
+        }
+    }
+}
+
+fn hindrance_name(why: Hindrance) -> &'static str {
+    match why {
+        Hindrance::Given => "Given",
+        Hindrance::Taken => "Taken",
+        Hindrance::Forbidden => "Forbidden",
+        Hindrance::Full => "Full",
+        Hindrance::Other => "Other",
+    }
+}
+
+fn measure_all<H: Host>(
+    alloc: Global,
+    host: &mut H,
+    row: &Row,
+    place: &str,
+) -> Result<(), RowFault> {
+    if row.find("measured").is_none() {
+        return Ok(());
+    }
+    for name in row.list("measured")? {
+        let name = name.as_str().ok_or(RowFault::BadArgument)?;
+        let path = below(alloc, place, name)?;
+        if host.measure(&path).is_err() {
+            return Err(RowFault::BadArgument);
+        }
+    }
+    Ok(())
 }
 
 fn copy<H: Host>(host: &mut H, row: &Row, plan: &StagePlan, folder: &Text, out: &mut AnswerText) {
@@ -27,7 +78,6 @@ fn copy<H: Host>(host: &mut H, row: &Row, plan: &StagePlan, folder: &Text, out: 
     }
     out.put(",\"found\":");
     put_folder(host, folder, out);
-    out.put("}");
 }
 
 fn copied<H: Host>(host: &mut H, row: &Row, plan: &StagePlan) -> Result<(), HostError> {

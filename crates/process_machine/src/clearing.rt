@@ -1,0 +1,63 @@
+//! What is removed of a job's folder once its outputs are listed.
+
+use crate::layout::joined;
+use crate::trouble::Trouble;
+use crate::world::World;
+use staging::Found;
+use std::fs;
+
+/// Removes the folders `in` and `tmp` of a job, whose folder `out` was listed: nobody reads them any more. What can't be removed stays.
+///
+/// Both stay where anything that was listed is a link, since it may lead into them, and is read and copied as what it leads to. The
+/// folders of no other job, and of none in another work folder, are removed.
+pub(crate) fn clear_job<R: World>(
+    rt: &R,
+    work: &str,
+    folder: &str,
+    found: &[Found],
+) -> Result<(), Trouble> {
+    match job_of(folder, work) {
+        Some(job) if !has_link(rt, folder, found)? => remove_parts(rt, job),
+        _ => Ok(()),
+    }
+}
+
+// The folder of the job whose folder `out` has this path.
+fn job_of<'a>(folder: &'a str, work: &str) -> Option<&'a str> {
+    let job = folder.strip_suffix("/out")?;
+    let number = job.strip_prefix(work)?.strip_prefix("/j")?;
+    if is_number(number) { Some(job) } else { None }
+}
+
+fn is_number(text: &str) -> bool {
+    !text.is_empty() && text.bytes().all(|byte| byte.is_ascii_digit())
+}
+
+// Whether the folder, or anything that was listed of it, is a link.
+fn has_link<R: World>(rt: &R, folder: &str, found: &[Found]) -> Result<bool, Trouble> {
+    if is_link(rt, folder)? {
+        return Ok(true);
+    }
+    for entry in found {
+        let path = joined(rt.alloc(), folder, entry.name.as_str())?;
+        if is_link(rt, path.as_str())? {
+            return Ok(true);
+        }
+    }
+    Ok(false)
+}
+
+fn is_link<R: World>(rt: &R, path: &str) -> Result<bool, Trouble> {
+    Ok(fs::symlink_metadata(rt, path)?.is_symlink())
+}
+
+fn remove_parts<R: World>(rt: &R, job: &str) -> Result<(), Trouble> {
+    remove_part(rt, job, "in")?;
+    remove_part(rt, job, "tmp")
+}
+
+fn remove_part<R: World>(rt: &R, job: &str, name: &str) -> Result<(), Trouble> {
+    let part = joined(rt.alloc(), job, name)?;
+    let _removed = fs::remove_dir_all(rt, part.as_str());
+    Ok(())
+}
