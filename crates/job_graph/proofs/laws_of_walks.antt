@@ -3,12 +3,17 @@ pub mod BesideSteps
 pub mod Ended
 pub mod Gives
 pub mod Grown
+pub mod Held
 pub mod Known
 pub mod Learned
+pub mod Makers
 pub mod Open
 pub mod Part
+pub mod Passed
+pub mod PassedWalks
 pub mod Places
 pub mod Processes
+pub mod ReadDefaults
 pub mod Rounds
 pub mod Same
 pub mod Settled

@@ -10,6 +10,7 @@ pub mod KnownJobs
 pub mod Links
 pub mod LoadCosts
 pub mod Made
+pub mod Makers
 pub mod More
 pub mod Paths
 pub mod PresentJobGraph

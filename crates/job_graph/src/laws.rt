@@ -1,20 +1,29 @@
 //! What follows from the definitions alone, for any process: each law is the contract of a function that does nothing.
-ghost use Rattle.std.specs.Prelude.{◌≡◌, ◌++◌, ◌∷◌, [], true, List, map, find, Some, None, is_some, IsSome, Contains};
+ghost use Rattle.std.specs.Prelude.{ℕ, ◌≡◌, ◌++◌, ◌∷◌, [], true, List, map, find, Ok, Some, None, is_some, IsSome, Contains};
 ghost use Rattle.std.specs.List.{IsDistinct};
 ghost use Rattle.cwl_process.specs.declared.tool.Tool.{Tool};
 ghost use Rattle.cwl_value.specs.Erased.{fields_erased};
+ghost use Rattle.cwl_value.specs.Texts.{ReadsAs};
+ghost use Rattle.cwl_value.specs.declared.value.Value.{Value};
+ghost use Rattle.cwl_value.specs.declared.value.Value.TheVariants as value;
+ghost use Rattle.document_links.specs.Library.{Documents};
+ghost use Rattle.document_links.specs.ProcessOf.{IsItsProcess};
 ghost use Rattle.document_links.specs.declared.process.Process.{Process};
+ghost use Rattle.file_values.specs.Resolved.{resolved};
 ghost use Rattle.input_files.specs.Measured.{Measures};
+ghost use Rattle.url.specs.Parts.{Parts};
 ghost use Rattle.workflow_check.specs.Checked.{fault_in};
 ghost use Rattle.job_graph.specs.declared.cause.Cause.{Cause};
 ghost use Rattle.job_graph.specs.Words.{Fields, JobPlace, is_same_place};
 ghost use Rattle.job_graph.specs.Jobs.{Job, Made, Walker, met_job, result_in};
 ghost use Rattle.job_graph.specs.Equations.{walker};
-ghost use Rattle.job_graph.specs.Unfold.{Fault, Resolved, fault_at, is_at, made_by, outputs_at, unfolded};
+ghost use Rattle.job_graph.specs.Made.{any_made};
+ghost use Rattle.job_graph.specs.Unfold.{Fault, Known, Resolved, fault_at, is_at, known_from, made_by, outputs_at, unfolded};
 ghost use Rattle.job_graph.specs.Eval.{Key, World, eval};
 ghost use Rattle.job_graph.specs.Agrees.{Agrees, AgreesKnown};
 ghost use Rattle.job_graph.specs.Apart.{ids_differ};
 ghost use Rattle.job_graph.specs.Beside.{is_one_open};
+ghost use Rattle.job_graph.specs.Makers.{AreNamed, AreUnmade, HasUnmadeDefaults, IsLearned, IsLearnedJob};
 ghost use Rattle.job_graph.specs.More.{IsFront, IsGrown, StaysOn};
 
 /// Says that jobs which are known stay, in their order, when more is learned; of any walk.
@@ -133,4 +142,35 @@ pub fn accepted_processes_give_results()
         → (unfolded (walker process given measures) learned).fault ≡ None
         → ((job : Job) → Contains (unfolded (walker process given measures) learned).jobs job → is_some (outputs_at learned job.place) ≡ true)
         → IsSome (unfolded (walker process given measures) learned).result }
+{}
+
+/// Says that what made a File or Directory in the inputs of a known job was learned, where no job made what is given and
+/// what defaults hold, and the outputs that were learned are named.
+pub fn makers_are_learned()
+    ensures { (process : Process) (given : Fields) (measures : Measures) (learned : List Resolved)
+        → AreUnmade given → HasUnmadeDefaults process → AreNamed learned
+        → (job : Job) → Contains (unfolded (walker process given measures) learned).jobs job
+        → (maker : JobPlace) → any_made maker job.inputs ≡ true → IsLearned learned maker }
+{}
+
+/// Says that each parent of a known job is a known job whose outputs were learned, on the same terms.
+pub fn parents_are_learned()
+    ensures { (process : Process) (given : Fields) (measures : Measures) (learned : List Resolved)
+        → AreUnmade given → HasUnmadeDefaults process → AreNamed learned
+        → (known : Known) (parent : ℕ)
+        → Contains (known_from [] (unfolded (walker process given measures) learned).jobs) known
+        → Contains known.parents parent
+        → IsLearnedJob learned (unfolded (walker process given measures) learned).jobs parent }
+{}
+
+/// Says that no job made what the defaults of a process hold that was read from documents.
+pub fn read_defaults_are_unmade()
+    ensures { (bytes : List ℕ) (base : Parts) (docs : Documents) (process : Process)
+        → IsItsProcess bytes base docs process → HasUnmadeDefaults process }
+{}
+
+/// Says that no job made what an object holds that was read from text and whose files are at paths.
+pub fn read_inputs_are_unmade()
+    ensures { (bytes : List ℕ) (base : Parts) (read : Value) (given : Fields)
+        → ReadsAs bytes (Ok read) → resolved base read ≡ Ok (value.Fields given) → AreUnmade given }
 {}

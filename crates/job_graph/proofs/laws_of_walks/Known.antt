@@ -142,7 +142,7 @@ found_in P place (job ∷ jobs) all some = first_found P place job jobs (is_at p
 
 -- ---- jobs of one walk at one place are one
 
-in_all : (G : Job → Type 0) (met : List Met) → AllIn G met → (job : Job) → IsIn (met_job job) met → G job
+pub in_all : (G : Job → Type 0) (met : List Met) → AllIn G met → (job : Job) → IsIn (met_job job) met → G job
 in_all G [] all job at = absurd at
 in_all G (met_job k ∷ met) all job (inl here) = subst G (sym (same_job job k here)) all.0
 in_all G (met_job k ∷ met) all job (inr later) = in_all G met all.1 job later
