@@ -13,7 +13,7 @@ install:
 package:
 	@package=$$(scripts/package) && scripts/test-package "$$package" >&2 && echo "$$package"
 
-# The minutes are of four shared processors of two cores.
+# The minutes are of four shared processors of two cores, beside other work.
 help:
 	@echo "make               prove and build the program, and print its path (about an hour the first time, then seconds)"
 	@echo "make install       put the proved program there as PREFIX/bin/deparohi, PREFIX=DIR names the place"
@@ -25,8 +25,8 @@ help:
 	@echo "make rows          answer a crate's worked rows by the unproved program, and show what differs: NAME=value_rows"
 	@echo "make since         which crates changed since a revision, what stands above them, what to run: REV=commit (a second)"
 	@echo "make new           begin a crate: NAME=name, ON=\"crate ..\" are those that it stands on (a second)"
-	@echo "make test          the whole gate: every proof from nothing, the tests, the programs, the wrong bodies in must-fail/"
-	@echo "                   (94 minutes beside other work)"
+	@echo "make test          the whole gate: every proof that is not kept, the tests, the programs, the wrong bodies in must-fail/, the importer,"
+	@echo "                   the examples, a package (94 minutes from nothing, when last kept: docs/gate.md)"
 	@echo "make gate-cost     what the last gate cost, by crate and part (a second)"
 	@echo "make wrong-bodies  try all wrong bodies over what \`rt check\` keeps (several hours); NAME=crate: those of one crate (3 to 40 minutes)"
 

@@ -3,8 +3,19 @@
 import hashlib
 import os
 import re
+import shutil
+import sys
 
 TOP = os.path.dirname(os.path.dirname(os.path.realpath(__file__)))
+
+
+def need(*programs):
+    """Ends the script with a word where one of these programs is not in PATH."""
+    for it in programs:
+        if not shutil.which(it):
+            whose = ", the toolchain Rattle's command," if it == "rt" else ""
+            print(f"{os.path.basename(sys.argv[0])}: there is no {it}{whose} in PATH", file=sys.stderr)
+            sys.exit(2)
 
 
 def crates():

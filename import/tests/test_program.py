@@ -87,6 +87,21 @@ class Program(InFolder):
         lines += [f"a{at}: &a{at} [{', '.join([f'*a{at - 1}'] * 9)}]" for at in range(1, 60)]
         self.fails("\n".join(lines), 1, "aliases")
 
+    def test_what_is_no_document(self) -> None:
+        self.write("one.yml", "a:\n  $import: two.yml\n")
+        self.write("two.yml", "$import: one.yml\n")
+        rows = {
+            "a tab": (TOOL + "inputs:\n\ta: int\noutputs: []\n", "main.cwl:5: there is a tab"),
+            "two documents": (TOOL + ENDS + "---\n" + TOOL + ENDS, "main.cwl:6: a second YAML document"),
+            "a key twice": (TOOL + ENDS + "baseCommand: cat\n", "main.cwl:6: the key 'baseCommand' stands twice in one object; it was on line 3"),
+            "a key twice in JSON": ('{"class": "Workflow",\n "inputs": [],\n "class": "CommandLineTool"}', "main.cwl:3: the key 'class' stands twice"),
+            "a circle": (TOOL + "inputs: {$import: one.yml}\noutputs: []\n", "one.yml imports itself"),
+            "a URL": (TOOL + "inputs:\n  $import: https://example.org/x.yml\noutputs: []\n", "main.cwl:5: https://example.org/x.yml is no file on this machine, and nothing is fetched"),
+        }
+        for name, (text, words) in rows.items():
+            with self.subTest(name):
+                self.fails(text, 1, words)
+
     def test_twenty_megabytes(self) -> None:
         self.fails(TOOL + ENDS + "doc: |\n" + "  line\n" * 3_000_000, 1, "bytes")
         self.fails('{"doc": [' + '"x",' * 5_000_000 + '"x"]}', 1, "bytes")

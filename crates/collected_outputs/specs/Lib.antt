@@ -7,6 +7,7 @@ pub mod Contents
 pub mod Gives
 pub mod HeadsWanted
 pub mod Laws
+pub mod LeftBehind
 pub mod Listing
 pub mod Matched
 pub mod Object

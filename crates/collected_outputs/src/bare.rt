@@ -55,7 +55,8 @@ fn bare_file(alloc: Global, file: &FileVal) -> Result<FileVal, AllocError>
 
 // The File without contents, beside these.
 fn file_with(alloc: Global, file: &FileVal, secondary: Items<Value>) -> Result<FileVal, AllocError>
-    ensures { IfOk result (λ found. found ≡ roll-FileVal (record (out-FileVal file.now) { contents = None; secondary = secondary })) }
+    ensures { IfOk result (λ found. found
+        ≡ roll-FileVal (record (out-FileVal file.now) { contents = None; secondary = secondary })) }
 {
     let place = file.place.clone_in(alloc)?;
     let basename = copy_if_any(alloc, &file.basename)?;

@@ -4,11 +4,11 @@ ghost use Rattle.std.specs.Prelude.{◌≡◌, ◌∷◌, [], false, is_some, Ok
 ghost use Rattle.cwl_types.specs.declared.types.MemberType as member;
 ghost use Rattle.cwl_types.specs.declared.types.PlainType.TheVariants as plain;
 ghost use Rattle.collected_outputs.specs.Collected.{IsCollected, IsFault, AreGathered, object_entry};
+ghost use Rattle.collected_outputs.specs.LeftBehind.{left_behind, left_with};
 ghost use Rattle.collected_outputs.specs.Gives.{Refuses};
 ghost use Rattle.collected_outputs.specs.Outputs as spec;
 ghost use Rattle.collected_outputs.specs.Outputs.{AreNames, AreOutputs, HasValue, globs_in, has_object, value_beside};
 ghost use Rattle.collected_outputs.specs.Listing.{listing_of};
-ghost use Rattle.collected_outputs.specs.Patterns.{runtime};
 ghost use Rattle.collected_outputs.specs.Readable.{is_readable};
 ghost use Rattle.collected_outputs.specs.inner.Steps.{left_of, texts_in, texts_by, HasNone, NoNames, NoOutputs, BindsOutput, BindsNone};
 ghost use Rattle.collected_outputs.specs.inner.Written.{GathersNone};
@@ -42,6 +42,18 @@ pub struct StreamNames<'a> {
     pub stderr: &'a str,
 }
 
+/// What a child left behind, and what it was given: all that its outputs are collected from.
+#[derive(Clone, Copy, Drop)]
+pub struct LeftBehind<'a> {
+    /// The tool's inputs as the child had them.
+    pub inputs: &'a Keyed<Value>,
+    pub streams: StreamNames<'a>,
+    /// All that is below its output folder.
+    pub found: &'a [Found],
+    /// First bytes of files there, by name.
+    pub heads: &'a Keyed<Items<u8>>,
+}
+
 /// What outputs are collected from.
 #[derive(Clone, Copy, Drop)]
 pub(crate) struct Folder<'a> {
@@ -53,23 +65,21 @@ pub(crate) struct Folder<'a> {
 
 /// Collects the outputs of a job whose command has ended well (CWL v1.2, CommandLineTool, "Output binding").
 ///
-/// `found` is all that stands below its output folder, and `heads` has the first bytes of files by name: of
-/// `cwl.output.json` where it is found, and else of the files whose contents are asked for. A File or Directory of an
-/// output stands at its name below the folder, which is a `Url` place; the folder itself is `.`.
+/// First bytes are wanted of `cwl.output.json` where it is found, and else of the files whose contents are asked for. A File or
+/// Directory of an output stands at its name below the folder, which is a `Url` place; the folder itself is `.`.
 pub fn collect_outputs(
     alloc: Global,
     tool: &Tool,
-    inputs: &Keyed<Value>,
-    streams: StreamNames<'_>,
-    found: &[Found],
-    heads: &Keyed<Items<u8>>,
+    left: LeftBehind<'_>,
 ) -> Result<Keyed<Value>, CollectError>
-    ensures bindings { IfOk result (λ outputs. has_object (listing_of found.now) ≡ false → AreOutputs (record { listing = listing_of found.now; heads = heads.now; stdout = streams.entry.stdout.now; stderr = streams.entry.stderr.now; inputs = inputs.now; runtime = runtime }) tool.now.outputs (Ok outputs)) }
-    ensures ok { IfOk result (λ outputs. IsCollected (record { listing = listing_of found.now; heads = heads.now; stdout = streams.entry.stdout.now; stderr = streams.entry.stderr.now; inputs = inputs.now; runtime = runtime }) tool.now.outputs (Ok outputs)) }
-    ensures err { IfErr result (IsFault (record { listing = listing_of found.now; heads = heads.now; stdout = streams.entry.stdout.now; stderr = streams.entry.stderr.now; inputs = inputs.now; runtime = runtime }) tool.now.outputs) }
+    ensures bindings { IfOk result (λ outputs. has_object (listing_of left.entry.found.now) ≡ false
+        → AreOutputs (left_behind left.entry) tool.now.outputs (Ok outputs)) }
+    ensures ok { IfOk result
+        (λ outputs. IsCollected (left_behind left.entry) tool.now.outputs (Ok outputs)) }
+    ensures err { IfErr result (IsFault (left_behind left.entry) tool.now.outputs) }
 {
-    let listing = listing_of(alloc, found)?;
-    let collected = collect_from(alloc, tool, inputs, streams, &listing, heads);
+    let listing = listing_of(alloc, left.found)?;
+    let collected = collect_from(alloc, tool, left, &listing);
     drop(listing);
     collected
 }
@@ -77,22 +87,22 @@ pub fn collect_outputs(
 fn collect_from(
     alloc: Global,
     tool: &Tool,
-    inputs: &Keyed<Value>,
-    streams: StreamNames<'_>,
+    left: LeftBehind<'_>,
     listing: &Keyed<Entry>,
-    heads: &Keyed<Items<u8>>,
 ) -> Result<Keyed<Value>, CollectError>
-    ensures bindings { IfOk result (λ outputs. has_object listing.now ≡ false → AreOutputs (record { listing = listing.now; heads = heads.now; stdout = streams.entry.stdout.now; stderr = streams.entry.stderr.now; inputs = inputs.now; runtime = runtime }) tool.now.outputs (Ok outputs)) }
-    ensures ok { IfOk result (λ outputs. IsCollected (record { listing = listing.now; heads = heads.now; stdout = streams.entry.stdout.now; stderr = streams.entry.stderr.now; inputs = inputs.now; runtime = runtime }) tool.now.outputs (Ok outputs)) }
-    ensures err { IfErr result (IsFault (record { listing = listing.now; heads = heads.now; stdout = streams.entry.stdout.now; stderr = streams.entry.stderr.now; inputs = inputs.now; runtime = runtime }) tool.now.outputs) }
+    ensures bindings { IfOk result (λ outputs. has_object listing.now ≡ false
+        → AreOutputs (left_with left.entry listing.now) tool.now.outputs (Ok outputs)) }
+    ensures ok { IfOk result
+        (λ outputs. IsCollected (left_with left.entry listing.now) tool.now.outputs (Ok outputs)) }
+    ensures err { IfErr result (IsFault (left_with left.entry listing.now) tool.now.outputs) }
 {
     let runtime = runtime_of(alloc)?;
     let folder = Folder {
         listing,
-        heads,
-        streams,
+        heads: left.heads,
+        streams: left.streams,
         speaks: Speaks {
-            inputs,
+            inputs: left.inputs,
             runtime: &runtime,
         },
     };
@@ -107,8 +117,10 @@ fn readable_outputs(
     tool: &Tool,
     folder: Folder<'_>,
 ) -> Result<Keyed<Value>, CollectError>
-    ensures bindings { IfOk result (λ outputs. has_object folder.entry.listing.now ≡ false → AreOutputs (left_of folder.entry) tool.now.outputs (Ok outputs)) }
-    ensures ok { IfOk result (λ outputs. IsCollected (left_of folder.entry) tool.now.outputs (Ok outputs)) }
+    ensures bindings { IfOk result (λ outputs. has_object folder.entry.listing.now ≡ false
+        → AreOutputs (left_of folder.entry) tool.now.outputs (Ok outputs)) }
+    ensures ok { IfOk result (λ outputs. IsCollected (left_of folder.entry) tool.now.outputs
+        (Ok outputs)) }
     ensures err { IfErr result (IsFault (left_of folder.entry) tool.now.outputs) }
 {
     let outputs = outputs_of(alloc, tool, folder)?;
@@ -127,8 +139,10 @@ fn is_readable(outputs: &Keyed<Value>) -> bool
 }
 
 fn outputs_of(alloc: Global, tool: &Tool, folder: Folder<'_>) -> Result<Keyed<Value>, CollectError>
-    ensures bindings { IfOk result (λ outputs. spec.has_object folder.entry.listing.now ≡ false → spec.AreOutputs (left_of folder.entry) tool.now.outputs (Ok outputs)) }
-    ensures ok { IfOk result (λ outputs. AreGathered (left_of folder.entry) tool.now.outputs (Ok outputs)) }
+    ensures bindings { IfOk result (λ outputs. spec.has_object folder.entry.listing.now ≡ false
+        → spec.AreOutputs (left_of folder.entry) tool.now.outputs (Ok outputs)) }
+    ensures ok { IfOk result (λ outputs. AreGathered (left_of folder.entry) tool.now.outputs
+        (Ok outputs)) }
     ensures err { IfErr result (GathersNone (left_of folder.entry) tool.now.outputs) }
 {
     match object_entry(folder.listing) {
@@ -151,7 +165,8 @@ fn from_bindings(
     tool: &Tool,
     folder: Folder<'_>,
 ) -> Result<Keyed<Value>, CollectError>
-    ensures ok { IfOk result (λ outputs. spec.AreOutputs (left_of folder.entry) tool.now.outputs (Ok outputs)) }
+    ensures ok { IfOk result (λ outputs. spec.AreOutputs (left_of folder.entry) tool.now.outputs
+        (Ok outputs)) }
     ensures err { IfErr result (NoOutputs (left_of folder.entry) tool.now.outputs) }
 {
     let mut outputs = Keyed::new(alloc);
@@ -168,7 +183,8 @@ fn bind_output(
     folder: Folder<'_>,
     outputs: &mut Keyed<Value>,
 ) -> Result<(), CollectError>
-    ensures ok { OnOk result (BindsOutput (left_of folder.entry) id.now output.now outputs.old outputs.new) }
+    ensures ok { OnOk result (BindsOutput (left_of folder.entry) id.now output.now outputs.old
+        outputs.new) }
     ensures err { IfErr result (BindsNone (left_of folder.entry) id.now output.now) }
 {
     match bound_value(alloc, output, folder) {
@@ -192,8 +208,10 @@ fn output_value(
     folder: Folder<'_>,
     names: &[Text],
 ) -> Result<Value, Stop>
-    ensures ok { IfOk result (λ v. spec.output_value (left_of folder.entry) output.now names.now ≡ Ok v) }
-    ensures err { IfErr result (Refuses (spec.output_value (left_of folder.entry) output.now names.now)) }
+    ensures ok { IfOk result (λ v. spec.output_value (left_of folder.entry) output.now names.now
+        ≡ Ok v) }
+    ensures err { IfErr result
+        (Refuses (spec.output_value (left_of folder.entry) output.now names.now)) }
 {
     let value = value_beside(alloc, output, folder, names)?;
     let checked = checked(alloc, folder.listing, &output.kind, &value);
@@ -207,8 +225,10 @@ fn value_beside(
     folder: Folder<'_>,
     names: &[Text],
 ) -> Result<Value, Stop>
-    ensures ok { IfOk result (λ v. value_beside (left_of folder.entry) output.now names.now ≡ Ok v) }
-    ensures err { IfErr result (Refuses (value_beside (left_of folder.entry) output.now names.now)) }
+    ensures ok { IfOk result (λ v. value_beside (left_of folder.entry) output.now names.now
+        ≡ Ok v) }
+    ensures err { IfErr result
+        (Refuses (value_beside (left_of folder.entry) output.now names.now)) }
 {
     let value = unchecked_value(alloc, output, folder, names)?;
     with_secondary(
@@ -225,8 +245,10 @@ pub(crate) fn names_of(
     output: &ToolOutput,
     folder: Folder<'_>,
 ) -> Result<Items<Text>, Stop>
-    ensures ok { IfOk result (λ names. AreNames folder.entry.listing.now (texts_by folder.entry output.now) (Ok names)) }
-    ensures err { IfErr result (NoNames folder.entry.listing.now (texts_by folder.entry output.now)) }
+    ensures ok { IfOk result
+        (λ names. AreNames folder.entry.listing.now (texts_by folder.entry output.now) (Ok names)) }
+    ensures err { IfErr result
+        (NoNames folder.entry.listing.now (texts_by folder.entry output.now)) }
 {
     match &output.kind {
         OutputType::Stdout => Ok(Items::new(alloc)),
@@ -243,8 +265,11 @@ fn names_of_binding(
     binding: &OutputBinding,
     folder: Folder<'_>,
 ) -> Result<Items<Text>, Stop>
-    ensures ok { IfOk result (λ names. AreNames folder.entry.listing.now (texts_in folder.entry (globs_in (Some binding.now))) (Ok names)) }
-    ensures err { IfErr result (NoNames folder.entry.listing.now (texts_in folder.entry (globs_in (Some binding.now)))) }
+    ensures ok { IfOk result
+        (λ names. AreNames folder.entry.listing.now
+        (texts_in folder.entry (globs_in (Some binding.now))) (Ok names)) }
+    ensures err { IfErr result
+        (NoNames folder.entry.listing.now (texts_in folder.entry (globs_in (Some binding.now)))) }
 {
     match &binding.glob {
         None => Ok(Items::new(alloc)),
@@ -253,8 +278,11 @@ fn names_of_binding(
 }
 
 fn names_by(alloc: Global, templates: &[Template], folder: Folder<'_>) -> Result<Items<Text>, Stop>
-    ensures ok { IfOk result (λ names. AreNames folder.entry.listing.now (texts_in folder.entry templates.now) (Ok names)) }
-    ensures err { IfErr result (NoNames folder.entry.listing.now (texts_in folder.entry templates.now)) }
+    ensures ok { IfOk result
+        (λ names. AreNames folder.entry.listing.now (texts_in folder.entry templates.now)
+        (Ok names)) }
+    ensures err { IfErr result
+        (NoNames folder.entry.listing.now (texts_in folder.entry templates.now)) }
 {
     let texts = texts_of(alloc, templates, folder.speaks)?;
     let patterns = read_patterns(alloc, texts.as_slice())?;
@@ -267,8 +295,11 @@ fn unchecked_value(
     folder: Folder<'_>,
     names: &[Text],
 ) -> Result<Value, Stop>
-    ensures ok { IfOk result (λ v. spec.unchecked (left_of folder.entry) output.now.kind output.now.binding names.now ≡ Ok v) }
-    ensures err { IfErr result (Refuses (spec.unchecked (left_of folder.entry) output.now.kind output.now.binding names.now)) }
+    ensures ok { IfOk result (λ v. spec.unchecked (left_of folder.entry) output.now.kind
+        output.now.binding names.now ≡ Ok v) }
+    ensures err { IfErr result
+        (Refuses (spec.unchecked (left_of folder.entry) output.now.kind output.now.binding
+        names.now)) }
 {
     match &output.kind {
         OutputType::Stdout => stream_value(alloc, folder, folder.streams.stdout),
@@ -305,8 +336,11 @@ fn value_of_binding(
     folder: Folder<'_>,
     names: &[Text],
 ) -> Result<Value, Stop>
-    ensures ok { IfOk result (λ v. spec.value_of_binding (left_of folder.entry) members.now (Some binding.now) names.now ≡ Ok v) }
-    ensures err { IfErr result (Refuses (spec.value_of_binding (left_of folder.entry) members.now (Some binding.now) names.now)) }
+    ensures ok { IfOk result (λ v. spec.value_of_binding (left_of folder.entry) members.now
+        (Some binding.now) names.now ≡ Ok v) }
+    ensures err { IfErr result
+        (Refuses (spec.value_of_binding (left_of folder.entry) members.now (Some binding.now)
+        names.now)) }
 {
     if binding.glob.is_none() && binding.output_eval.is_none() {
         return Ok(Value::Null);
@@ -321,8 +355,10 @@ fn evaluated(
     folder: Folder<'_>,
     matched: Items<Value>,
 ) -> Result<Value, Stop>
-    ensures ok { IfOk result (λ v. spec.evaluated (left_of folder.entry) members.now output_eval.now matched ≡ Ok v) }
-    ensures err { IfErr result (Refuses (spec.evaluated (left_of folder.entry) members.now output_eval.now matched)) }
+    ensures ok { IfOk result (λ v. spec.evaluated (left_of folder.entry) members.now output_eval.now
+        matched ≡ Ok v) }
+    ensures err { IfErr result
+        (Refuses (spec.evaluated (left_of folder.entry) members.now output_eval.now matched)) }
 {
     match output_eval {
         None => value_by_type(members, matched),
@@ -336,8 +372,10 @@ fn matched_values(
     folder: Folder<'_>,
     names: &[Text],
 ) -> Result<Items<Value>, Stop>
-    ensures ok { IfOk result (λ vs. spec.matched_values (left_of folder.entry) load names.now ≡ Ok vs) }
-    ensures err { IfErr result (Refuses (spec.matched_values (left_of folder.entry) load names.now)) }
+    ensures ok { IfOk result (λ vs. spec.matched_values (left_of folder.entry) load names.now
+        ≡ Ok vs) }
+    ensures err { IfErr result
+        (Refuses (spec.matched_values (left_of folder.entry) load names.now)) }
 {
     let values = values_of(alloc, folder.listing, names)?;
     if load {

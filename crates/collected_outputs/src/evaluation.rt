@@ -27,8 +27,11 @@ pub(crate) fn runtime_of(alloc: Global) -> Result<Value, AllocError>
 
 /// The value of a text, where `self` is this.
 pub(crate) fn value_in(template: &Template, speaks: Speaks<'_>, own: &Value) -> Result<Value, Stop>
-    ensures ok { IfOk result (λ v. spec.value_in speaks.entry.inputs.now speaks.entry.runtime.now own.now template.now ≡ Ok v) }
-    ensures err { IfErr result (Refuses (spec.value_in speaks.entry.inputs.now speaks.entry.runtime.now own.now template.now)) }
+    ensures ok { IfOk result (λ v. spec.value_in speaks.entry.inputs.now speaks.entry.runtime.now
+        own.now template.now ≡ Ok v) }
+    ensures err { IfErr result
+        (Refuses (spec.value_in speaks.entry.inputs.now speaks.entry.runtime.now own.now
+        template.now)) }
 {
     let context = Context {
         inputs: speaks.inputs,

@@ -56,7 +56,8 @@ fn items_found(listing: &Keyed<Entry>, items: &Items<Value>) -> bool
 
 #[cycle(found)]
 fn fields_found(listing: &Keyed<Entry>, fields: &Keyed<Value>) -> bool
-    ensures { result ≡ spec.every (map (λ e. e.1) (map_values (spec.all_found listing.now) fields.now)) }
+    ensures { result
+        ≡ spec.every (map (λ e. e.1) (map_values (spec.all_found listing.now) fields.now)) }
 {
     for field in fields.as_slice() {
         if !all_found(listing, &field.1) {

@@ -43,7 +43,8 @@ pub fn heads_wanted(
     inputs: &Keyed<Value>,
     found: &[Found],
 ) -> Result<Items<Text>, CollectError>
-    ensures ok { IfOk result (spec.AreHeadsWanted (listing_of found.now) inputs.now tool.now.outputs) }
+    ensures ok { IfOk result (spec.AreHeadsWanted (listing_of found.now) inputs.now
+        tool.now.outputs) }
     ensures err { IfErr result (λ e. e ≡ OutOfMemory) }
 {
     let listing = listing_of(alloc, found)?;
@@ -129,8 +130,10 @@ fn all_wanted(
     outputs: &[(Text, ToolOutput)],
     folder: Folder<'_>,
 ) -> Result<Items<Text>, Stop>
-    ensures ok { IfOk result (λ wanted. spec.AreWantedBy folder.entry.listing.now folder.entry.speaks.inputs.now folder.entry.speaks.runtime.now outputs.now (Ok wanted)) }
-    ensures err { IfErr result (NoneWanted folder.entry.listing.now folder.entry.speaks.inputs.now folder.entry.speaks.runtime.now outputs.now) }
+    ensures ok { IfOk result (λ wanted. spec.AreWantedBy folder.entry.listing.now
+        folder.entry.speaks.inputs.now folder.entry.speaks.runtime.now outputs.now (Ok wanted)) }
+    ensures err { IfErr result (NoneWanted folder.entry.listing.now folder.entry.speaks.inputs.now
+        folder.entry.speaks.runtime.now outputs.now) }
 {
     let mut wanted = Items::new(alloc);
     for output in outputs {
@@ -145,8 +148,10 @@ fn push_wanted(
     folder: Folder<'_>,
     wanted: &mut Items<Text>,
 ) -> Result<(), Stop>
-    ensures ok { OnOk result (AddsWanted folder.entry.listing.now output.now (texts_by folder.entry output.now) wanted.old wanted.new) }
-    ensures err { IfErr result (NoNames folder.entry.listing.now (texts_by folder.entry output.now)) }
+    ensures ok { OnOk result (AddsWanted folder.entry.listing.now output.now
+        (texts_by folder.entry output.now) wanted.old wanted.new) }
+    ensures err { IfErr result
+        (NoNames folder.entry.listing.now (texts_by folder.entry output.now)) }
 {
     let names = names_of(alloc, output, folder)?;
     if loads(output) {
@@ -173,7 +178,8 @@ fn push_short(
     names: &[Text],
     wanted: &mut Items<Text>,
 ) -> Result<(), AllocError>
-    ensures { OnOk result (wanted.new ≡ wanted.old ++ filter (spec.is_short listing.now) names.now) }
+    ensures { OnOk result (wanted.new ≡ wanted.old
+        ++ filter (spec.is_short listing.now) names.now) }
 {
     for name in names {
         if is_short(listing, name.as_str()) {

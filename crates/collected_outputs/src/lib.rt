@@ -22,7 +22,7 @@ mod secondary;
 mod values;
 mod written;
 
-pub use collect::{StreamNames, collect_outputs};
+pub use collect::{LeftBehind, StreamNames, collect_outputs};
 pub use contents::MOST_CONTENTS;
 pub use fault::{CollectError, CollectFault, OutputFault};
 pub use heads::{head_limit, heads_wanted};

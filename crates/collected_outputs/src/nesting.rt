@@ -58,7 +58,8 @@ fn items_within(items: &Items<Value>, levels: usize) -> bool
 /// Checks that the JSON of each of the values nests at most this many levels deep.
 #[cycle(nesting)]
 pub(crate) fn fields_within(fields: &Keyed<Value>, levels: usize) -> bool
-    ensures { result ≡ nat_le (spec.greatest (map (λ e. e.1) (map_values spec.nesting fields.now))) levels }
+    ensures { result ≡ nat_le (spec.greatest (map (λ e. e.1) (map_values spec.nesting fields.now)))
+        levels }
 {
     for field in fields.as_slice() {
         if !nests_within(&field.1, levels) {

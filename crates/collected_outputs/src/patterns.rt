@@ -48,8 +48,11 @@ pub(crate) fn texts_of(
     templates: &[Template],
     speaks: Speaks<'_>,
 ) -> Result<Items<Text>, Stop>
-    ensures ok { IfOk result (λ texts. spec.pattern_texts speaks.entry.inputs.now speaks.entry.runtime.now templates.now ≡ Ok texts) }
-    ensures err { IfErr result (Refuses (spec.pattern_texts speaks.entry.inputs.now speaks.entry.runtime.now templates.now)) }
+    ensures ok { IfOk result (λ texts. spec.pattern_texts speaks.entry.inputs.now
+        speaks.entry.runtime.now templates.now ≡ Ok texts) }
+    ensures err { IfErr result
+        (Refuses (spec.pattern_texts speaks.entry.inputs.now speaks.entry.runtime.now
+        templates.now)) }
 {
     let mut texts = Items::new(alloc);
     for template in templates {
@@ -69,8 +72,10 @@ fn push_all(alloc: Global, more: &[Text], texts: &mut Items<Text>) -> Result<(),
 }
 
 fn texts_at(alloc: Global, template: &Template, speaks: Speaks<'_>) -> Result<Items<Text>, Stop>
-    ensures ok { IfOk result (λ texts. spec.texts_at speaks.entry.inputs.now speaks.entry.runtime.now template.now ≡ Ok texts) }
-    ensures err { IfErr result (Refuses (spec.texts_at speaks.entry.inputs.now speaks.entry.runtime.now template.now)) }
+    ensures ok { IfOk result (λ texts. spec.texts_at speaks.entry.inputs.now
+        speaks.entry.runtime.now template.now ≡ Ok texts) }
+    ensures err { IfErr result
+        (Refuses (spec.texts_at speaks.entry.inputs.now speaks.entry.runtime.now template.now)) }
 {
     let value = value_in(template, speaks, &Value::Null)?;
     texts_in(alloc, &value)

@@ -51,8 +51,10 @@ fn placed_fields(
     listing: &Keyed<Entry>,
     fields: &Keyed<Value>,
 ) -> Result<Keyed<Value>, Stop>
-    ensures ok { IfOk result (λ es. spec.all_named (map_values (spec.placed listing.now) fields.now) ≡ Ok es) }
-    ensures err { IfErr result (Refuses (spec.all_named (map_values (spec.placed listing.now) fields.now))) }
+    ensures ok { IfOk result (λ es. spec.all_named (map_values (spec.placed listing.now) fields.now)
+        ≡ Ok es) }
+    ensures err { IfErr result
+        (Refuses (spec.all_named (map_values (spec.placed listing.now) fields.now))) }
 {
     let mut found = Vec::new(alloc);
     for field in fields.as_slice() {
@@ -94,7 +96,8 @@ fn file_apart(
 }
 
 fn are_apart(alloc: Global, basename: &Text, beside: &[Value]) -> Result<bool, AllocError>
-    ensures { IfOk result (λ apart. apart ≡ (is_new (Some basename.now) beside.now && are_distinct beside.now)) }
+    ensures { IfOk result (λ apart. apart
+        ≡ (is_new (Some basename.now) beside.now && are_distinct beside.now)) }
 {
     if is_taken(basename, beside) {
         return Ok(false);
@@ -122,8 +125,11 @@ fn dir_named(
     name: &str,
     basename: &Option<Text>,
 ) -> Result<DirVal, Stop>
-    ensures ok { IfOk result (λ d. spec.dir_of (spec.named basename.now name.now) (value_under listing.now name.now) ≡ Ok d) }
-    ensures err { IfErr result (Refuses (spec.dir_of (spec.named basename.now name.now) (value_under listing.now name.now))) }
+    ensures ok { IfOk result (λ d. spec.dir_of (spec.named basename.now name.now)
+        (value_under listing.now name.now) ≡ Ok d) }
+    ensures err { IfErr result
+        (Refuses (spec.dir_of (spec.named basename.now name.now)
+        (value_under listing.now name.now))) }
 {
     let basename = named(alloc, basename, name)?;
     let mut dir = dir_under(alloc, listing, name)?;

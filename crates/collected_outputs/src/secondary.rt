@@ -38,8 +38,10 @@ fn all_with_secondary(
     declared: &[SecondaryFile],
     values: Items<Value>,
 ) -> Result<Items<Value>, Stop>
-    ensures ok { IfOk result (λ vs. all_given (map (spec.one_beside listing.now declared.now) values) ≡ Ok vs) }
-    ensures err { IfErr result (Refuses (all_given (map (spec.one_beside listing.now declared.now) values))) }
+    ensures ok { IfOk result
+        (λ vs. all_given (map (spec.one_beside listing.now declared.now) values) ≡ Ok vs) }
+    ensures err { IfErr result
+        (Refuses (all_given (map (spec.one_beside listing.now declared.now) values))) }
 {
     let mut found = Items::new(alloc);
     for value in values.into_vec() {
@@ -88,8 +90,10 @@ fn add_secondary(
     declared: &SecondaryFile,
     file: FileVal,
 ) -> Result<FileVal, Stop>
-    ensures ok { IfOk result (λ f. spec.added_at listing.now file declared.now (out-FileVal file).place ≡ Ok f) }
-    ensures err { IfErr result (Refuses (spec.added_at listing.now file declared.now (out-FileVal file).place)) }
+    ensures ok { IfOk result (λ f. spec.added_at listing.now file declared.now
+        (out-FileVal file).place ≡ Ok f) }
+    ensures err { IfErr result
+        (Refuses (spec.added_at listing.now file declared.now (out-FileVal file).place)) }
 {
     match wanted_beside(alloc, listing, declared, &file) {
         Ok(None) => Ok(file),
@@ -108,8 +112,10 @@ fn wanted_beside(
     declared: &SecondaryFile,
     file: &FileVal,
 ) -> Result<Option<Text>, Stop>
-    ensures ok { IfOk result (λ path. wanted_at listing.now file.now declared.now (out-FileVal file.now).place ≡ Ok path) }
-    ensures err { IfErr result (Refuses (wanted_at listing.now file.now declared.now (out-FileVal file.now).place)) }
+    ensures ok { IfOk result (λ path. wanted_at listing.now file.now declared.now
+        (out-FileVal file.now).place ≡ Ok path) }
+    ensures err { IfErr result
+        (Refuses (wanted_at listing.now file.now declared.now (out-FileVal file.now).place)) }
 {
     let Some((name, path)) = names_beside(alloc, declared, &file.place)? else {
         return Ok(None);
@@ -139,7 +145,8 @@ fn with_beside(
     path: &str,
     file: FileVal,
 ) -> Result<FileVal, AllocError>
-    ensures { IfOk result (λ f. f ≡ spec.with_beside file (option_to_list (value_under listing.now path.now))) }
+    ensures { IfOk result (λ f. f
+        ≡ spec.with_beside file (option_to_list (value_under listing.now path.now))) }
 {
     let mut file = file;
     push_value(alloc, listing, path, &mut file.secondary)?;

@@ -31,7 +31,8 @@ pub(crate) fn push_value(
     name: &str,
     values: &mut Items<Value>,
 ) -> Result<(), AllocError>
-    ensures { OnOk result (values.new ≡ values.old ++ option_to_list (spec.value_under listing.now name.now)) }
+    ensures { OnOk result (values.new ≡ values.old
+        ++ option_to_list (spec.value_under listing.now name.now)) }
 {
     if name == "." {
         return values.push(folder_value(alloc, listing)?);
@@ -63,7 +64,8 @@ fn entry_value(
     name: &str,
     entry: &Entry,
 ) -> Result<Value, AllocError>
-    ensures { IfOk result (λ v. v ≡ spec.entry_value (spec.values_in listing.now depth) name.now entry.now) }
+    ensures { IfOk result (λ v. v ≡ spec.entry_value (spec.values_in listing.now depth) name.now
+        entry.now) }
 {
     if entry.is_dir {
         let inside = values_in(alloc, listing, depth, name)?;

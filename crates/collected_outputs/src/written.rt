@@ -25,8 +25,11 @@ pub(crate) fn from_object(
     heads: &Keyed<Items<u8>>,
     entry: &Entry,
 ) -> Result<Keyed<Value>, CollectError>
-    ensures ok { IfOk result (λ values. spec.by_object listing.now tool.now.outputs (by_file.object_of entry.now heads.now) ≡ Ok values) }
-    ensures err { IfErr result (Faults (spec.by_object listing.now tool.now.outputs (by_file.object_of entry.now heads.now))) }
+    ensures ok { IfOk result (λ values. spec.by_object listing.now tool.now.outputs
+        (by_file.object_of entry.now heads.now) ≡ Ok values) }
+    ensures err { IfErr result
+        (Faults
+        (spec.by_object listing.now tool.now.outputs (by_file.object_of entry.now heads.now))) }
 {
     match object_of(alloc, entry, heads) {
         Err(stop) => Err(whole(stop)),
@@ -44,7 +47,8 @@ fn written_values(
     listing: &Keyed<Entry>,
     object: &Keyed<Value>,
 ) -> Result<Keyed<Value>, CollectError>
-    ensures ok { IfOk result (λ values. spec.written_after listing.now object.now [] outputs.now ≡ Ok values) }
+    ensures ok { IfOk result (λ values. spec.written_after listing.now object.now [] outputs.now
+        ≡ Ok values) }
     ensures err { IfErr result (Faults (spec.written_after listing.now object.now [] outputs.now)) }
 {
     let mut values = Keyed::new(alloc);
@@ -61,8 +65,13 @@ fn put_written(
     object: &Keyed<Value>,
     values: &mut Keyed<Value>,
 ) -> Result<(), CollectError>
-    ensures ok { OnOk result (spec.with_output output.now.0 (spec.written_value listing.now object.now output.now) values.old ≡ Ok values.new) }
-    ensures err { IfErr result (Faults (spec.with_output output.now.0 (spec.written_value listing.now object.now output.now) values.old)) }
+    ensures ok { OnOk result
+        (spec.with_output output.now.0 (spec.written_value listing.now object.now output.now)
+        values.old ≡ Ok values.new) }
+    ensures err { IfErr result
+        (Faults
+        (spec.with_output output.now.0 (spec.written_value listing.now object.now output.now)
+        values.old)) }
 {
     match written_value(alloc, output, listing, object) {
         Ok(value) => Ok(put_output(alloc, &output.0, value, values)?),
@@ -106,8 +115,10 @@ fn written(
     object: &Keyed<Value>,
     id: &str,
 ) -> Result<Value, Stop>
-    ensures ok { IfOk result (λ v. by_file.written listing.now (value_at id.now object.now) ≡ Ok v) }
-    ensures err { IfErr result (Refuses (by_file.written listing.now (value_at id.now object.now))) }
+    ensures ok { IfOk result (λ v. by_file.written listing.now (value_at id.now object.now)
+        ≡ Ok v) }
+    ensures err { IfErr result
+        (Refuses (by_file.written listing.now (value_at id.now object.now))) }
 {
     match object.get(id) {
         None => Ok(Value::Null),

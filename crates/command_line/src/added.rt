@@ -27,7 +27,8 @@ pub(crate) fn added(
     types: &[MemberType],
     style: StyleRef<'_>,
 ) -> Result<Option<Vec<Text>>, AllocError>
-    ensures { IfOk result (λ words. option_map (λ v. v.items) words ≡ adds value.now types.now (style_of style.entry)) }
+    ensures { IfOk result (λ words. option_map (λ v. v.items) words
+        ≡ adds value.now types.now (style_of style.entry)) }
 {
     match value {
         Value::Null => Ok(Some(Vec::new(alloc))),
@@ -50,7 +51,8 @@ fn words_of_text(
     value: &Value,
     style: StyleRef<'_>,
 ) -> Result<Option<Vec<Text>>, AllocError>
-    ensures { IfOk result (λ words. option_map (λ v. v.items) words ≡ option_map (prefixed (style_of style.entry)) (text_of value.now)) }
+    ensures { IfOk result (λ words. option_map (λ v. v.items) words
+        ≡ option_map (prefixed (style_of style.entry)) (text_of value.now)) }
 {
     match text_of(alloc, value)? {
         Some(text) => Ok(Some(text_words(alloc, text.as_str(), style)?)),
@@ -60,7 +62,8 @@ fn words_of_text(
 
 /// The prefix alone for `true`, and nothing for `false`.
 fn if_true(alloc: Global, flag: bool, style: StyleRef<'_>) -> Result<Vec<Text>, AllocError>
-    ensures { IfOk result (λ words. words.items ≡ (if flag then option_to_list (style_of style.entry).prefix else [])) }
+    ensures { IfOk result (λ words. words.items
+        ≡ (if flag then option_to_list (style_of style.entry).prefix else [])) }
 {
     if flag {
         flag_words(alloc, style)
@@ -77,7 +80,8 @@ fn each_words(
     array: Option<&ArrayType>,
     style: StyleRef<'_>,
 ) -> Result<Option<Vec<Text>>, AllocError>
-    ensures { IfOk result (λ words. option_map (λ v. v.items) words ≡ each_words (style_of style.entry) (option_copied array.entry) items.now) }
+    ensures { IfOk result (λ words. option_map (λ v. v.items) words
+        ≡ each_words (style_of style.entry) (option_copied array.entry) items.now) }
 {
     if items.is_empty() {
         return Ok(Some(Vec::new(alloc)));
@@ -149,7 +153,8 @@ fn joined_words(
     separator: &Text,
     style: StyleRef<'_>,
 ) -> Result<Option<Vec<Text>>, AllocError>
-    ensures { IfOk result (λ words. option_map (λ v. v.items) words ≡ joined_words (style_of style.entry) separator.now items.now) }
+    ensures { IfOk result (λ words. option_map (λ v. v.items) words
+        ≡ joined_words (style_of style.entry) separator.now items.now) }
 {
     if items.is_empty() {
         return Ok(Some(Vec::new(alloc)));
@@ -162,7 +167,8 @@ fn joined_words(
 
 fn joined(alloc: Global, items: &[Value], separator: &Text) -> Result<Option<String>, AllocError>
     requires { 0 < length items.now }
-    ensures { IfOk result (λ text. option_map string_bytes text ≡ separated separator.now items.now) }
+    ensures { IfOk result (λ text. option_map string_bytes text
+        ≡ separated separator.now items.now) }
 {
     let Some(first) = text_of(alloc, &items[0])? else {
         return Ok(None);
@@ -177,7 +183,8 @@ fn with_rest(
     items: &[Value],
     separator: &Text,
 ) -> Result<Option<String>, AllocError>
-    ensures { IfOk result (λ all. option_map string_bytes all ≡ appended (Some (string_bytes text)) (rest_text separator.now items.now)) }
+    ensures { IfOk result (λ all. option_map string_bytes all
+        ≡ appended (Some (string_bytes text)) (rest_text separator.now items.now)) }
 {
     for item in items {
         let Some(next) = text_of(alloc, item)? else {

@@ -17,8 +17,11 @@ pub(crate) fn environment(
     runtime: &Runtime,
     scope: Scope<'_>,
 ) -> Result<Items<Variable>, BuildError>
-    ensures ok { IfOk result (λ env. environment_of scope.entry.inputs.now scope.entry.runtime.now runtime.now tool.now ≡ Ok env) }
-    ensures err { IfErr result (FaultOf (environment_of scope.entry.inputs.now scope.entry.runtime.now runtime.now tool.now)) }
+    ensures ok { IfOk result (λ env. environment_of scope.entry.inputs.now scope.entry.runtime.now
+        runtime.now tool.now ≡ Ok env) }
+    ensures err { IfErr result
+        (FaultOf (environment_of scope.entry.inputs.now scope.entry.runtime.now runtime.now
+        tool.now)) }
 {
     let asked = asked_variables(tool);
     let given = given_variables(alloc, asked, runtime)?;
@@ -41,8 +44,10 @@ fn given_variables(
     asked: &[(Text, AskedVariable)],
     runtime: &Runtime,
 ) -> Result<Vec<Variable>, BuildError>
-    ensures ok { IfOk result (λ env. all_given (given_variable asked.now) (given_variables runtime.now) ≡ Ok env.items) }
-    ensures err { IfErr result (FaultOf (all_given (given_variable asked.now) (given_variables runtime.now))) }
+    ensures ok { IfOk result
+        (λ env. all_given (given_variable asked.now) (given_variables runtime.now) ≡ Ok env.items) }
+    ensures err { IfErr result
+        (FaultOf (all_given (given_variable asked.now) (given_variables runtime.now))) }
 {
     let mut home = given_variable(alloc, asked, "HOME", &runtime.outdir)?;
     let mut scratch = given_variable(alloc, asked, "TMPDIR", &runtime.tmpdir)?;
@@ -59,8 +64,11 @@ fn given_variable(
     name: &str,
     text: &Text,
 ) -> Result<Vec<Variable>, BuildError>
-    ensures ok { IfOk result (λ env. given_variable asked.now (record { name = name.now; text = text.now }) ≡ Ok env.items) }
-    ensures err { IfErr result (FaultOf (given_variable asked.now (record { name = name.now; text = text.now }))) }
+    ensures ok { IfOk result
+        (λ env. given_variable asked.now (record { name = name.now; text = text.now })
+        ≡ Ok env.items) }
+    ensures err { IfErr result
+        (FaultOf (given_variable asked.now (record { name = name.now; text = text.now }))) }
 {
     if is_asked(asked, name) {
         Ok(Vec::new(alloc))
@@ -76,8 +84,12 @@ fn with_asked(
     asked: &[(Text, AskedVariable)],
     scope: Scope<'_>,
 ) -> Result<Vec<Variable>, BuildError>
-    ensures ok { IfOk result (λ all. and_then (all_given (asked_variable scope.entry.inputs.now scope.entry.runtime.now) asked.now) (λ vs. Ok (env.items ++ vs)) ≡ Ok all.items) }
-    ensures err { IfErr result (FaultOf (all_given (asked_variable scope.entry.inputs.now scope.entry.runtime.now) asked.now)) }
+    ensures ok { IfOk result
+        (λ all. and_then (all_given (asked_variable scope.entry.inputs.now scope.entry.runtime.now)
+        asked.now) (λ vs. Ok (env.items ++ vs)) ≡ Ok all.items) }
+    ensures err { IfErr result
+        (FaultOf (all_given (asked_variable scope.entry.inputs.now scope.entry.runtime.now)
+        asked.now)) }
 {
     for entry in asked {
         let mut next = asked_variable(alloc, entry, scope)?;
@@ -91,8 +103,10 @@ fn asked_variable(
     entry: &(Text, AskedVariable),
     scope: Scope<'_>,
 ) -> Result<Vec<Variable>, BuildError>
-    ensures ok { IfOk result (λ env. asked_variable scope.entry.inputs.now scope.entry.runtime.now entry.now ≡ Ok env.items) }
-    ensures err { IfErr result (FaultOf (asked_variable scope.entry.inputs.now scope.entry.runtime.now entry.now)) }
+    ensures ok { IfOk result (λ env. asked_variable scope.entry.inputs.now scope.entry.runtime.now
+        entry.now ≡ Ok env.items) }
+    ensures err { IfErr result
+        (FaultOf (asked_variable scope.entry.inputs.now scope.entry.runtime.now entry.now)) }
 {
     match text_in(alloc, scope, &entry.1.value)? {
         Some(text) => variable(alloc, entry.0.as_str(), text.as_str()),
@@ -111,7 +125,8 @@ fn is_asked(asked: &[(Text, AskedVariable)], name: &str) -> bool
 
 /// One variable, where an operating system takes its name and its text.
 fn variable(alloc: Global, name: &str, text: &str) -> Result<Vec<Variable>, BuildError>
-    ensures ok { IfOk result (λ env. and_then (variable name.now text.now) (λ w. Ok (w ∷ [])) ≡ Ok env.items) }
+    ensures ok { IfOk result (λ env. and_then (variable name.now text.now) (λ w. Ok (w ∷ []))
+        ≡ Ok env.items) }
     ensures err { IfErr result (FaultOf (variable name.now text.now)) }
 {
     let name_copy = Text::from_text(alloc, name)?;

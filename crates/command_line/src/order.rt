@@ -57,7 +57,8 @@ fn push_arguments<'t>(
     rows: &mut Vec<BoundRow<'t>>,
     arguments: &'t [Binding],
 ) -> Result<(), AllocError>
-    ensures { OnOk result (map bound_of rows.new.items ≡ map bound_of rows.old.items ++ map bound_argument (enumerate_from 0 arguments.now)) }
+    ensures { OnOk result (map bound_of rows.new.items ≡ map bound_of rows.old.items
+        ++ map bound_argument (enumerate_from 0 arguments.now)) }
 {
     for index in 0..arguments.len() {
         let binding = &arguments[index];
@@ -79,7 +80,8 @@ fn push_inputs<'t>(
     entries: &'t [(Text, ToolInput)],
     inputs: &'t Keyed<Value>,
 ) -> Result<(), AllocError>
-    ensures { OnOk result (map bound_of rows.new.items ≡ map bound_of rows.old.items ++ filter_map (bound_input inputs.now) entries.now) }
+    ensures { OnOk result (map bound_of rows.new.items ≡ map bound_of rows.old.items
+        ++ filter_map (bound_input inputs.now) entries.now) }
 {
     for entry in entries {
         if let Some(row) = row_of(entry, inputs) {

@@ -24,8 +24,10 @@ pub(crate) fn stdout_file(
     tool: &Tool,
     scope: Scope<'_>,
 ) -> Result<Option<Text>, BuildError>
-    ensures ok { IfOk result (λ file. stdout_of scope.entry.inputs.now scope.entry.runtime.now tool.now ≡ Ok file) }
-    ensures err { IfErr result (FaultOf (stdout_of scope.entry.inputs.now scope.entry.runtime.now tool.now)) }
+    ensures ok { IfOk result (λ file. stdout_of scope.entry.inputs.now scope.entry.runtime.now
+        tool.now ≡ Ok file) }
+    ensures err { IfErr result
+        (FaultOf (stdout_of scope.entry.inputs.now scope.entry.runtime.now tool.now)) }
 {
     match &tool.streams.stdout {
         Some(name) => file_named(alloc, scope, name, LaunchText::Stdout),
@@ -43,8 +45,10 @@ pub(crate) fn stderr_file(
     tool: &Tool,
     scope: Scope<'_>,
 ) -> Result<Option<Text>, BuildError>
-    ensures ok { IfOk result (λ file. stderr_of scope.entry.inputs.now scope.entry.runtime.now tool.now ≡ Ok file) }
-    ensures err { IfErr result (FaultOf (stderr_of scope.entry.inputs.now scope.entry.runtime.now tool.now)) }
+    ensures ok { IfOk result (λ file. stderr_of scope.entry.inputs.now scope.entry.runtime.now
+        tool.now ≡ Ok file) }
+    ensures err { IfErr result
+        (FaultOf (stderr_of scope.entry.inputs.now scope.entry.runtime.now tool.now)) }
 {
     match &tool.streams.stderr {
         Some(name) => file_named(alloc, scope, name, LaunchText::Stderr),
@@ -63,8 +67,12 @@ fn file_named(
     name: &Template,
     place: LaunchText,
 ) -> Result<Option<Text>, BuildError>
-    ensures ok { IfOk result (λ file. and_then (text_in scope.entry.inputs.now scope.entry.runtime.now place name.now) (file_named place) ≡ Ok file) }
-    ensures err { IfErr result (FaultOf (and_then (text_in scope.entry.inputs.now scope.entry.runtime.now place name.now) (file_named place))) }
+    ensures ok { IfOk result
+        (λ file. and_then (text_in scope.entry.inputs.now scope.entry.runtime.now place name.now)
+        (file_named place) ≡ Ok file) }
+    ensures err { IfErr result
+        (FaultOf (and_then (text_in scope.entry.inputs.now scope.entry.runtime.now place name.now)
+        (file_named place))) }
 {
     match text_in(alloc, scope, name)? {
         Some(text) if is_file_name(text.as_str()) => Ok(Some(text)),
@@ -114,8 +122,10 @@ pub(crate) fn stdin_file(
     tool: &Tool,
     scope: Scope<'_>,
 ) -> Result<Option<Text>, BuildError>
-    ensures ok { IfOk result (λ file. stdin_of scope.entry.inputs.now scope.entry.runtime.now tool.now ≡ Ok file) }
-    ensures err { IfErr result (FaultOf (stdin_of scope.entry.inputs.now scope.entry.runtime.now tool.now)) }
+    ensures ok { IfOk result (λ file. stdin_of scope.entry.inputs.now scope.entry.runtime.now
+        tool.now ≡ Ok file) }
+    ensures err { IfErr result
+        (FaultOf (stdin_of scope.entry.inputs.now scope.entry.runtime.now tool.now)) }
 {
     match &tool.streams.stdin {
         Some(path) => plain_path(text_in(alloc, scope, path)?),
@@ -129,8 +139,11 @@ fn input_file(
     entries: &[(Text, ToolInput)],
     scope: Scope<'_>,
 ) -> Result<Option<Text>, BuildError>
-    ensures ok { IfOk result (λ file. file_of_input scope.entry.inputs.now scope.entry.runtime.now (find (λ e. is_stdin e.1.kind) entries.now) ≡ Ok file) }
-    ensures err { IfErr result (FaultOf (file_of_input scope.entry.inputs.now scope.entry.runtime.now (find (λ e. is_stdin e.1.kind) entries.now))) }
+    ensures ok { IfOk result (λ file. file_of_input scope.entry.inputs.now scope.entry.runtime.now
+        (find (λ e. is_stdin e.1.kind) entries.now) ≡ Ok file) }
+    ensures err { IfErr result
+        (FaultOf (file_of_input scope.entry.inputs.now scope.entry.runtime.now
+        (find (λ e. is_stdin e.1.kind) entries.now))) }
 {
     match stdin_input(entries) {
         Some(entry) => plain_path(file_path(alloc, scope.inputs.get(entry.0.as_str()))?),

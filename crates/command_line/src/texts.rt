@@ -52,8 +52,10 @@ pub(crate) fn value_in(
     own: &Value,
     template: &Template,
 ) -> Result<Value, BuildError>
-    ensures ok { IfOk result (λ value. value_in scope.entry.inputs.now scope.entry.runtime.now own.now template.now ≡ Ok value) }
-    ensures err { IfErr result (FaultOf (value_in scope.entry.inputs.now scope.entry.runtime.now own.now template.now)) }
+    ensures ok { IfOk result (λ value. value_in scope.entry.inputs.now scope.entry.runtime.now
+        own.now template.now ≡ Ok value) }
+    ensures err { IfErr result
+        (FaultOf (value_in scope.entry.inputs.now scope.entry.runtime.now own.now template.now)) }
 {
     let context = Context {
         inputs: scope.inputs,
@@ -69,8 +71,10 @@ pub(crate) fn text_in(
     scope: Scope<'_>,
     template: &Template,
 ) -> Result<Option<Text>, BuildError>
-    ensures ok { IfOk result (λ text. text_or_none scope.entry.inputs.now scope.entry.runtime.now template.now ≡ Ok text) }
-    ensures err { IfErr result (FaultOf (text_or_none scope.entry.inputs.now scope.entry.runtime.now template.now)) }
+    ensures ok { IfOk result (λ text. text_or_none scope.entry.inputs.now scope.entry.runtime.now
+        template.now ≡ Ok text) }
+    ensures err { IfErr result
+        (FaultOf (text_or_none scope.entry.inputs.now scope.entry.runtime.now template.now)) }
 {
     let value = value_in(scope, &Value::Null, template)?;
     let name = name_of(alloc, &value);

@@ -26,7 +26,8 @@ use std::alloc::{AllocError, Global};
 pub(crate) fn words(alloc: Global, tool: &Tool, scope: Scope<'_>) -> Result<Items<Text>, BuildError>
     ensures words { IfOk result (AreWords tool.now scope.entry.inputs.now scope.entry.runtime.now) }
     ensures base { OnOk result (AllPass is_plain tool.now.base_command) }
-    ensures refused { IfErr result (λ e. (runtime : Runtime) → scope.entry.runtime.now ≡ runtime_value runtime
+    ensures refused { IfErr result (λ e. (runtime : Runtime) → scope.entry.runtime.now
+        ≡ runtime_value runtime
         → IsError tool.now scope.entry.inputs.now runtime e) }
 {
     let rows = in_order(alloc, tool, scope.inputs)?;
@@ -57,9 +58,14 @@ fn append_all(
     rows: &[BoundRow<'_>],
     scope: Scope<'_>,
 ) -> Result<Vec<Text>, BuildError>
-    ensures words { IfOk result (λ all. all.items ≡ words.items ++ flat_map (λ row. words_at scope.entry.inputs.now scope.entry.runtime.now (bound_of row)) rows.now) }
-    ensures all_there { OnOk result (All (λ row. IsOk (words_of scope.entry.inputs.now scope.entry.runtime.now (bound_of row))) rows.now) }
-    ensures refused { IfErr result (BindingError scope.entry.inputs.now scope.entry.runtime.now (map bound_of rows.now)) }
+    ensures words { IfOk result (λ all. all.items ≡ words.items
+        ++ flat_map (λ row. words_at scope.entry.inputs.now scope.entry.runtime.now (bound_of row))
+        rows.now) }
+    ensures all_there { OnOk result
+        (All (λ row. IsOk (words_of scope.entry.inputs.now scope.entry.runtime.now (bound_of row)))
+        rows.now) }
+    ensures refused { IfErr result (BindingError scope.entry.inputs.now scope.entry.runtime.now
+        (map bound_of rows.now)) }
 {
     for row in rows {
         let mut added = words_of_row(alloc, row, scope)?;
@@ -74,8 +80,10 @@ fn words_of_row(
     row: &BoundRow<'_>,
     scope: Scope<'_>,
 ) -> Result<Vec<Text>, BuildError>
-    ensures ok { IfOk result (λ words. words_of scope.entry.inputs.now scope.entry.runtime.now (bound_of row.now) ≡ Ok words.items) }
-    ensures err { IfErr result (FaultOf (words_of scope.entry.inputs.now scope.entry.runtime.now (bound_of row.now))) }
+    ensures ok { IfOk result (λ words. words_of scope.entry.inputs.now scope.entry.runtime.now
+        (bound_of row.now) ≡ Ok words.items) }
+    ensures err { IfErr result
+        (FaultOf (words_of scope.entry.inputs.now scope.entry.runtime.now (bound_of row.now))) }
 {
     match row.value {
         Some(value) => words_for(alloc, row, value, scope),
@@ -90,8 +98,10 @@ fn words_for(
     scope: Scope<'_>,
 ) -> Result<Vec<Text>, BuildError>
     requires { own.now ≡ (bound_of row.now).value }
-    ensures ok { IfOk result (λ words. words_of scope.entry.inputs.now scope.entry.runtime.now (bound_of row.now) ≡ Ok words.items) }
-    ensures err { IfErr result (FaultOf (words_of scope.entry.inputs.now scope.entry.runtime.now (bound_of row.now))) }
+    ensures ok { IfOk result (λ words. words_of scope.entry.inputs.now scope.entry.runtime.now
+        (bound_of row.now) ≡ Ok words.items) }
+    ensures err { IfErr result
+        (FaultOf (words_of scope.entry.inputs.now scope.entry.runtime.now (bound_of row.now))) }
 {
     match value_from(row) {
         None => own_words(alloc, row, own),
@@ -127,8 +137,11 @@ fn referred_words(
     scope: Scope<'_>,
     template: &Template,
 ) -> Result<Vec<Text>, BuildError>
-    ensures ok { IfOk result (λ words. referred_words_of scope.entry.inputs.now scope.entry.runtime.now (bound_of row.now) own.now template.now ≡ Ok words.items) }
-    ensures err { IfErr result (FaultOf (referred_words_of scope.entry.inputs.now scope.entry.runtime.now (bound_of row.now) own.now template.now)) }
+    ensures ok { IfOk result (λ words. referred_words_of scope.entry.inputs.now
+        scope.entry.runtime.now (bound_of row.now) own.now template.now ≡ Ok words.items) }
+    ensures err { IfErr result
+        (FaultOf (referred_words_of scope.entry.inputs.now scope.entry.runtime.now
+        (bound_of row.now) own.now template.now)) }
 {
     if is_input(row.key.origin) && matches!(own, Value::Null) {
         return plain_words(alloc, row, own, &[]);
@@ -152,8 +165,11 @@ fn plain_words(
     value: &Value,
     types: &[MemberType],
 ) -> Result<Vec<Text>, BuildError>
-    ensures ok { IfOk result (λ words. plain_words (place_of (bound_of row.now).origin) (adds value.now types.now (bound_of row.now).style) ≡ Ok words.items) }
-    ensures err { IfErr result (FaultOf (plain_words (place_of (bound_of row.now).origin) (adds value.now types.now (bound_of row.now).style))) }
+    ensures ok { IfOk result (λ words. plain_words (place_of (bound_of row.now).origin)
+        (adds value.now types.now (bound_of row.now).style) ≡ Ok words.items) }
+    ensures err { IfErr result
+        (FaultOf (plain_words (place_of (bound_of row.now).origin)
+        (adds value.now types.now (bound_of row.now).style))) }
 {
     let place = place_of(alloc, row.key.origin)?;
     match added(alloc, value, types, style_of(row.binding))? {

@@ -95,8 +95,10 @@ fn command<'a>(alloc: Global) -> Result<Command<'a>, Error>
 
 /// Reads the command line. An `Err` has the text for the user: help, or what is wrong.
 pub fn choice_of<'a>(alloc: Global, words: &'a [String]) -> Result<Choice<'a>, Error>
-    ensures ok { IfOk result (λ choice. Asks (map (λ word. string_bytes word) words.entry.now) (wish_of choice)) }
-    ensures err { IfErr result (HasKind (fault_of command_line (map (λ word. string_bytes word) words.entry.now))) }
+    ensures ok { IfOk result (λ choice. Asks (map (λ word. string_bytes word) words.entry.now)
+        (wish_of choice)) }
+    ensures err { IfErr result
+        (HasKind (fault_of command_line (map (λ word. string_bytes word) words.entry.now))) }
 {
     let matches = command(alloc)?.try_get_matches_from(words)?;
     Ok(chosen(&matches))

@@ -73,7 +73,8 @@ pub fn main_run<R: World + Env + Records, O: Write, E: Write>(
 ) -> u8
 where
     R::File: Into<Stdio>,
-    ensures { Tells (map (λ word. string_bytes word) words.now) path.now (O.contents out.old) (O.contents out.new) (E.contents err.old) (E.contents err.new) result }
+    ensures { Tells (map (λ word. string_bytes word) words.now) path.now (O.contents out.old)
+        (O.contents out.new) (E.contents err.old) (E.contents err.new) result }
 {
     match end_of(rt, words, path, err) {
         Ok(end) => {
@@ -96,7 +97,8 @@ struct End {
 
 /// Says how the program ends.
 fn say<O: Write, E: Write>(alloc: Global, end: &End, out: &mut O, err: &mut E) -> u8
-    ensures { Says end.now.exit end.now.explains (O.contents out.old) (O.contents out.new) (E.contents err.old) (E.contents err.new) result }
+    ensures { Says end.now.exit end.now.explains (O.contents out.old) (O.contents out.new)
+        (E.contents err.old) (E.contents err.new) result }
 {
     match tell(alloc, end, out, err) {
         Ok(()) => end.exit.status(),
@@ -106,7 +108,8 @@ fn say<O: Write, E: Write>(alloc: Global, end: &End, out: &mut O, err: &mut E) -
 
 // Writes the line of an end, and behind it the words that it is to be explained in.
 fn tell<O: Write, E: Write>(alloc: Global, end: &End, out: &mut O, err: &mut E) -> io::Result<()>
-    ensures { OnOk result (IsTold end.now.exit (O.contents out.old) (O.contents out.new) (E.contents err.old) (E.contents err.new) end.now.explains) }
+    ensures { OnOk result (IsTold end.now.exit (O.contents out.old) (O.contents out.new)
+        (E.contents err.old) (E.contents err.new) end.now.explains) }
 {
     end.exit.print(out, err)?;
     if end.explains {
@@ -125,11 +128,14 @@ fn end_of<R: World + Env + Records, E: Write>(
 ) -> Result<End, Error>
 where
     R::File: Into<Stdio>,
-    ensures ok { IfOk result (λ end. LeadsTo (map (λ word. string_bytes word) words.now) path.now end.exit end.explains end.telling) }
-    ensures told { IfOk result (λ end. IsRunTold end.telling (E.contents err.old) (E.contents err.new)) }
+    ensures ok { IfOk result (λ end. LeadsTo (map (λ word. string_bytes word) words.now) path.now
+        end.exit end.explains end.telling) }
+    ensures told { IfOk result (λ end. IsRunTold end.telling (E.contents err.old)
+        (E.contents err.new)) }
     ensures untold { OnErr result (E.contents err.new ≡ E.contents err.old) }
     ensures other { IfErr result (λ e. kind_of e ≢ ErrorKind.OutOfMemory) }
-    ensures err { IfErr result (HasKind (fault_of command_line (map (λ word. string_bytes word) words.now))) }
+    ensures err { IfErr result
+        (HasKind (fault_of command_line (map (λ word. string_bytes word) words.now))) }
 {
     match choice_of(rt.alloc(), words) {
         Ok(choice) => Ok(End {
@@ -206,7 +212,8 @@ fn exit_or_fault(ended: Result<Exit, AllocError>) -> Exit
 
 /// Help goes to the output, with status 0; what is wrong with the words to the errors.
 fn explain<O: Write, E: Write>(error: &Error, out: &mut O, err: &mut E) -> u8
-    ensures { Explains (kind_of error.now) (O.contents out.old) (O.contents out.new) (E.contents err.old) (E.contents err.new) result }
+    ensures { Explains (kind_of error.now) (O.contents out.old) (O.contents out.new)
+        (E.contents err.old) (E.contents err.new) result }
 {
     if error.use_stderr() {
         let _told = write!(err, "{error}");

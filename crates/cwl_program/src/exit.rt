@@ -141,7 +141,8 @@ impl Exit {
 
     /// Writes the line that says it: results to `out`, what went wrong to `err`.
     pub fn print<O: Write, E: Write>(&self, out: &mut O, err: &mut E) -> io::Result<()>
-        ensures { OnOk result (Prints self.now (O.contents out.old) (O.contents out.new) (E.contents err.old) (E.contents err.new)) }
+        ensures { OnOk result (Prints self.now (O.contents out.old) (O.contents out.new)
+            (E.contents err.old) (E.contents err.new)) }
     {
         match self {
             Exit::Output(line) => writeln!(out, "{line}"),

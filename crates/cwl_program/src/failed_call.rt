@@ -40,7 +40,11 @@ fn named_in(alloc: Global, request: &HostRequest) -> Result<Option<Text>, AllocE
             Ok(Some(path.copied(alloc)?))
         }
         HostRequest::Start(launch) => copy_of(alloc, launch.words.get(0)),
-        HostRequest::Stage(_, _) | HostRequest::Collect | HostRequest::Deliver(_) => Ok(None),
+        HostRequest::Stage(_, _)
+        | HostRequest::Collect
+        | HostRequest::Fetch(_, _, _)
+        | HostRequest::Store(_, _, _)
+        | HostRequest::Deliver(_) => Ok(None),
     }
 }
 

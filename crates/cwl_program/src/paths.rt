@@ -31,7 +31,8 @@ fn is_absolute(name: &str) -> bool
 }
 
 fn add_steps(path: &mut String, name: &str) -> Result<(), AllocError>
-    ensures { OnOk result (string_bytes path.new ≡ string_bytes path.old ++ spec.rooted (spec.steps name.now)) }
+    ensures { OnOk result (string_bytes path.new ≡ string_bytes path.old
+        ++ spec.rooted (spec.steps name.now)) }
 {
     for component in name.split('/') {
         add_step(path, component)?;
@@ -40,7 +41,8 @@ fn add_steps(path: &mut String, name: &str) -> Result<(), AllocError>
 }
 
 fn add_step(path: &mut String, component: &str) -> Result<(), AllocError>
-    ensures { OnOk result (string_bytes path.new ≡ string_bytes path.old ++ (if spec.leads_on component.now then 47 ∷ component.now else [])) }
+    ensures { OnOk result (string_bytes path.new ≡ string_bytes path.old
+        ++ (if spec.leads_on component.now then 47 ∷ component.now else [])) }
 {
     if component.is_empty() || component == "." {
         return Ok(());

@@ -126,7 +126,8 @@ where
 /// Reads the document with all that it leads to.
 fn process_of<R: World>(rt: &R, call: &Call<'_>) -> Result<Process, Stop>
     ensures ok { IfOk result (IsNamedProcess call.now.here.now (wish_of_run call.now.words.now)) }
-    ensures err { IfErr result (IsStop (IsNoProcess call.now.here.now (wish_of_run call.now.words.now))) }
+    ensures err { IfErr result
+        (IsStop (IsNoProcess call.now.here.now (wish_of_run call.now.words.now))) }
 {
     let document = document_bytes(rt, call)?;
     let base = base_of(rt.alloc(), call.here, call.words.document)?;
@@ -134,8 +135,10 @@ fn process_of<R: World>(rt: &R, call: &Call<'_>) -> Result<Process, Stop>
 }
 
 fn process_at<R: World>(rt: &R, document: &[u8], base: &Url) -> Result<Process, Stop>
-    ensures ok { IfOk result (λ process. (docs : Documents) × IsAccepted document.now base.now docs process) }
-    ensures err { IfErr result (IsStop (λ exit. (docs : Documents) × IsDocumentStop document.now base.now docs exit)) }
+    ensures ok { IfOk result (λ process. (docs : Documents)
+        × IsAccepted document.now base.now docs process) }
+    ensures err { IfErr result (IsStop (λ exit. (docs : Documents)
+        × IsDocumentStop document.now base.now docs exit)) }
 {
     let docs = docs_of(rt, document, base)?;
     let process = accepted_of(rt.alloc(), document, base, &docs);
@@ -144,7 +147,8 @@ fn process_at<R: World>(rt: &R, document: &[u8], base: &Url) -> Result<Process, 
 }
 
 fn document_bytes<R: World>(rt: &R, call: &Call<'_>) -> Result<Vec<u8>, Stop>
-    ensures { IfErr result (IsStop (IsNoProcess call.now.here.now (wish_of_run call.now.words.now))) }
+    ensures { IfErr result
+        (IsStop (IsNoProcess call.now.here.now (wish_of_run call.now.words.now))) }
 {
     file_bytes(rt, call.words.document)
 }
@@ -187,7 +191,8 @@ where
 /// Reads the input object. Its locations are on the URL of its own file.
 fn inputs_of<R: World>(rt: &R, call: &Call<'_>) -> Result<Keyed<Value>, Stop>
     ensures ok { IfOk result (IsNamedInputs call.now.here.now (wish_of_run call.now.words.now)) }
-    ensures err { IfErr result (IsStop (IsNoInputs call.now.here.now (wish_of_run call.now.words.now))) }
+    ensures err { IfErr result
+        (IsStop (IsNoInputs call.now.here.now (wish_of_run call.now.words.now))) }
 {
     let name = call.words.inputs.unwrap_or(call.words.document);
     let base = base_of(rt.alloc(), call.here, name)?;
@@ -196,8 +201,10 @@ fn inputs_of<R: World>(rt: &R, call: &Call<'_>) -> Result<Keyed<Value>, Stop>
 }
 
 fn inputs_bytes<R: World>(rt: &R, call: &Call<'_>) -> Result<Vec<u8>, Stop>
-    ensures ok { IfOk result (λ bytes. IsInputsText (wish_of_run call.now.words.now).inputs bytes.items) }
-    ensures err { IfErr result (IsStop (IsNoInputs call.now.here.now (wish_of_run call.now.words.now))) }
+    ensures ok { IfOk result (λ bytes. IsInputsText (wish_of_run call.now.words.now).inputs
+        bytes.items) }
+    ensures err { IfErr result
+        (IsStop (IsNoInputs call.now.here.now (wish_of_run call.now.words.now))) }
 {
     match call.words.inputs {
         Some(file) => file_bytes(rt, file),
@@ -289,7 +296,8 @@ where
 fn options_of(alloc: Global, places: &Places, call: &Call<'_>) -> Result<Options, AllocError>
     requires { AreNamed call.now.here.now (wish_of_run call.now.words.now) places.now }
     ensures limits { IfOk result IsWithinLimits }
-    ensures asked { IfOk result (IsAsked call.now.here.now (wish_of_run call.now.words.now) call.now.path.now) }
+    ensures asked { IfOk result (IsAsked call.now.here.now (wish_of_run call.now.words.now)
+        call.now.path.now) }
 {
     Ok(Options {
         work: places.work.copied(alloc)?,
@@ -338,7 +346,7 @@ fn machine_at<R: World>(rt: R, places: Places) -> Machine<R>
     ensures { result.running ≡ [] }
 {
     let Places { work, outdir } = places;
-    Machine::new(rt, work, outdir)
+    Machine::new(rt, work, None, outdir)
 }
 
 /// Runs, and tells of the jobs as they start and end. Where each has lines, the messages of the children are shown too.

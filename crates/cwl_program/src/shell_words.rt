@@ -38,7 +38,8 @@ fn words_of(alloc: Global, words: &[Text]) -> Result<String, AllocError>
 
 fn add_stream(line: &mut String, arrow: &str, name: &Option<Text>) -> Result<(), AllocError>
     requires { spec.IsShown arrow.now }
-    ensures { OnOk result (spec.Adds (λ text. spec.IsRedirection arrow.now name.now text × spec.IsShown text) (string_bytes line.old) (string_bytes line.new)) }
+    ensures { OnOk result (spec.Adds (λ text. spec.IsRedirection arrow.now name.now text
+        × spec.IsShown text) (string_bytes line.old) (string_bytes line.new)) }
 {
     match name {
         None => Ok(()),
@@ -50,7 +51,8 @@ fn add_stream(line: &mut String, arrow: &str, name: &Option<Text>) -> Result<(),
 }
 
 fn add_word(line: &mut String, word: &str) -> Result<(), AllocError>
-    ensures { OnOk result (spec.Adds (spec.IsTextOf word.now) (string_bytes line.old) (string_bytes line.new)) }
+    ensures { OnOk result (spec.Adds (spec.IsTextOf word.now) (string_bytes line.old)
+        (string_bytes line.new)) }
 {
     if has_control(word) {
         return add_escaped(line, word);
@@ -88,7 +90,8 @@ fn is_control(c: char) -> bool
 // Adds a word in single quotes.
 fn add_quoted(line: &mut String, word: &str) -> Result<(), AllocError>
     requires { spec.IsShown word.now }
-    ensures { OnOk result (spec.Adds (spec.IsTextOf word.now) (string_bytes line.old) (string_bytes line.new)) }
+    ensures { OnOk result (spec.Adds (spec.IsTextOf word.now) (string_bytes line.old)
+        (string_bytes line.new)) }
 {
     line.push('\'')?;
     for c in word.chars() {
@@ -99,7 +102,8 @@ fn add_quoted(line: &mut String, word: &str) -> Result<(), AllocError>
 
 // Adds a character inside single quotes; a single quote ends them, stands behind a backslash, and begins them anew.
 fn add_in_quotes(line: &mut String, c: char) -> Result<(), AllocError>
-    ensures { OnOk result (string_bytes line.new ≡ string_bytes line.old ++ (if c == 39 then codes "'\\''" else encode_utf8 c)) }
+    ensures { OnOk result (string_bytes line.new ≡ string_bytes line.old
+        ++ (if c == 39 then codes "'\\''" else encode_utf8 c)) }
 {
     if c == '\'' {
         line.push_str("'\\''")
@@ -110,7 +114,8 @@ fn add_in_quotes(line: &mut String, c: char) -> Result<(), AllocError>
 
 // Adds a word in `$'..'`.
 fn add_escaped(line: &mut String, word: &str) -> Result<(), AllocError>
-    ensures { OnOk result (spec.Adds (spec.IsTextOf word.now) (string_bytes line.old) (string_bytes line.new)) }
+    ensures { OnOk result (spec.Adds (spec.IsTextOf word.now) (string_bytes line.old)
+        (string_bytes line.new)) }
 {
     line.push_str("$'")?;
     for c in word.chars() {
@@ -121,7 +126,8 @@ fn add_escaped(line: &mut String, word: &str) -> Result<(), AllocError>
 
 // Adds a character inside `$'..'`, a control character by its bytes.
 fn add_in_dollar_quotes(line: &mut String, c: char) -> Result<(), AllocError>
-    ensures { OnOk result (spec.Adds (spec.IsWritten (encode_utf8 c)) (string_bytes line.old) (string_bytes line.new)) }
+    ensures { OnOk result (spec.Adds (spec.IsWritten (encode_utf8 c)) (string_bytes line.old)
+        (string_bytes line.new)) }
 {
     if c == '\'' {
         return line.push_str("\\'");
@@ -138,7 +144,8 @@ fn add_in_dollar_quotes(line: &mut String, c: char) -> Result<(), AllocError>
 // Adds a control character by the one or two bytes that it has.
 fn add_control(line: &mut String, c: char) -> Result<(), AllocError>
     requires { spec.is_control c ≡ true }
-    ensures { OnOk result (spec.Adds (spec.IsWritten (encode_utf8 c)) (string_bytes line.old) (string_bytes line.new)) }
+    ensures { OnOk result (spec.Adds (spec.IsWritten (encode_utf8 c)) (string_bytes line.old)
+        (string_bytes line.new)) }
 {
     let code = c as u8;
     if c < '\u{80}' {
@@ -150,7 +157,8 @@ fn add_control(line: &mut String, c: char) -> Result<(), AllocError>
 
 // Adds a byte by three octal digits.
 fn add_byte(line: &mut String, byte: u8) -> Result<(), AllocError>
-    ensures { OnOk result (spec.Adds (spec.IsWritten (byte ∷ [])) (string_bytes line.old) (string_bytes line.new)) }
+    ensures { OnOk result (spec.Adds (spec.IsWritten (byte ∷ [])) (string_bytes line.old)
+        (string_bytes line.new)) }
 {
     line.push('\\')?;
     add_digit(line, byte / 64)?;

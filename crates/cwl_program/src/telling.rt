@@ -64,7 +64,8 @@ impl<'a, E: Write> Teller<'a, E> {
 
     /// Erases the line that was rewritten.
     pub fn finish(&mut self)
-        ensures { self.old.telling ≢ Telling.OneLine → E.contents self.new.err.now ≡ E.contents self.old.err.now }
+        ensures { self.old.telling ≢ Telling.OneLine → E.contents self.new.err.now
+            ≡ E.contents self.old.err.now }
     {
         if matches!(self.telling, Telling::OneLine) {
             let _told = write!(self.err, "{ERASE}");
@@ -72,8 +73,12 @@ impl<'a, E: Write> Teller<'a, E> {
     }
 
     fn tell_start(&mut self, place: &JobPlace, launch: &Launch) -> io::Result<()>
-        ensures silent { self.old.telling ≢ Telling.Lines → E.contents self.new.err.now ≡ E.contents self.old.err.now }
-        ensures told { OnOk result (self.old.telling ≡ Telling.Lines → (line : List ℕ) × spec.IsStartLine place.now launch.now (length self.old.ended) self.old.known line × Appends (E.contents self.old.err.now) (E.contents self.new.err.now) (line ++ codes "\n")) }
+        ensures silent { self.old.telling ≢ Telling.Lines → E.contents self.new.err.now
+            ≡ E.contents self.old.err.now }
+        ensures told { OnOk result (self.old.telling ≡ Telling.Lines → (line : List ℕ)
+            × spec.IsStartLine place.now launch.now (length self.old.ended) self.old.known line
+            × Appends (E.contents self.old.err.now) (E.contents self.new.err.now) (line
+            ++ codes "\n")) }
     {
         if !matches!(self.telling, Telling::Lines) {
             return Ok(());
@@ -110,8 +115,12 @@ impl<'a, E: Write> Teller<'a, E> {
     }
 
     fn tell_end(&mut self, place: &Text, end: &ChildEnd) -> io::Result<()>
-        ensures silent { self.old.telling ≢ Telling.Lines → E.contents self.new.err.now ≡ E.contents self.old.err.now }
-        ensures told { OnOk result (self.old.telling ≡ Telling.Lines → Appends (E.contents self.old.err.now) (E.contents self.new.err.now) (spec.end_line place.now (length self.old.ended) self.old.known end.now ++ codes "\n")) }
+        ensures silent { self.old.telling ≢ Telling.Lines → E.contents self.new.err.now
+            ≡ E.contents self.old.err.now }
+        ensures told { OnOk result (self.old.telling ≡ Telling.Lines
+            → Appends (E.contents self.old.err.now) (E.contents self.new.err.now)
+            (spec.end_line place.now (length self.old.ended) self.old.known end.now
+            ++ codes "\n")) }
     {
         if !matches!(self.telling, Telling::Lines) {
             return Ok(());
@@ -121,8 +130,12 @@ impl<'a, E: Write> Teller<'a, E> {
     }
 
     fn rewrite(&mut self) -> io::Result<()>
-        ensures silent { self.old.telling ≢ Telling.OneLine → E.contents self.new.err.now ≡ E.contents self.old.err.now }
-        ensures told { OnOk result (self.old.telling ≡ Telling.OneLine → Appends (E.contents self.old.err.now) (E.contents self.new.err.now) (spec.erase ++ spec.progress_line (length self.old.ended) self.old.known (vec_len self.old.running))) }
+        ensures silent { self.old.telling ≢ Telling.OneLine → E.contents self.new.err.now
+            ≡ E.contents self.old.err.now }
+        ensures told { OnOk result (self.old.telling ≡ Telling.OneLine
+            → Appends (E.contents self.old.err.now) (E.contents self.new.err.now) (spec.erase
+            ++ spec.progress_line (length self.old.ended) self.old.known
+            (vec_len self.old.running))) }
     {
         if !matches!(self.telling, Telling::OneLine) {
             return Ok(());
@@ -132,7 +145,9 @@ impl<'a, E: Write> Teller<'a, E> {
     }
 
     fn write_progress(&mut self) -> io::Result<()>
-        ensures { OnOk result (Appends (E.contents self.old.err.now) (E.contents self.new.err.now) (spec.erase ++ spec.progress_line (length self.old.ended) self.old.known (vec_len self.old.running))) }
+        ensures { OnOk result (Appends (E.contents self.old.err.now) (E.contents self.new.err.now)
+            (spec.erase ++ spec.progress_line (length self.old.ended) self.old.known
+            (vec_len self.old.running))) }
     {
         let (done, known, running) = (self.ended.len(), self.known, self.running.len());
         let line = progress_line(self.alloc, done, known, running)?;
@@ -164,7 +179,8 @@ fn start_line(
     done: usize,
     known: usize,
 ) -> Result<String, AllocError>
-    ensures { IfOk result (λ line. spec.IsStartLine place.now launch.now done known (string_bytes line)) }
+    ensures { IfOk result (λ line. spec.IsStartLine place.now launch.now done known
+        (string_bytes line)) }
 {
     let place = place_in(alloc, place)?;
     let words = line_of(alloc, launch)?;

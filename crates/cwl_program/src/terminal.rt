@@ -7,7 +7,8 @@ use std::alloc::{AllocError, Global};
 
 /// Adds the words of a terminal behind the command: `--explain`, and for a run `--progress`. None is added that is there already.
 pub fn add_terminal_words(alloc: Global, words: &mut Vec<String>) -> Result<(), AllocError>
-    ensures { OnOk result (map string_bytes words.new.items ≡ spec.terminal_words (map string_bytes words.old.items)) }
+    ensures { OnOk result (map string_bytes words.new.items
+        ≡ spec.terminal_words (map string_bytes words.old.items)) }
 {
     let (run, other) = (is_run(words), is_other(words));
     if run {
@@ -42,7 +43,8 @@ fn command_of(words: &[String]) -> &str
 }
 
 fn add_word(alloc: Global, words: &mut Vec<String>, word: &str) -> Result<(), AllocError>
-    ensures { OnOk result (map string_bytes words.new.items ≡ spec.with_word word.now (map string_bytes words.old.items)) }
+    ensures { OnOk result (map string_bytes words.new.items
+        ≡ spec.with_word word.now (map string_bytes words.old.items)) }
 {
     if words.len() < 2 || has_word(words, word) {
         return Ok(());

@@ -35,7 +35,8 @@ pub(crate) fn placed_in(
     members: &Map<String, Json>,
 ) -> Result<(Place, Option<Text>), ValueRefusal>
     ensures ok { IfOk result (λ found. placed_read (members_view members.now.entries) ≡ Ok found) }
-    ensures err { IfErr result (λ e. e ≢ OutOfMemory → placed_read (members_view members.now.entries) ≡ Err e) }
+    ensures err { IfErr result (λ e. e ≢ OutOfMemory
+        → placed_read (members_view members.now.entries) ≡ Err e) }
 {
     let place = place_in(alloc, members)?;
     let basename = basename_in(alloc, members)?;
@@ -48,7 +49,8 @@ pub(crate) fn summed_in(
     members: &Map<String, Json>,
 ) -> Result<(Option<Text>, Option<u64>), ValueRefusal>
     ensures ok { IfOk result (λ found. summed_read (members_view members.now.entries) ≡ Ok found) }
-    ensures err { IfErr result (λ e. e ≢ OutOfMemory → summed_read (members_view members.now.entries) ≡ Err e) }
+    ensures err { IfErr result (λ e. e ≢ OutOfMemory
+        → summed_read (members_view members.now.entries) ≡ Err e) }
 {
     let checksum = text_in(alloc, members, "checksum", FileField::Checksum)?;
     let size = size_in(members)?;
@@ -56,7 +58,8 @@ pub(crate) fn summed_in(
 }
 
 fn place_in(alloc: Global, members: &Map<String, Json>) -> Result<Place, ValueRefusal>
-    ensures ok { IfOk result (λ place. place_read (member (codes "location") (members_view members.now.entries))
+    ensures ok { IfOk result
+        (λ place. place_read (member (codes "location") (members_view members.now.entries))
         (member (codes "path") (members_view members.now.entries)) ≡ Ok place) }
     ensures err { IfErr result (λ e. e ≢ OutOfMemory
         → place_read (member (codes "location") (members_view members.now.entries))
@@ -103,7 +106,8 @@ fn text_in(
     name: &str,
     field: FileField,
 ) -> Result<Option<Text>, ValueRefusal>
-    ensures ok { IfOk result (λ found. text_read field (member name.now (members_view members.now.entries)) ≡ Ok found) }
+    ensures ok { IfOk result
+        (λ found. text_read field (member name.now (members_view members.now.entries)) ≡ Ok found) }
     ensures err { IfErr result (λ e. e ≢ OutOfMemory
         → text_read field (member name.now (members_view members.now.entries)) ≡ Err e) }
 {

@@ -77,7 +77,8 @@ fn whole(number: &Number) -> Result<Value, ValueRefusal>
 #[cycle(read)]
 fn read_items(alloc: Global, items: &Vec<Json>) -> Result<Items<Value>, ValueRefusal>
     ensures ok { IfOk result (λ vs. all_read (items_read (items_view items.now.items)) ≡ Ok vs) }
-    ensures err { IfErr result (λ e. e ≢ OutOfMemory → all_read (items_read (items_view items.now.items)) ≡ Err e) }
+    ensures err { IfErr result (λ e. e ≢ OutOfMemory
+        → all_read (items_read (items_view items.now.items)) ≡ Err e) }
 {
     let mut found = Items::new(alloc);
     for item in items {
@@ -88,9 +89,11 @@ fn read_items(alloc: Global, items: &Vec<Json>) -> Result<Items<Value>, ValueRef
 
 #[cycle(read)]
 fn read_object(alloc: Global, members: &Map<String, Json>) -> Result<Value, ValueRefusal>
-    ensures ok { IfOk result (λ v. object_read (members_view members.now.entries) (members_read (members_view members.now.entries)) ≡ Ok v) }
+    ensures ok { IfOk result (λ v. object_read (members_view members.now.entries)
+        (members_read (members_view members.now.entries)) ≡ Ok v) }
     ensures err { IfErr result (λ e. e ≢ OutOfMemory
-        → object_read (members_view members.now.entries) (members_read (members_view members.now.entries)) ≡ Err e) }
+        → object_read (members_view members.now.entries)
+        (members_read (members_view members.now.entries)) ≡ Err e) }
 {
     match class_of(members) {
         "File" => Ok(Value::FileVal(read_file(alloc, members)?)),
@@ -101,8 +104,10 @@ fn read_object(alloc: Global, members: &Map<String, Json>) -> Result<Value, Valu
 
 #[cycle(read)]
 fn read_fields(alloc: Global, members: &Map<String, Json>) -> Result<Keyed<Value>, ValueRefusal>
-    ensures ok { IfOk result (λ es. fields_read (members_read (members_view members.now.entries)) ≡ Ok es) }
-    ensures err { IfErr result (λ e. e ≢ OutOfMemory → fields_read (members_read (members_view members.now.entries)) ≡ Err e) }
+    ensures ok { IfOk result (λ es. fields_read (members_read (members_view members.now.entries))
+        ≡ Ok es) }
+    ensures err { IfErr result (λ e. e ≢ OutOfMemory
+        → fields_read (members_read (members_view members.now.entries)) ≡ Err e) }
 {
     let mut found = Vec::new(alloc);
     for (key, member) in members.iter() {
@@ -114,9 +119,11 @@ fn read_fields(alloc: Global, members: &Map<String, Json>) -> Result<Keyed<Value
 
 #[cycle(read)]
 fn read_file(alloc: Global, members: &Map<String, Json>) -> Result<FileVal, ValueRefusal>
-    ensures ok { IfOk result (λ f. file_read (members_view members.now.entries) (members_read (members_view members.now.entries)) ≡ Ok f) }
+    ensures ok { IfOk result (λ f. file_read (members_view members.now.entries)
+        (members_read (members_view members.now.entries)) ≡ Ok f) }
     ensures err { IfErr result (λ e. e ≢ OutOfMemory
-        → file_read (members_view members.now.entries) (members_read (members_view members.now.entries)) ≡ Err e) }
+        → file_read (members_view members.now.entries)
+        (members_read (members_view members.now.entries)) ≡ Err e) }
 {
     let placed = placed_in(alloc, members)?;
     let summed = summed_in(alloc, members)?;
@@ -126,9 +133,11 @@ fn read_file(alloc: Global, members: &Map<String, Json>) -> Result<FileVal, Valu
 
 #[cycle(read)]
 fn read_dir(alloc: Global, members: &Map<String, Json>) -> Result<DirVal, ValueRefusal>
-    ensures ok { IfOk result (λ d. dir_read (members_view members.now.entries) (members_read (members_view members.now.entries)) ≡ Ok d) }
+    ensures ok { IfOk result (λ d. dir_read (members_view members.now.entries)
+        (members_read (members_view members.now.entries)) ≡ Ok d) }
     ensures err { IfErr result (λ e. e ≢ OutOfMemory
-        → dir_read (members_view members.now.entries) (members_read (members_view members.now.entries)) ≡ Err e) }
+        → dir_read (members_view members.now.entries)
+        (members_read (members_view members.now.entries)) ≡ Err e) }
 {
     let (place, basename) = placed_in(alloc, members)?;
     let listed = read_list(alloc, members, "listing", FileField::Listing)?;
@@ -170,9 +179,12 @@ fn read_list(
     name: &str,
     field: FileField,
 ) -> Result<Option<Items<Value>>, ValueRefusal>
-    ensures ok { IfOk result (λ vs. list_read field (value_at name.now (members_read (members_view members.now.entries))) ≡ Ok vs) }
+    ensures ok { IfOk result
+        (λ vs. list_read field (value_at name.now (members_read (members_view members.now.entries)))
+        ≡ Ok vs) }
     ensures err { IfErr result (λ e. e ≢ OutOfMemory
-        → list_read field (value_at name.now (members_read (members_view members.now.entries))) ≡ Err e) }
+        → list_read field (value_at name.now (members_read (members_view members.now.entries)))
+        ≡ Err e) }
 {
     match members.get(name) {
         None => Ok(None),

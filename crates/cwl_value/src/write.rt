@@ -155,7 +155,8 @@ fn put_own(
 
 fn put_class(members: &mut Map<String, Json>, alloc: Global, class: &str) -> Result<(), AllocError>
     ensures { OnOk result (members_view members.new.entries
-        ≡ with_member (codes "class") (Some (string class.now)) (members_view members.old.entries)) }
+        ≡ with_member (codes "class") (Some (string class.now))
+        (members_view members.old.entries)) }
 {
     serde_json::put(members, alloc, "class", Json::try_from_str(alloc, class)?)
 }
@@ -166,7 +167,8 @@ fn put_location(
     place: &Place,
 ) -> Result<(), AllocError>
     ensures { OnOk result (members_view members.new.entries
-        ≡ with_member (codes "location") (location_json place.now) (members_view members.old.entries)) }
+        ≡ with_member (codes "location") (location_json place.now)
+        (members_view members.old.entries)) }
 {
     match place {
         Place::Url(location) => serde_json::put(
@@ -225,7 +227,8 @@ fn some_array(items: Vec<Json>) -> Option<Json>
 
 // An array in the order of the basenames.
 fn sorted_array(listing: Vec<Json>) -> Result<Json, AllocError>
-    ensures { IfOk result (λ json. view json ≡ array (items_of (by_name (map view listing.items)))) }
+    ensures { IfOk result (λ json. view json
+        ≡ array (items_of (by_name (map view listing.items)))) }
 {
     Ok(Json::Array(sorted(listing)?))
 }

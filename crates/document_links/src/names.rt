@@ -89,7 +89,8 @@ fn push_steps_urls(
     urls: &mut Vec<Text>,
 ) -> Result<(), AllocError>
     ensures { OnOk result (urls.new.items
-        ≡ urls.old.items ++ steps_urls (urls_in levels base.now) base.now (map entry_seen all.now)) }
+        ≡ urls.old.items
+        ++ steps_urls (urls_in levels base.now) base.now (map entry_seen all.now)) }
 {
     for entry in all {
         push_step_urls(alloc, levels, base, entry.1, urls)?;

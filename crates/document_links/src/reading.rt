@@ -85,8 +85,10 @@ fn check_bounds(
     base: &Url,
     document: &Value,
 ) -> Result<(), LinkError>
-    ensures ok { IfOk result (λ _. (n : ℕ) × (bounded (finds_in library.now) base.now (view document.now) ≡ Ok n)) }
-    ensures err { IfErr result (IsErrorOf (bounded (finds_in library.now) base.now (view document.now))) }
+    ensures ok { IfOk result (λ _. (n : ℕ)
+        × (bounded (finds_in library.now) base.now (view document.now) ≡ Ok n)) }
+    ensures err { IfErr result
+        (IsErrorOf (bounded (finds_in library.now) base.now (view document.now))) }
 {
     match left(
         alloc,

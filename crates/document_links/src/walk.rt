@@ -41,8 +41,10 @@ pub(crate) fn within(
     name: &str,
     found: Result<usize, WalkError>,
 ) -> Result<usize, WalkError>
-    ensures ok { (left : Left) → IfOk found (λ n. left ≡ Ok n) → IfOk result (λ n. within name.now left ≡ Ok n) }
-    ensures err { (left : Left) → IfErr found (IsWalkErrorOf left) → IfErr result (IsWalkErrorOf (within name.now left)) }
+    ensures ok { (left : Left) → IfOk found (λ n. left ≡ Ok n)
+        → IfOk result (λ n. within name.now left ≡ Ok n) }
+    ensures err { (left : Left) → IfErr found (IsWalkErrorOf left)
+        → IfErr result (IsWalkErrorOf (within name.now left)) }
 {
     match found {
         Err(WalkError::Refused(WalkFault::Own(fault))) => {

@@ -1,6 +1,8 @@
 //! What is collected from an output folder.
 use crate::arguments::{fields_of, found_of, heads_of};
-use collected_outputs::{CollectError, OutputFault, StreamNames, collect_outputs, heads_wanted};
+use collected_outputs::{
+    CollectError, LeftBehind, OutputFault, StreamNames, collect_outputs, heads_wanted,
+};
 use cwl_process::{Process, Tool, read_unlinked};
 use cwl_value::{Value, canonical_text};
 use plain_data::{Items, Keyed, Text};
@@ -85,7 +87,13 @@ fn collected(
         stdout: row.text("stdout").unwrap_or(""),
         stderr: row.text("stderr").unwrap_or(""),
     };
-    match collect_outputs(alloc, tool, inputs, streams, found, heads) {
+    let left = LeftBehind {
+        inputs,
+        streams,
+        found,
+        heads,
+    };
+    match collect_outputs(alloc, tool, left) {
         Ok(outputs) => Ok(canonical_text(alloc, &Value::Fields(outputs))?.into_string()),
         Err(CollectError::Refused(refused)) => refusal_text(alloc, &refused),
         Err(CollectError::OutOfMemory) => Err(RowFault::OutOfMemory),

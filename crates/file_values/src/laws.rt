@@ -12,7 +12,8 @@ use url::Url;
 /// the same path, on every base.
 pub fn there_and_back(alloc: Global, path: &str, base: &Url) -> Result<String, FileError>
     ensures ok { IsPlainPath path.now → IfOk result (λ back. string_bytes back ≡ path.now) }
-    ensures err { IsPlainPath path.now → IfErr result (Refuses (Ok path.now) (is_long base.now (location_of path.now))) }
+    ensures err { IsPlainPath path.now
+        → IfErr result (Refuses (Ok path.now) (is_long base.now (location_of path.now))) }
 {
     let location = path_to_location(alloc, path)?;
     location_to_path(alloc, location.as_str(), base)

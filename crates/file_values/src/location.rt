@@ -42,7 +42,8 @@ fn stays(byte: u8) -> bool
 /// query or a fragment; `NotUtf8` where its path is no text once the escapes are read; `OutOfMemory`.
 pub fn location_to_path(alloc: Global, location: &str, base: &Url) -> Result<String, FileError>
     ensures ok { IfOk result (λ path. spec.located base.now location.now ≡ Ok (string_bytes path)) }
-    ensures err { IfErr result (spec.Refuses (spec.located base.now location.now) (spec.is_long base.now location.now)) }
+    ensures err { IfErr result (spec.Refuses (spec.located base.now location.now)
+        (spec.is_long base.now location.now)) }
 {
     let url = joined(location, base)?;
     path_of(alloc, &url)
@@ -52,7 +53,8 @@ pub fn location_to_path(alloc: Global, location: &str, base: &Url) -> Result<Str
 // and no short one is that long.
 fn joined(location: &str, base: &Url) -> Result<Url, FileError>
     ensures ok { IfOk result (λ url. spec.joined base.now location.now ≡ Ok url) }
-    ensures err { IfErr result (spec.Refuses (spec.joined base.now location.now) (spec.is_long base.now location.now)) }
+    ensures err { IfErr result (spec.Refuses (spec.joined base.now location.now)
+        (spec.is_long base.now location.now)) }
 {
     match base.join(location) {
         Ok(url) => Ok(url),
@@ -109,7 +111,8 @@ fn has_fragment(url: &Url) -> bool
 
 // The text that an escaped path stands for.
 fn decoded(alloc: Global, path: &str) -> Result<String, FileError>
-    ensures ok { IfOk result (λ text. spec.text_of (percent_decode path.now) ≡ Ok (string_bytes text)) }
+    ensures ok { IfOk result (λ text. spec.text_of (percent_decode path.now)
+        ≡ Ok (string_bytes text)) }
     ensures err { IfErr result (spec.Refuses (spec.text_of (percent_decode path.now)) false) }
 {
     match percent_decode_str(path).decode_utf8(alloc) {
@@ -122,7 +125,8 @@ fn decoded(alloc: Global, path: &str) -> Result<String, FileError>
 /// A path as it is written, added to the folder of the base unless it is absolute.
 pub(crate) fn path_on(alloc: Global, path: &str, base: &Url) -> Result<String, FileError>
     ensures ok { IfOk result (λ whole. spec.placed base.now path.now ≡ Ok (string_bytes whole)) }
-    ensures err { IfErr result (spec.Refuses (spec.placed base.now path.now) (spec.is_long base.now (codes "."))) }
+    ensures err { IfErr result (spec.Refuses (spec.placed base.now path.now)
+        (spec.is_long base.now (codes "."))) }
 {
     if is_absolute(path) {
         return Ok(String::from_str(alloc, path)?);

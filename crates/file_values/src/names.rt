@@ -10,7 +10,8 @@ use std::alloc::{AllocError, Global};
 /// One `?` at the pattern's end says that the file may be absent, and is no part of the name. Each `^` at its front
 /// takes the last extension off the name, and what is left of the pattern is put at the name's end.
 pub fn secondary_name(alloc: Global, pattern: &str, basename: &str) -> Result<String, AllocError>
-    ensures { IfOk result (λ name. string_bytes name ≡ spec.secondary_name pattern.now basename.now) }
+    ensures { IfOk result (λ name. string_bytes name
+        ≡ spec.secondary_name pattern.now basename.now) }
 {
     let mut rest = required(pattern);
     let mut front = basename;

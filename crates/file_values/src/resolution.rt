@@ -25,7 +25,8 @@ use url::Url;
 /// have to differ don't: those of a File and its secondary files, and those of a listing; `OutOfMemory`.
 pub fn resolve(alloc: Global, value: Value, base: &Url) -> Result<Value, FileError>
     ensures ok { IfOk result (λ v. spec.resolved base.now value ≡ Ok v) }
-    ensures err { IfErr result (Refuses (spec.resolved base.now value) (spec.has_long base.now value)) }
+    ensures err { IfErr result
+        (Refuses (spec.resolved base.now value) (spec.has_long base.now value)) }
 {
     resolved(alloc, &value, base)
 }
@@ -33,7 +34,8 @@ pub fn resolve(alloc: Global, value: Value, base: &Url) -> Result<Value, FileErr
 #[cycle(resolve)]
 fn resolved(alloc: Global, value: &Value, base: &Url) -> Result<Value, FileError>
     ensures ok { IfOk result (λ v. spec.resolved base.now value.now ≡ Ok v) }
-    ensures err { IfErr result (Refuses (spec.resolved base.now value.now) (spec.has_long base.now value.now)) }
+    ensures err { IfErr result
+        (Refuses (spec.resolved base.now value.now) (spec.has_long base.now value.now)) }
 {
     match value {
         Value::Null => Ok(Value::Null),
@@ -50,7 +52,8 @@ fn resolved(alloc: Global, value: &Value, base: &Url) -> Result<Value, FileError
 #[cycle(resolve)]
 fn resolved_file(alloc: Global, file: &FileVal, base: &Url) -> Result<FileVal, FileError>
     ensures ok { IfOk result (λ f. spec.file_resolved base.now file.now ≡ Ok f) }
-    ensures err { IfErr result (Refuses (spec.file_resolved base.now file.now) (spec.file_has_long base.now file.now)) }
+    ensures err { IfErr result (Refuses (spec.file_resolved base.now file.now)
+        (spec.file_has_long base.now file.now)) }
 {
     let place = resolved_place(alloc, &file.place, base)?;
     let name = named(alloc, &file.basename, &place)?;
@@ -61,7 +64,8 @@ fn resolved_file(alloc: Global, file: &FileVal, base: &Url) -> Result<FileVal, F
 #[cycle(resolve)]
 fn resolved_dir(alloc: Global, dir: &DirVal, base: &Url) -> Result<DirVal, FileError>
     ensures ok { IfOk result (λ d. spec.dir_resolved base.now dir.now ≡ Ok d) }
-    ensures err { IfErr result (Refuses (spec.dir_resolved base.now dir.now) (spec.dir_has_long base.now dir.now)) }
+    ensures err { IfErr result (Refuses (spec.dir_resolved base.now dir.now)
+        (spec.dir_has_long base.now dir.now)) }
 {
     let place = resolved_place(alloc, &dir.place, base)?;
     let name = named(alloc, &dir.basename, &place)?;
@@ -89,8 +93,10 @@ fn resolved_items(
     items: &Items<Value>,
     base: &Url,
 ) -> Result<Items<Value>, FileError>
-    ensures ok { IfOk result (λ vs. spec.all_found (map (spec.resolved base.now) items.now) ≡ Ok vs) }
-    ensures err { IfErr result (Refuses (spec.all_found (map (spec.resolved base.now) items.now)) (spec.any_of (map (spec.has_long base.now) items.now))) }
+    ensures ok { IfOk result (λ vs. spec.all_found (map (spec.resolved base.now) items.now)
+        ≡ Ok vs) }
+    ensures err { IfErr result (Refuses (spec.all_found (map (spec.resolved base.now) items.now))
+        (spec.any_of (map (spec.has_long base.now) items.now))) }
 {
     let mut found = Items::new(alloc);
     for item in items.as_slice() {
@@ -105,8 +111,11 @@ fn resolved_fields(
     fields: &Keyed<Value>,
     base: &Url,
 ) -> Result<Keyed<Value>, FileError>
-    ensures ok { IfOk result (λ es. spec.fields_found (map_values (spec.resolved base.now) fields.now) ≡ Ok es) }
-    ensures err { IfErr result (Refuses (spec.fields_found (map_values (spec.resolved base.now) fields.now)) (spec.any_of (map (λ e. e.1) (map_values (spec.has_long base.now) fields.now)))) }
+    ensures ok { IfOk result
+        (λ es. spec.fields_found (map_values (spec.resolved base.now) fields.now) ≡ Ok es) }
+    ensures err { IfErr result
+        (Refuses (spec.fields_found (map_values (spec.resolved base.now) fields.now))
+        (spec.any_of (map (λ e. e.1) (map_values (spec.has_long base.now) fields.now)))) }
 {
     let mut found = Vec::new(alloc);
     for field in fields.as_slice() {
@@ -124,8 +133,11 @@ fn file_at(
     name: Text,
     found: Items<Value>,
 ) -> Result<FileVal, FileError>
-    ensures ok { IfOk result (λ f. spec.file_at (out-FileVal file.now).checksum (out-FileVal file.now).size (out-FileVal file.now).contents place name found ≡ Ok f) }
-    ensures err { IfErr result (Refuses (spec.file_at (out-FileVal file.now).checksum (out-FileVal file.now).size (out-FileVal file.now).contents place name found) false) }
+    ensures ok { IfOk result (λ f. spec.file_at (out-FileVal file.now).checksum
+        (out-FileVal file.now).size (out-FileVal file.now).contents place name found ≡ Ok f) }
+    ensures err { IfErr result
+        (Refuses (spec.file_at (out-FileVal file.now).checksum (out-FileVal file.now).size
+        (out-FileVal file.now).contents place name found) false) }
 {
     let secondary = distinct_beside(alloc, &name, found)?;
     let (checksum, contents) = texts_of(alloc, file)?;
@@ -141,7 +153,8 @@ fn file_at(
 
 // The checksum and the contents.
 fn texts_of(alloc: Global, file: &FileVal) -> Result<(Option<Text>, Option<Text>), AllocError>
-    ensures { IfOk result (λ texts. texts ≡ ((out-FileVal file.now).checksum, (out-FileVal file.now).contents)) }
+    ensures { IfOk result (λ texts. texts
+        ≡ ((out-FileVal file.now).checksum, (out-FileVal file.now).contents)) }
 {
     let checksum = copy_if_any(alloc, &file.checksum)?;
     Ok((checksum, copy_if_any(alloc, &file.contents)?))
@@ -150,7 +163,8 @@ fn texts_of(alloc: Global, file: &FileVal) -> Result<(Option<Text>, Option<Text>
 // A location as the path that it names, and a path joined to the base's folder.
 fn resolved_place(alloc: Global, place: &Place, base: &Url) -> Result<Place, FileError>
     ensures ok { IfOk result (λ p. spec.place_resolved base.now place.now ≡ Ok p) }
-    ensures err { IfErr result (Refuses (spec.place_resolved base.now place.now) (spec.is_long_place base.now place.now)) }
+    ensures err { IfErr result (Refuses (spec.place_resolved base.now place.now)
+        (spec.is_long_place base.now place.now)) }
 {
     match place {
         Place::Nowhere => Ok(Place::Nowhere),

@@ -34,7 +34,8 @@ const MOST_BYTES: u64 = (1 << 61) - 1;
 pub fn sum_of<S: ByteReader>(alloc: Global, reader: &mut S) -> Result<FileSum, FileError>
     ensures ok { IfOk result (SumsAll (S.left reader.old) (S.left reader.new)) }
     ensures whole { OnOk result ((S.failed reader.old ≡ false) × (S.failed reader.new ≡ false)) }
-    ensures err { IfErr result (SumRefuses (S.left reader.old) (S.left reader.new) (S.failed reader.new)) }
+    ensures err { IfErr result (SumRefuses (S.left reader.old) (S.left reader.new)
+        (S.failed reader.new)) }
 {
     let mut block = vec![in alloc; 0u8; BLOCK]?;
     let mut hasher = Sha1::new();
@@ -70,7 +71,8 @@ fn add_piece<S: ByteReader>(
 ) -> Result<usize, ReadFailed>
     requires block { 0 < length block.old }
     requires most { 0 < most }
-    ensures ok { IfOk result (AddsPiece (S.left reader.old) (S.left reader.new) hasher.old hasher.new (min (length block.old) most)) }
+    ensures ok { IfOk result (AddsPiece (S.left reader.old) (S.left reader.new) hasher.old
+        hasher.new (min (length block.old) most)) }
     ensures before { OnOk result (S.failed reader.old ≡ false) }
     ensures after { OnOk result (S.failed reader.new ≡ false) }
     ensures err { OnErr result (S.failed reader.new ≡ true) }

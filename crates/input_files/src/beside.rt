@@ -37,7 +37,8 @@ fn push_lacked(
     file: &FileVal,
     paths: &mut Items<Text>,
 ) -> Result<(), AllocError>
-    ensures { OnOk result (paths.new ≡ paths.old ++ flat_map (λ one. spec.looked_for_at (spec.lacked file.now one)) declared.now) }
+    ensures { OnOk result (paths.new ≡ paths.old
+        ++ flat_map (λ one. spec.looked_for_at (spec.lacked file.now one)) declared.now) }
 {
     for one in declared {
         push_if_named(lacked(alloc, file, one)?, paths)?;
@@ -66,7 +67,8 @@ pub(crate) fn lacks_required(
     declared: &[SecondaryFile],
     value: &Value,
 ) -> Result<bool, AllocError>
-    ensures { IfOk result (λ lacks. lacks ≡ spec.lacks_required measures.now declared.now value.now) }
+    ensures { IfOk result (λ lacks. lacks
+        ≡ spec.lacks_required measures.now declared.now value.now) }
 {
     for item in items_of(value) {
         if let Value::FileVal(file) = item {
@@ -84,7 +86,8 @@ fn file_lacks(
     declared: &[SecondaryFile],
     file: &FileVal,
 ) -> Result<bool, AllocError>
-    ensures { IfOk result (λ lacks. lacks ≡ list_any (spec.is_absent measures.now file.now) declared.now) }
+    ensures { IfOk result (λ lacks. lacks
+        ≡ list_any (spec.is_absent measures.now file.now) declared.now) }
 {
     for one in declared {
         if is_absent(alloc, measures, file, one)? {
@@ -142,7 +145,8 @@ fn items_beside(
     declared: &[SecondaryFile],
     values: Items<Value>,
 ) -> Result<Items<Value>, AllocError>
-    ensures { IfOk result (λ vs. vs ≡ map (with_file (spec.file_beside measures.now declared.now)) values) }
+    ensures { IfOk result (λ vs. vs ≡ map (with_file (spec.file_beside measures.now declared.now))
+        values) }
 {
     let mut found = Items::new(alloc);
     for value in values.into_vec() {

@@ -156,7 +156,8 @@ fn files_fault(
     name: &Text,
     value: &Value,
 ) -> Result<Option<ContentsFault>, AllocError>
-    ensures { IfOk result (λ fault. fault ≡ spec.files_fault heads.now name.now (files_in value.now)) }
+    ensures { IfOk result (λ fault. fault
+        ≡ spec.files_fault heads.now name.now (files_in value.now)) }
 {
     for item in items_of(value) {
         if let Value::FileVal(file) = item {

@@ -23,7 +23,9 @@ impl<'k, T: Drop> Grouped<'k, T> {
 
     /// Adds an item under a text.
     pub(crate) fn add(&mut self, alloc: Global, text: &'k str, item: T) -> Result<(), AllocError>
-        ensures { OnOk result ((other : List ℕ) → items_under self.new other ≡ (if bytes_eq text.now other then items_under self.old other ++ item ∷ [] else items_under self.old other)) }
+        ensures { OnOk result ((other : List ℕ) → items_under self.new other
+            ≡ (if bytes_eq text.now other then items_under self.old other
+            ++ item ∷ [] else items_under self.old other)) }
     {
         let mut items = or_none(alloc, self.held.remove(text));
         items.push(item)?;

@@ -31,7 +31,8 @@ pub fn inputs_for(
     given: &Keyed<Value>,
     measures: &Keyed<Measure>,
 ) -> Result<Keyed<Value>, InputError>
-    ensures ok { IfOk result (λ named. spec.inputs_for inputs.now given.now measures.now ≡ Ok named) }
+    ensures ok { IfOk result (λ named. spec.inputs_for inputs.now given.now measures.now
+        ≡ Ok named) }
     ensures err { IfErr result (RefusesInputs (spec.inputs_for inputs.now given.now measures.now)) }
 {
     match first_fault(alloc, inputs, given, measures)? {
@@ -99,7 +100,8 @@ fn nests_within_limit(
     input: &(Text, ToolInput),
     value: &Value,
 ) -> Result<bool, AllocError>
-    ensures { IfOk result (λ within. within ≡ is_within_limit (spec.with_measures measures.now input.now.1.secondary_files value.now)) }
+    ensures { IfOk result (λ within. within
+        ≡ is_within_limit (spec.with_measures measures.now input.now.1.secondary_files value.now)) }
 {
     let measured = with_measures(alloc, measures, input.1.secondary_files.as_slice(), value)?;
     let is_within = is_within_limit(&measured);
@@ -113,7 +115,8 @@ fn measured_inputs(
     given: &Keyed<Value>,
     measures: &Keyed<Measure>,
 ) -> Result<Keyed<Value>, AllocError>
-    ensures { IfOk result (λ named. named ≡ spec.measured_inputs measures.now inputs.now given.now) }
+    ensures { IfOk result (λ named. named
+        ≡ spec.measured_inputs measures.now inputs.now given.now) }
 {
     let mut named = Keyed::new(alloc);
     for input in inputs {

@@ -100,7 +100,8 @@ fn values_in(
     folder: &str,
 ) -> Result<Items<Value>, AllocError>
     requires { IsByFolder by_folder.now listing.now }
-    ensures { IfOk result (λ values. values ≡ spec.values_in root.now listing.now depth folder.now) }
+    ensures { IfOk result (λ values. values
+        ≡ spec.values_in root.now listing.now depth folder.now) }
 {
     let mut values = Items::new(alloc);
     if depth == 0 {
@@ -123,7 +124,8 @@ fn found_value(
     found: &Found,
 ) -> Result<Value, AllocError>
     requires { IsByFolder by_folder.now listing.now }
-    ensures { IfOk result (λ v. v ≡ spec.found_value root.now (spec.values_in root.now listing.now depth) found.now) }
+    ensures { IfOk result (λ v. v
+        ≡ spec.found_value root.now (spec.values_in root.now listing.now depth) found.now) }
 {
     let path = path_below(alloc, root, found.name.as_str())?;
     let name = last_of(found.name.as_str());

@@ -117,7 +117,8 @@ fn sum_of(
     measures: &Keyed<Measure>,
     file: &FileVal,
 ) -> Result<(Option<Text>, Option<u64>), AllocError>
-    ensures { IfOk result (λ sum. sum ≡ spec.sum_found (spec.measure_at measures.now (out-FileVal file.now).place)) }
+    ensures { IfOk result (λ sum. sum
+        ≡ spec.sum_found (spec.measure_at measures.now (out-FileVal file.now).place)) }
 {
     match measure_at(measures, &file.place) {
         Some(Measure::File { size, sum }) => Ok((Some(checksum_of(alloc, sum)?), Some(*size))),
@@ -144,7 +145,8 @@ fn found_listing(
 
 // The basename and the contents.
 fn texts_of(alloc: Global, file: &FileVal) -> Result<(Option<Text>, Option<Text>), AllocError>
-    ensures { IfOk result (λ texts. texts ≡ ((out-FileVal file.now).basename, (out-FileVal file.now).contents)) }
+    ensures { IfOk result (λ texts. texts
+        ≡ ((out-FileVal file.now).basename, (out-FileVal file.now).contents)) }
 {
     let basename = copy_if_any(alloc, &file.basename)?;
     Ok((basename, copy_if_any(alloc, &file.contents)?))

@@ -27,7 +27,8 @@ pub fn root_fields<P: Parameter>(
     given: &Keyed<Value>,
     measures: &Keyed<Measure>,
 ) -> Result<Keyed<Value>, AllocError>
-    ensures { IfOk result (λ fields. fields ≡ spec.root_fields P.of inputs.now given.now measures.now) }
+    ensures { IfOk result (λ fields. fields
+        ≡ spec.root_fields P.of inputs.now given.now measures.now) }
 {
     let mut fields = Keyed::new(alloc);
     for input in inputs {
@@ -68,8 +69,10 @@ pub fn process_inputs<P: Parameter>(
     fields: &Keyed<Value>,
     measures: &Keyed<Measure>,
 ) -> Result<Keyed<Value>, InputError>
-    ensures ok { IfOk result (λ taken. spec.process_inputs P.of inputs.now fields.now measures.now ≡ Ok taken) }
-    ensures err { IfErr result (RefusesInputs (spec.process_inputs P.of inputs.now fields.now measures.now)) }
+    ensures ok { IfOk result (λ taken. spec.process_inputs P.of inputs.now fields.now measures.now
+        ≡ Ok taken) }
+    ensures err { IfErr result
+        (RefusesInputs (spec.process_inputs P.of inputs.now fields.now measures.now)) }
 {
     let mut taken = Keyed::new(alloc);
     for input in inputs {
@@ -86,9 +89,16 @@ fn take_input<P: Parameter>(
     input: &(Text, P),
     taken: &mut Keyed<Value>,
 ) -> Result<(), InputError>
-    ensures put { OnOk result (taken.new ≡ with_value input.now.0 (spec.taken_value P.of measures.now fields.now input.now) taken.old) }
-    ensures sound { IfOk result (λ _. spec.fault_with P.of input.now (spec.taken_value P.of measures.now fields.now input.now) ≡ None) }
-    ensures err { IfErr result (RefusesInput (spec.fault_with P.of input.now (spec.taken_value P.of measures.now fields.now input.now))) }
+    ensures put { OnOk result (taken.new
+        ≡ with_value input.now.0 (spec.taken_value P.of measures.now fields.now input.now)
+        taken.old) }
+    ensures sound { IfOk result
+        (λ _. spec.fault_with P.of input.now (spec.taken_value P.of measures.now fields.now
+        input.now) ≡ None) }
+    ensures err { IfErr result
+        (RefusesInput
+        (spec.fault_with P.of input.now (spec.taken_value P.of measures.now fields.now
+        input.now))) }
 {
     let value = without_fault(alloc, input, taken_value(alloc, fields, measures, input)?)?;
     Ok(put(alloc, taken, &input.0, value)?)
@@ -123,7 +133,8 @@ fn taken_value<P: Parameter>(
     measures: &Keyed<Measure>,
     input: &(Text, P),
 ) -> Result<Value, AllocError>
-    ensures { IfOk result (λ value. value ≡ spec.taken_value P.of measures.now fields.now input.now) }
+    ensures { IfOk result (λ value. value
+        ≡ spec.taken_value P.of measures.now fields.now input.now) }
 {
     match fields.get(input.0.as_str()) {
         None | Some(Value::Null) => match input.1.default() {

@@ -60,7 +60,8 @@ fn are_there(measures: &Keyed<Measure>, items: &Items<Value>) -> bool
 
 #[cycle(there)]
 fn are_fields_there(measures: &Keyed<Measure>, fields: &Keyed<Value>) -> bool
-    ensures { result ≡ all_true (map (λ e. e.1) (map_values (spec.is_there measures.now) fields.now)) }
+    ensures { result
+        ≡ all_true (map (λ e. e.1) (map_values (spec.is_there measures.now) fields.now)) }
 {
     for field in fields.as_slice() {
         if !is_there(measures, &field.1) {

@@ -21,8 +21,10 @@ fn all_under(
     walks: &[Walk<'_>],
     name: &str,
 ) -> Result<Option<Vec<Value>>, AllocError>
-    ensures values { IfOk result (λ found. option_map (λ values. values.items) found ≡ all_there (map (λ w. out_under name.now (Some w.outs)) (map walk_of walks.now))) }
-    ensures one_each { IfOk result (λ found. IfSome found (λ values. length values.items ≡ length walks.now)) }
+    ensures values { IfOk result (λ found. option_map (λ values. values.items) found
+        ≡ all_there (map (λ w. out_under name.now (Some w.outs)) (map walk_of walks.now))) }
+    ensures one_each { IfOk result (λ found. IfSome found (λ values. length values.items
+        ≡ length walks.now)) }
 {
     let mut values = Vec::new(alloc);
     for walk in walks {
@@ -37,7 +39,9 @@ fn all_under(
 /// Whether all walks have a value under a name.
 #[tactic(auto, using(crate::proofs::Loops::first_there))]
 fn are_there(walks: &[Walk<'_>], name: &str) -> bool
-    ensures { result ≡ is_some (all_there (map (λ w. out_under name.now (Some w.outs)) (map walk_of walks.now))) }
+    ensures { result
+        ≡ is_some
+        (all_there (map (λ w. out_under name.now (Some w.outs)) (map walk_of walks.now))) }
 {
     for walk in walks {
         if out_under(walk.outs.as_slice(), name).is_none() {
@@ -58,7 +62,8 @@ fn out_gathered(
     requires some { shape.now.lengths ≢ [] }
     requires taken { IsTaken shape.now.method shape.now.lengths }
     requires one_each { length walks.now ≡ length (tuples_of shape.now.method shape.now.lengths) }
-    ensures { IfOk result (λ value. value ≡ out_gathered shape.now.method shape.now.lengths (map walk_of walks.now) name.now) }
+    ensures { IfOk result (λ value. value
+        ≡ out_gathered shape.now.method shape.now.lengths (map walk_of walks.now) name.now) }
 {
     if !are_there(walks, name) {
         return Ok(None);
@@ -79,7 +84,13 @@ fn outs_gathered(
     requires some { shape.now.lengths ≢ [] }
     requires taken { IsTaken shape.now.method shape.now.lengths }
     requires one_each { length walks.now ≡ length (tuples_of shape.now.method shape.now.lengths) }
-    ensures { IfOk result (λ outs. outs ≡ map (λ name. (name, out_gathered shape.now.method shape.now.lengths (map walk_of walks.now) name)) names.now) }
+    ensures { IfOk result (λ outs. outs
+        ≡ map
+        (λ name. (
+          name,
+          out_gathered shape.now.method shape.now.lengths (map walk_of walks.now)
+              name,
+        )) names.now) }
 {
     let mut outs = Items::new(alloc);
     for name in names {
@@ -91,7 +102,8 @@ fn outs_gathered(
 
 /// What all walks met, one walk after another.
 fn all_met<'a>(alloc: Global, walks: Vec<Walk<'a>>) -> Result<Items<Met<'a>>, AllocError>
-    ensures { IfOk result (λ met. map met_of met ≡ flat_map (λ w. w.met) (map walk_of walks.entry.items)) }
+    ensures { IfOk result (λ met. map met_of met
+        ≡ flat_map (λ w. w.met) (map walk_of walks.entry.items)) }
 {
     let mut met = Items::new(alloc);
     for walk in walks {
@@ -122,7 +134,9 @@ pub(crate) fn all_instances<'a>(
     requires some { shape.now.lengths ≢ [] }
     requires taken { IsTaken shape.now.method shape.now.lengths }
     requires one_each { length walks.items ≡ length (tuples_of shape.now.method shape.now.lengths) }
-    ensures { IfOk result (λ walk. walk_of walk ≡ walks_together shape.now.method shape.now.lengths names.now (map walk_of walks.entry.items)) }
+    ensures { IfOk result (λ walk. walk_of walk
+        ≡ walks_together shape.now.method shape.now.lengths names.now
+        (map walk_of walks.entry.items)) }
 {
     let outs = outs_gathered(alloc, shape, walks.as_slice(), names)?;
     let met = all_met(alloc, walks)?;

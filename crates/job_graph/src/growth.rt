@@ -104,7 +104,8 @@ fn add_job<'a>(
     job: Job<'a>,
 ) -> Result<usize, UnfoldError>
     requires { is_known (jobs_in known.old.items) (job_of job) ≡ false }
-    ensures { Grows known.old.items entries (met_job (job_of job.entry) ∷ []) known.new.items result }
+    ensures { Grows known.old.items entries (met_job (job_of job.entry) ∷ []) known.new.items
+        result }
 {
     let parents = parents_among(alloc, known.as_slice(), &job.inputs)?;
     let entries = entries.saturating_add(parents.len());

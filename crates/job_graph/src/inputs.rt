@@ -18,7 +18,8 @@ pub(crate) fn tool_inputs(
     inputs: &[(Text, ToolInput)],
     given: &Keyed<Value>,
 ) -> Result<Result<Keyed<Value>, Cause>, AllocError>
-    ensures { IfOk result (λ found. found ≡ spec.tool_inputs_for measures.now inputs.now given.now) }
+    ensures { IfOk result (λ found. found
+        ≡ spec.tool_inputs_for measures.now inputs.now given.now) }
 {
     of_input(process_inputs(alloc, inputs, given, measures))
 }
@@ -30,7 +31,8 @@ pub(crate) fn workflow_inputs(
     inputs: &[(Text, WorkflowInput)],
     given: &Keyed<Value>,
 ) -> Result<Result<Keyed<Value>, Cause>, AllocError>
-    ensures { IfOk result (λ found. found ≡ spec.workflow_inputs_for measures.now inputs.now given.now) }
+    ensures { IfOk result (λ found. found
+        ≡ spec.workflow_inputs_for measures.now inputs.now given.now) }
 {
     of_input(process_inputs(alloc, inputs, given, measures))
 }

@@ -35,15 +35,20 @@ pub fn known_jobs_stay()
 /// Says that the first fault stays when more is learned; of any walk.
 pub fn faults_stay()
     ensures { (walks : Walker) (learned later : List Resolved) (fault : Fault)
-        → (unfolded walks learned).fault ≡ Some fault → (unfolded walks (learned ++ later)).fault ≡ Some fault }
+        → (unfolded walks learned).fault ≡ Some fault → (unfolded walks (learned ++ later)).fault
+        ≡ Some fault }
 {}
 
 /// Says that nothing more is known when a job of a scattered step is learned while another job of the step is open.
 pub fn open_jobs_hold_back()
-    ensures { (process : Process) (given : Fields) (measures : Measures) (learned : List Resolved) (one : Resolved)
-        → ids_differ process ≡ true → (unfolded (walker process given measures) learned).fault ≡ None
-        → is_one_open learned one.place (unfolded (walker process given measures) learned).jobs ≡ true
-        → unfolded (walker process given measures) (learned ++ one ∷ []) ≡ unfolded (walker process given measures) learned }
+    ensures { (process : Process) (given : Fields) (measures : Measures) (learned : List Resolved)
+        (one : Resolved)
+        → ids_differ process ≡ true → (unfolded (walker process given measures) learned).fault
+        ≡ None
+        → is_one_open learned one.place (unfolded (walker process given measures) learned).jobs
+        ≡ true
+        → unfolded (walker process given measures) (learned ++ one ∷ [])
+        ≡ unfolded (walker process given measures) learned }
 {}
 
 /// Says that a walk, where more is known of the jobs that it meets, meets no less, in the same order, and that the outputs
@@ -56,7 +61,8 @@ pub fn more_is_met()
 
 /// Says that the result stays where more is known.
 pub fn results_stay()
-    ensures { (process : Process) (given : Fields) (measures : Measures) (made more : Made) (outputs : Fields)
+    ensures { (process : Process) (given : Fields) (measures : Measures) (made more : Made)
+        (outputs : Fields)
         → StaysOn made more (walker process given measures made).met
         → result_in made (walker process given measures made) ≡ Some outputs
         → result_in more (walker process given measures more) ≡ Some outputs }
@@ -64,14 +70,16 @@ pub fn results_stay()
 
 /// Says that the result stays when more is learned.
 pub fn learned_results_stay()
-    ensures { (process : Process) (given : Fields) (measures : Measures) (learned later : List Resolved) (outputs : Fields)
+    ensures { (process : Process) (given : Fields) (measures : Measures)
+        (learned later : List Resolved) (outputs : Fields)
         → (unfolded (walker process given measures) learned).result ≡ Some outputs
         → (unfolded (walker process given measures) (learned ++ later)).result ≡ Some outputs }
 {}
 
 /// Says that the result is what computing every job gives, in each world that agrees with what was learned.
 pub fn results_are_eval()
-    ensures { (key : Tool → Fields → Key) (world : World) (process : Process) (given : Fields) (measures : Measures)
+    ensures { (key : Tool → Fields → Key) (world : World) (process : Process) (given : Fields)
+        (measures : Measures)
         (learned : List Resolved) (outputs : Fields)
         → Agrees key world (walker process given measures) learned
         → (unfolded (walker process given measures) learned).result ≡ Some outputs
@@ -80,7 +88,8 @@ pub fn results_are_eval()
 
 /// Says that computing every job fails where an equation does, in each world that agrees with what was learned.
 pub fn faults_fail_eval()
-    ensures { (key : Tool → Fields → Key) (world : World) (process : Process) (given : Fields) (measures : Measures)
+    ensures { (key : Tool → Fields → Key) (world : World) (process : Process) (given : Fields)
+        (measures : Measures)
         (learned : List Resolved) (place : JobPlace) (cause : Cause)
         → Agrees key world (walker process given measures) learned
         → (unfolded (walker process given measures) learned).fault ≡ Some (fault_at place cause)
@@ -96,22 +105,26 @@ pub fn known_places_differ()
 /// Says that a job which is met is the one that is known at its place, in each process where no two steps of a workflow have
 /// one id.
 pub fn met_jobs_are_known()
-    ensures { (process : Process) (given : Fields) (measures : Measures) (learned : List Resolved) (job : Job)
+    ensures { (process : Process) (given : Fields) (measures : Measures) (learned : List Resolved)
+        (job : Job)
         → ids_differ process ≡ true
         → Contains (walker process given measures (made_by learned)).met (met_job job)
-        → find (is_at job.place) (unfolded (walker process given measures) learned).jobs ≡ Some job }
+        → find (is_at job.place) (unfolded (walker process given measures) learned).jobs
+        ≡ Some job }
 {}
 
 /// Says that each job that is known is met again.
 pub fn known_jobs_are_met()
-    ensures { (process : Process) (given : Fields) (measures : Measures) (learned : List Resolved) (job : Job)
+    ensures { (process : Process) (given : Fields) (measures : Measures) (learned : List Resolved)
+        (job : Job)
         → Contains (unfolded (walker process given measures) learned).jobs job
         → Contains (walker process given measures (made_by learned)).met (met_job job) }
 {}
 
 /// Says that a world which agrees with the known jobs does so with those that are met.
 pub fn known_jobs_agree()
-    ensures { (key : Tool → Fields → Key) (world : World) (process : Process) (given : Fields) (measures : Measures)
+    ensures { (key : Tool → Fields → Key) (world : World) (process : Process) (given : Fields)
+        (measures : Measures)
         (learned : List Resolved)
         → ids_differ process ≡ true → AgreesKnown key world (walker process given measures) learned
         → Agrees key world (walker process given measures) learned }
@@ -119,16 +132,19 @@ pub fn known_jobs_agree()
 
 /// Says that computing every job fails where a known job does, in each world that agrees with what was learned.
 pub fn failed_jobs_fail_eval()
-    ensures { (key : Tool → Fields → Key) (world : World) (process : Process) (given : Fields) (measures : Measures)
+    ensures { (key : Tool → Fields → Key) (world : World) (process : Process) (given : Fields)
+        (measures : Measures)
         (learned : List Resolved) (job : Job)
         → Agrees key world (walker process given measures) learned
-        → Contains (unfolded (walker process given measures) learned).jobs job → world (key job.tool job.inputs) ≡ None
+        → Contains (unfolded (walker process given measures) learned).jobs job
+        → world (key job.tool job.inputs) ≡ None
         → eval key world process given measures ≡ None }
 {}
 
 /// Says that each known job was learned where there is a result.
 pub fn results_learned_each_job()
-    ensures { (process : Process) (given : Fields) (measures : Measures) (learned : List Resolved) (outputs : Fields) (job : Job)
+    ensures { (process : Process) (given : Fields) (measures : Measures) (learned : List Resolved)
+        (outputs : Fields) (job : Job)
         → (unfolded (walker process given measures) learned).result ≡ Some outputs
         → Contains (unfolded (walker process given measures) learned).jobs job
         → is_some (outputs_at learned job.place) ≡ true }
@@ -140,7 +156,8 @@ pub fn accepted_processes_give_results()
     ensures { (process : Process) (given : Fields) (measures : Measures) (learned : List Resolved)
         → fault_in process ≡ None → ids_differ process ≡ true
         → (unfolded (walker process given measures) learned).fault ≡ None
-        → ((job : Job) → Contains (unfolded (walker process given measures) learned).jobs job → is_some (outputs_at learned job.place) ≡ true)
+        → ((job : Job) → Contains (unfolded (walker process given measures) learned).jobs job
+        → is_some (outputs_at learned job.place) ≡ true)
         → IsSome (unfolded (walker process given measures) learned).result }
 {}
 

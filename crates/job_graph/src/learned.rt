@@ -76,7 +76,8 @@ impl Learned {
 
     /// Takes off the one that was learned last. What the index has of it does no harm.
     pub(crate) fn pop(&mut self) -> Option<Resolved>
-        ensures { MatchOption result ((self.old ≡ []) × (self.new ≡ [])) (λ last. self.old ≡ self.new ++ last ∷ []) }
+        ensures { MatchOption result ((self.old ≡ []) × (self.new ≡ [])) (λ last. self.old
+            ≡ self.new ++ last ∷ []) }
     {
         self.list.pop()
     }

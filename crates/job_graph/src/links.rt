@@ -87,7 +87,8 @@ fn linked_values(
     env: &Env,
     sources: &[Source],
 ) -> Result<Option<Vec<Value>>, AllocError>
-    ensures { IfOk result (λ found. option_map (λ values. values.items) found ≡ linked_values inputs.now env.now sources.now) }
+    ensures { IfOk result (λ found. option_map (λ values. values.items) found
+        ≡ linked_values inputs.now env.now sources.now) }
 {
     let mut values = Vec::new(alloc);
     for source in sources {
@@ -133,7 +134,8 @@ fn step_input(
     input: &StepInput,
     linked: Value,
 ) -> Result<Value, LinkError>
-    ensures ok { IfOk result (λ value. step_input (measured measures.now input.now) linked ≡ Ok value) }
+    ensures ok { IfOk result (λ value. step_input (measured measures.now input.now) linked
+        ≡ Ok value) }
     ensures err { IfErr result (IsError (step_input (measured measures.now input.now) linked)) }
 {
     let value = pick(alloc, input.links.pick, linked)?;

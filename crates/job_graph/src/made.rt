@@ -48,7 +48,9 @@ pub(crate) fn job_outs(
     outputs: &Entries<ToolOutput>,
     place: &JobPlace,
 ) -> Result<Items<Out>, AllocError>
-    ensures { IfOk result (λ outs. outs ≡ outs_of (keys_of outputs.now) (option_map (fields_made place.now) (option_copied found.entry))) }
+    ensures { IfOk result (λ outs. outs
+        ≡ outs_of (keys_of outputs.now)
+        (option_map (fields_made place.now) (option_copied found.entry))) }
 {
     let mut outs = Items::new(alloc);
     for output in outputs.as_slice() {
@@ -64,7 +66,9 @@ fn out_value(
     name: &str,
     place: &JobPlace,
 ) -> Result<Option<Value>, AllocError>
-    ensures { IfOk result (λ value. value ≡ option_map (value_under name.now) (option_map (fields_made place.now) (option_copied found.entry))) }
+    ensures { IfOk result (λ value. value
+        ≡ option_map (value_under name.now)
+        (option_map (fields_made place.now) (option_copied found.entry))) }
 {
     match found {
         None => Ok(None),
@@ -80,7 +84,8 @@ fn value_under(
     name: &str,
     place: &JobPlace,
 ) -> Result<Value, AllocError>
-    ensures { IfOk result (λ value. value ≡ value_under name.now (fields_made place.now outputs.now)) }
+    ensures { IfOk result (λ value. value
+        ≡ value_under name.now (fields_made place.now outputs.now)) }
 {
     match outputs.get(name) {
         None => Ok(nothing()),

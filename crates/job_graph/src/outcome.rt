@@ -42,11 +42,14 @@ pub(crate) fn walk_from_root<'a>(
     process: &'a Process,
     fields: &Keyed<Value>,
 ) -> Result<Outcome<'a>, AllocError>
-    ensures met { IfOk result (λ found. map met_of found.0 ≡ (meaning_of facts.now.measures (made_from facts.now) process.now [] fields.now).met) }
+    ensures met { IfOk result (λ found. map met_of found.0
+        ≡ (meaning_of facts.now.measures (made_from facts.now) process.now [] fields.now).met) }
     ensures result { IfOk result (λ found. result_of found.1
-        ≡ jobs.result_in (made_from facts.now) (meaning_of facts.now.measures (made_from facts.now) process.now [] fields.now)) }
+        ≡ jobs.result_in (made_from facts.now) (meaning_of facts.now.measures (made_from facts.now)
+        process.now [] fields.now)) }
     ensures outs { IfOk result (λ found. found.1.named.items
-        ≡ jobs.those_named (meaning_of facts.now.measures (made_from facts.now) process.now [] fields.now).outs) }
+        ≡ jobs.those_named (meaning_of facts.now.measures (made_from facts.now) process.now []
+        fields.now).outs) }
 {
     let root = Items::new(alloc);
     let Walk { met, outs } = walk_process(alloc, facts, process, &root, fields)?;
@@ -73,7 +76,9 @@ fn outputs_in(
 
 /// Whether each that is met is a job whose outputs are known, and each output has a value.
 fn nothing_waits(facts: &Facts, met: &[Met<'_>], outs: &[Out]) -> bool
-    ensures { result ≡ (list_all (jobs.is_well (made_from facts.now)) (map met_of met.now) && list_all (λ out. is_some out.1) outs.now) }
+    ensures { result
+        ≡ (list_all (jobs.is_well (made_from facts.now)) (map met_of met.now) && list_all
+        (λ out. is_some out.1) outs.now) }
 {
     are_well(facts, met) && are_there(outs)
 }

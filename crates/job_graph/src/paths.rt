@@ -33,7 +33,8 @@ fn push_root(
     given: &Keyed<Value>,
     paths: &mut Items<Text>,
 ) -> Result<(), AllocError>
-    ensures { OnOk result (paths.new ≡ paths.old ++ spec.root_adds given.now (out-Process process.now)) }
+    ensures { OnOk result (paths.new ≡ paths.old
+        ++ spec.root_adds given.now (out-Process process.now)) }
 {
     match process {
         Process::Tool(tool) => push_root_inputs(alloc, tool.inputs.as_slice(), given, paths),

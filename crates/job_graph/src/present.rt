@@ -27,7 +27,8 @@ pub(crate) fn vertices_of(
 ) -> Result<Vec<Vertex>, AllocError>
     requires { length costs.now ≡ length known.now }
     ensures { IfOk result (λ vertices. vertices.items
-        ≡ map (vertex_of (map resolved_of learned.now) outs.now) (zip (map known_of known.now) costs.now)) }
+        ≡ map (vertex_of (map resolved_of learned.now) outs.now)
+        (zip (map known_of known.now) costs.now)) }
 {
     let mut vertices = Vec::with_capacity(alloc, known.len())?;
     for number in 0..known.len() {
@@ -43,7 +44,8 @@ fn vertex_of(
     known: &KnownJob<'_>,
     costs: Costs,
 ) -> Result<Vertex, AllocError>
-    ensures { IfOk result (λ vertex. vertex ≡ vertex_of (map resolved_of learned.now) outs.now (known_of known.now, costs)) }
+    ensures { IfOk result (λ vertex. vertex
+        ≡ vertex_of (map resolved_of learned.now) outs.now (known_of known.now, costs)) }
 {
     let parents = Items::from_vec(Vec::from_slice(alloc, known.parents.as_slice())?);
     let needed = is_needed(learned, outs, &known.job.place);

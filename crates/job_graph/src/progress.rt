@@ -53,7 +53,8 @@ impl<'a> Progress<'a> {
     ) -> Result<Progress<'a>, UnfoldError>
         ensures ok { IfOk result (Follows (walker process.now inputs.now measures) []) }
         ensures fresh { IfOk result (λ held. held.fault ≡ None) }
-        ensures err { IfErr result (Blames (unfolded (walker process.now inputs.now measures) []).fault) }
+        ensures err { IfErr result
+            (Blames (unfolded (walker process.now inputs.now measures) []).fault) }
     {
         let fields = root_fields(alloc, process, inputs, &measures)?;
         let mut progress = Progress {
@@ -77,10 +78,12 @@ impl<'a> Progress<'a> {
 
     /// Takes the outputs of a job. A fault that is met is kept, and answered from then on.
     pub(crate) fn learn(&mut self, resolved: Resolved) -> Result<(), UnfoldError>
-        ensures learns { (walks : Walker) (learned : List LearnedJob) → Follows walks learned self.old →
+        ensures learns { (walks : Walker) (learned : List LearnedJob)
+            → Follows walks learned self.old →
             LearnsIn walks learned (resolved_of resolved) self.old self.new result }
         ensures same { IsOfOneProcess self.old self.new }
-        ensures ok { OnOk result (take (length self.old.known.items) self.new.known.items ≡ self.old.known.items) }
+        ensures ok { OnOk result (take (length self.old.known.items) self.new.known.items
+            ≡ self.old.known.items) }
     {
         if let Some(fault) = &self.fault {
             return Err(UnfoldError::Refused(fault.clone_in(self.alloc)?));
@@ -107,7 +110,9 @@ impl<'a> Progress<'a> {
         requires stands { Stands self.now }
         requires each { length costs.now ≡ length self.now.known.items }
         requires within { All AreWithin costs.now }
-        ensures ok { IfOk result (λ graph. graph ≡ present_job_graph (seen self.now).learned (seen self.now).known (seen self.now).outs costs.now) }
+        ensures ok { IfOk result (λ graph. graph
+            ≡ present_job_graph (seen self.now).learned (seen self.now).known (seen self.now).outs
+            costs.now) }
         ensures goes_on { OnOk result (self.now.fault ≡ None) }
         ensures err { IfErr result (Blames (seen self.now).refused) }
     {
@@ -123,11 +128,13 @@ impl<'a> Progress<'a> {
     /// Adds what was learned, and what is known then. No walk is made while another job of the same scattered step is open, since
     /// nothing more is known then (`open_jobs_hold_back`). After an error nothing has changed.
     fn resolve(&mut self, resolved: Resolved) -> Result<(), UnfoldError>
-        ensures resolves { (walks : Walker) (learned : List LearnedJob) → Follows walks learned self.old →
+        ensures resolves { (walks : Walker) (learned : List LearnedJob)
+            → Follows walks learned self.old →
             Resolves walks learned (resolved_of resolved) self.new result }
         ensures same { IsOfOneProcess self.old self.new }
         ensures kept { self.new.fault ≡ self.old.fault }
-        ensures ok { OnOk result (take (length self.old.known.items) self.new.known.items ≡ self.old.known.items) }
+        ensures ok { OnOk result (take (length self.old.known.items) self.new.known.items
+            ≡ self.old.known.items) }
     {
         let place = &resolved.at.place;
         let is_open = is_one_open(&self.facts.learned, place, self.known.as_slice());

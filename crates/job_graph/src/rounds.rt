@@ -36,8 +36,12 @@ pub(crate) fn settle_steps<'a>(
     place: &JobPlace,
     inputs: &Keyed<Value>,
 ) -> Result<Settled<'a>, AllocError>
-    ensures outs { IfOk result (λ settled. SaysSame (env_after (length (steps_of facts.now steps.now)) (steps_of facts.now steps.now) place.now inputs.now) settled.outs) }
-    ensures met { IfOk result (λ settled. AllMeet facts.now place.now inputs.now settled.outs steps.now settled.met.items) }
+    ensures outs { IfOk result
+        (λ settled.
+        SaysSame (env_after (length (steps_of facts.now steps.now)) (steps_of facts.now steps.now)
+        place.now inputs.now) settled.outs) }
+    ensures met { IfOk result (λ settled. AllMeet facts.now place.now inputs.now settled.outs
+        steps.now settled.met.items) }
 {
     let met = none_met(alloc, steps.len())?;
     let mut settled = Settled {
@@ -69,8 +73,10 @@ fn settle_more<'a>(
     inputs: &Keyed<Value>,
     settled: &mut Settled<'a>,
 ) -> Result<bool, AllocError>
-    requires { Holds facts.now place.now inputs.now steps.now settled.old.outs settled.old.met.items }
-    ensures { IfOk result (λ more. SettlesMore facts.now place.now inputs.now steps.now settled.old.outs more settled.new.outs settled.new.met.items) }
+    requires { Holds facts.now place.now inputs.now steps.now settled.old.outs
+        settled.old.met.items }
+    ensures { IfOk result (λ more. SettlesMore facts.now place.now inputs.now steps.now
+        settled.old.outs more settled.new.outs settled.new.met.items) }
 {
     let entries = steps.as_slice();
     let mut more = false;
@@ -97,8 +103,11 @@ fn settle<'a>(
     inputs: &Keyed<Value>,
     env: &mut Env,
 ) -> Result<Items<Met<'a>>, AllocError>
-    ensures met { IfOk result (λ met. map met_of met ≡ (walk_at facts.now place.now inputs.now env.old (id.now, step.now)).met) }
-    ensures outs { OnOk result (env.new ≡ with_value id.now (walk_at facts.now place.now inputs.now env.old (id.now, step.now)).outs env.old) }
+    ensures met { IfOk result (λ met. map met_of met
+        ≡ (walk_at facts.now place.now inputs.now env.old (id.now, step.now)).met) }
+    ensures outs { OnOk result (env.new
+        ≡ with_value id.now (walk_at facts.now place.now inputs.now env.old (id.now, step.now)).outs
+        env.old) }
 {
     let name = id.copied(alloc)?;
     let Walk { met, outs } = walk_step(alloc, facts, id, step, place, inputs, env)?;

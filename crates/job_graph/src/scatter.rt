@@ -19,7 +19,8 @@ pub(crate) fn lengths_under(
     fields: &Keyed<Value>,
 ) -> Result<Result<Items<usize>, Cause>, AllocError>
     ensures value { IfOk result (λ found. found ≡ lengths_under names.now fields.now) }
-    ensures one_each { IfOk result (λ found. IfOk found (λ lengths. length lengths ≡ length names.now)) }
+    ensures one_each { IfOk result (λ found. IfOk found (λ lengths. length lengths
+        ≡ length names.now)) }
 {
     let mut lengths = Items::new(alloc);
     for name in names {

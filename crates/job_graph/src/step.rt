@@ -37,7 +37,8 @@ pub(crate) fn walk_process<'a>(
     place: &JobPlace,
     given: &Keyed<Value>,
 ) -> Result<Walk<'a>, AllocError>
-    ensures { IfOk result (λ walk. walk_of walk ≡ meaning_of facts.now.measures (made_from facts.now) process.now place.now given.now) }
+    ensures { IfOk result (λ walk. walk_of walk
+        ≡ meaning_of facts.now.measures (made_from facts.now) process.now place.now given.now) }
 {
     match process {
         Process::Tool(tool) => walk_tool(alloc, facts, tool, place, given),
@@ -63,7 +64,9 @@ pub(crate) fn walk_step<'a>(
     inputs: &Keyed<Value>,
     env: &Env,
 ) -> Result<Walk<'a>, AllocError>
-    ensures { IfOk result (λ walk. walk_of walk ≡ step_meaning_of facts.now.measures (made_from facts.now) step.now id.now place.now inputs.now env.now) }
+    ensures { IfOk result (λ walk. walk_of walk
+        ≡ step_meaning_of facts.now.measures (made_from facts.now) step.now id.now place.now
+        inputs.now env.now) }
 {
     let entered = enter(alloc, &facts.measures, id, step, place, inputs, env)?;
     let Entered { faults, values } = entered;
@@ -90,7 +93,10 @@ fn enter<'a>(
     inputs: &Keyed<Value>,
     env: &Env,
 ) -> Result<Entered<'a>, AllocError>
-    ensures { IfOk result (HasEntered (step_place place.now id.now []) (map (λ i. (i.0, entry_value measures.now inputs.now env.now i.1)) (out-Step step.now).inputs)) }
+    ensures { IfOk result
+        (HasEntered (step_place place.now id.now [])
+        (map (λ i. (i.0, entry_value measures.now inputs.now env.now i.1))
+        (out-Step step.now).inputs)) }
 {
     let own = step_place(alloc, place, id, &Items::new(alloc))?;
     let mut entered = Entered {
@@ -112,8 +118,10 @@ fn put_entry(
     name: Text,
     value: Partly,
 ) -> Result<(), AllocError>
-    ensures faults { OnOk result (map met_of entered.new.faults ≡ map met_of entered.old.faults ++ fault_at place.now value) }
-    ensures values { OnOk result (entered.new.values ≡ with_entry entered.old.values (name, value)) }
+    ensures faults { OnOk result (map met_of entered.new.faults ≡ map met_of entered.old.faults
+        ++ fault_at place.now value) }
+    ensures values { OnOk result (entered.new.values
+        ≡ with_entry entered.old.values (name, value)) }
 {
     match value {
         Partly::Waits => {
@@ -130,7 +138,8 @@ fn put_entry(
 
 fn put_value(entered: &mut Entered<'_>, name: Text, value: Value) -> Result<(), AllocError>
     ensures faults { OnOk result (entered.new.faults ≡ entered.old.faults) }
-    ensures values { OnOk result (entered.new.values ≡ with_entry entered.old.values (name, Gives value)) }
+    ensures values { OnOk result (entered.new.values
+        ≡ with_entry entered.old.values (name, Gives value)) }
 {
     match &mut entered.values {
         None => Ok(()),
@@ -152,7 +161,9 @@ fn scattered<'a>(
     place: &JobPlace,
     values: &Keyed<Value>,
 ) -> Result<Walk<'a>, AllocError>
-    ensures { IfOk result (λ walk. walk_of walk ≡ scattered (step_of facts.now step.now) id.now place.now values.now (step_of facts.now step.now).scatter) }
+    ensures { IfOk result (λ walk. walk_of walk
+        ≡ scattered (step_of facts.now step.now) id.now place.now values.now
+        (step_of facts.now step.now).scatter) }
 {
     let own = step_place(alloc, place, id, &Items::new(alloc))?;
     if step.scatter.is_empty() {
@@ -175,7 +186,8 @@ fn over_lengths<'a>(
     lengths: Items<usize>,
 ) -> Result<Walk<'a>, AllocError>
     requires { lengths ≢ [] }
-    ensures { IfOk result (λ walk. walk_of walk ≡ over_lengths (step_of facts.now step.now) id.now place.now values.now (Ok lengths)) }
+    ensures { IfOk result (λ walk. walk_of walk
+        ≡ over_lengths (step_of facts.now step.now) id.now place.now values.now (Ok lengths)) }
 {
     let method = step.method.unwrap_or(Method::Dotproduct);
     match tuples_for(alloc, method, lengths.as_slice())? {
@@ -202,8 +214,10 @@ fn instances<'a>(
     tuples: &[Items<usize>],
 ) -> Result<Vec<Walk<'a>>, AllocError>
     ensures one_each { IfOk result (λ walks. length walks.items ≡ length tuples.now) }
-    ensures walks { IfOk result (λ walks. map walk_of walks.items ≡ map (λ tuple. instance (step_of facts.now step.now)
-        (step_place place.now id.now tuple) (at_tuple (step_of facts.now step.now).scatter tuple values.now)) tuples.now) }
+    ensures walks { IfOk result (λ walks. map walk_of walks.items
+        ≡ map (λ tuple. instance (step_of facts.now step.now)
+        (step_place place.now id.now tuple) (at_tuple (step_of facts.now step.now).scatter tuple
+        values.now)) tuples.now) }
 {
     let mut walks = Vec::new(alloc);
     for tuple in tuples {
@@ -222,7 +236,8 @@ fn instance_at<'a>(
     values: &Keyed<Value>,
     tuple: &Items<usize>,
 ) -> Result<Walk<'a>, AllocError>
-    ensures { IfOk result (λ walk. walk_of walk ≡ instance (step_of facts.now step.now) (step_place place.now id.now tuple.now)
+    ensures { IfOk result (λ walk. walk_of walk
+        ≡ instance (step_of facts.now step.now) (step_place place.now id.now tuple.now)
         (at_tuple (step_of facts.now step.now).scatter tuple.now values.now)) }
 {
     let own = step_place(alloc, place, id, tuple)?;
@@ -239,7 +254,8 @@ fn instance<'a>(
     place: &JobPlace,
     values: &Keyed<Value>,
 ) -> Result<Walk<'a>, AllocError>
-    ensures { IfOk result (λ walk. walk_of walk ≡ instance (step_of facts.now step.now) place.now values.now) }
+    ensures { IfOk result (λ walk. walk_of walk
+        ≡ instance (step_of facts.now step.now) place.now values.now) }
 {
     match of_link(value_froms(alloc, step.inputs.as_slice(), values))? {
         Ok(fields) => {
@@ -259,7 +275,8 @@ fn run_where<'a>(
     place: &JobPlace,
     fields: &Keyed<Value>,
 ) -> Result<Walk<'a>, AllocError>
-    ensures { IfOk result (λ walk. walk_of walk ≡ instance_from (step_of facts.now step.now) place.now (Ok fields.now)) }
+    ensures { IfOk result (λ walk. walk_of walk
+        ≡ instance_from (step_of facts.now step.now) place.now (Ok fields.now)) }
 {
     match goes_on(&step.when, fields)? {
         Ok(true) => walk_process(alloc, facts, &step.process, place, fields),

@@ -52,7 +52,8 @@ impl<'a> Unfolding<'a> {
         measures: Keyed<Measure>,
     ) -> Result<Unfolding<'a>, UnfoldError>
         ensures ok { IfOk result (Knows (walker process.now inputs.now measures) []) }
-        ensures err { IfErr result (Blames (unfolded (walker process.now inputs.now measures) []).fault) }
+        ensures err { IfErr result
+            (Blames (unfolded (walker process.now inputs.now measures) []).fault) }
     {
         match Progress::new(alloc, process, inputs, measures) {
             Ok(progress) => Ok(Unfolding { progress }),
@@ -63,7 +64,8 @@ impl<'a> Unfolding<'a> {
     /// Takes the outputs of the job at a place, whose files are named relative to its output folder. After a refusal it
     /// answers the same from then on, and what is known stays as it was. Out of memory, it is as before the call.
     pub fn learn(&mut self, place: JobPlace, outputs: Keyed<Value>) -> Result<(), UnfoldError>
-        ensures learns { Learns self.old (record { place = place; outputs = outputs }) self.new result }
+        ensures learns { Learns self.old (record { place = place; outputs = outputs }) self.new
+            result }
         ensures ok { OnOk result (take (length self.old.known) self.new.known ≡ self.old.known) }
         ensures err { OnErr result (AnswersAlike self.old self.new) }
     {
@@ -90,7 +92,8 @@ impl<'a> Unfolding<'a> {
     pub fn graph(&self, costs: &[Costs]) -> Result<Graph, UnfoldError>
         requires each { length costs.now ≡ length self.now.known }
         requires within { All AreWithin costs.now }
-        ensures ok { IfOk result (λ graph. graph ≡ present_job_graph self.now.learned self.now.known self.now.outs costs.now) }
+        ensures ok { IfOk result (λ graph. graph
+            ≡ present_job_graph self.now.learned self.now.known self.now.outs costs.now) }
         ensures goes_on { OnOk result (self.now.refused ≡ None) }
         ensures err { IfErr result (Blames self.now.refused) }
     {

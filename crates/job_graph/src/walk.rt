@@ -79,7 +79,8 @@ pub(crate) fn push_fault(
     place: &JobPlace,
     cause: Cause,
 ) -> Result<(), AllocError>
-    ensures { OnOk result (map met_of met.new ≡ map met_of met.old ++ met_fault place.now cause ∷ []) }
+    ensures { OnOk result (map met_of met.new ≡ map met_of met.old
+        ++ met_fault place.now cause ∷ []) }
 {
     let place = copy_job(alloc, place)?;
     met.push(Met::Fault(place, cause))
@@ -134,7 +135,9 @@ pub(crate) fn walk_tool<'a>(
     place: &JobPlace,
     given: &Keyed<Value>,
 ) -> Result<Walk<'a>, AllocError>
-    ensures { IfOk result (λ walk. walk_of walk ≡ tool_walk tool.now place.now (tool_inputs_for facts.now.measures tool.now.inputs given.now) (made_from facts.now)) }
+    ensures { IfOk result (λ walk. walk_of walk
+        ≡ tool_walk tool.now place.now (tool_inputs_for facts.now.measures tool.now.inputs
+        given.now) (made_from facts.now)) }
 {
     match tool_inputs(alloc, &facts.measures, tool.inputs.as_slice(), given)? {
         Ok(inputs) => job_walk(alloc, facts, tool, place, inputs),
@@ -149,7 +152,8 @@ fn job_walk<'a>(
     place: &JobPlace,
     inputs: Keyed<Value>,
 ) -> Result<Walk<'a>, AllocError>
-    ensures { IfOk result (λ walk. walk_of walk ≡ tool_walk tool.now place.now (Ok inputs) (made_from facts.now)) }
+    ensures { IfOk result (λ walk. walk_of walk
+        ≡ tool_walk tool.now place.now (Ok inputs) (made_from facts.now)) }
 {
     let place = copy_job(alloc, place)?;
     let outs = job_outs(

@@ -31,7 +31,9 @@ pub(crate) fn walk_workflow<'a>(
     place: &JobPlace,
     given: &Keyed<Value>,
 ) -> Result<Walk<'a>, AllocError>
-    ensures { IfOk result (λ walk. walk_of walk ≡ workflow_meaning_of facts.now.measures (made_from facts.now) workflow.now place.now given.now) }
+    ensures { IfOk result (λ walk. walk_of walk
+        ≡ workflow_meaning_of facts.now.measures (made_from facts.now) workflow.now place.now
+        given.now) }
 {
     match workflow_inputs(alloc, &facts.measures, workflow.inputs.as_slice(), given)? {
         Ok(inputs) => {
@@ -53,7 +55,8 @@ fn walk_steps<'a>(
     place: &JobPlace,
     inputs: &Keyed<Value>,
 ) -> Result<Walk<'a>, AllocError>
-    ensures { IfOk result (λ walk. walk_of walk ≡ steps_walk outputs.now (steps_of facts.now steps.now) place.now inputs.now) }
+    ensures { IfOk result (λ walk. walk_of walk
+        ≡ steps_walk outputs.now (steps_of facts.now steps.now) place.now inputs.now) }
 {
     let Settled { outs: env, met } = settle_steps(alloc, facts, steps, place, inputs)?;
     let met = steps_met(alloc, facts, steps, place, inputs, &env, met);
@@ -79,7 +82,9 @@ fn steps_met<'a>(
     known: Vec<Option<Items<Met<'a>>>>,
 ) -> Result<Items<Met<'a>>, AllocError>
     requires { AllMeet facts.now place.now inputs.now env.now steps.now known.items }
-    ensures { IfOk result (λ met. map met_of met ≡ flat_map (λ s. (step_walk place.now inputs.now env.now s).met) (steps_of facts.now steps.now)) }
+    ensures { IfOk result (λ met. map met_of met
+        ≡ flat_map (λ s. (step_walk place.now inputs.now env.now s).met)
+        (steps_of facts.now steps.now)) }
 {
     let mut known = known;
     let entries = steps.as_slice();
@@ -105,7 +110,8 @@ fn step_met<'a>(
     inputs: &Keyed<Value>,
     env: &Env,
 ) -> Result<Items<Met<'a>>, AllocError>
-    ensures { IfOk result (λ met. map met_of met ≡ (walk_at facts.now place.now inputs.now env.now (id.now, step.now)).met) }
+    ensures { IfOk result (λ met. map met_of met
+        ≡ (walk_at facts.now place.now inputs.now env.now (id.now, step.now)).met) }
 {
     let Walk { met, outs } = walk_step(alloc, facts, id, step, place, inputs, env)?;
     drop(outs);
@@ -122,8 +128,11 @@ fn with_outputs<'a>(
     env: &Env,
 ) -> Result<Walk<'a>, AllocError>
     ensures met { IfOk result (λ walk. map met_of walk.met
-        ≡ map met_of met.entry ++ flat_map (λ o. fault_at place.now (output_value inputs.now env.now o.1.links)) outputs.now) }
-    ensures outs { IfOk result (λ walk. walk.outs ≡ map (λ o. (o.0, given (output_value inputs.now env.now o.1.links))) outputs.now) }
+        ≡ map met_of met.entry
+        ++ flat_map (λ o. fault_at place.now (output_value inputs.now env.now o.1.links))
+        outputs.now) }
+    ensures outs { IfOk result (λ walk. walk.outs
+        ≡ map (λ o. (o.0, given (output_value inputs.now env.now o.1.links))) outputs.now) }
 {
     let mut walk = Walk {
         met,
@@ -144,7 +153,8 @@ fn put_output(
     name: Text,
     value: Partly,
 ) -> Result<(), AllocError>
-    ensures met { OnOk result (map met_of walk.new.met ≡ map met_of walk.old.met ++ fault_at place.now value) }
+    ensures met { OnOk result (map met_of walk.new.met ≡ map met_of walk.old.met
+        ++ fault_at place.now value) }
     ensures outs { OnOk result (walk.new.outs ≡ walk.old.outs ++ (name, given value) ∷ []) }
 {
     match value {

@@ -53,9 +53,12 @@ pub fn look_up<S: Alter>(
     conn: &mut Connection<S>,
     key: &str,
 ) -> Result<Option<Row>, RecordFault>
-    ensures finds { HasCleanDisk (state S.Store conn.new) → Finds S.Store conn.old conn.new key.now result }
-    ensures survives { Survives (state S.Store conn.old) (state S.Store conn.new) (CommitsShowing find_text (key_params key.now) (state S.Store conn.old)) }
-    ensures open { HasCleanDisk (state S.Store conn.new) → RunsOpen (state S.Store conn.old) (state S.Store conn.new) }
+    ensures finds { HasCleanDisk (state S.Store conn.new)
+        → Finds S.Store conn.old conn.new key.now result }
+    ensures survives { Survives (state S.Store conn.old) (state S.Store conn.new)
+        (CommitsShowing find_text (key_params key.now) (state S.Store conn.old)) }
+    ensures open { HasCleanDisk (state S.Store conn.new)
+        → RunsOpen (state S.Store conn.old) (state S.Store conn.new) }
 {
     match tables::find(conn, key) {
         Ok(Some(columns)) => match read_row(alloc, &columns) {
@@ -69,9 +72,12 @@ pub fn look_up<S: Alter>(
 
 /// Sets the row of its key.
 pub fn set<S: Alter>(alloc: Global, conn: &mut Connection<S>, row: &Row) -> Result<(), RecordFault>
-    ensures puts { HasCleanDisk (state S.Store conn.new) → Puts S.Store conn.old conn.new row.now result }
-    ensures survives { Survives (state S.Store conn.old) (state S.Store conn.new) (CommitsBy put_text (put_params row.now) (state S.Store conn.old)) }
-    ensures open { HasCleanDisk (state S.Store conn.new) → ChangesOpen (state S.Store conn.old) (state S.Store conn.new) result }
+    ensures puts { HasCleanDisk (state S.Store conn.new)
+        → Puts S.Store conn.old conn.new row.now result }
+    ensures survives { Survives (state S.Store conn.old) (state S.Store conn.new)
+        (CommitsBy put_text (put_params row.now) (state S.Store conn.old)) }
+    ensures open { HasCleanDisk (state S.Store conn.new)
+        → ChangesOpen (state S.Store conn.old) (state S.Store conn.new) result }
 {
     let Ok(stored) = stored_of(alloc, row) else {
         return Err(RecordFault::OutOfMemory);
@@ -99,8 +105,10 @@ pub fn read_all<S: Alter>(
     conn: &mut Connection<S>,
 ) -> Result<Items<Row>, RecordFault>
     ensures lists { HasCleanDisk (state S.Store conn.new) → Lists S.Store conn.old conn.new result }
-    ensures survives { Survives (state S.Store conn.old) (state S.Store conn.new) (CommitsShowing list_text [] (state S.Store conn.old)) }
-    ensures open { HasCleanDisk (state S.Store conn.new) → RunsOpen (state S.Store conn.old) (state S.Store conn.new) }
+    ensures survives { Survives (state S.Store conn.old) (state S.Store conn.new)
+        (CommitsShowing list_text [] (state S.Store conn.old)) }
+    ensures open { HasCleanDisk (state S.Store conn.new)
+        → RunsOpen (state S.Store conn.old) (state S.Store conn.new) }
 {
     match tables::list(conn) {
         Ok(columns) => read_rows(alloc, columns.as_slice()),

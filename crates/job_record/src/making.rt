@@ -28,7 +28,8 @@ const NOTE_VERSION: &str = "INSERT INTO meta (name, value) VALUES ('version', 1)
 pub fn open_tables<S: Alter>(conn: &mut Connection<S>) -> Result<(), RecordFault>
     requires { conn.old.in_transaction ≡ false }
     ensures opens { HasCleanDisk (state S.Store conn.new) → Opens S.Store conn.old conn.new result }
-    ensures map { HasCleanDisk (state S.Store conn.new) → OpensMap (state S.Store conn.old) (state S.Store conn.new) result }
+    ensures map { HasCleanDisk (state S.Store conn.new)
+        → OpensMap (state S.Store conn.old) (state S.Store conn.new) result }
     ensures crash { CrashesAs (state S.Store conn.old) (state S.Store conn.new) }
 {
     make_ready(conn)?;
@@ -38,9 +39,12 @@ pub fn open_tables<S: Alter>(conn: &mut Connection<S>) -> Result<(), RecordFault
 // Makes both tables where there is neither.
 fn make_ready<S: Alter>(conn: &mut Connection<S>) -> Result<(), RecordFault>
     requires { conn.old.in_transaction ≡ false }
-    ensures ok { HasCleanDisk (state S.Store conn.new) → OnOk result (IsReady S.Store conn.old conn.new) }
-    ensures err { HasCleanDisk (state S.Store conn.new) → IfErr result (IsUnready S.Store conn.old conn.new) }
-    ensures survives { Survives (state S.Store conn.old) (state S.Store conn.new) (CommitsReady S.Store conn.old) }
+    ensures ok { HasCleanDisk (state S.Store conn.new)
+        → OnOk result (IsReady S.Store conn.old conn.new) }
+    ensures err { HasCleanDisk (state S.Store conn.new)
+        → IfErr result (IsUnready S.Store conn.old conn.new) }
+    ensures survives { Survives (state S.Store conn.old) (state S.Store conn.new)
+        (CommitsReady S.Store conn.old) }
 {
     if has_tables(conn)? {
         return Ok(());
@@ -53,8 +57,11 @@ fn make_ready<S: Alter>(conn: &mut Connection<S>) -> Result<(), RecordFault>
 
 // Both tables, or neither.
 fn has_tables<S: Alter>(conn: &mut Connection<S>) -> Result<bool, RecordFault>
-    ensures ok { HasCleanDisk (state S.Store conn.new) → IfOk result (λ both. HasTables (state S.Store conn.old).now.schema both × IsUnchanged (state S.Store conn.old) (state S.Store conn.new)) }
-    ensures err { HasCleanDisk (state S.Store conn.new) → IfErr result (IsUnready S.Store conn.old conn.new) }
+    ensures ok { HasCleanDisk (state S.Store conn.new)
+        → IfOk result (λ both. HasTables (state S.Store conn.old).now.schema both
+        × IsUnchanged (state S.Store conn.old) (state S.Store conn.new)) }
+    ensures err { HasCleanDisk (state S.Store conn.new)
+        → IfErr result (IsUnready S.Store conn.old conn.new) }
     ensures survives { Survives (state S.Store conn.old) (state S.Store conn.new) (λ _. ⊥) }
     ensures mode { conn.old.in_transaction ≡ false → conn.new.in_transaction ≡ false }
 {
@@ -76,8 +83,14 @@ fn both_of(meta: bool, job: bool) -> Result<bool, RecordFault>
 
 // Whether there is the table that the query reads. One without a column is R1.
 fn has_table<S: Alter>(conn: &mut Connection<S>, query: &str) -> Result<bool, RecordFault>
-    ensures ok { HasCleanDisk (state S.Store conn.new) → IfOk result (λ there. HasTable (state S.Store conn.old).now.schema query.now there × IsUnchanged (state S.Store conn.old) (state S.Store conn.new)) }
-    ensures err { HasCleanDisk (state S.Store conn.new) → IfErr result (λ fault. ((fault ≡ NotARecord) × LacksColumn (state S.Store conn.old).now.schema query.now × IsUnchanged (state S.Store conn.old) (state S.Store conn.new)) ⊎ ((e : _) × (fault ≡ Store e) × CannotRead S.Store query.now conn.old conn.new e)) }
+    ensures ok { HasCleanDisk (state S.Store conn.new)
+        → IfOk result (λ there. HasTable (state S.Store conn.old).now.schema query.now there
+        × IsUnchanged (state S.Store conn.old) (state S.Store conn.new)) }
+    ensures err { HasCleanDisk (state S.Store conn.new)
+        → IfErr result
+        (λ fault. ((fault ≡ NotARecord) × LacksColumn (state S.Store conn.old).now.schema query.now
+        × IsUnchanged (state S.Store conn.old) (state S.Store conn.new)) ⊎ ((e : _)
+        × (fault ≡ Store e) × CannotRead S.Store query.now conn.old conn.new e)) }
     ensures survives { Survives (state S.Store conn.old) (state S.Store conn.new) (λ _. ⊥) }
     ensures mode { conn.old.in_transaction ≡ false → conn.new.in_transaction ≡ false }
 {
@@ -101,9 +114,13 @@ fn lacking(error: Error) -> Result<bool, RecordFault>
 // Both tables and the version, in one transaction.
 fn make_tables<S: Alter>(conn: &mut Connection<S>) -> Result<(), Error>
     requires { conn.old.in_transaction ≡ false }
-    ensures made { HasCleanDisk (state S.Store conn.new) → OnOk result (Makes S.Store conn.old conn.new) }
-    ensures fails { HasCleanDisk (state S.Store conn.new) → IfErr result (λ e. FailsToMake S.Store conn.old conn.new e × GoesBack (state S.Store conn.old) (state S.Store conn.new)) }
-    ensures survives { Survives (state S.Store conn.old) (state S.Store conn.new) (CommitsTables S.Store conn.old) }
+    ensures made { HasCleanDisk (state S.Store conn.new)
+        → OnOk result (Makes S.Store conn.old conn.new) }
+    ensures fails { HasCleanDisk (state S.Store conn.new)
+        → IfErr result (λ e. FailsToMake S.Store conn.old conn.new e
+        × GoesBack (state S.Store conn.old) (state S.Store conn.new)) }
+    ensures survives { Survives (state S.Store conn.old) (state S.Store conn.new)
+        (CommitsTables S.Store conn.old) }
 {
     let mut making = conn.transaction();
     making.execute(MAKE_META, &[])?;
@@ -115,8 +132,10 @@ fn make_tables<S: Alter>(conn: &mut Connection<S>) -> Result<(), Error>
 // R2 for another version, and R1 where there is none.
 #[tactic(auto, using(crate::proofs::Opens::version_reads))]
 fn check_version<S: Alter>(conn: &mut Connection<S>) -> Result<(), RecordFault>
-    ensures reads { HasCleanDisk (state S.Store conn.new) → ReadsVersion (state S.Store conn.old) (state S.Store conn.new) result }
-    ensures survives { Survives (state S.Store conn.old) (state S.Store conn.new) (CommitsShowing version_text [] (state S.Store conn.old)) }
+    ensures reads { HasCleanDisk (state S.Store conn.new)
+        → ReadsVersion (state S.Store conn.old) (state S.Store conn.new) result }
+    ensures survives { Survives (state S.Store conn.old) (state S.Store conn.new)
+        (CommitsShowing version_text [] (state S.Store conn.old)) }
 {
     match tables::version(conn) {
         Ok(Some(columns)) => version_in(&columns),

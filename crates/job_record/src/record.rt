@@ -50,14 +50,22 @@ impl<S: Alter + Drop> JobRecord<S> {
         mut conn: Connection<S>,
     ) -> Result<JobRecord<S>, (RecordFault, Connection<S>)>
         requires { conn.in_transaction ≡ false }
-        ensures opens { IfOk result (λ opened. HasCleanDisk (state S.Store opened.conn) → Opens S.Store conn opened.conn (Ok tt)) }
-        ensures refused { IfErr result (λ left. HasCleanDisk (state S.Store left.1) → Opens S.Store conn left.1 (Err left.0)) }
-        ensures map { IfOk result (λ opened. HasCleanDisk (state S.Store opened.conn) → OpensAs (state S.Store conn) (state S.Store opened.conn)) }
-        ensures stays { IfErr result (λ left. HasCleanDisk (state S.Store left.1) → RefusesAs (state S.Store conn) (state S.Store left.1)) }
-        ensures crash { IfOk result (λ opened. CrashesAs (state S.Store conn) (state S.Store opened.conn)) }
-        ensures crash_refused { IfErr result (λ left. CrashesAs (state S.Store conn) (state S.Store left.1)) }
-        ensures safe { IfOk result (λ opened. HasCleanDisk (state S.Store opened.conn) → OpensSafely (state S.Store conn) (state S.Store opened.conn)) }
-        ensures safe_refused { IfErr result (λ left. HasCleanDisk (state S.Store left.1) → RefusesSafely (state S.Store conn) (state S.Store left.1)) }
+        ensures opens { IfOk result (λ opened. HasCleanDisk (state S.Store opened.conn)
+            → Opens S.Store conn opened.conn (Ok tt)) }
+        ensures refused { IfErr result (λ left. HasCleanDisk (state S.Store left.1)
+            → Opens S.Store conn left.1 (Err left.0)) }
+        ensures map { IfOk result (λ opened. HasCleanDisk (state S.Store opened.conn)
+            → OpensAs (state S.Store conn) (state S.Store opened.conn)) }
+        ensures stays { IfErr result (λ left. HasCleanDisk (state S.Store left.1)
+            → RefusesAs (state S.Store conn) (state S.Store left.1)) }
+        ensures crash { IfOk result
+            (λ opened. CrashesAs (state S.Store conn) (state S.Store opened.conn)) }
+        ensures crash_refused { IfErr result
+            (λ left. CrashesAs (state S.Store conn) (state S.Store left.1)) }
+        ensures safe { IfOk result (λ opened. HasCleanDisk (state S.Store opened.conn)
+            → OpensSafely (state S.Store conn) (state S.Store opened.conn)) }
+        ensures safe_refused { IfErr result (λ left. HasCleanDisk (state S.Store left.1)
+            → RefusesSafely (state S.Store conn) (state S.Store left.1)) }
         ensures log { IfOk result (λ opened. opened.log.items ≡ []) }
     {
         match open_tables(&mut conn) {
@@ -98,10 +106,15 @@ impl<S: Alter> JobRecord<S> {
     /// R1 where the row does not read; R4; want of memory.
     #[tactic(auto, using(crate::proofs::MapSteps::find_is_map))]
     pub fn find(&mut self, key: &str) -> Result<Option<Row>, RecordFault>
-        ensures finds { HasCleanDisk (state S.Store self.new.conn) → Finds S.Store self.old.conn self.new.conn key.now result }
-        ensures map { HasCleanDisk (state S.Store self.new.conn) → IsRecord (state S.Store self.old.conn) → FindsIn (state S.Store self.old.conn) (state S.Store self.new.conn) key.now result }
-        ensures survives { Survives (state S.Store self.old.conn) (state S.Store self.new.conn) (CommitsShowing find_text (key_params key.now) (state S.Store self.old.conn)) }
-        ensures safe { HasCleanDisk (state S.Store self.new.conn) → ReadsSafely (state S.Store self.old.conn) (state S.Store self.new.conn) }
+        ensures finds { HasCleanDisk (state S.Store self.new.conn)
+            → Finds S.Store self.old.conn self.new.conn key.now result }
+        ensures map { HasCleanDisk (state S.Store self.new.conn)
+            → IsRecord (state S.Store self.old.conn)
+            → FindsIn (state S.Store self.old.conn) (state S.Store self.new.conn) key.now result }
+        ensures survives { Survives (state S.Store self.old.conn) (state S.Store self.new.conn)
+            (CommitsShowing find_text (key_params key.now) (state S.Store self.old.conn)) }
+        ensures safe { HasCleanDisk (state S.Store self.new.conn)
+            → ReadsSafely (state S.Store self.old.conn) (state S.Store self.new.conn) }
         ensures log { Logs Command.Find key.now result self.old.log.items self.new.log.items }
     {
         let noted = room(self.alloc, &mut self.log, key)?;
@@ -117,11 +130,19 @@ impl<S: Alter> JobRecord<S> {
     /// R4, also where the cost is not from 1 to 10^12; out of memory.
     #[tactic(auto, using(crate::proofs::Refused::put_keeps, crate::proofs::MapSteps::put_is_map))]
     pub fn put(&mut self, row: &Row) -> Result<(), RecordFault>
-        ensures puts { HasCleanDisk (state S.Store self.new.conn) → Puts S.Store self.old.conn self.new.conn row.now result }
-        ensures kept { HasCleanDisk (state S.Store self.new.conn) → IfErr result (λ _. KeepsCommit (state S.Store self.old.conn) (state S.Store self.new.conn)) }
-        ensures map { HasCleanDisk (state S.Store self.new.conn) → IsRecord (state S.Store self.old.conn) → PutsIn (state S.Store self.old.conn) (state S.Store self.new.conn) row.now result }
-        ensures survives { Survives (state S.Store self.old.conn) (state S.Store self.new.conn) (CommitsBy put_text (put_params row.now) (state S.Store self.old.conn)) }
-        ensures safe { HasCleanDisk (state S.Store self.new.conn) → ChangesSafely (state S.Store self.old.conn) (state S.Store self.new.conn) (sets row.now.key (put_params row.now)) result }
+        ensures puts { HasCleanDisk (state S.Store self.new.conn)
+            → Puts S.Store self.old.conn self.new.conn row.now result }
+        ensures kept { HasCleanDisk (state S.Store self.new.conn)
+            → IfErr result (λ _. KeepsCommit (state S.Store self.old.conn)
+            (state S.Store self.new.conn)) }
+        ensures map { HasCleanDisk (state S.Store self.new.conn)
+            → IsRecord (state S.Store self.old.conn)
+            → PutsIn (state S.Store self.old.conn) (state S.Store self.new.conn) row.now result }
+        ensures survives { Survives (state S.Store self.old.conn) (state S.Store self.new.conn)
+            (CommitsBy put_text (put_params row.now) (state S.Store self.old.conn)) }
+        ensures safe { HasCleanDisk (state S.Store self.new.conn)
+            → ChangesSafely (state S.Store self.old.conn) (state S.Store self.new.conn)
+            (sets row.now.key (put_params row.now)) result }
         ensures log { Logs Command.Put row.now.key result self.old.log.items self.new.log.items }
     {
         let noted = room(self.alloc, &mut self.log, row.key.as_str())?;
@@ -137,12 +158,21 @@ impl<S: Alter> JobRecord<S> {
     /// R3 where no row has the key; R4; want of memory.
     #[tactic(auto, using(crate::proofs::MapSteps::drop_is_map))]
     pub fn drop_archive(&mut self, key: &str) -> Result<(), RecordFault>
-        ensures changes { HasCleanDisk (state S.Store self.new.conn) → Changes S.Store self.old.conn self.new.conn drop_archive_text key.now result }
-        ensures kept { HasCleanDisk (state S.Store self.new.conn) → IfErr result (λ fault. fault ≢ NoRow → KeepsCommit (state S.Store self.old.conn) (state S.Store self.new.conn)) }
-        ensures map { HasCleanDisk (state S.Store self.new.conn) → IsRecord (state S.Store self.old.conn) → DropsIn (state S.Store self.old.conn) (state S.Store self.new.conn) key.now result }
-        ensures survives { Survives (state S.Store self.old.conn) (state S.Store self.new.conn) (CommitsBy drop_archive_text (key_params key.now) (state S.Store self.old.conn)) }
-        ensures safe { HasCleanDisk (state S.Store self.new.conn) → ChangesSafely (state S.Store self.old.conn) (state S.Store self.new.conn) (unarchives key.now) result }
-        ensures log { Logs Command.DropArchive key.now result self.old.log.items self.new.log.items }
+        ensures changes { HasCleanDisk (state S.Store self.new.conn)
+            → Changes S.Store self.old.conn self.new.conn drop_archive_text key.now result }
+        ensures kept { HasCleanDisk (state S.Store self.new.conn)
+            → IfErr result (λ fault. fault ≢ NoRow
+            → KeepsCommit (state S.Store self.old.conn) (state S.Store self.new.conn)) }
+        ensures map { HasCleanDisk (state S.Store self.new.conn)
+            → IsRecord (state S.Store self.old.conn)
+            → DropsIn (state S.Store self.old.conn) (state S.Store self.new.conn) key.now result }
+        ensures survives { Survives (state S.Store self.old.conn) (state S.Store self.new.conn)
+            (CommitsBy drop_archive_text (key_params key.now) (state S.Store self.old.conn)) }
+        ensures safe { HasCleanDisk (state S.Store self.new.conn)
+            → ChangesSafely (state S.Store self.old.conn) (state S.Store self.new.conn)
+            (unarchives key.now) result }
+        ensures log { Logs Command.DropArchive key.now result self.old.log.items
+            self.new.log.items }
     {
         let noted = room(self.alloc, &mut self.log, key)?;
         let answer = change_of(tables::drop_archive(&mut self.conn, key));
@@ -157,11 +187,19 @@ impl<S: Alter> JobRecord<S> {
     /// R3 where no row has the key; R4; want of memory.
     #[tactic(auto, using(crate::proofs::MapSteps::forget_is_map))]
     pub fn forget(&mut self, key: &str) -> Result<(), RecordFault>
-        ensures changes { HasCleanDisk (state S.Store self.new.conn) → Changes S.Store self.old.conn self.new.conn forget_text key.now result }
-        ensures kept { HasCleanDisk (state S.Store self.new.conn) → IfErr result (λ fault. fault ≢ NoRow → KeepsCommit (state S.Store self.old.conn) (state S.Store self.new.conn)) }
-        ensures map { HasCleanDisk (state S.Store self.new.conn) → IsRecord (state S.Store self.old.conn) → ForgetsIn (state S.Store self.old.conn) (state S.Store self.new.conn) key.now result }
-        ensures survives { Survives (state S.Store self.old.conn) (state S.Store self.new.conn) (CommitsBy forget_text (key_params key.now) (state S.Store self.old.conn)) }
-        ensures safe { HasCleanDisk (state S.Store self.new.conn) → ChangesSafely (state S.Store self.old.conn) (state S.Store self.new.conn) (forgets key.now) result }
+        ensures changes { HasCleanDisk (state S.Store self.new.conn)
+            → Changes S.Store self.old.conn self.new.conn forget_text key.now result }
+        ensures kept { HasCleanDisk (state S.Store self.new.conn)
+            → IfErr result (λ fault. fault ≢ NoRow
+            → KeepsCommit (state S.Store self.old.conn) (state S.Store self.new.conn)) }
+        ensures map { HasCleanDisk (state S.Store self.new.conn)
+            → IsRecord (state S.Store self.old.conn)
+            → ForgetsIn (state S.Store self.old.conn) (state S.Store self.new.conn) key.now result }
+        ensures survives { Survives (state S.Store self.old.conn) (state S.Store self.new.conn)
+            (CommitsBy forget_text (key_params key.now) (state S.Store self.old.conn)) }
+        ensures safe { HasCleanDisk (state S.Store self.new.conn)
+            → ChangesSafely (state S.Store self.old.conn) (state S.Store self.new.conn)
+            (forgets key.now) result }
         ensures log { Logs Command.Forget key.now result self.old.log.items self.new.log.items }
     {
         let noted = room(self.alloc, &mut self.log, key)?;
@@ -177,10 +215,15 @@ impl<S: Alter> JobRecord<S> {
     /// R1 where a row does not read; R4; want of memory.
     #[tactic(auto, using(crate::proofs::MapSteps::list_is_map))]
     pub fn list(&mut self) -> Result<Items<Row>, RecordFault>
-        ensures lists { HasCleanDisk (state S.Store self.new.conn) → Lists S.Store self.old.conn self.new.conn result }
-        ensures map { HasCleanDisk (state S.Store self.new.conn) → IsRecord (state S.Store self.old.conn) → ListsIn (state S.Store self.old.conn) (state S.Store self.new.conn) result }
-        ensures survives { Survives (state S.Store self.old.conn) (state S.Store self.new.conn) (CommitsShowing list_text [] (state S.Store self.old.conn)) }
-        ensures safe { HasCleanDisk (state S.Store self.new.conn) → ReadsSafely (state S.Store self.old.conn) (state S.Store self.new.conn) }
+        ensures lists { HasCleanDisk (state S.Store self.new.conn)
+            → Lists S.Store self.old.conn self.new.conn result }
+        ensures map { HasCleanDisk (state S.Store self.new.conn)
+            → IsRecord (state S.Store self.old.conn)
+            → ListsIn (state S.Store self.old.conn) (state S.Store self.new.conn) result }
+        ensures survives { Survives (state S.Store self.old.conn) (state S.Store self.new.conn)
+            (CommitsShowing list_text [] (state S.Store self.old.conn)) }
+        ensures safe { HasCleanDisk (state S.Store self.new.conn)
+            → ReadsSafely (state S.Store self.old.conn) (state S.Store self.new.conn) }
         ensures log { self.new.log ≡ self.old.log }
     {
         read_all(self.alloc, &mut self.conn)

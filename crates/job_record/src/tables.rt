@@ -34,11 +34,15 @@ pub const VERSION_TEXT: &str = "SELECT value FROM meta WHERE name = 'version'";
 /// The columns of the row with the version, if there is one.
 pub fn version<S: Alter>(conn: &mut Connection<S>) -> Result<Option<Columns>, Error>
     ensures ok { HasCleanDisk (state S.Store conn.new) → IfOk result (λ o. MatchOption o
-        (QueriesRow version_text [] (state S.Store conn.old) (state S.Store conn.new) (Err QueryReturnedNoRows))
-        (λ c. QueriesRow version_text [] (state S.Store conn.old) (state S.Store conn.new) (Ok c))) }
-    ensures err { HasCleanDisk (state S.Store conn.new) → IfErr result (λ e. (e ≢ QueryReturnedNoRows)
+        (QueriesRow version_text [] (state S.Store conn.old) (state S.Store conn.new)
+        (Err QueryReturnedNoRows))
+        (λ c. QueriesRow version_text [] (state S.Store conn.old) (state S.Store conn.new)
+        (Ok c))) }
+    ensures err { HasCleanDisk (state S.Store conn.new)
+        → IfErr result (λ e. (e ≢ QueryReturnedNoRows)
         × QueriesRow version_text [] (state S.Store conn.old) (state S.Store conn.new) (Err e)) }
-    ensures survives { Survives (state S.Store conn.old) (state S.Store conn.new) (CommitsShowing version_text [] (state S.Store conn.old)) }
+    ensures survives { Survives (state S.Store conn.old) (state S.Store conn.new)
+        (CommitsShowing version_text [] (state S.Store conn.old)) }
 {
     match conn.query_row(VERSION_TEXT, &[]) {
         Ok(columns) => Ok(Some(columns)),
@@ -50,12 +54,18 @@ pub fn version<S: Alter>(conn: &mut Connection<S>) -> Result<Option<Columns>, Er
 /// The columns of the row with a key, if there is one.
 pub fn find<S: Alter>(conn: &mut Connection<S>, key: &str) -> Result<Option<Columns>, Error>
     ensures ok { HasCleanDisk (state S.Store conn.new) → IfOk result (λ o. MatchOption o
-        (QueriesRow find_text (key_params key.now) (state S.Store conn.old) (state S.Store conn.new) (Err QueryReturnedNoRows))
-        (λ c. QueriesRow find_text (key_params key.now) (state S.Store conn.old) (state S.Store conn.new) (Ok c))) }
-    ensures err { HasCleanDisk (state S.Store conn.new) → IfErr result (λ e. (e ≢ QueryReturnedNoRows)
-        × QueriesRow find_text (key_params key.now) (state S.Store conn.old) (state S.Store conn.new) (Err e)) }
-    ensures survives { Survives (state S.Store conn.old) (state S.Store conn.new) (CommitsShowing find_text (key_params key.now) (state S.Store conn.old)) }
-    ensures open { HasCleanDisk (state S.Store conn.new) → RunsOpen (state S.Store conn.old) (state S.Store conn.new) }
+        (QueriesRow find_text (key_params key.now) (state S.Store conn.old) (state S.Store conn.new)
+        (Err QueryReturnedNoRows))
+        (λ c. QueriesRow find_text (key_params key.now) (state S.Store conn.old)
+        (state S.Store conn.new) (Ok c))) }
+    ensures err { HasCleanDisk (state S.Store conn.new)
+        → IfErr result (λ e. (e ≢ QueryReturnedNoRows)
+        × QueriesRow find_text (key_params key.now) (state S.Store conn.old)
+        (state S.Store conn.new) (Err e)) }
+    ensures survives { Survives (state S.Store conn.old) (state S.Store conn.new)
+        (CommitsShowing find_text (key_params key.now) (state S.Store conn.old)) }
+    ensures open { HasCleanDisk (state S.Store conn.new)
+        → RunsOpen (state S.Store conn.old) (state S.Store conn.new) }
 {
     match first_row(conn, FIND, params![key]) {
         Ok(columns) => Ok(Some(columns)),
@@ -66,9 +76,13 @@ pub fn find<S: Alter>(conn: &mut Connection<S>, key: &str) -> Result<Option<Colu
 
 /// Sets the row of a key.
 pub fn put<S: Alter>(conn: &mut Connection<S>, row: &Stored) -> Result<usize, Error>
-    ensures runs { HasCleanDisk (state S.Store conn.new) → Executes put_text (columns_of row.now) (state S.Store conn.old) (state S.Store conn.new) result }
-    ensures survives { Survives (state S.Store conn.old) (state S.Store conn.new) (CommitsBy put_text (columns_of row.now) (state S.Store conn.old)) }
-    ensures open { HasCleanDisk (state S.Store conn.new) → ChangesOpen (state S.Store conn.old) (state S.Store conn.new) result }
+    ensures runs { HasCleanDisk (state S.Store conn.new)
+        → Executes put_text (columns_of row.now) (state S.Store conn.old) (state S.Store conn.new)
+        result }
+    ensures survives { Survives (state S.Store conn.old) (state S.Store conn.new)
+        (CommitsBy put_text (columns_of row.now) (state S.Store conn.old)) }
+    ensures open { HasCleanDisk (state S.Store conn.new)
+        → ChangesOpen (state S.Store conn.old) (state S.Store conn.new) result }
 {
     let cost = held_cost(row.cost);
     run(
@@ -93,28 +107,42 @@ fn held_cost(cost: u64) -> i64
 
 /// Notes that the archive of a key is gone, and answers how many rows that met.
 pub fn drop_archive<S: Alter>(conn: &mut Connection<S>, key: &str) -> Result<usize, Error>
-    ensures runs { HasCleanDisk (state S.Store conn.new) → Executes drop_archive_text (key_params key.now) (state S.Store conn.old) (state S.Store conn.new) result }
-    ensures survives { Survives (state S.Store conn.old) (state S.Store conn.new) (CommitsBy drop_archive_text (key_params key.now) (state S.Store conn.old)) }
-    ensures open { HasCleanDisk (state S.Store conn.new) → ChangesOpen (state S.Store conn.old) (state S.Store conn.new) result }
+    ensures runs { HasCleanDisk (state S.Store conn.new)
+        → Executes drop_archive_text (key_params key.now) (state S.Store conn.old)
+        (state S.Store conn.new) result }
+    ensures survives { Survives (state S.Store conn.old) (state S.Store conn.new)
+        (CommitsBy drop_archive_text (key_params key.now) (state S.Store conn.old)) }
+    ensures open { HasCleanDisk (state S.Store conn.new)
+        → ChangesOpen (state S.Store conn.old) (state S.Store conn.new) result }
 {
     run(conn, DROP_ARCHIVE, params![key])
 }
 
 /// Takes the row of a key out, and answers how many rows that met.
 pub fn forget<S: Alter>(conn: &mut Connection<S>, key: &str) -> Result<usize, Error>
-    ensures runs { HasCleanDisk (state S.Store conn.new) → Executes forget_text (key_params key.now) (state S.Store conn.old) (state S.Store conn.new) result }
-    ensures survives { Survives (state S.Store conn.old) (state S.Store conn.new) (CommitsBy forget_text (key_params key.now) (state S.Store conn.old)) }
-    ensures open { HasCleanDisk (state S.Store conn.new) → ChangesOpen (state S.Store conn.old) (state S.Store conn.new) result }
+    ensures runs { HasCleanDisk (state S.Store conn.new)
+        → Executes forget_text (key_params key.now) (state S.Store conn.old)
+        (state S.Store conn.new) result }
+    ensures survives { Survives (state S.Store conn.old) (state S.Store conn.new)
+        (CommitsBy forget_text (key_params key.now) (state S.Store conn.old)) }
+    ensures open { HasCleanDisk (state S.Store conn.new)
+        → ChangesOpen (state S.Store conn.old) (state S.Store conn.new) result }
 {
     run(conn, FORGET, params![key])
 }
 
 /// The columns of all rows, by key.
 pub fn list<S: Alter>(conn: &mut Connection<S>) -> Result<Vec<Columns>, Error>
-    ensures ok { HasCleanDisk (state S.Store conn.new) → IfOk result (λ rows. Shown list_text [] (state S.Store conn.old) (state S.Store conn.new) rows.items) }
-    ensures err { HasCleanDisk (state S.Store conn.new) → IfErr result (FailsToQuery list_text [] (state S.Store conn.old) (state S.Store conn.new)) }
-    ensures survives { Survives (state S.Store conn.old) (state S.Store conn.new) (CommitsShowing list_text [] (state S.Store conn.old)) }
-    ensures open { HasCleanDisk (state S.Store conn.new) → RunsOpen (state S.Store conn.old) (state S.Store conn.new) }
+    ensures ok { HasCleanDisk (state S.Store conn.new)
+        → IfOk result (λ rows. Shown list_text [] (state S.Store conn.old) (state S.Store conn.new)
+        rows.items) }
+    ensures err { HasCleanDisk (state S.Store conn.new)
+        → IfErr result (FailsToQuery list_text [] (state S.Store conn.old)
+        (state S.Store conn.new)) }
+    ensures survives { Survives (state S.Store conn.old) (state S.Store conn.new)
+        (CommitsShowing list_text [] (state S.Store conn.old)) }
+    ensures open { HasCleanDisk (state S.Store conn.new)
+        → RunsOpen (state S.Store conn.old) (state S.Store conn.new) }
 {
     all_rows(conn, LIST, &[])
 }
@@ -125,9 +153,13 @@ fn run<S: Alter>(
     text: &str,
     params: &[ValueRef<'_>],
 ) -> Result<usize, Error>
-    ensures runs { HasCleanDisk (state S.Store conn.new) → Executes text.now (bound params.now) (state S.Store conn.old) (state S.Store conn.new) result }
-    ensures survives { Survives (state S.Store conn.old) (state S.Store conn.new) (CommitsBy text.now (bound params.now) (state S.Store conn.old)) }
-    ensures open { HasCleanDisk (state S.Store conn.new) → ChangesOpen (state S.Store conn.old) (state S.Store conn.new) result }
+    ensures runs { HasCleanDisk (state S.Store conn.new)
+        → Executes text.now (bound params.now) (state S.Store conn.old) (state S.Store conn.new)
+        result }
+    ensures survives { Survives (state S.Store conn.old) (state S.Store conn.new)
+        (CommitsBy text.now (bound params.now) (state S.Store conn.old)) }
+    ensures open { HasCleanDisk (state S.Store conn.new)
+        → ChangesOpen (state S.Store conn.old) (state S.Store conn.new) result }
 {
     let statement = conn.prepare(text)?;
     statement.execute(conn, params)
@@ -139,9 +171,13 @@ fn first_row<S: Alter>(
     text: &str,
     params: &[ValueRef<'_>],
 ) -> Result<Columns, Error>
-    ensures row { HasCleanDisk (state S.Store conn.new) → QueriesRow text.now (bound params.now) (state S.Store conn.old) (state S.Store conn.new) result }
-    ensures survives { Survives (state S.Store conn.old) (state S.Store conn.new) (CommitsShowing text.now (bound params.now) (state S.Store conn.old)) }
-    ensures open { HasCleanDisk (state S.Store conn.new) → RunsOpen (state S.Store conn.old) (state S.Store conn.new) }
+    ensures row { HasCleanDisk (state S.Store conn.new)
+        → QueriesRow text.now (bound params.now) (state S.Store conn.old) (state S.Store conn.new)
+        result }
+    ensures survives { Survives (state S.Store conn.old) (state S.Store conn.new)
+        (CommitsShowing text.now (bound params.now) (state S.Store conn.old)) }
+    ensures open { HasCleanDisk (state S.Store conn.new)
+        → RunsOpen (state S.Store conn.old) (state S.Store conn.new) }
 {
     let statement = conn.prepare(text)?;
     statement.query_row(conn, params)
@@ -153,10 +189,16 @@ fn all_rows<S: Alter>(
     text: &str,
     params: &[ValueRef<'_>],
 ) -> Result<Vec<Columns>, Error>
-    ensures ok { HasCleanDisk (state S.Store conn.new) → IfOk result (λ rows. Shown text.now (bound params.now) (state S.Store conn.old) (state S.Store conn.new) rows.items) }
-    ensures err { HasCleanDisk (state S.Store conn.new) → IfErr result (FailsToQuery text.now (bound params.now) (state S.Store conn.old) (state S.Store conn.new)) }
-    ensures survives { Survives (state S.Store conn.old) (state S.Store conn.new) (CommitsShowing text.now (bound params.now) (state S.Store conn.old)) }
-    ensures open { HasCleanDisk (state S.Store conn.new) → RunsOpen (state S.Store conn.old) (state S.Store conn.new) }
+    ensures ok { HasCleanDisk (state S.Store conn.new)
+        → IfOk result (λ rows. Shown text.now (bound params.now) (state S.Store conn.old)
+        (state S.Store conn.new) rows.items) }
+    ensures err { HasCleanDisk (state S.Store conn.new)
+        → IfErr result (FailsToQuery text.now (bound params.now) (state S.Store conn.old)
+        (state S.Store conn.new)) }
+    ensures survives { Survives (state S.Store conn.old) (state S.Store conn.new)
+        (CommitsShowing text.now (bound params.now) (state S.Store conn.old)) }
+    ensures open { HasCleanDisk (state S.Store conn.new)
+        → RunsOpen (state S.Store conn.old) (state S.Store conn.new) }
 {
     let statement = conn.prepare(text)?;
     statement.query_all(conn, params)
@@ -177,8 +219,10 @@ pub fn stored_in(columns: &Columns) -> Result<Stored, RecordFault>
 }
 
 fn text_at(columns: &Columns, at: usize) -> Result<Text, RecordFault>
-    ensures ok { IfOk result (λ text. (at < length columns.now) × IsText (column columns.now at) text) }
-    ensures err { IfErr result (Misreads (at < length columns.now → (text : _) → ¬ IsText (column columns.now at) text)) }
+    ensures ok { IfOk result (λ text. (at < length columns.now)
+        × IsText (column columns.now at) text) }
+    ensures err { IfErr result (Misreads (at < length columns.now → (text : _)
+        → ¬ IsText (column columns.now at) text)) }
 {
     match columns.get(at) {
         Ok(text) => Ok(Text::from_string(text)),
@@ -187,8 +231,10 @@ fn text_at(columns: &Columns, at: usize) -> Result<Text, RecordFault>
 }
 
 fn natural_at(columns: &Columns, at: usize) -> Result<u64, RecordFault>
-    ensures ok { IfOk result (λ n. (at < length columns.now) × (column columns.now at ≡ Int (pos n))) }
-    ensures err { IfErr result (Misreads (at < length columns.now → (n : ℕ) → column columns.now at ≢ Int (pos n))) }
+    ensures ok { IfOk result (λ n. (at < length columns.now)
+        × (column columns.now at ≡ Int (pos n))) }
+    ensures err { IfErr result (Misreads (at < length columns.now → (n : ℕ) → column columns.now at
+        ≢ Int (pos n))) }
 {
     match columns.get(at) {
         Ok(number) => Ok(number),
@@ -197,8 +243,10 @@ fn natural_at(columns: &Columns, at: usize) -> Result<u64, RecordFault>
 }
 
 fn flag_at(columns: &Columns, at: usize) -> Result<bool, RecordFault>
-    ensures ok { IfOk result (λ b. (at < length columns.now) × (n : ℤ) × (column columns.now at ≡ Int n) × (b ≡ not (int_eq n (pos 0)))) }
-    ensures err { IfErr result (Misreads (at < length columns.now → (n : ℤ) → column columns.now at ≢ Int n)) }
+    ensures ok { IfOk result (λ b. (at < length columns.now) × (n : ℤ)
+        × (column columns.now at ≡ Int n) × (b ≡ not (int_eq n (pos 0)))) }
+    ensures err { IfErr result (Misreads (at < length columns.now → (n : ℤ) → column columns.now at
+        ≢ Int n)) }
 {
     match columns.get(at) {
         Ok(flag) => Ok(flag),

@@ -71,7 +71,8 @@ fn outputs_text(alloc: Global, outputs: &Keyed<Value>) -> Result<Text, AllocErro
 // Named outputs: any other value, a File among them, is R1.
 fn read_outputs(alloc: Global, text: &Text) -> Result<Keyed<Value>, RecordFault>
     ensures ok { IfOk result (λ outputs. ReadsAs text.now (Ok (Fields outputs))) }
-    ensures err { IfErr result (Misreads ((outputs : _) → ¬ ReadsAs text.now (Ok (Fields outputs)))) }
+    ensures err { IfErr result
+        (Misreads ((outputs : _) → ¬ ReadsAs text.now (Ok (Fields outputs)))) }
 {
     match read_value(alloc, text.as_str().as_bytes()) {
         Ok(Value::Fields(outputs)) => Ok(outputs),

@@ -23,16 +23,22 @@ pub trait Record {
 
     /// Returns the row of a key, if there is one. R1 where it does not read.
     fn find(&mut self, key: &Text) -> Result<Option<Row>, RecordError>
-        ensures logged { log self.new ≡ log self.old ++ entries_of command.Find key.now (told_of result) }
-        ensures finds { is_sound self.new → (map : RowMap) → holds self.old map → Finds map key.now result × holds self.new map };
+        ensures logged { log self.new ≡ log self.old
+            ++ entries_of command.Find key.now (told_of result) }
+        ensures finds { is_sound self.new → (map : RowMap) → holds self.old map
+            → Finds map key.now result × holds self.new map };
 
     /// Sets the row of its key.
     fn put(&mut self, row: &Row) -> Result<(), RecordError>
-        ensures logged { log self.new ≡ log self.old ++ entries_of command.Put row.now.key (told_of result) }
-        ensures puts { is_sound self.new → (map : RowMap) → holds self.old map → Puts (holds self.new) map row.now result };
+        ensures logged { log self.new ≡ log self.old
+            ++ entries_of command.Put row.now.key (told_of result) }
+        ensures puts { is_sound self.new → (map : RowMap) → holds self.old map
+            → Puts (holds self.new) map row.now result };
 
     /// Notes that the archive of a key is gone. R3 where no row has the key.
     fn drop_archive(&mut self, key: &Text) -> Result<(), RecordError>
-        ensures logged { log self.new ≡ log self.old ++ entries_of command.DropArchive key.now (told_of result) }
-        ensures drops { is_sound self.new → (map : RowMap) → holds self.old map → Drops (holds self.new) map key.now result };
+        ensures logged { log self.new ≡ log self.old
+            ++ entries_of command.DropArchive key.now (told_of result) }
+        ensures drops { is_sound self.new → (map : RowMap) → holds self.old map
+            → Drops (holds self.new) map key.now result };
 }

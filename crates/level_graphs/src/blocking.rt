@@ -28,7 +28,8 @@ fn is_way_back(network: &Network, levels: &Levels, before: usize, number: usize)
     requires network { IsNetwork network.now }
     requires nodes { vec_len levels.now.of ≡ vec_len network.now.last }
     requires arc { number < vec_len network.now.arcs }
-    ensures { MatchBool result (IsWayBack network.now.arcs.items levels.now.of.items before number) (IsWayBack network.now.arcs.items levels.now.of.items before number → ⊥) }
+    ensures { MatchBool result (IsWayBack network.now.arcs.items levels.now.of.items before number)
+        (IsWayBack network.now.arcs.items levels.now.of.items before number → ⊥) }
 {
     if levels.at(network.arc(number).to) != before {
         return false;
@@ -54,7 +55,8 @@ impl Blocking {
         requires current { vec_len self.old.current ≡ vec_len network.old.last }
         requires path { vec_len self.old.path ≡ vec_len network.old.last }
         requires nodes { vec_len levels.now.of ≡ vec_len network.old.last }
-        requires levels { IsLevelGraph network.old.arcs.items network.old.source network.old.sink levels.now.of.items }
+        requires levels { IsLevelGraph network.old.arcs.items network.old.source network.old.sink
+            levels.now.of.items }
         requires reached { 0 < slice_index levels.now.of.items network.old.sink }
         requires few { slice_index levels.now.of.items network.old.sink ≤ vec_len levels.now.of }
         ensures network { IsNetwork network.new }
@@ -63,9 +65,12 @@ impl Blocking {
         ensures sink { network.new.sink ≡ network.old.sink }
         ensures current { vec_len self.new.current ≡ vec_len self.old.current }
         ensures path { vec_len self.new.path ≡ vec_len self.old.path }
-        ensures sent { AreSentDown network.old.arcs.items network.new.arcs.items levels.now.of.items }
-        ensures flow { IsFlow network.old.arcs.items network.new.arcs.items network.old.source network.old.sink }
-        ensures blocked { IsBlocked network.new.arcs.items levels.now.of.items network.old.source network.old.sink }
+        ensures sent { AreSentDown network.old.arcs.items network.new.arcs.items
+            levels.now.of.items }
+        ensures flow { IsFlow network.old.arcs.items network.new.arcs.items network.old.source
+            network.old.sink }
+        ensures blocked { IsBlocked network.new.arcs.items levels.now.of.items network.old.source
+            network.old.sink }
     {
         self.current.copy_from_slice(network.last.as_slice());
         let mut node = network.sink;
@@ -85,11 +90,16 @@ impl Blocking {
         ensures sink { network.new.sink ≡ network.old.sink }
         ensures current { vec_len self.new.current ≡ vec_len self.old.current }
         ensures path { vec_len self.new.path ≡ vec_len self.old.path }
-        ensures sent { AreSentDown network.old.arcs.items network.new.arcs.items levels.now.of.items }
-        ensures flow { IsFlow network.old.arcs.items network.new.arcs.items network.old.source network.old.sink }
-        ensures search { IfSome result (λ next. IsSearch network.new levels.now.of.items self.new next) }
-        ensures fewer { IfSome result (λ next. left_of self.new levels.now.of.items next < left_of self.old levels.now.of.items node) }
-        ensures blocked { IfNone result (IsBlocked network.new.arcs.items levels.now.of.items network.old.source network.old.sink) }
+        ensures sent { AreSentDown network.old.arcs.items network.new.arcs.items
+            levels.now.of.items }
+        ensures flow { IsFlow network.old.arcs.items network.new.arcs.items network.old.source
+            network.old.sink }
+        ensures search { IfSome result (λ next. IsSearch network.new levels.now.of.items self.new
+            next) }
+        ensures fewer { IfSome result (λ next. left_of self.new levels.now.of.items next
+            < left_of self.old levels.now.of.items node) }
+        ensures blocked { IfNone result (IsBlocked network.new.arcs.items levels.now.of.items
+            network.old.source network.old.sink) }
     {
         if node == network.source {
             let full = self.send(network, levels.at(network.sink));
@@ -109,8 +119,10 @@ impl Blocking {
         requires network { IsNetwork network.now }
         requires search { IsSearch network.now levels.now.of.items self.old node }
         requires other { node ≢ network.now.source }
-        ensures search { IfSome result (λ before. IsSearch network.now levels.now.of.items self.new before) }
-        ensures level { IfSome result (λ before. slice_index levels.now.of.items before + 1 ≡ slice_index levels.now.of.items node) }
+        ensures search { IfSome result (λ before. IsSearch network.now levels.now.of.items self.new
+            before) }
+        ensures level { IfSome result (λ before. slice_index levels.now.of.items before + 1
+            ≡ slice_index levels.now.of.items node) }
         ensures still { IfNone result (IsSearch network.now levels.now.of.items self.new node) }
         ensures dead { IfNone result (slice_index self.new.current.items node ≡ 0) }
         ensures fewer { sum self.new.current.items ≤ sum self.old.current.items }
@@ -135,8 +147,10 @@ impl Blocking {
         requires before { before + 1 ≡ slice_index levels.now.of.items node }
         ensures from { IsArcFrom network.now.arcs.items node result }
         ensures fewer { result ≤ slice_index self.now.current.items node }
-        ensures passed { ArePassed network.now.arcs.items levels.now.of.items self.now.current.items network.now.source node result }
-        ensures way { 0 < result → IsWayBack network.now.arcs.items levels.now.of.items before (result - 1) }
+        ensures passed { ArePassed network.now.arcs.items levels.now.of.items self.now.current.items
+            network.now.source node result }
+        ensures way { 0 < result → IsWayBack network.now.arcs.items levels.now.of.items before
+            (result - 1) }
     {
         let mut next = self.current[node];
         while next != 0 {
@@ -154,8 +168,12 @@ impl Blocking {
         requires place { place < vec_len self.old.path }
         requires arc { slice_index self.old.path.items place < vec_len network.now.arcs }
         requires current { vec_len self.old.current ≡ vec_len network.now.last }
-        ensures node { result ≡ head_of network.now.arcs.items (slice_index self.old.path.items place) }
-        ensures current { self.new.current.items ≡ slice_set self.old.current.items result (arc_at network.now.arcs.items (reverse_of (slice_index self.old.path.items place))).next }
+        ensures node { result
+            ≡ head_of network.now.arcs.items (slice_index self.old.path.items place) }
+        ensures current { self.new.current.items
+            ≡ slice_set self.old.current.items result
+            (arc_at network.now.arcs.items
+            (reverse_of (slice_index self.old.path.items place))).next }
         ensures path { self.new.path.items ≡ self.old.path.items }
     {
         let arc = self.path[place];
@@ -169,13 +187,16 @@ impl Blocking {
         requires network { IsNetwork network.old }
         requires some { 1 < top }
         requires top { top ≤ vec_len self.now.path }
-        requires way { IsWay network.old.arcs.items self.now.path.items network.old.source network.old.sink top }
+        requires way { IsWay network.old.arcs.items self.now.path.items network.old.source
+            network.old.sink top }
         ensures network { IsNetwork network.new }
         ensures nodes { network.new.last ≡ network.old.last }
         ensures source { network.new.source ≡ network.old.source }
         ensures sink { network.new.sink ≡ network.old.sink }
-        ensures sent { AreSentAlong network.old.arcs.items network.new.arcs.items self.now.path.items top }
-        ensures flow { IsFlow network.old.arcs.items network.new.arcs.items network.old.source network.old.sink }
+        ensures sent { AreSentAlong network.old.arcs.items network.new.arcs.items
+            self.now.path.items top }
+        ensures flow { IsFlow network.old.arcs.items network.new.arcs.items network.old.source
+            network.old.sink }
         ensures some { 1 ≤ result }
         ensures place { result < top }
         ensures full { room_at network.new.arcs.items (slice_index self.now.path.items result) ≡ 0 }
@@ -190,10 +211,13 @@ impl Blocking {
     fn tightest(&self, network: &Network, top: usize) -> usize
         requires some { 1 < top }
         requires top { top ≤ vec_len self.now.path }
-        requires way { IsWay network.now.arcs.items self.now.path.items network.now.source network.now.sink top }
+        requires way { IsWay network.now.arcs.items self.now.path.items network.now.source
+            network.now.sink top }
         ensures some { 1 ≤ result }
         ensures place { result < top }
-        ensures least { (j : ℕ) → 1 ≤ j → j < top → room_at network.now.arcs.items (slice_index self.now.path.items result) ≤ room_at network.now.arcs.items (slice_index self.now.path.items j) }
+        ensures least { (j : ℕ) → 1 ≤ j → j < top
+            → room_at network.now.arcs.items (slice_index self.now.path.items result)
+            ≤ room_at network.now.arcs.items (slice_index self.now.path.items j) }
     {
         let mut full = 1;
         let mut most = network.arc(self.path[1]).room;
@@ -212,15 +236,21 @@ impl Blocking {
         requires network { IsNetwork network.old }
         requires some { 1 < top }
         requires top { top ≤ vec_len self.now.path }
-        requires way { IsWay network.old.arcs.items self.now.path.items network.old.source network.old.sink top }
-        requires room { (j : ℕ) → 1 ≤ j → j < top → amount ≤ room_at network.old.arcs.items (slice_index self.now.path.items j) }
+        requires way { IsWay network.old.arcs.items self.now.path.items network.old.source
+            network.old.sink top }
+        requires room { (j : ℕ) → 1 ≤ j → j < top → amount
+            ≤ room_at network.old.arcs.items (slice_index self.now.path.items j) }
         ensures network { IsNetwork network.new }
         ensures nodes { network.new.last ≡ network.old.last }
         ensures source { network.new.source ≡ network.old.source }
         ensures sink { network.new.sink ≡ network.old.sink }
-        ensures sent { AreSentAlong network.old.arcs.items network.new.arcs.items self.now.path.items top }
-        ensures flow { IsFlow network.old.arcs.items network.new.arcs.items network.old.source network.old.sink }
-        ensures rooms { (j : ℕ) → 1 ≤ j → j < top → room_at network.new.arcs.items (slice_index self.now.path.items j) ≤ room_at network.old.arcs.items (slice_index self.now.path.items j) - amount }
+        ensures sent { AreSentAlong network.old.arcs.items network.new.arcs.items
+            self.now.path.items top }
+        ensures flow { IsFlow network.old.arcs.items network.new.arcs.items network.old.source
+            network.old.sink }
+        ensures rooms { (j : ℕ) → 1 ≤ j → j < top
+            → room_at network.new.arcs.items (slice_index self.now.path.items j)
+            ≤ room_at network.old.arcs.items (slice_index self.now.path.items j) - amount }
     {
         for place in 1..top {
             network.push(self.path[place], amount);

@@ -25,9 +25,11 @@ pub fn send_all(
     ensures source { network.new.source ≡ network.old.source }
     ensures sink { network.new.sink ≡ network.old.sink }
     ensures nodes { IfOk result (λ levels. vec_len levels.of ≡ vec_len network.old.last) }
-    ensures levels { IfOk result (λ levels. IsLevelGraph network.new.arcs.items network.old.source network.old.sink levels.of.items) }
+    ensures levels { IfOk result (λ levels. IsLevelGraph network.new.arcs.items network.old.source
+        network.old.sink levels.of.items) }
     ensures none { OnOk result (IsCut network.new.arcs.items network.old.source network.old.sink) }
-    ensures flow { IsFlow network.old.arcs.items network.new.arcs.items network.old.source network.old.sink }
+    ensures flow { IsFlow network.old.arcs.items network.new.arcs.items network.old.source
+        network.old.sink }
     ensures phases { phases.new.count + 1 ≤ phases.old.count + vec_len network.old.last }
 {
     let nodes = network.last.len();

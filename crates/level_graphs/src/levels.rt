@@ -52,9 +52,13 @@ impl Levels {
         requires count { phases.old.count < 2 ^ 64 - 1 }
         ensures phase { phases.new.count ≡ phases.old.count + 1 }
         ensures nodes { vec_len self.new.of ≡ vec_len self.old.of }
-        ensures levels { OnOk result (IsLevelGraph network.now.arcs.items network.now.source network.now.sink self.new.of.items) }
-        ensures reached { IfOk result (λ reached. MatchBool reached (0 < slice_index self.new.of.items network.now.sink) (slice_index self.new.of.items network.now.sink ≡ 0)) }
-        ensures few { OnOk result (slice_index self.new.of.items network.now.sink ≤ vec_len self.new.of) }
+        ensures levels { OnOk result (IsLevelGraph network.now.arcs.items network.now.source
+            network.now.sink self.new.of.items) }
+        ensures reached { IfOk result
+            (λ reached. MatchBool reached (0 < slice_index self.new.of.items network.now.sink)
+            (slice_index self.new.of.items network.now.sink ≡ 0)) }
+        ensures few { OnOk result (slice_index self.new.of.items network.now.sink
+            ≤ vec_len self.new.of) }
     {
         phases.tick();
         let mut round = self.first_round(network)?;
@@ -77,7 +81,8 @@ impl Levels {
         requires network { IsNetwork network.now }
         requires nodes { vec_len self.old.of ≡ vec_len network.now.last }
         ensures nodes { vec_len self.new.of ≡ vec_len self.old.of }
-        ensures round { IfOk result (λ round. IsRound network.now self.new round × (round.end ≡ vec_len self.new.queue)) }
+        ensures round { IfOk result (λ round. IsRound network.now self.new round
+            × (round.end ≡ vec_len self.new.queue)) }
     {
         self.clear();
         self.reach(network.source, 1)?;
@@ -104,7 +109,8 @@ impl Levels {
         requires round { IsRound network.now self.old round }
         ensures nodes { vec_len self.new.of ≡ vec_len self.old.of }
         ensures round { OnOk result (IsRound network.now self.new round) }
-        ensures seen { OnOk result ((p : ℕ) → round.start ≤ p → p < round.end → IsSeen network.now self.new (slice_index self.new.queue.items p)) }
+        ensures seen { OnOk result ((p : ℕ) → round.start ≤ p → p < round.end
+            → IsSeen network.now self.new (slice_index self.new.queue.items p)) }
     {
         for place in round.start..round.end {
             let node = self.queue[place];
@@ -141,11 +147,13 @@ impl Levels {
         requires network { IsNetwork network.now }
         requires round { IsRound network.now self.old round }
         requires arc { number < vec_len network.now.arcs }
-        requires level { slice_index self.old.of.items (tail_of network.now.arcs.items number) ≡ round.level }
+        requires level { slice_index self.old.of.items (tail_of network.now.arcs.items number)
+            ≡ round.level }
         ensures nodes { vec_len self.new.of ≡ vec_len self.old.of }
         ensures round { OnOk result (IsRound network.now self.new round) }
         ensures more { OnOk result (Extends self.old self.new) }
-        ensures seen { OnOk result (0 < room_at network.now.arcs.items number → 1 ≤ slice_index self.new.of.items (head_of network.now.arcs.items number)) }
+        ensures seen { OnOk result (0 < room_at network.now.arcs.items number → 1
+            ≤ slice_index self.new.of.items (head_of network.now.arcs.items number)) }
     {
         let arc = network.arc(number);
         if arc.room == 0 {

@@ -61,7 +61,8 @@ fn put_value(
     input: &(Text, StepInput),
     given: &Keyed<Value>,
 ) -> Result<(), LinkError>
-    ensures ok { OnOk result (and_map (λ value. with_value input.now.0 value values.old) (value_from given.now input.now) ≡ Ok values.new) }
+    ensures ok { OnOk result (and_map (λ value. with_value input.now.0 value values.old)
+        (value_from given.now input.now) ≡ Ok values.new) }
     ensures err { IfErr result (IsError (value_from given.now input.now)) }
 {
     let value = value_from(alloc, input, given)?;
@@ -99,8 +100,14 @@ fn template_value<'a>(
     inputs: &'a Keyed<Value>,
     own: Option<&'a Value>,
 ) -> Result<Value, LinkError>
-    ensures ok { IfOk result (λ value. by_reference (template_value inputs.now None (unwrap_or (option_copied own.entry) null) template.now) ≡ Ok value) }
-    ensures err { IfErr result (IsError (by_reference (template_value inputs.now None (unwrap_or (option_copied own.entry) null) template.now))) }
+    ensures ok { IfOk result
+        (λ value.
+        by_reference (template_value inputs.now None (unwrap_or (option_copied own.entry) null)
+        template.now) ≡ Ok value) }
+    ensures err { IfErr result
+        (IsError
+        (by_reference (template_value inputs.now None (unwrap_or (option_copied own.entry) null)
+        template.now))) }
 {
     let null = Value::Null;
     let context = Context {

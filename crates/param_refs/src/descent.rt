@@ -51,8 +51,10 @@ pub(crate) fn descend_fields(
     segments: &[Segment],
     with_places: bool,
 ) -> Result<Value, RefError>
-    ensures ok { IfOk result (λ found. descent with_places segments.now (value.Fields fields.now) ≡ Ok found) }
-    ensures err { IfErr result (IsError (descent with_places segments.now (value.Fields fields.now))) }
+    ensures ok { IfOk result (λ found. descent with_places segments.now (value.Fields fields.now)
+        ≡ Ok found) }
+    ensures err { IfErr result
+        (IsError (descent with_places segments.now (value.Fields fields.now))) }
 {
     let Some((segment, rest)) = segments.split_first() else {
         return Ok(Value::Fields(copy_fields(alloc, fields)?));
@@ -65,8 +67,10 @@ pub(crate) fn descend_fields(
 
 // The field that a segment leads to.
 fn field<'v>(fields: &'v Keyed<Value>, segment: &Segment) -> Result<&'v Value, RefFault>
-    ensures ok { IfOk result (λ found. (with_places is_last : Bool) → step with_places is_last segment.now (value.Fields fields.now) ≡ Ok found.now) }
-    ensures err { IfErr result (λ fault. (with_places is_last : Bool) → step with_places is_last segment.now (value.Fields fields.now) ≡ Err fault) }
+    ensures ok { IfOk result (λ found. (with_places is_last : Bool)
+        → step with_places is_last segment.now (value.Fields fields.now) ≡ Ok found.now) }
+    ensures err { IfErr result (λ fault. (with_places is_last : Bool)
+        → step with_places is_last segment.now (value.Fields fields.now) ≡ Err fault) }
 {
     let Segment::Key(key) = segment else {
         return Err(RefFault::WrongKind);
@@ -91,7 +95,8 @@ fn step<'v>(
     is_last: bool,
     with_places: bool,
 ) -> Result<Reached<'v>, RefError>
-    ensures ok { IfOk result (λ found. step with_places is_last segment.now value.now ≡ Ok (reached found)) }
+    ensures ok { IfOk result (λ found. step with_places is_last segment.now value.now
+        ≡ Ok (reached found)) }
     ensures err { IfErr result (IsError (step with_places is_last segment.now value.now)) }
 {
     match segment {
@@ -107,8 +112,10 @@ fn by_key<'v>(
     is_last: bool,
     with_places: bool,
 ) -> Result<Reached<'v>, RefError>
-    ensures ok { IfOk result (λ found. by_key with_places is_last key.now (out-Value value.now) ≡ Ok (reached found)) }
-    ensures err { IfErr result (IsError (by_key with_places is_last key.now (out-Value value.now))) }
+    ensures ok { IfOk result (λ found. by_key with_places is_last key.now (out-Value value.now)
+        ≡ Ok (reached found)) }
+    ensures err { IfErr result
+        (IsError (by_key with_places is_last key.now (out-Value value.now))) }
 {
     match value {
         Value::Fields(fields) => match fields.get(key) {
@@ -140,7 +147,8 @@ fn length_of(items: &Items<Value>) -> Result<Value, RefError>
 }
 
 fn by_index<'v>(alloc: Global, value: &'v Value, digits: &str) -> Result<Reached<'v>, RefError>
-    ensures ok { IfOk result (λ found. by_index (number_of digits.now) (out-Value value.now) ≡ Ok (reached found)) }
+    ensures ok { IfOk result (λ found. by_index (number_of digits.now) (out-Value value.now)
+        ≡ Ok (reached found)) }
     ensures err { IfErr result (IsError (by_index (number_of digits.now) (out-Value value.now))) }
 {
     match value {
@@ -175,7 +183,8 @@ fn descend_text(
     segments: &[Segment],
     with_places: bool,
 ) -> Result<Value, RefError>
-    ensures ok { IfOk result (λ found. descent with_places segments.now (value.Text text.now) ≡ Ok found) }
+    ensures ok { IfOk result (λ found. descent with_places segments.now (value.Text text.now)
+        ≡ Ok found) }
     ensures err { IfErr result (IsError (descent with_places segments.now (value.Text text.now))) }
 {
     let mut found = text.copied(alloc)?;

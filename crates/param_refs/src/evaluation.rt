@@ -25,8 +25,11 @@ impl Template {
     /// A text that is one reference, with at most ASCII white space around it, has the reference's value. Of any other
     /// the parts are joined to a text, each value that is no text as its JSON without places.
     pub fn value(&self, context: &Context<'_>) -> Result<Value, RefError>
-        ensures ok { IfOk result (λ value. template_value context.now.inputs.now (option_copied context.now.runtime) context.now.own.now self.now ≡ Ok value) }
-        ensures err { IfErr result (IsError (template_value context.now.inputs.now (option_copied context.now.runtime) context.now.own.now self.now)) }
+        ensures ok { IfOk result (λ value. template_value context.now.inputs.now
+            (option_copied context.now.runtime) context.now.own.now self.now ≡ Ok value) }
+        ensures err { IfErr result
+            (IsError (template_value context.now.inputs.now (option_copied context.now.runtime)
+            context.now.own.now self.now)) }
     {
         let parts = self.parts.as_slice();
         match alone(parts) {
@@ -77,8 +80,12 @@ fn is_white(text: &str) -> bool
 }
 
 fn joined(alloc: Global, context: &Context<'_>, parts: &[Part]) -> Result<Text, RefError>
-    ensures ok { IfOk result (λ text. joined context.now.inputs.now (option_copied context.now.runtime) context.now.own.now parts.now ≡ Ok text) }
-    ensures err { IfErr result (IsError (joined context.now.inputs.now (option_copied context.now.runtime) context.now.own.now parts.now)) }
+    ensures ok { IfOk result
+        (λ text. joined context.now.inputs.now (option_copied context.now.runtime)
+        context.now.own.now parts.now ≡ Ok text) }
+    ensures err { IfErr result
+        (IsError (joined context.now.inputs.now (option_copied context.now.runtime)
+        context.now.own.now parts.now)) }
 {
     let mut text = String::new(alloc);
     for part in parts {
@@ -89,8 +96,12 @@ fn joined(alloc: Global, context: &Context<'_>, parts: &[Part]) -> Result<Text, 
 }
 
 fn part_text(alloc: Global, context: &Context<'_>, part: &Part) -> Result<Text, RefError>
-    ensures ok { IfOk result (λ text. part_text context.now.inputs.now (option_copied context.now.runtime) context.now.own.now part.now ≡ Ok text) }
-    ensures err { IfErr result (IsError (part_text context.now.inputs.now (option_copied context.now.runtime) context.now.own.now part.now)) }
+    ensures ok { IfOk result
+        (λ text. part_text context.now.inputs.now (option_copied context.now.runtime)
+        context.now.own.now part.now ≡ Ok text) }
+    ensures err { IfErr result
+        (IsError (part_text context.now.inputs.now (option_copied context.now.runtime)
+        context.now.own.now part.now)) }
 {
     match part {
         Part::Plain(plain) => Ok(plain.copied(alloc)?),
@@ -127,8 +138,11 @@ fn reference_value(
     context: &Context<'_>,
     reference: &Reference,
 ) -> Result<Value, RefError>
-    ensures ok { IfOk result (λ value. reference_value context.now.inputs.now (option_copied context.now.runtime) context.now.own.now reference.now ≡ Ok value) }
-    ensures err { IfErr result (IsError (reference_value context.now.inputs.now (option_copied context.now.runtime) context.now.own.now reference.now)) }
+    ensures ok { IfOk result (λ value. reference_value context.now.inputs.now
+        (option_copied context.now.runtime) context.now.own.now reference.now ≡ Ok value) }
+    ensures err { IfErr result
+        (IsError (reference_value context.now.inputs.now (option_copied context.now.runtime)
+        context.now.own.now reference.now)) }
 {
     let segments = reference.segments.as_slice();
     let with_places = has_outdir(context.runtime);
@@ -149,8 +163,12 @@ pub(crate) enum Origin<'a> {
 }
 
 fn root<'a>(context: &Context<'a>, symbol: &str) -> Result<Origin<'a>, RefError>
-    ensures ok { IfOk result (λ found. root context.now.inputs.now (option_copied context.now.runtime) context.now.own.now symbol.now ≡ Ok (origin_value context.now.inputs.now found)) }
-    ensures err { IfErr result (IsError (root context.now.inputs.now (option_copied context.now.runtime) context.now.own.now symbol.now)) }
+    ensures ok { IfOk result
+        (λ found. root context.now.inputs.now (option_copied context.now.runtime)
+        context.now.own.now symbol.now ≡ Ok (origin_value context.now.inputs.now found)) }
+    ensures err { IfErr result
+        (IsError (root context.now.inputs.now (option_copied context.now.runtime)
+        context.now.own.now symbol.now)) }
 {
     match symbol {
         "inputs" => Ok(Origin::Inputs),

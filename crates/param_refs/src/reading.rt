@@ -33,7 +33,8 @@ impl Template {
 
 fn parts(alloc: Global, text: &str) -> Result<Items<Part>, RefError>
     ensures ok { IfOk result (λ parts. Reads text.now (Ok parts)) }
-    ensures err { IfErr result (λ e. (fault : RefFault) → e ≡ Refused fault → Reads text.now (Err fault)) }
+    ensures err { IfErr result (λ e. (fault : RefFault) → e ≡ Refused fault
+        → Reads text.now (Err fault)) }
 {
     let mut found = Items::new(alloc);
     let mut rest = text;
@@ -49,7 +50,8 @@ fn parts(alloc: Global, text: &str) -> Result<Items<Part>, RefError>
 fn part(alloc: Global, text: &str) -> Result<(Part, &str), RefError>
     requires { 0 < length text.now }
     ensures ok { IfOk result (λ taken. PartThen text.now taken.0 taken.1.now) }
-    ensures err { IfErr result (λ e. (fault : RefFault) → e ≡ Refused fault → Reads text.now (Err fault)) }
+    ensures err { IfErr result (λ e. (fault : RefFault) → e ≡ Refused fault
+        → Reads text.now (Err fault)) }
 {
     let (plain, rest) = text.split_at(opening(text));
     if !plain.is_empty() {
@@ -65,7 +67,8 @@ fn part(alloc: Global, text: &str) -> Result<(Part, &str), RefError>
 
 // What follows the `$(` that a text begins with.
 fn inside(text: &str) -> Option<&str>
-    ensures { MatchOption result ((rest : List ℕ) → text.now ≢ 36 ∷ 40 ∷ rest) (λ inside. text.now ≡ 36 ∷ 40 ∷ inside.now) }
+    ensures { MatchOption result ((rest : List ℕ) → text.now ≢ 36 ∷ 40 ∷ rest) (λ inside. text.now
+        ≡ 36 ∷ 40 ∷ inside.now) }
 {
     let rest = text.strip_prefix('$')?;
     rest.strip_prefix('(')

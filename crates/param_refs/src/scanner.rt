@@ -17,7 +17,8 @@ use std::alloc::{AllocError, Global};
 /// Takes the reference off a text that begins with one, once `$(` is off, and gives what follows it.
 pub(crate) fn reference(alloc: Global, text: &str) -> Result<(Reference, &str), RefError>
     ensures ok { IfOk result (λ taken. ReferenceThen (codes "$(" ++ text.now) taken.0 taken.1.now) }
-    ensures err { IfErr result (λ e. (fault : RefFault) → e ≡ Refused fault → (fault ≡ NotAReference) × BeginsNone (codes "$(" ++ text.now)) }
+    ensures err { IfErr result (λ e. (fault : RefFault) → e ≡ Refused fault
+        → (fault ≡ NotAReference) × BeginsNone (codes "$(" ++ text.now)) }
 {
     let Some((symbol, rest)) = symbol(text) else {
         return Err(RefError::Refused(RefFault::NotAReference));
@@ -44,7 +45,8 @@ fn segments(alloc: Global, text: &str) -> Result<(Items<Segment>, &str), AllocEr
 }
 
 fn segment(alloc: Global, text: &str) -> Result<Option<(Segment, &str)>, AllocError>
-    ensures { IfOk result (λ taken. MatchOption taken (NoSegment text.now) (λ t. SegmentThen text.now t.0 t.1.now)) }
+    ensures { IfOk result (λ taken. MatchOption taken (NoSegment text.now)
+        (λ t. SegmentThen text.now t.0 t.1.now)) }
 {
     match first_piece(text) {
         None => Ok(None),
@@ -72,7 +74,8 @@ impl Piece<'_> {
 
 // The segment at the front of a text, and what follows it.
 fn first_piece(text: &str) -> Option<(Piece<'_>, &str)>
-    ensures { MatchOption result (NoSegment text.now) (λ t. SegmentThen text.now (segment_of t.0) t.1.now) }
+    ensures { MatchOption result (NoSegment text.now)
+        (λ t. SegmentThen text.now (segment_of t.0) t.1.now) }
 {
     if let Some(rest) = text.strip_prefix('.') {
         let (symbol, rest) = symbol(rest)?;
@@ -84,7 +87,8 @@ fn first_piece(text: &str) -> Option<(Piece<'_>, &str)>
 
 // The segment whose bracket has been opened, and what follows it.
 fn bracketed(text: &str) -> Option<(Piece<'_>, &str)>
-    ensures { MatchOption result (NoSegment (91 ∷ text.now)) (λ t. SegmentThen (91 ∷ text.now) (segment_of t.0) t.1.now) }
+    ensures { MatchOption result (NoSegment (91 ∷ text.now))
+        (λ t. SegmentThen (91 ∷ text.now) (segment_of t.0) t.1.now) }
 {
     if let Some(taken) = in_quotes(text, '\'') {
         return Some(taken);
@@ -99,7 +103,8 @@ fn bracketed(text: &str) -> Option<(Piece<'_>, &str)>
 // The same for a text between quotes in the brackets.
 fn in_quotes(text: &str, quote: char) -> Option<(Piece<'_>, &str)>
     requires { IsQuote quote }
-    ensures { MatchOption result (NoQuotes quote text.now) (λ t. SegmentThen (91 ∷ text.now) (segment_of t.0) t.1.now) }
+    ensures { MatchOption result (NoQuotes quote text.now)
+        (λ t. SegmentThen (91 ∷ text.now) (segment_of t.0) t.1.now) }
 {
     let inside = text.strip_prefix(quote)?;
     let (key, rest) = quoted(inside, quote)?;
@@ -108,7 +113,8 @@ fn in_quotes(text: &str, quote: char) -> Option<(Piece<'_>, &str)>
 
 // The symbol at the front of a text, and what follows it.
 fn symbol(text: &str) -> Option<(&str, &str)>
-    ensures { MatchOption result (starts_symbol text.now ≡ false) (λ taken. SymbolThen text.now taken.0.now taken.1.now) }
+    ensures { MatchOption result (starts_symbol text.now
+        ≡ false) (λ taken. SymbolThen text.now taken.0.now taken.1.now) }
 {
     let length = symbol_length(text);
     if length == 0 {
@@ -138,7 +144,8 @@ fn is_symbol_byte(byte: u8) -> bool
 // A text up to its closing quote and bracket, and what follows them.
 fn quoted(text: &str, quote: char) -> Option<(&str, &str)>
     requires { quote < 128 }
-    ensures { MatchOption result (NoQuoted quote text.now) (λ taken. QuotedThen quote text.now taken.0.now taken.1.now) }
+    ensures { MatchOption result (NoQuoted quote text.now)
+        (λ taken. QuotedThen quote text.now taken.0.now taken.1.now) }
 {
     let (key, after) = text.split_once(quote)?;
     let rest = after.strip_prefix(']')?;
@@ -150,7 +157,8 @@ fn quoted(text: &str, quote: char) -> Option<(&str, &str)>
 
 // Digits up to a closing bracket, and what follows it.
 fn number(text: &str) -> Option<(&str, &str)>
-    ensures { MatchOption result (NoNumber text.now) (λ taken. NumberThen text.now taken.0.now taken.1.now) }
+    ensures { MatchOption result (NoNumber text.now)
+        (λ taken. NumberThen text.now taken.0.now taken.1.now) }
 {
     let (digits, rest) = text.split_once(']')?;
     if !is_number(digits) {

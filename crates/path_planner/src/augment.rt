@@ -83,7 +83,8 @@ pub fn augment(
     requires under_way { IsUnderWay vertices.now charges.old search.now }
     requires end { IsPathEnd vertices.now charges.old search.now end }
     ensures fair { AreFairBut vertices.now charges.new nothing nothing }
-    ensures pay { charges.new.pay ≡ slice_set charges.old.pay end.job (slice_index charges.old.pay end.job + end.amount) }
+    ensures pay { charges.new.pay
+        ≡ slice_set charges.old.pay end.job (slice_index charges.old.pay end.job + end.amount) }
 {
     let pay = charges.pay.as_slice()[end.job];
     write(alloc, &mut charges.pay, end.job, pay + end.amount);

@@ -102,7 +102,8 @@ impl Search {
     /// Forgets all that was reached, and keeps the memory.
     pub fn clear(&mut self)
         ensures kept { self.new.kept.items ≡ replicate (vec_len self.old.kept) not_kept }
-        ensures computed { self.new.computed.items ≡ replicate (vec_len self.old.computed) not_computed }
+        ensures computed { self.new.computed.items
+            ≡ replicate (vec_len self.old.computed) not_computed }
         ensures reached { self.new.reached ≡ 0 }
     {
         self.kept.fill(NOT_KEPT);
@@ -112,14 +113,16 @@ impl Search {
 
     fn is_kept(&self, job: usize) -> bool
         requires { job < vec_len self.now.kept }
-        ensures { MatchBool result (HasKept self.now job) ((kept_at self.now.kept.items job).rank ≡ 0) }
+        ensures { MatchBool result (HasKept self.now job) ((kept_at self.now.kept.items job).rank
+            ≡ 0) }
     {
         self.kept[job].rank != 0
     }
 
     fn is_computed(&self, job: usize) -> bool
         requires { job < vec_len self.now.computed }
-        ensures { MatchBool result (HasComputed self.now job) ((computed_at self.now.computed.items job).rank ≡ 0) }
+        ensures { MatchBool result (HasComputed self.now job)
+            ((computed_at self.now.computed.items job).rank ≡ 0) }
     {
         self.computed[job].rank != 0
     }
@@ -128,7 +131,11 @@ impl Search {
     fn keep(&mut self, job: usize, amount: u64, by: KeptBy)
         requires job { job < vec_len self.old.kept }
         requires room { self.old.reached < 2 ^ 32 }
-        ensures kept { let node : Kept = record { rank = self.old.reached + 1; amount = amount; by = by } in
+        ensures kept { let node : Kept = record {
+          rank = self.old.reached + 1;
+          amount = amount;
+          by = by;
+        } in
             self.new.kept.items ≡ slice_set self.old.kept.items job node }
         ensures computed { self.new.computed ≡ self.old.computed }
         ensures reached { self.new.reached ≡ self.old.reached + 1 }
@@ -145,7 +152,8 @@ impl Search {
     fn compute(&mut self, job: usize, amount: u64, by: ComputedBy)
         requires job { job < vec_len self.old.computed }
         requires room { self.old.reached < 2 ^ 32 }
-        ensures computed { let node : Computed = record { rank = self.old.reached + 1; amount = amount; by = by } in
+        ensures computed { let node : Computed = record
+            { rank = self.old.reached + 1; amount = amount; by = by } in
             self.new.computed.items ≡ slice_set self.old.computed.items job node }
         ensures kept { self.new.kept ≡ self.old.kept }
         ensures reached { self.new.reached ≡ self.old.reached + 1 }
@@ -163,7 +171,8 @@ impl Search {
         requires job { job < length vertices.now }
         requires under_way { IsUnderWay vertices.now charges.now self.old }
         ensures under_way { IsUnderWay vertices.now charges.now self.new }
-        ensures settled { Advances self.old self.new (Enters vertices.now self.new job × GoesBack charges.now self.new job) }
+        ensures settled { Advances self.old self.new (Enters vertices.now self.new job
+            × GoesBack charges.now self.new job) }
     {
         if self.is_kept(job) {
             return;
@@ -184,7 +193,8 @@ impl Search {
         requires job { job < length vertices.now }
         requires under_way { IsUnderWay vertices.now charges.now self.old }
         ensures under_way { IsUnderWay vertices.now charges.now self.new }
-        ensures settled { Advances self.old self.new (GoesThrough vertices.now charges.now self.new job × IsPassedBack vertices.now charges.now self.new job) }
+        ensures settled { Advances self.old self.new (GoesThrough vertices.now charges.now self.new
+            job × IsPassedBack vertices.now charges.now self.new job) }
     {
         if self.is_computed(job) {
             return;
@@ -204,7 +214,8 @@ impl Search {
         requires fresh { (computed_at self.old.computed.items job).rank ≡ 0 }
         requires under_way { IsUnderWay vertices.now charges.now self.old }
         ensures under_way { IsUnderWay vertices.now charges.now self.new }
-        ensures settled { Advances self.old self.new (IsPassedBack vertices.now charges.now self.new job) }
+        ensures settled { Advances self.old self.new (IsPassedBack vertices.now charges.now self.new
+            job) }
     {
         let parents = vertices[job].parents.as_slice();
         for slot in 0..parents.len() {
@@ -224,7 +235,8 @@ impl Search {
         requires under_way { IsUnderWay vertices.now charges.now self.old }
         ensures under_way { IsUnderWay vertices.now charges.now self.new }
         ensures end { IfSome result (IsPathEnd vertices.now charges.now self.new) }
-        ensures settled { IfNone result (Advances self.old self.new (IsLeft vertices.now charges.now self.new job)) }
+        ensures settled { IfNone result
+            (Advances self.old self.new (IsLeft vertices.now charges.now self.new job)) }
     {
         if !self.is_computed(job) {
             return None;
@@ -263,7 +275,8 @@ impl Search {
         requires under_way { IsUnderWay vertices.now charges.now self.old }
         ensures under_way { IsUnderWay vertices.now charges.now self.new }
         ensures end { IfSome result (IsPathEnd vertices.now charges.now self.new) }
-        ensures settled { IfNone result (Advances self.old self.new (IsSettled vertices.now charges.now self.new job)) }
+        ensures settled { IfNone result
+            (Advances self.old self.new (IsSettled vertices.now charges.now self.new job)) }
     {
         self.try_keep(vertices, charges, job);
         self.try_compute(vertices, charges, job);
@@ -276,7 +289,8 @@ impl Search {
         requires under_way { IsUnderWay vertices.now charges.now self.old }
         ensures under_way { IsUnderWay vertices.now charges.now self.new }
         ensures end { IfSome result (IsPathEnd vertices.now charges.now self.new) }
-        ensures settled { IfNone result (Advances self.old self.new (AreSettled vertices.now charges.now self.new)) }
+        ensures settled { IfNone result
+            (Advances self.old self.new (AreSettled vertices.now charges.now self.new)) }
     {
         let jobs = vertices.len();
         for turn in 0..2 * jobs {
@@ -298,7 +312,8 @@ impl Search {
 fn room_through(vertices: &[Vertex], charges: &Charges, job: usize) -> u64
     requires job { job < length vertices.now }
     requires fair { AreFairBut vertices.now charges.now nothing nothing }
-    ensures { MatchOption (vertex vertices.now job).load (0 < result) (λ load. slice_index charges.now.through job + result ≡ load) }
+    ensures { MatchOption (vertex vertices.now job).load (0
+        < result) (λ load. slice_index charges.now.through job + result ≡ load) }
 {
     match vertices[job].load {
         None => MOST_COST,

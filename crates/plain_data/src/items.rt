@@ -78,7 +78,8 @@ impl<T> Items<T> {
 
     /// Removes the last element and returns it.
     pub fn pop(&mut self) -> Option<T>
-        ensures { MatchOption result ((self.old ≡ []) × (self.new ≡ [])) (λ last. self.old ≡ self.new ++ last ∷ []) }
+        ensures { MatchOption result ((self.old ≡ []) × (self.new ≡ [])) (λ last. self.old
+            ≡ self.new ++ last ∷ []) }
     {
         self.held.pop()
     }

@@ -176,7 +176,8 @@ fn sorted<T>(mut entries: Vec<(Text, T)>) -> Vec<(Text, T)>
 
 // The index of an entry that has the name of the one before it.
 fn repeat<T>(entries: &[(Text, T)]) -> Option<usize>
-    ensures { MatchOption result (IsUnrepeatedBelow entries.now (length entries.now)) (IsRepeatAt entries.now) }
+    ensures { MatchOption result (IsUnrepeatedBelow entries.now (length entries.now))
+        (IsRepeatAt entries.now) }
 {
     for index in 1..entries.len() {
         if entries[index - 1].0.equals(&entries[index].0) {

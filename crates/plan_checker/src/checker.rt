@@ -19,7 +19,8 @@ use crate::vertex::Vertex;
 /// Checks that these charges show this plan of the graph to be a cheapest one: its cost, or the first rule that is broken.
 /// It takes no memory, and time in proportion to the vertices and their parents.
 pub fn check(graph: &Graph, plan: &Plan, charges: &Charges) -> Result<u64, Broken>
-    ensures certified { IfOk result (λ total. IsCertificate graph.now plan.now.marks charges.now × (total ≡ cost graph.now plan.now.marks)) }
+    ensures certified { IfOk result (λ total. IsCertificate graph.now plan.now.marks charges.now
+        × (total ≡ cost graph.now plan.now.marks)) }
     ensures cheapest { OnOk result (IsCheapest graph.now plan.now.marks) }
     ensures broken { IfErr result (IsFirstBroken graph.now plan.now.marks charges.now) }
 {
@@ -68,7 +69,9 @@ fn has_entries(claim: &Claim) -> bool
 /// Whether each vertex has one pass for each of its parents.
 fn has_passes(claim: &Claim) -> bool
     requires { length (charges_of claim.now).pass ≡ length (graph_of claim.now) }
-    ensures { IsTrue result ↔ EachIndex (graph_of claim.now) (λ i. length (passes (charges_of claim.now) i) ≡ length (vertex (graph_of claim.now) i).parents) }
+    ensures { IsTrue result
+        ↔ EachIndex (graph_of claim.now) (λ i. length (passes (charges_of claim.now) i)
+        ≡ length (vertex (graph_of claim.now) i).parents) }
 {
     for (i, vertex) in claim.graph.vertices().iter().enumerate() {
         if claim.passes(i).len() != vertex.parents.len() {

@@ -24,7 +24,8 @@ impl Draft {
     pub fn new(alloc: Global) -> Draft
         ensures vertices { result.vertices ≡ [] }
         ensures marks { result.plan.marks ≡ [] }
-        ensures charges { result.charges ≡ record { enter = []; through = []; pay = []; pass = [] } }
+        ensures charges { result.charges
+            ≡ record { enter = []; through = []; pay = []; pass = [] } }
     {
         Draft {
             vertices: Items::new(alloc),
@@ -55,7 +56,8 @@ impl Draft {
     /// The certificate, once all of it was read.
     pub fn certificate(self, alloc: Global) -> Result<(Graph, Plan, Charges), AllocError>
         requires { IsGraph self.vertices }
-        ensures { IfOk result (λ read. (read.0 ≡ self.vertices) × (read.1 ≡ self.plan) × (read.2 ≡ self.charges)) }
+        ensures { IfOk result (λ read. (read.0 ≡ self.vertices) × (read.1 ≡ self.plan)
+            × (read.2 ≡ self.charges)) }
     {
         let Draft {
             vertices,

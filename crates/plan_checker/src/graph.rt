@@ -124,7 +124,8 @@ pub(crate) fn fits(number: usize, entries: usize, vertex: &Vertex) -> bool
 
 /// Whether these numbers rise, and stay below a limit.
 fn rise_below(numbers: &[usize], limit: usize) -> bool
-    ensures { IsTrue result ↔ (All (λ n. n < limit) numbers.now × IsStrictlyIncreasing numbers.now) }
+    ensures { IsTrue result
+        ↔ (All (λ n. n < limit) numbers.now × IsStrictlyIncreasing numbers.now) }
 {
     numbers.iter().all(|n| *n < limit) && numbers.windows(2).all(|pair| pair[0] < pair[1])
 }
@@ -151,7 +152,8 @@ fn add_child(
     parents: &[usize],
 ) -> Result<(), AllocError>
     requires { All (λ p. p < length children.old.items) parents.now }
-    ensures { OnOk result (AddsChild children.old.items children.new.items vertex parents.now (length parents.now)) }
+    ensures { OnOk result (AddsChild children.old.items children.new.items vertex parents.now
+        (length parents.now)) }
 {
     for (place, parent) in parents.iter().enumerate() {
         children[*parent].push(Child { vertex, place })?;

@@ -10,14 +10,16 @@ use std::str;
 
 /// What follows this beginning, where a text has it.
 pub fn after<'a>(text: &'a [u8], start: &[u8]) -> Option<&'a [u8]>
-    ensures { MatchOption result ((rest : List ℕ) → text.now ≢ start.now ++ rest) (λ rest. text.now ≡ start.now ++ rest.now) }
+    ensures { MatchOption result ((rest : List ℕ) → text.now ≢ start.now ++ rest) (λ rest. text.now
+        ≡ start.now ++ rest.now) }
 {
     text.strip_prefix(start)
 }
 
 /// Reads a space and a number below 2^64 behind it, and gives what follows: no digit.
 pub fn read_number(text: &[u8]) -> Option<(u64, &[u8])>
-    ensures { MatchOption result (NoNumber text.now) (λ read. BeginsWithNumber text.now read.0 read.1.now) }
+    ensures { MatchOption result (NoNumber text.now)
+        (λ read. BeginsWithNumber text.now read.0 read.1.now) }
 {
     let Some(text) = after(text, b" ".as_slice()) else {
         return None;
@@ -45,7 +47,8 @@ fn split_digits(text: &[u8]) -> (&[u8], &[u8])
 /// The number that these digits write without leading zeros.
 #[tactic(auto, using(crate::proofs::ReadNumbers::none_empty, crate::proofs::ReadNumbers::none_plus, crate::proofs::ReadNumbers::none_padded, crate::proofs::ReadNumbers::zero_alone))]
 fn number_of(digits: &[u8]) -> Option<u64>
-    ensures { MatchOption result ((n : ℕ) → IsSmall n → digits.now ≢ decimal n) (λ n. digits.now ≡ decimal n) }
+    ensures { MatchOption result ((n : ℕ) → IsSmall n → digits.now ≢ decimal n) (λ n. digits.now
+        ≡ decimal n) }
 {
     if digits.is_empty() {
         return None;
@@ -68,7 +71,8 @@ fn number_of(digits: &[u8]) -> Option<u64>
 fn plain_number(digits: &[u8]) -> Option<u64>
     requires no_sign { slice_index digits.now 0 ≢ 43 }
     requires no_zero { slice_index digits.now 0 ≢ 48 }
-    ensures { MatchOption result ((n : ℕ) → IsSmall n → digits.now ≢ decimal n) (λ n. digits.now ≡ decimal n) }
+    ensures { MatchOption result ((n : ℕ) → IsSmall n → digits.now ≢ decimal n) (λ n. digits.now
+        ≡ decimal n) }
 {
     let Ok(text) = str::from_utf8(digits) else {
         return None;

@@ -37,7 +37,8 @@ pub fn read_certificate(
 
 /// Reads the first two lines: how many vertices there are, and what follows.
 fn read_head(bytes: &[u8]) -> Result<(usize, &[u8]), CertificateError>
-    ensures { MatchResult result (λ read. BeginsWithHead bytes.now read.0 read.1.now) (IsRefusedText bytes.now) }
+    ensures { MatchResult result (λ read. BeginsWithHead bytes.now read.0 read.1.now)
+        (IsRefusedText bytes.now) }
 {
     let Some(text) = after(bytes, b"cwl-plan 1\n".as_slice()) else {
         return Err(CertificateError::NotACertificate(1));
@@ -50,7 +51,8 @@ fn read_head(bytes: &[u8]) -> Result<(usize, &[u8]), CertificateError>
 
 /// Reads the line that counts the vertices, and gives what follows it.
 fn read_count(text: &[u8]) -> Option<(usize, &[u8])>
-    ensures { MatchOption result (NoCount text.now) (λ read. BeginsWithCount text.now read.0 read.1.now) }
+    ensures { MatchOption result (NoCount text.now)
+        (λ read. BeginsWithCount text.now read.0 read.1.now) }
 {
     let Some(text) = after(text, b"jobs".as_slice()) else {
         return None;
@@ -70,7 +72,8 @@ fn read_count(text: &[u8]) -> Option<(usize, &[u8])>
 /// Reads the lines of the vertices, the first of which is line 3, and gives what follows them.
 fn read_rows(alloc: Global, count: usize, text: &[u8]) -> Result<(Draft, &[u8]), CertificateError>
     requires { count ≤ MOST_VERTICES }
-    ensures { MatchResult result (λ read. BeginsWithLines text.now count read.0.vertices read.0.plan.marks read.0.charges read.1.now) (StopsBy text.now count) }
+    ensures { MatchResult result (λ read. BeginsWithLines text.now count read.0.vertices
+        read.0.plan.marks read.0.charges read.1.now) (StopsBy text.now count) }
 {
     let mut draft = Draft::new(alloc);
     let mut entries = 0;

@@ -45,7 +45,8 @@ impl Row {
     /// gives what follows it. No line of a vertex with more parents than `most` is read, so that memory goes with what a
     /// vertex can have and not with how long a line is.
     pub fn read(alloc: Global, text: &[u8], most: usize) -> Result<Option<(Row, &[u8])>, AllocError>
-        ensures { IfOk result (λ read. MatchOption read (NoRow text.now most) (λ read. BeginsWithRow text.now read.0 read.1.now)) }
+        ensures { IfOk result (λ read. MatchOption read (NoRow text.now most)
+            (λ read. BeginsWithRow text.now read.0 read.1.now)) }
     {
         let Some((start, rest)) = read_start(text) else {
             return Ok(None);
@@ -79,7 +80,8 @@ impl Row {
 
 /// Reads the mark, whether the vertex is needed, and its load cost.
 fn read_start(text: &[u8]) -> Option<(Start, &[u8])>
-    ensures { MatchOption result (NoStart text.now) (λ read. BeginsWithStart text.now read.0 read.1.now) }
+    ensures { MatchOption result (NoStart text.now)
+        (λ read. BeginsWithStart text.now read.0 read.1.now) }
 {
     let [mark, b' ', needed, rest @ ..] = text else {
         return None;
@@ -102,7 +104,8 @@ fn mark_of(byte: u8) -> Option<Mark>
 }
 
 fn flag_of(byte: u8) -> Option<bool>
-    ensures { MatchOption result ((needed : Bool) → byte ≢ flag needed) (λ needed. byte ≡ flag needed) }
+    ensures { MatchOption result ((needed : Bool) → byte ≢ flag needed) (λ needed. byte
+        ≡ flag needed) }
 {
     match byte {
         b'1' => Some(true),
@@ -113,7 +116,8 @@ fn flag_of(byte: u8) -> Option<bool>
 
 /// Reads a load cost behind a space, or a dash where there is none.
 fn read_load(text: &[u8]) -> Option<(Option<u64>, &[u8])>
-    ensures { MatchOption result (NoLoadField text.now) (λ read. BeginsWithLoad text.now read.0 read.1.now) }
+    ensures { MatchOption result (NoLoadField text.now)
+        (λ read. BeginsWithLoad text.now read.0 read.1.now) }
 {
     if let [b' ', b'-', rest @ ..] = text {
         return Some((None, rest));
@@ -124,7 +128,8 @@ fn read_load(text: &[u8]) -> Option<(Option<u64>, &[u8])>
 
 /// Reads the compute cost, three charges and how many parents there are.
 fn read_costs(text: &[u8]) -> Option<(Costs, &[u8])>
-    ensures { MatchOption result (NoCosts text.now) (λ read. BeginsWithNumbers text.now (first_numbers read.0) read.1.now) }
+    ensures { MatchOption result (NoCosts text.now)
+        (λ read. BeginsWithNumbers text.now (first_numbers read.0) read.1.now) }
 {
     let (compute, rest) = read_number(text)?;
     let (enter, rest) = read_number(rest)?;
@@ -148,7 +153,8 @@ fn read_pairs(
     count: usize,
 ) -> Result<Option<(Items<usize>, Items<u64>, &[u8])>, AllocError>
     requires { EndsNumber text.now }
-    ensures { IfOk result (λ read. MatchOption read (NoPairs text.now count) (λ read. BeginsWithPairs text.now count read.0 read.1 read.2.now)) }
+    ensures { IfOk result (λ read. MatchOption read (NoPairs text.now count)
+        (λ read. BeginsWithPairs text.now count read.0 read.1 read.2.now)) }
 {
     let mut parents = Items::new(alloc);
     let mut amounts = Items::new(alloc);
@@ -169,7 +175,8 @@ fn read_pairs(
 
 /// Reads a parent and what is passed to it.
 fn read_pair(text: &[u8]) -> Option<(u64, u64, &[u8])>
-    ensures { MatchOption result (NoPair text.now) (λ read. BeginsWithNumbers text.now (read.0 ∷ read.1 ∷ []) read.2.now) }
+    ensures { MatchOption result (NoPair text.now)
+        (λ read. BeginsWithNumbers text.now (read.0 ∷ read.1 ∷ []) read.2.now) }
 {
     let (parent, rest) = read_number(text)?;
     let (amount, rest) = read_number(rest)?;

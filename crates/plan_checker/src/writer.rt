@@ -21,8 +21,10 @@ pub fn write_certificate(
 ) -> Result<String, AllocError>
     requires marks_counted { length plan.now.marks ≡ length graph.now }
     requires charges_counted { IsCounted graph.now charges.now }
-    ensures text { IfOk result (λ text. string_bytes text ≡ certificate_text graph.now plan.now.marks charges.now) }
-    ensures read_back { IfOk result (λ text. IsTextOf (string_bytes text) graph.now plan.now.marks charges.now) }
+    ensures text { IfOk result (λ text. string_bytes text
+        ≡ certificate_text graph.now plan.now.marks charges.now) }
+    ensures read_back { IfOk result (λ text. IsTextOf (string_bytes text) graph.now plan.now.marks
+        charges.now) }
 {
     let claim = Claim {
         graph,
@@ -44,7 +46,8 @@ pub fn write_certificate(
 fn push_row(text: &mut String, claim: &Claim, i: usize) -> Result<(), AllocError>
     requires there { i < length (graph_of claim.now) }
     requires sized { IsSized claim.now }
-    ensures text { OnOk result (string_bytes text.new ≡ string_bytes text.old ++ line (row (graph_of claim.now) (marks_of claim.now) (charges_of claim.now) i)) }
+    ensures text { OnOk result (string_bytes text.new ≡ string_bytes text.old
+        ++ line (row (graph_of claim.now) (marks_of claim.now) (charges_of claim.now) i)) }
     ensures small { OnOk result (AreSmallAt (charges_of claim.now) i) }
 {
     let vertex = claim.vertex(i);
@@ -69,7 +72,8 @@ fn push_number(text: &mut String, number: u64) -> Result<(), AllocError>
 
 /// Writes the mark and whether the vertex is needed.
 fn push_start(text: &mut String, mark: Mark, needed: bool) -> Result<(), AllocError>
-    ensures { OnOk result (string_bytes text.new ≡ string_bytes text.old ++ letter mark ∷ 32 ∷ flag needed ∷ []) }
+    ensures { OnOk result (string_bytes text.new ≡ string_bytes text.old
+        ++ letter mark ∷ 32 ∷ flag needed ∷ []) }
 {
     let letter = match mark {
         Mark::Load => "L",
@@ -93,7 +97,8 @@ fn push_load(text: &mut String, load: Option<u64>) -> Result<(), AllocError>
 /// Writes each parent and what is passed to it.
 fn push_pairs(text: &mut String, parents: &[usize], amounts: &[u64]) -> Result<(), AllocError>
     requires { length amounts.now ≡ length parents.now }
-    ensures text { OnOk result (string_bytes text.new ≡ string_bytes text.old ++ spaced (pairs parents.now amounts.now)) }
+    ensures text { OnOk result (string_bytes text.new ≡ string_bytes text.old
+        ++ spaced (pairs parents.now amounts.now)) }
     ensures small { OnOk result (All IsSmall amounts.now) }
 {
     for (i, parent) in parents.iter().enumerate() {

@@ -3,7 +3,7 @@ use Rattle.std.proofs.Common.{◌≡◌, ◌+◌, cond, List, [], ◌∷◌, ◌
 use Rattle.std.proofs.lemmas.List.Sums.{sum_by-append}
 use Rattle.proc_host.specs.declared.call.Entry.{Entry}
 use Rattle.proc_host.specs.declared.call.HostAnswer.{HostAnswer}
-use Rattle.proc_host.specs.declared.call.HostAnswer.TheVariants.{Done, Measured, Started, Ended, Listed, FirstBytes, Failed}
+use Rattle.proc_host.specs.declared.call.HostAnswer.TheVariants.{Done, Measured, Started, Ended, Listed, FirstBytes, Fetched, Failed}
 use Rattle.proc_host.specs.declared.call.HostRequest.{HostRequest}
 use Rattle.proc_host.specs.Log.{entries_of, is_failure, failures, faults_in}
 
@@ -21,4 +21,5 @@ failures_more log request (Some (Started ticket)) = with_entry log request (Star
 failures_more log request (Some (Ended ending)) = with_entry log request (Ended ending)
 failures_more log request (Some (Listed found)) = with_entry log request (Listed found)
 failures_more log request (Some (FirstBytes bytes)) = with_entry log request (FirstBytes bytes)
+failures_more log request (Some (Fetched found)) = with_entry log request (Fetched found)
 failures_more log request (Some (Failed fault)) = with_entry log request (Failed fault)

@@ -9,6 +9,7 @@ use Rattle.proc_host.specs.declared.reply.Reply.TheVariants as replies
 use Rattle.std.proofs.lemmas.List.Sums.{sum_by-append}
 use Rattle.proc_host.specs.declared.call.Entry.{Entry}
 use Rattle.proc_host.specs.declared.call.HostRequest.{HostRequest}
+use Rattle.proc_host.specs.Answers.{are_among}
 use Rattle.proc_host.specs.Log.{is_start, starts}
 use Rattle.proc_host.specs.Script.{ScriptState, answer_by, can_end}
 use Rattle.staging.specs.declared.found.Found.{Found}
@@ -33,6 +34,10 @@ measure_told state path measure reply next = rw next refl
 pub head_told : (state : ScriptState) (path : List ℕ) (limit : ℕ) (bytes : List ℕ) (reply : Option Reply) → reply ≡ Some (replies.Head bytes) →
     nat_le (length bytes) limit ≡ true → answers.FirstBytes bytes ≡ answer_by state (requests.Head path limit) reply
 head_told state path limit bytes reply next within = rw (next, within) refl
+
+pub fetch_told : (state : ScriptState) (key : List ℕ) (number : ℕ) (files found : List Found) (reply : Option Reply) → reply ≡ Some (replies.Fetch found) →
+    are_among files found ≡ true → answers.Fetched found ≡ answer_by state (requests.Fetch key number files) reply
+fetch_told state key number files found reply next among = rw (next, among) refl
 
 -- where there is a next reply, the replies given are not all
 pub next_within : (given : ℕ) (script : List Reply) (reply : Reply) → slice_get (drop given script) 0 ≡ Some reply → given < length script

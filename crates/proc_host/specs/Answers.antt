@@ -1,5 +1,6 @@
 -- Which answers each call can have, and which children are in flight after one.
-use Rattle.std.specs.Prelude.{ℕ, ◌≤◌, List, [], ◌∷◌, ◌++◌, length, Contains}
+use Rattle.std.specs.Prelude.{ℕ, ◌≤◌, Bool, IsTrue, List, [], ◌∷◌, ◌++◌, length, bytes_eq, Contains}
+use Rattle.std.specs.List.{list_all, list_any}
 use Rattle.command_line.specs.declared.launch.Launch.{Launch}
 use Rattle.proc_host.specs.declared.call.HostAnswer.{HostAnswer}
 use Rattle.proc_host.specs.declared.call.HostFault.{HostFault}
@@ -18,10 +19,16 @@ fault_of (HostRequest.Start launch) = HostFault.Start
 fault_of HostRequest.Collect = HostFault.Collect
 fault_of (HostRequest.Scan folder) = HostFault.Scan
 fault_of (HostRequest.Head path limit) = HostFault.Head
+fault_of (HostRequest.Fetch key number files) = HostFault.Fetch
+fault_of (HostRequest.Store key folder files) = HostFault.Store
 fault_of (HostRequest.Deliver plan) = HostFault.Deliver
 
+-- whether each of the second entries has the name of one of the first
+abbrev pub are_among : List Found → List Found → Bool
+are_among files found = list_all (λ entry. list_any (λ file. bytes_eq file.name entry.name) files) found
+
 -- an answer that a call can give where these children run: a new ticket is none of theirs, a child that ended is one of
--- them, and no more is read of a file than was asked for
+-- them, no more is read of a file than was asked for, and nothing is fetched that was not
 pub data CanAnswer (running : List ℕ) : HostRequest → HostAnswer → Type 0 where
   is_measured : (path : List ℕ) (measure : Measure) → CanAnswer running (HostRequest.Measure path) (HostAnswer.Measured measure)
   is_staged : (plan : StagePlan) (number : ℕ) → CanAnswer running (HostRequest.Stage plan number) HostAnswer.Done
@@ -31,6 +38,9 @@ pub data CanAnswer (running : List ℕ) : HostRequest → HostAnswer → Type 0 
   is_listed : (folder : List ℕ) (found : List Found) → CanAnswer running (HostRequest.Scan folder) (HostAnswer.Listed found)
   is_read : (path : List ℕ) (limit : ℕ) (bytes : List ℕ) → length bytes ≤ limit →
       CanAnswer running (HostRequest.Head path limit) (HostAnswer.FirstBytes bytes)
+  is_fetched : (key : List ℕ) (number : ℕ) (files found : List Found) → IsTrue (are_among files found) →
+      CanAnswer running (HostRequest.Fetch key number files) (HostAnswer.Fetched found)
+  is_stored : (key folder : List ℕ) (files : List Found) → CanAnswer running (HostRequest.Store key folder files) HostAnswer.Done
   is_delivered : (plan : StagePlan) → CanAnswer running (HostRequest.Deliver plan) HostAnswer.Done
   has_failed : (request : HostRequest) → CanAnswer running request (HostAnswer.Failed (fault_of request))
 

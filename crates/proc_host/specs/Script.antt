@@ -10,6 +10,7 @@ use Rattle.proc_host.specs.declared.call.HostFault.TheVariants as faults
 use Rattle.proc_host.specs.declared.child.ChildEnd.{ChildEnd}
 use Rattle.proc_host.specs.declared.reply.Reply.{Reply}
 use Rattle.proc_host.specs.declared.reply.Reply.TheVariants as replies
+use Rattle.proc_host.specs.Answers.{are_among}
 use Rattle.proc_host.specs.Log.{entries_of, starts}
 use Rattle.proc_host.specs.Tickets.{AllUpTo}
 
@@ -39,6 +40,10 @@ answer_by state (requests.Scan folder) (Some (replies.Scan found)) = answers.Lis
 answer_by state (requests.Scan folder) _ = answers.Failed faults.Scan
 answer_by state (requests.Head path limit) (Some (replies.Head bytes)) = if nat_le (length bytes) limit then answers.FirstBytes bytes else answers.Failed faults.Head
 answer_by state (requests.Head path limit) _ = answers.Failed faults.Head
+answer_by state (requests.Fetch key number files) (Some (replies.Fetch found)) = if are_among files found then answers.Fetched found else answers.Failed faults.Fetch
+answer_by state (requests.Fetch key number files) _ = answers.Failed faults.Fetch
+answer_by state (requests.Store key folder files) (Some replies.Store) = answers.Done
+answer_by state (requests.Store key folder files) _ = answers.Failed faults.Store
 answer_by state (requests.Deliver plan) (Some replies.Deliver) = answers.Done
 answer_by state (requests.Deliver plan) _ = answers.Failed faults.Deliver
 

@@ -1,12 +1,12 @@
-ghost use Rattle.std.specs.Prelude.{◌≡◌};
+ghost use Rattle.std.specs.Prelude.{◌≡◌, IfOk};
 ghost use Rattle.proc_host.specs.Faults.{code_of};
 ghost use Rattle.proc_host.specs.declared.call.HostError.TheVariants.{OutOfMemory};
 
 use crate::ChildEnd;
 use command_line::Launch;
 use plain_data::{Items, Text};
-use staging::{Found, Measure, StagePlan};
-use std::alloc::{AllocError, AllocFailed};
+use staging::{Found, Measure, StagePlan, listing_in};
+use std::alloc::{AllocError, AllocFailed, Global};
 use std::error::Error;
 use std::fmt;
 
@@ -23,7 +23,38 @@ pub enum HostRequest {
     Scan(Text),
     /// To read the first bytes of a file, at most so many.
     Head(Text, u64),
+    /// To bring the files that were archived under a key, by a number for the folder that they are put in, from 1.
+    Fetch(Text, u64, Items<Found>),
+    /// To archive under a key what was found in a folder.
+    Store(Text, Text, Items<Found>),
     Deliver(StagePlan),
+}
+
+/// The request of a fetch, in memory of its own.
+pub fn fetch_request(
+    alloc: Global,
+    key: &Text,
+    number: u64,
+    files: &Items<Found>,
+) -> Result<HostRequest, AllocError>
+    ensures { IfOk result (λ request. request ≡ HostRequest.Fetch key.now number files.now) }
+{
+    let files = listing_in(alloc, files)?;
+    Ok(HostRequest::Fetch(key.copied(alloc)?, number, files))
+}
+
+/// The request of a store, in memory of its own.
+pub fn store_request(
+    alloc: Global,
+    key: &Text,
+    folder: &Text,
+    files: &Items<Found>,
+) -> Result<HostRequest, AllocError>
+    ensures { IfOk result (λ request. request ≡ HostRequest.Store key.now folder.now files.now) }
+{
+    let files = listing_in(alloc, files)?;
+    let key = key.copied(alloc)?;
+    Ok(HostRequest::Store(key, folder.copied(alloc)?, files))
 }
 
 /// What a host answered.
@@ -37,6 +68,8 @@ pub enum HostAnswer {
     Listed(Items<Found>),
     /// The first bytes of a file.
     FirstBytes(Items<u8>),
+    /// Those that were there of the files that a fetch named, as they were.
+    Fetched(Items<Found>),
     Failed(HostFault),
 }
 

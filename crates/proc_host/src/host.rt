@@ -1,6 +1,6 @@
-ghost use Rattle.std.specs.Prelude.{◌≡◌, ◌≢◌, ◌≤◌, ◌+◌, ◌++◌, List, ℕ, [], length, IfOk, Contains};
+ghost use Rattle.std.specs.Prelude.{◌≡◌, ◌≢◌, ◌≤◌, ◌+◌, ◌++◌, List, ℕ, [], length, IfOk, IsTrue, Contains};
 ghost use Rattle.proc_host.specs.declared.call.Entry.{Entry};
-ghost use Rattle.proc_host.specs.Answers.{fault_of};
+ghost use Rattle.proc_host.specs.Answers.{are_among, fault_of};
 ghost use Rattle.proc_host.specs.Log.{answer_behind, entries_of, starts, FailsOnlyBy};
 ghost use Rattle.proc_host.specs.Tickets.{IsFresh, running_after, without};
 
@@ -23,21 +23,24 @@ pub trait Host {
     /// Returns what is at a path. A link is taken as what it points to.
     fn measure(&mut self, path: &Text) -> Result<Measure, HostError>
         ensures logged { log self.new ≡ log self.old
-            ++ entries_of (HostRequest.Measure path.now) (answer_behind (λ measure. HostAnswer.Measured measure) result) }
+            ++ entries_of (HostRequest.Measure path.now)
+            (answer_behind (λ measure. HostAnswer.Measured measure) result) }
         ensures own { FailsOnlyBy (fault_of (HostRequest.Measure path.now)) result }
         ensures running { running self.new ≡ running self.old };
 
     /// Lays out the folder of a job: each move copies a file or a folder to its target.
     fn stage(&mut self, plan: &StagePlan, number: u64) -> Result<(), HostError>
         ensures logged { log self.new ≡ log self.old
-            ++ entries_of (HostRequest.Stage plan.now number) (answer_behind (λ _. HostAnswer.Done) result) }
+            ++ entries_of (HostRequest.Stage plan.now number)
+            (answer_behind (λ _. HostAnswer.Done) result) }
         ensures own { FailsOnlyBy (fault_of (HostRequest.Stage plan.now number)) result }
         ensures running { running self.new ≡ running self.old };
 
     /// Starts a child. Ticket numbers count the successful starts of a host from 1.
     fn start(&mut self, launch: &Launch) -> Result<Ticket, HostError>
         ensures logged { log self.new ≡ log self.old
-            ++ entries_of (HostRequest.Start launch.now) (answer_behind (λ ticket. HostAnswer.Started ticket) result) }
+            ++ entries_of (HostRequest.Start launch.now)
+            (answer_behind (λ ticket. HostAnswer.Started ticket) result) }
         ensures own { FailsOnlyBy (fault_of (HostRequest.Start launch.now)) result }
         ensures fresh { IfOk result (λ ticket. IsFresh ticket (running self.old)) }
         ensures started { running self.new ≡ running_after (running self.old) result }
@@ -47,7 +50,8 @@ pub trait Host {
     fn collect(&mut self) -> Result<ChildEnd, HostError>
         requires { running self.old ≢ [] }
         ensures logged { log self.new ≡ log self.old
-            ++ entries_of HostRequest.Collect (answer_behind (λ ending. HostAnswer.Ended ending) result) }
+            ++ entries_of HostRequest.Collect (answer_behind (λ ending. HostAnswer.Ended ending)
+            result) }
         ensures own { FailsOnlyBy (fault_of HostRequest.Collect) result }
         ensures child { IfOk result (λ ending. Contains (running self.old) ending.ticket) }
         ensures running { running self.new ≡ running self.old };
@@ -55,22 +59,48 @@ pub trait Host {
     /// Lists what is below a folder.
     fn scan(&mut self, folder: &Text) -> Result<Items<Found>, HostError>
         ensures logged { log self.new ≡ log self.old
-            ++ entries_of (HostRequest.Scan folder.now) (answer_behind (λ found. HostAnswer.Listed found) result) }
+            ++ entries_of (HostRequest.Scan folder.now)
+            (answer_behind (λ found. HostAnswer.Listed found) result) }
         ensures own { FailsOnlyBy (fault_of (HostRequest.Scan folder.now)) result }
         ensures running { running self.new ≡ running self.old };
 
     /// Reads the first bytes of a file, at most `limit`.
     fn head(&mut self, path: &Text, limit: u64) -> Result<Items<u8>, HostError>
         ensures logged { log self.new ≡ log self.old
-            ++ entries_of (HostRequest.Head path.now limit) (answer_behind (λ bytes. HostAnswer.FirstBytes bytes) result) }
+            ++ entries_of (HostRequest.Head path.now limit)
+            (answer_behind (λ bytes. HostAnswer.FirstBytes bytes) result) }
         ensures own { FailsOnlyBy (fault_of (HostRequest.Head path.now limit)) result }
         ensures within { IfOk result (λ bytes. length bytes ≤ limit) }
+        ensures running { running self.new ≡ running self.old };
+
+    /// Copies what was archived under a key to the folder of this number, and tells which of these files were there, as they were.
+    fn fetch(
+        &mut self,
+        key: &Text,
+        number: u64,
+        files: &Items<Found>,
+    ) -> Result<Items<Found>, HostError>
+        ensures logged { log self.new ≡ log self.old
+            ++ entries_of (HostRequest.Fetch key.now number files.now)
+            (answer_behind (λ found. HostAnswer.Fetched found) result) }
+        ensures own { FailsOnlyBy (fault_of (HostRequest.Fetch key.now number files.now)) result }
+        ensures among { IfOk result (λ found. IsTrue (are_among files.now found)) }
+        ensures running { running self.new ≡ running self.old };
+
+    /// Archives these files of a folder under a key, in the place of what was archived under it before.
+    fn store(&mut self, key: &Text, folder: &Text, files: &Items<Found>) -> Result<(), HostError>
+        ensures logged { log self.new ≡ log self.old
+            ++ entries_of (HostRequest.Store key.now folder.now files.now)
+            (answer_behind (λ _. HostAnswer.Done) result) }
+        ensures own { FailsOnlyBy (fault_of (HostRequest.Store key.now folder.now files.now))
+            result }
         ensures running { running self.new ≡ running self.old };
 
     /// Copies a run's outputs to where they are wanted.
     fn deliver(&mut self, plan: &StagePlan) -> Result<(), HostError>
         ensures logged { log self.new ≡ log self.old
-            ++ entries_of (HostRequest.Deliver plan.now) (answer_behind (λ _. HostAnswer.Done) result) }
+            ++ entries_of (HostRequest.Deliver plan.now)
+            (answer_behind (λ _. HostAnswer.Done) result) }
         ensures own { FailsOnlyBy (fault_of (HostRequest.Deliver plan.now)) result }
         ensures running { running self.new ≡ running self.old };
 

@@ -14,5 +14,6 @@ pub fn failures_count_faults()
 
 /// Closing the ticket that a start has added leaves the children that ran before.
 pub fn closing_undoes_starting()
-    ensures { (ticket : ℕ) (running : List ℕ) → IsFresh ticket running → without ticket (running ++ ticket ∷ []) ≡ running }
+    ensures { (ticket : ℕ) (running : List ℕ) → IsFresh ticket running
+        → without ticket (running ++ ticket ∷ []) ≡ running }
 {}

@@ -11,5 +11,7 @@ pub enum Reply {
     Collect(ChildEnd),
     Scan(Items<Found>),
     Head(Items<u8>),
+    Fetch(Items<Found>),
+    Store,
     Deliver,
 }

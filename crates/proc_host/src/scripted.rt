@@ -1,4 +1,6 @@
-ghost use Rattle.std.specs.Prelude.{◌≡◌, ◌≤◌, ◌+◌, ◌++◌, ◌∷◌, ◌↔◌, ℕ, List, [], IfOk, OnOk, OnErr, IfSome, IfNone, IsTrue, length, nat_le, slice_get, Contains};
+ghost use Rattle.std.specs.Prelude.{◌≡◌, ◌≤◌, ◌+◌, ◌++◌, ◌∷◌, ◌↔◌, ℕ, List, [], IfOk, OnOk, OnErr, IfSome, IfNone, IsTrue, bytes_eq, length, nat_le, slice_get, Contains};
+ghost use Rattle.std.specs.List.{list_any};
+ghost use Rattle.proc_host.specs.Answers.{are_among as among};
 ghost use Rattle.proc_host.specs.Log.{answer_behind, answer_behind_error, entries_of, starts, FailsOnlyBy, IsOnly};
 ghost use Rattle.proc_host.specs.Tickets.{IsFresh, running_after, without};
 ghost use Rattle.proc_host.specs.Script.{Answers, after, can_end};
@@ -6,7 +8,11 @@ ghost use Rattle.proc_host.specs.declared.child.ChildEnd.{ChildEnd};
 ghost use Rattle.staging.specs.declared.found.Found.{Found};
 ghost use Rattle.staging.specs.declared.measure.Measure.{Measure};
 
-use crate::{ChildEnd, Entry, Host, HostAnswer, HostError, HostFault, HostRequest, Reply, Ticket};
+use crate::noting::{bytes_in, note_fetch, note_head, note_measure, note_scan, note_start};
+use crate::{
+    ChildEnd, Entry, Host, HostAnswer, HostError, HostFault, HostRequest, Reply, Ticket,
+    fetch_request, store_request,
+};
 use command_line::Launch;
 use plain_data::{Items, Text};
 use staging::{Found, Measure, StagePlan, listing_in};
@@ -55,7 +61,14 @@ impl Model for Scripted {
 impl Scripted {
     /// A host with nothing behind it: no entries and no children.
     pub fn new(alloc: Global, script: Items<Reply>, least_started: u64) -> Scripted
-        ensures { result ≡ record { script = script; log = []; running = []; started = 0; least_started = least_started } }
+        ensures { result
+            ≡ record {
+              script = script;
+              log = [];
+              running = [];
+              started = 0;
+              least_started = least_started;
+            } }
     {
         Scripted {
             alloc,
@@ -98,10 +111,12 @@ impl Scripted {
 
     // The end that the script tells next, where it can be told now.
     fn next_end(&self) -> Option<ChildEnd>
-        ensures told { IfSome result (λ ending. slice_get self.now.script 0 ≡ Some (Reply.Collect ending)) }
+        ensures told { IfSome result (λ ending. slice_get self.now.script 0
+            ≡ Some (Reply.Collect ending)) }
         ensures runs { IfSome result (λ ending. Contains self.now.running ending.ticket) }
         ensures can { IfSome result (λ ending. IsTrue (can_end self.now ending)) }
-        ensures none { IfNone result ((ending : ChildEnd) → slice_get self.now.script 0 ≡ Some (Reply.Collect ending)
+        ensures none { IfNone result ((ending : ChildEnd) → slice_get self.now.script 0
+            ≡ Some (Reply.Collect ending)
             → IsTrue (can_end self.now ending) → ⊥) }
     {
         let Some(Reply::Collect(ending)) = self.script.get(self.given) else {
@@ -116,8 +131,10 @@ impl Scripted {
 
     // The listing that the script tells next.
     fn next_listing(&self) -> Result<Option<Items<Found>>, AllocError>
-        ensures told { IfOk result (λ next. IfSome next (λ found. slice_get self.now.script 0 ≡ Some (Reply.Scan found))) }
-        ensures none { IfOk result (λ next. IfNone next ((found : List Found) → slice_get self.now.script 0 ≡ Some (Reply.Scan found) → ⊥)) }
+        ensures told { IfOk result (λ next. IfSome next (λ found. slice_get self.now.script 0
+            ≡ Some (Reply.Scan found))) }
+        ensures none { IfOk result (λ next. IfNone next ((found : List Found)
+            → slice_get self.now.script 0 ≡ Some (Reply.Scan found) → ⊥)) }
     {
         let Some(Reply::Scan(found)) = self.script.get(self.given) else {
             return Ok(None);
@@ -127,8 +144,10 @@ impl Scripted {
 
     // What the script next says that there is.
     fn next_measure(&self) -> Result<Option<Measure>, AllocError>
-        ensures told { IfOk result (λ next. IfSome next (λ measure. slice_get self.now.script 0 ≡ Some (Reply.Measure measure))) }
-        ensures none { IfOk result (λ next. IfNone next ((measure : Measure) → slice_get self.now.script 0 ≡ Some (Reply.Measure measure) → ⊥)) }
+        ensures told { IfOk result (λ next. IfSome next (λ measure. slice_get self.now.script 0
+            ≡ Some (Reply.Measure measure))) }
+        ensures none { IfOk result (λ next. IfNone next ((measure : Measure)
+            → slice_get self.now.script 0 ≡ Some (Reply.Measure measure) → ⊥)) }
     {
         let Some(Reply::Measure(measure)) = self.script.get(self.given) else {
             return Ok(None);
@@ -138,9 +157,11 @@ impl Scripted {
 
     // The first bytes that the script tells next, where they are no more than were asked for.
     fn next_head(&self, limit: u64) -> Result<Option<Items<u8>>, AllocError>
-        ensures told { IfOk result (λ next. IfSome next (λ bytes. slice_get self.now.script 0 ≡ Some (Reply.Head bytes))) }
+        ensures told { IfOk result (λ next. IfSome next (λ bytes. slice_get self.now.script 0
+            ≡ Some (Reply.Head bytes))) }
         ensures within { IfOk result (λ next. IfSome next (λ bytes. length bytes ≤ limit)) }
-        ensures none { IfOk result (λ next. IfNone next ((bytes : List ℕ) → slice_get self.now.script 0 ≡ Some (Reply.Head bytes)
+        ensures none { IfOk result (λ next. IfNone next ((bytes : List ℕ)
+            → slice_get self.now.script 0 ≡ Some (Reply.Head bytes)
             → IsTrue (nat_le (length bytes) limit) → ⊥)) }
     {
         let Some(Reply::Head(bytes)) = self.script.get(self.given) else {
@@ -150,6 +171,26 @@ impl Scripted {
             return Ok(None);
         }
         Ok(Some(bytes_in(self.alloc, bytes)?))
+    }
+
+    // What the script says next that there is of these files, where it is of these.
+    fn next_fetch(&self, files: &Items<Found>) -> Result<Option<Items<Found>>, AllocError>
+        ensures told { IfOk result (λ next. IfSome next (λ found. slice_get self.now.script 0
+            ≡ Some (Reply.Fetch found))) }
+        ensures among { IfOk result (λ next. IfSome next (λ found.
+            IsTrue (among files.now found))) }
+        ensures none { IfOk result (λ next. IfNone next ((found : List Found)
+            → slice_get self.now.script 0 ≡ Some (Reply.Fetch found)
+            → IsTrue (among files.now found) → ⊥)) }
+    {
+        let Some(Reply::Fetch(found)) = self.script.get(self.given) else {
+            return Ok(None);
+        };
+        if !are_among(files.as_slice(), found.as_slice()) {
+            return Ok(None);
+        }
+        let fetched = listing_in(self.alloc, found)?;
+        Ok(Some(fetched))
     }
 
     // Notes that a call failed.
@@ -167,83 +208,17 @@ impl Scripted {
     }
 }
 
-// Notes a start in the log, and its ticket among those that run: both, or neither.
-fn note_start(
-    log: &mut Vec<Entry>,
-    running: &mut Vec<u64>,
-    request: HostRequest,
-    number: u64,
-) -> Result<(), AllocError>
-    ensures log { OnOk result (log.new.items ≡ log.old.items
-        ++ record { request = request; answer = HostAnswer.Started number } ∷ []) }
-    ensures running { OnOk result (running.new.items ≡ running.old.items ++ number ∷ []) }
-    ensures err { OnErr result ((log.new.items ≡ log.old.items) × (running.new.items ≡ running.old.items)) }
+// Whether each of what was found has the name of one of these files.
+fn are_among(files: &[Found], found: &[Found]) -> bool
+    ensures { result ≡ among files.now found.now }
 {
-    running.reserve(1)?;
-    log.push(Entry {
-        request,
-        answer: HostAnswer::Started(number),
-    })?;
-    running.push(number).unwrap();
-    Ok(())
+    found.iter().all(|entry| has_name(files, &entry.name))
 }
 
-// Notes in the log what is at a path.
-fn note_measure(
-    alloc: Global,
-    log: &mut Vec<Entry>,
-    path: &Text,
-    measure: &Measure,
-) -> Result<(), AllocError>
-    ensures log { OnOk result (log.new.items ≡ log.old.items
-        ++ record { request = HostRequest.Measure path.now; answer = HostAnswer.Measured measure.now } ∷ []) }
-    ensures err { OnErr result (log.new.items ≡ log.old.items) }
+fn has_name(files: &[Found], name: &Text) -> bool
+    ensures { result ≡ list_any (λ file. bytes_eq file.name name.now) files.now }
 {
-    let request = HostRequest::Measure(path.copied(alloc)?);
-    let answer = HostAnswer::Measured(measure.clone_in(alloc)?);
-    log.push(Entry { request, answer })?;
-    Ok(())
-}
-
-// Notes first bytes in the log.
-fn note_head(
-    alloc: Global,
-    log: &mut Vec<Entry>,
-    path: &Text,
-    limit: u64,
-    bytes: &Items<u8>,
-) -> Result<(), AllocError>
-    ensures log { OnOk result (log.new.items ≡ log.old.items
-        ++ record { request = HostRequest.Head path.now limit; answer = HostAnswer.FirstBytes bytes.now } ∷ []) }
-    ensures err { OnErr result (log.new.items ≡ log.old.items) }
-{
-    let request = HostRequest::Head(path.copied(alloc)?, limit);
-    let answer = HostAnswer::FirstBytes(bytes_in(alloc, bytes)?);
-    log.push(Entry { request, answer })?;
-    Ok(())
-}
-
-fn bytes_in(alloc: Global, bytes: &Items<u8>) -> Result<Items<u8>, AllocError>
-    ensures { IfOk result (λ copy. copy ≡ bytes.now) }
-{
-    Ok(Items::from_vec(Vec::from_slice(alloc, bytes.as_slice())?))
-}
-
-// Notes a listing in the log.
-fn note_scan(
-    alloc: Global,
-    log: &mut Vec<Entry>,
-    folder: &Text,
-    listed: &Items<Found>,
-) -> Result<(), AllocError>
-    ensures log { OnOk result (log.new.items ≡ log.old.items
-        ++ record { request = HostRequest.Scan folder.now; answer = HostAnswer.Listed listed.now } ∷ []) }
-    ensures err { OnErr result (log.new.items ≡ log.old.items) }
-{
-    let request = HostRequest::Scan(folder.copied(alloc)?);
-    let answer = HostAnswer::Listed(listing_in(alloc, listed)?);
-    log.push(Entry { request, answer })?;
-    Ok(())
+    files.iter().any(|file| file.name == *name)
 }
 
 // Takes a ticket out of the running ones.
@@ -260,10 +235,12 @@ impl Host for Scripted {
 
     fn measure(&mut self, path: &Text) -> Result<Measure, HostError>
         ensures logged { self.new.log ≡ self.old.log
-            ++ entries_of (HostRequest.Measure path.now) (answer_behind (λ measure. HostAnswer.Measured measure) result) }
+            ++ entries_of (HostRequest.Measure path.now)
+            (answer_behind (λ measure. HostAnswer.Measured measure) result) }
         ensures own { FailsOnlyBy HostFault.Measure result }
         ensures running { self.new.running ≡ self.old.running }
-        ensures scripted { Answers self.old (HostRequest.Measure path.now) (answer_behind (λ measure. HostAnswer.Measured measure) result) self.new }
+        ensures scripted { Answers self.old (HostRequest.Measure path.now)
+            (answer_behind (λ measure. HostAnswer.Measured measure) result) self.new }
     {
         let Some(measure) = self.next_measure()? else {
             let request = HostRequest::Measure(path.copied(self.alloc)?);
@@ -276,10 +253,12 @@ impl Host for Scripted {
 
     fn stage(&mut self, plan: &StagePlan, number: u64) -> Result<(), HostError>
         ensures logged { self.new.log ≡ self.old.log
-            ++ entries_of (HostRequest.Stage plan.now number) (answer_behind (λ _. HostAnswer.Done) result) }
+            ++ entries_of (HostRequest.Stage plan.now number)
+            (answer_behind (λ _. HostAnswer.Done) result) }
         ensures own { FailsOnlyBy HostFault.Stage result }
         ensures running { self.new.running ≡ self.old.running }
-        ensures scripted { Answers self.old (HostRequest.Stage plan.now number) (answer_behind (λ _. HostAnswer.Done) result) self.new }
+        ensures scripted { Answers self.old (HostRequest.Stage plan.now number)
+            (answer_behind (λ _. HostAnswer.Done) result) self.new }
     {
         let request = HostRequest::Stage(plan.clone_in(self.alloc)?, number);
         if let Some(Reply::Stage) = self.script.get(self.given) {
@@ -295,12 +274,14 @@ impl Host for Scripted {
 
     fn start(&mut self, launch: &Launch) -> Result<Ticket, HostError>
         ensures logged { self.new.log ≡ self.old.log
-            ++ entries_of (HostRequest.Start launch.now) (answer_behind (λ ticket. HostAnswer.Started ticket) result) }
+            ++ entries_of (HostRequest.Start launch.now)
+            (answer_behind (λ ticket. HostAnswer.Started ticket) result) }
         ensures own { FailsOnlyBy HostFault.Start result }
         ensures fresh { IfOk result (λ ticket. IsFresh ticket self.old.running) }
         ensures started { self.new.running ≡ running_after self.old.running result }
         ensures numbered { IfOk result (λ ticket. ticket ≡ starts self.old.log + 1) }
-        ensures scripted { Answers self.old (HostRequest.Start launch.now) (answer_behind (λ ticket. HostAnswer.Started ticket) result) self.new }
+        ensures scripted { Answers self.old (HostRequest.Start launch.now)
+            (answer_behind (λ ticket. HostAnswer.Started ticket) result) self.new }
     {
         let request = HostRequest::Start(launch.clone_in(self.alloc)?);
         if !self.says_start() {
@@ -315,11 +296,13 @@ impl Host for Scripted {
 
     fn collect(&mut self) -> Result<ChildEnd, HostError>
         ensures logged { self.new.log ≡ self.old.log
-            ++ entries_of HostRequest.Collect (answer_behind (λ ending. HostAnswer.Ended ending) result) }
+            ++ entries_of HostRequest.Collect (answer_behind (λ ending. HostAnswer.Ended ending)
+            result) }
         ensures own { FailsOnlyBy HostFault.Collect result }
         ensures child { IfOk result (λ ending. Contains self.old.running ending.ticket) }
         ensures running { self.new.running ≡ self.old.running }
-        ensures scripted { Answers self.old HostRequest.Collect (answer_behind (λ ending. HostAnswer.Ended ending) result) self.new }
+        ensures scripted { Answers self.old HostRequest.Collect
+            (answer_behind (λ ending. HostAnswer.Ended ending) result) self.new }
     {
         let Some(ending) = self.next_end() else {
             return Err(self.refuse(HostRequest::Collect, HostFault::Collect));
@@ -334,10 +317,12 @@ impl Host for Scripted {
 
     fn scan(&mut self, folder: &Text) -> Result<Items<Found>, HostError>
         ensures logged { self.new.log ≡ self.old.log
-            ++ entries_of (HostRequest.Scan folder.now) (answer_behind (λ found. HostAnswer.Listed found) result) }
+            ++ entries_of (HostRequest.Scan folder.now)
+            (answer_behind (λ found. HostAnswer.Listed found) result) }
         ensures own { FailsOnlyBy HostFault.Scan result }
         ensures running { self.new.running ≡ self.old.running }
-        ensures scripted { Answers self.old (HostRequest.Scan folder.now) (answer_behind (λ found. HostAnswer.Listed found) result) self.new }
+        ensures scripted { Answers self.old (HostRequest.Scan folder.now)
+            (answer_behind (λ found. HostAnswer.Listed found) result) self.new }
     {
         let Some(listed) = self.next_listing()? else {
             let request = HostRequest::Scan(folder.copied(self.alloc)?);
@@ -350,11 +335,13 @@ impl Host for Scripted {
 
     fn head(&mut self, path: &Text, limit: u64) -> Result<Items<u8>, HostError>
         ensures logged { self.new.log ≡ self.old.log
-            ++ entries_of (HostRequest.Head path.now limit) (answer_behind (λ bytes. HostAnswer.FirstBytes bytes) result) }
+            ++ entries_of (HostRequest.Head path.now limit)
+            (answer_behind (λ bytes. HostAnswer.FirstBytes bytes) result) }
         ensures own { FailsOnlyBy HostFault.Head result }
         ensures within { IfOk result (λ bytes. length bytes ≤ limit) }
         ensures running { self.new.running ≡ self.old.running }
-        ensures scripted { Answers self.old (HostRequest.Head path.now limit) (answer_behind (λ bytes. HostAnswer.FirstBytes bytes) result) self.new }
+        ensures scripted { Answers self.old (HostRequest.Head path.now limit)
+            (answer_behind (λ bytes. HostAnswer.FirstBytes bytes) result) self.new }
     {
         let Some(bytes) = self.next_head(limit)? else {
             let request = HostRequest::Head(path.copied(self.alloc)?, limit);
@@ -365,12 +352,59 @@ impl Host for Scripted {
         Ok(bytes)
     }
 
+    fn fetch(
+        &mut self,
+        key: &Text,
+        number: u64,
+        files: &Items<Found>,
+    ) -> Result<Items<Found>, HostError>
+        ensures logged { self.new.log ≡ self.old.log
+            ++ entries_of (HostRequest.Fetch key.now number files.now)
+            (answer_behind (λ found. HostAnswer.Fetched found) result) }
+        ensures own { FailsOnlyBy HostFault.Fetch result }
+        ensures among { IfOk result (λ found. IsTrue (among files.now found)) }
+        ensures running { self.new.running ≡ self.old.running }
+        ensures scripted { Answers self.old (HostRequest.Fetch key.now number files.now)
+            (answer_behind (λ found. HostAnswer.Fetched found) result) self.new }
+    {
+        let request = fetch_request(self.alloc, key, number, files)?;
+        let Some(found) = self.next_fetch(files)? else {
+            return Err(self.refuse(request, HostFault::Fetch));
+        };
+        note_fetch(self.alloc, &mut self.log, request, &found)?;
+        self.given += 1;
+        Ok(found)
+    }
+
+    fn store(&mut self, key: &Text, folder: &Text, files: &Items<Found>) -> Result<(), HostError>
+        ensures logged { self.new.log ≡ self.old.log
+            ++ entries_of (HostRequest.Store key.now folder.now files.now)
+            (answer_behind (λ _. HostAnswer.Done) result) }
+        ensures own { FailsOnlyBy HostFault.Store result }
+        ensures running { self.new.running ≡ self.old.running }
+        ensures scripted { Answers self.old (HostRequest.Store key.now folder.now files.now)
+            (answer_behind (λ _. HostAnswer.Done) result) self.new }
+    {
+        let request = store_request(self.alloc, key, folder, files)?;
+        if let Some(Reply::Store) = self.script.get(self.given) {
+            self.log.push(Entry {
+                request,
+                answer: HostAnswer::Done,
+            })?;
+            self.given += 1;
+            return Ok(());
+        }
+        Err(self.refuse(request, HostFault::Store))
+    }
+
     fn deliver(&mut self, plan: &StagePlan) -> Result<(), HostError>
         ensures logged { self.new.log ≡ self.old.log
-            ++ entries_of (HostRequest.Deliver plan.now) (answer_behind (λ _. HostAnswer.Done) result) }
+            ++ entries_of (HostRequest.Deliver plan.now)
+            (answer_behind (λ _. HostAnswer.Done) result) }
         ensures own { FailsOnlyBy HostFault.Deliver result }
         ensures running { self.new.running ≡ self.old.running }
-        ensures scripted { Answers self.old (HostRequest.Deliver plan.now) (answer_behind (λ _. HostAnswer.Done) result) self.new }
+        ensures scripted { Answers self.old (HostRequest.Deliver plan.now)
+            (answer_behind (λ _. HostAnswer.Done) result) self.new }
     {
         let request = HostRequest::Deliver(plan.clone_in(self.alloc)?);
         if let Some(Reply::Deliver) = self.script.get(self.given) {
@@ -387,7 +421,8 @@ impl Host for Scripted {
     fn close(&mut self, ticket: Ticket)
         ensures logged { self.new.log ≡ self.old.log }
         ensures closed { self.new.running ≡ without ticket self.old.running }
-        ensures scripted { self.new ≡ record self.old { running = without ticket self.old.running } }
+        ensures scripted { self.new
+            ≡ record self.old { running = without ticket self.old.running } }
     {
         let number = ticket.spend();
         remove(&mut self.running, number);

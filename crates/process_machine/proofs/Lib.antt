@@ -1,2 +1,4 @@
 pub mod Steps
+pub mod SummedCopy
+pub mod Taken
 pub mod Variables

@@ -1,2 +1,5 @@
+pub mod Archive
+pub mod Copied
 pub mod Launched
 pub mod Machine
+pub mod inner

@@ -1,21 +1,26 @@
 //! The calls of a host: each makes room for its entry, acts, and adds the entry.
-ghost use Rattle.std.specs.Prelude.{◌≡◌, ◌≤◌, ◌++◌, ◌∷◌, [], length, IfOk, OnOk, OnErr, Contains};
+ghost use Rattle.std.specs.Prelude.{◌≡◌, ◌≤◌, ◌++◌, ◌∷◌, [], length, IfOk, OnOk, OnErr, IsTrue, Contains};
+ghost use Rattle.proc_host.specs.Answers.{are_among};
 ghost use Rattle.proc_host.specs.Log.{answer_behind, entries_of, FailsOnlyBy};
 
 use crate::clearing::clear_job;
 use crate::collecting::next_end;
 use crate::delivering::{Undelivered, deliver_all, missed_result};
+use crate::fetching::fetch_all;
 use crate::heads::head_of;
 use crate::layout::lay_out;
 use crate::listing::listing_of;
 use crate::measuring::measure_of;
 use crate::noting::{add, make_room, note, refused, told};
 use crate::spawning::{Flying, spawned};
+use crate::storing::store_all;
 use crate::trouble::Trouble;
 use crate::world::World;
 use command_line::Launch;
 use plain_data::{Items, Text};
-use proc_host::{ChildEnd, Entry, HostAnswer, HostError, HostFault, HostRequest};
+use proc_host::{
+    ChildEnd, Entry, HostAnswer, HostError, HostFault, HostRequest, fetch_request, store_request,
+};
 use staging::{Found, Measure, StagePlan, listing_in};
 use std::mem;
 use std::process::Stdio;
@@ -26,7 +31,8 @@ pub(crate) fn measure<R: World>(
     path: &Text,
 ) -> Result<Measure, HostError>
     ensures logged { log.new.items ≡ log.old.items
-        ++ entries_of (HostRequest.Measure path.now) (answer_behind (λ measure. HostAnswer.Measured measure) result) }
+        ++ entries_of (HostRequest.Measure path.now)
+        (answer_behind (λ measure. HostAnswer.Measured measure) result) }
     ensures own { FailsOnlyBy HostFault.Measure result }
 {
     make_room(log)?;
@@ -48,7 +54,8 @@ pub(crate) fn stage<R: World>(
     number: u64,
 ) -> Result<(), HostError>
     ensures logged { log.new.items ≡ log.old.items
-        ++ entries_of (HostRequest.Stage plan.now number) (answer_behind (λ _. HostAnswer.Done) result) }
+        ++ entries_of (HostRequest.Stage plan.now number)
+        (answer_behind (λ _. HostAnswer.Done) result) }
     ensures own { FailsOnlyBy HostFault.Stage result }
 {
     make_room(log)?;
@@ -70,7 +77,8 @@ pub(crate) fn start<R: World>(
 where
     R::File: Into<Stdio>,
     ensures logged { log.new.items ≡ log.old.items
-        ++ entries_of (HostRequest.Start launch.now) (answer_behind (λ _. HostAnswer.Started ticket) result) }
+        ++ entries_of (HostRequest.Start launch.now) (answer_behind (λ _. HostAnswer.Started ticket)
+        result) }
     ensures own { FailsOnlyBy HostFault.Start result }
     ensures running { OnOk result (running.new.items ≡ running.old.items ++ ticket ∷ []) }
     ensures err { OnErr result (running.new.items ≡ running.old.items) }
@@ -93,7 +101,8 @@ fn begin<R: World>(
 where
     R::File: Into<Stdio>,
     ensures logged { log.new.items ≡ log.old.items
-        ++ entries_of (HostRequest.Start launch.now) (answer_behind (λ _. HostAnswer.Started ticket) result) }
+        ++ entries_of (HostRequest.Start launch.now) (answer_behind (λ _. HostAnswer.Started ticket)
+        result) }
     ensures own { FailsOnlyBy HostFault.Start result }
 {
     make_room(log)?;
@@ -114,7 +123,8 @@ pub(crate) fn collect<R: World>(
     running: &[u64],
 ) -> Result<ChildEnd, HostError>
     ensures logged { log.new.items ≡ log.old.items
-        ++ entries_of HostRequest.Collect (answer_behind (λ ending. HostAnswer.Ended ending) result) }
+        ++ entries_of HostRequest.Collect (answer_behind (λ ending. HostAnswer.Ended ending)
+        result) }
     ensures own { FailsOnlyBy HostFault.Collect result }
     ensures child { IfOk result (λ ending. Contains running.now ending.ticket) }
 {
@@ -136,7 +146,8 @@ pub(crate) fn scan<R: World>(
     folder: &Text,
 ) -> Result<Items<Found>, HostError>
     ensures logged { log.new.items ≡ log.old.items
-        ++ entries_of (HostRequest.Scan folder.now) (answer_behind (λ found. HostAnswer.Listed found) result) }
+        ++ entries_of (HostRequest.Scan folder.now)
+        (answer_behind (λ found. HostAnswer.Listed found) result) }
     ensures own { FailsOnlyBy HostFault.Scan result }
 {
     make_room(log)?;
@@ -157,7 +168,8 @@ pub(crate) fn head<R: World>(
     limit: u64,
 ) -> Result<Items<u8>, HostError>
     ensures logged { log.new.items ≡ log.old.items
-        ++ entries_of (HostRequest.Head path.now limit) (answer_behind (λ bytes. HostAnswer.FirstBytes bytes) result) }
+        ++ entries_of (HostRequest.Head path.now limit)
+        (answer_behind (λ bytes. HostAnswer.FirstBytes bytes) result) }
     ensures own { FailsOnlyBy HostFault.Head result }
     ensures within { IfOk result (λ bytes. length bytes ≤ limit) }
 {
@@ -170,6 +182,51 @@ pub(crate) fn head<R: World>(
         }
         Err(trouble) => Err(refused(log, request, HostFault::Head, trouble)),
     }
+}
+
+pub(crate) fn fetch<R: World>(
+    rt: &R,
+    log: &mut Vec<Entry>,
+    work: &str,
+    archive: Option<&str>,
+    key: &Text,
+    number: u64,
+    files: &Items<Found>,
+) -> Result<Items<Found>, HostError>
+    ensures logged { log.new.items ≡ log.old.items
+        ++ entries_of (HostRequest.Fetch key.now number files.now)
+        (answer_behind (λ found. HostAnswer.Fetched found) result) }
+    ensures own { FailsOnlyBy HostFault.Fetch result }
+    ensures among { IfOk result (λ found. IsTrue (are_among files.now found)) }
+{
+    make_room(log)?;
+    let request = fetch_request(rt.alloc(), key, number, files)?;
+    match fetched_twice(rt, work, archive, key, number, files) {
+        Ok((found, noted)) => {
+            note(log, request, HostAnswer::Fetched(noted));
+            Ok(found)
+        }
+        Err(trouble) => Err(refused(log, request, HostFault::Fetch, trouble)),
+    }
+}
+
+pub(crate) fn store<R: World>(
+    rt: &R,
+    log: &mut Vec<Entry>,
+    archive: Option<&str>,
+    key: &Text,
+    folder: &Text,
+    files: &Items<Found>,
+) -> Result<(), HostError>
+    ensures logged { log.new.items ≡ log.old.items
+        ++ entries_of (HostRequest.Store key.now folder.now files.now)
+        (answer_behind (λ _. HostAnswer.Done) result) }
+    ensures own { FailsOnlyBy HostFault.Store result }
+{
+    make_room(log)?;
+    let request = store_request(rt.alloc(), key, folder, files)?;
+    let outcome = store_all(rt, archive, key.as_str(), folder.as_str(), files.as_slice());
+    told(log, request, HostFault::Store, outcome)
 }
 
 /// Copies results. Where one can't be copied, it is told which, and why, as far as there is room to tell it.
@@ -224,6 +281,23 @@ fn listed_twice<R: World>(
         let _cleared = clear_job(rt, work, folder.as_str(), noted.as_slice());
     }
     Ok((listed, noted))
+}
+
+// What was fetched for the caller, and a copy for the log.
+fn fetched_twice<R: World>(
+    rt: &R,
+    work: &str,
+    archive: Option<&str>,
+    key: &Text,
+    number: u64,
+    files: &Items<Found>,
+) -> Result<(Items<Found>, Items<Found>), Trouble>
+    ensures same { IfOk result (λ pair. pair.0 ≡ pair.1) }
+    ensures among { IfOk result (λ pair. IsTrue (are_among files.now pair.0)) }
+{
+    let found = fetch_all(rt, archive, key.as_str(), work, number, files.as_slice())?;
+    let noted = listing_in(rt.alloc(), &found)?;
+    Ok((found, noted))
 }
 
 // A measure for the caller, and a copy for the log.

@@ -1,7 +1,7 @@
 //! Copies of files and folders.
 
 use crate::identity::names;
-use crate::layout::joined;
+use crate::layout::{joined, make_parent};
 use crate::tree::{Below, is_folder, tree_below};
 use crate::trouble::Trouble;
 use crate::world::World;
@@ -71,10 +71,22 @@ fn copy_below<R: World>(rt: &R, source: &str, below: &Below, target: &str) -> Re
 
 // Makes a folder with the permissions of another, and with its owner's rights.
 fn make_folder<R: World>(rt: &R, source: &str, target: &str) -> Result<(), Trouble> {
-    let mode = fs::metadata(rt, source)?.permissions().mode();
+    let rights = folder_rights(rt, source)?;
     fs::create_dir(rt, target)?;
-    let permissions = Permissions::from_mode(mode | OWNERS_RIGHTS);
-    Ok(fs::set_permissions(rt, target, permissions)?)
+    Ok(fs::set_permissions(rt, target, rights)?)
+}
+
+/// The same of a folder that may be there. The folders above it are made where they are absent.
+pub(crate) fn make_folder_as<R: World>(rt: &R, source: &str, target: &str) -> Result<(), Trouble> {
+    let rights = folder_rights(rt, source)?;
+    fs::create_dir_all(rt, target)?;
+    Ok(fs::set_permissions(rt, target, rights)?)
+}
+
+// The permissions of a folder, with its owner's rights.
+fn folder_rights<R: World>(rt: &R, folder: &str) -> Result<Permissions, Trouble> {
+    let mode = fs::metadata(rt, folder)?.permissions().mode();
+    Ok(Permissions::from_mode(mode | OWNERS_RIGHTS))
 }
 
 fn copy_file<R: World>(rt: &R, source: &str, target: &str) -> Result<(), Trouble> {
@@ -96,6 +108,13 @@ fn copy_from<R: World>(rt: &R, reader: &mut R::File, target: &str) -> Result<(),
     filled
 }
 
+/// A new file at a path, in the place of a file or link that is there. The folders above it are made where they are absent.
+pub(crate) fn made_anew<R: World>(rt: &R, path: &str) -> Result<R::File, Trouble> {
+    make_parent(rt, path)?;
+    clear(rt, path)?;
+    Ok(File::create_new(rt, path)?)
+}
+
 // Removes the file or link at a path, where there is one.
 fn clear<R: World>(rt: &R, path: &str) -> Result<(), Trouble> {
     match fs::remove_file(rt, path) {
@@ -111,9 +130,13 @@ fn fill<F: Read + Write + OpenFile>(
     writer: &mut F,
 ) -> Result<(), Trouble> {
     pour(alloc, reader, writer)?;
+    keep_permissions(reader, writer)
+}
+
+/// Gives a copy the permissions of what it was read from.
+pub(crate) fn keep_permissions<F: OpenFile>(reader: &F, writer: &F) -> Result<(), Trouble> {
     let permissions = reader.metadata()?.permissions();
-    writer.set_permissions(permissions)?;
-    Ok(())
+    Ok(writer.set_permissions(permissions)?)
 }
 
 // Reads to the end in blocks, and writes each.

@@ -66,7 +66,8 @@ pub(crate) fn copy_all<R: World>(
     Ok(())
 }
 
-fn make_parent<R: World>(rt: &R, path: &str) -> Result<(), Trouble> {
+/// Makes the folders above a path, where they are absent.
+pub(crate) fn make_parent<R: World>(rt: &R, path: &str) -> Result<(), Trouble> {
     match path.rsplit_once('/') {
         Some((parent, _)) => Ok(fs::create_dir_all(rt, parent)?),
         None => Ok(()),

@@ -1,17 +1,20 @@
 //! Real processes and real files, as a `Host`.
 //!
 //! A `Machine` measures files, lays out the folders of jobs, starts children, collects their ends, lists folders, reads
-//! the first bytes of files and delivers outputs.
+//! the first bytes of files, archives what jobs left, fetches what was archived, and delivers outputs.
 //! It meets every clause of `Host`, as its contracts say. A child gets exactly the words, the environment and the
 //! folder of its launch (`command_of`). What the calls do to files and processes no contract can say: the rows of
 //! `run_rows` show it.
 #![tactic(auto)]
 
+mod archive;
 mod calls;
 mod clearing;
 mod collecting;
 mod copying;
 mod delivering;
+mod entries;
+mod fetching;
 mod heads;
 mod identity;
 mod layout;
@@ -21,6 +24,8 @@ mod measuring;
 mod messages;
 mod noting;
 mod spawning;
+mod storing;
+mod summing;
 mod tree;
 mod trouble;
 mod world;

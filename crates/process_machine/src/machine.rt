@@ -15,12 +15,14 @@ use std::process::Stdio;
 
 /// A host over real processes and files.
 ///
-/// It writes below its work folder and its output folder, and nowhere else. A child that nobody waits for any more
+/// It writes below its work folder, its archive and its output folder, and nowhere else. A child that nobody waits for any more
 /// runs on.
 #[derive(Drop)]
 pub struct Machine<R: World> {
     rt: R,
     work: Text,
+    // the folder of the archive, where one is kept
+    archive: Option<Text>,
     outdir: Text,
     log: Vec<Entry>,
     running: Vec<u64>,
@@ -50,15 +52,17 @@ impl<R: World> Model for Machine<R> {
 }
 
 impl<R: World> Machine<R> {
-    /// A machine whose jobs have their folders in `work`, which has to be there, and whose outputs are delivered to
-    /// `outdir`. Both are paths from the root, since children run in folders of their own.
-    pub fn new(rt: R, work: Text, outdir: Text) -> Machine<R>
+    /// A machine whose jobs have their folders in `work`, which has to be there, whose jobs' outputs are archived in `archive`, and
+    /// whose outputs are delivered to `outdir`. These are paths from the root, since children run in folders of their own. Without an
+    /// archive each fetch and each store fails.
+    pub fn new(rt: R, work: Text, archive: Option<Text>, outdir: Text) -> Machine<R>
         ensures { result ≡ record { log = []; running = [] } }
     {
         let alloc = rt.alloc();
         Machine {
             rt,
             work,
+            archive,
             outdir,
             log: Vec::new(alloc),
             running: Vec::new(alloc),
@@ -149,6 +153,28 @@ where
         calls::head(&self.rt, &mut self.log, path, limit)
     }
 
+    fn fetch(
+        &mut self,
+        key: &Text,
+        number: u64,
+        files: &Items<Found>,
+    ) -> Result<Items<Found>, HostError> {
+        calls::fetch(
+            &self.rt,
+            &mut self.log,
+            self.work.as_str(),
+            path_in(&self.archive),
+            key,
+            number,
+            files,
+        )
+    }
+
+    fn store(&mut self, key: &Text, folder: &Text, files: &Items<Found>) -> Result<(), HostError> {
+        let archive = path_in(&self.archive);
+        calls::store(&self.rt, &mut self.log, archive, key, folder, files)
+    }
+
     fn deliver(&mut self, plan: &StagePlan) -> Result<(), HostError> {
         calls::deliver(
             &self.rt,
@@ -176,4 +202,11 @@ fn remove(running: &mut Vec<u64>, number: u64)
 // The work folder, where the folders `in` and `tmp` of its jobs are removed.
 fn cleared_below(work: &Text, keeps: bool) -> Option<&str> {
     if keeps { None } else { Some(work.as_str()) }
+}
+
+fn path_in(archive: &Option<Text>) -> Option<&str> {
+    match archive {
+        Some(archive) => Some(archive.as_str()),
+        None => None,
+    }
 }

@@ -39,7 +39,8 @@ pub(crate) fn refused(
     trouble: Trouble,
 ) -> HostError
     requires { vec_len log.old < vec_capacity log.old }
-    ensures logged { log.new.items ≡ log.old.items ++ entries_of request (answer_behind_error result) }
+    ensures logged { log.new.items ≡ log.old.items
+        ++ entries_of request (answer_behind_error result) }
     ensures own { IsOnly fault result }
 {
     match trouble {
@@ -59,7 +60,8 @@ pub(crate) fn told(
     outcome: Result<(), Trouble>,
 ) -> Result<(), HostError>
     requires { vec_len log.old < vec_capacity log.old }
-    ensures logged { log.new.items ≡ log.old.items ++ entries_of request (answer_behind (λ _. HostAnswer.Done) result) }
+    ensures logged { log.new.items ≡ log.old.items
+        ++ entries_of request (answer_behind (λ _. HostAnswer.Done) result) }
     ensures own { FailsOnlyBy fault result }
 {
     match outcome {

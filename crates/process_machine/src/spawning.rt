@@ -107,7 +107,8 @@ fn command_in(alloc: Global, program: &Text, env: &[Variable]) -> Result<Command
     ensures program { IfOk result (λ command. command_program command ≡ program.now) }
     ensures args { IfOk result (λ command. command_args command ≡ []) }
     ensures alone { IfOk result (λ command. clears_env command ≡ true) }
-    ensures env { IfOk result (λ command. (name : List ℕ) → command_var command name ≡ text_under name env.now) }
+    ensures env { IfOk result (λ command. (name : List ℕ) → command_var command name
+        ≡ text_under name env.now) }
 {
     let mut command = Command::new(alloc, program.as_str())?;
     command.env_clear();
@@ -118,7 +119,8 @@ fn command_in(alloc: Global, program: &Text, env: &[Variable]) -> Result<Command
 }
 
 fn set_variable(command: &mut Command, variable: &Variable) -> Result<(), AllocError>
-    ensures set { OnOk result (command_var command.new variable.now.name ≡ Some (Some variable.now.text)) }
+    ensures set { OnOk result (command_var command.new variable.now.name
+        ≡ Some (Some variable.now.text)) }
     ensures others { OnOk result (SameOtherVars command.old command.new variable.now.name) }
     ensures call { OnOk result (SameProgramAndArgs command.old command.new) }
     ensures clears { OnOk result (clears_env command.new ≡ clears_env command.old) }

@@ -30,7 +30,8 @@ impl Ending {
 
     /// Writes the rows to `out`, or the fault to `err`.
     pub fn print<O: Write, E: Write>(&self, out: &mut O, err: &mut E) -> io::Result<()>
-        ensures { OnOk result (Prints self.now (O.contents out.old) (O.contents out.new) (E.contents err.old) (E.contents err.new)) }
+        ensures { OnOk result (Prints self.now (O.contents out.old) (O.contents out.new)
+            (E.contents err.old) (E.contents err.new)) }
     {
         match self {
             Ending::Rows(lines) => write!(out, "{lines}"),

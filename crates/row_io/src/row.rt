@@ -43,19 +43,22 @@ impl Row {
 
     /// The argument as it is written, or `None` where the row lacks it.
     pub fn find(&self, argument: &str) -> Option<&Json>
-        ensures { option_map (λ json. view json.now) result ≡ get argument.now (view self.now.members) }
+        ensures { option_map (λ json. view json.now) result
+            ≡ get argument.now (view self.now.members) }
     {
         self.members.get(argument)
     }
 
     pub fn json(&self, argument: &str) -> Result<&Json, RowFault>
-        ensures { option_map (λ json. view json.now) (result_ok result) ≡ get argument.now (view self.now.members) }
+        ensures { option_map (λ json. view json.now) (result_ok result)
+            ≡ get argument.now (view self.now.members) }
     {
         self.find(argument).ok_or(RowFault::BadArgument)
     }
 
     pub fn text(&self, argument: &str) -> Result<&str, RowFault>
-        ensures { option_map (λ text. text.now) (result_ok result) ≡ option_and_then as_str (get argument.now (view self.now.members)) }
+        ensures { option_map (λ text. text.now) (result_ok result)
+            ≡ option_and_then as_str (get argument.now (view self.now.members)) }
     {
         self.json(argument)?.as_str().ok_or(RowFault::BadArgument)
     }
@@ -63,7 +66,8 @@ impl Row {
     /// A whole number below 2^64.
     pub fn natural(&self, argument: &str) -> Result<u64, RowFault>
         ensures { result_ok result
-            ≡ option_and_then as_u64 (option_and_then as_number (get argument.now (view self.now.members))) }
+            ≡ option_and_then as_u64
+            (option_and_then as_number (get argument.now (view self.now.members))) }
     {
         self.json(argument)?.as_u64().ok_or(RowFault::BadArgument)
     }
@@ -71,13 +75,15 @@ impl Row {
     /// A whole number from -2^63 to 2^63 - 1.
     pub fn whole(&self, argument: &str) -> Result<i64, RowFault>
         ensures { result_ok result
-            ≡ option_and_then as_i64 (option_and_then as_number (get argument.now (view self.now.members))) }
+            ≡ option_and_then as_i64
+            (option_and_then as_number (get argument.now (view self.now.members))) }
     {
         self.json(argument)?.as_i64().ok_or(RowFault::BadArgument)
     }
 
     pub fn flag(&self, argument: &str) -> Result<bool, RowFault>
-        ensures { result_ok result ≡ option_and_then as_bool (get argument.now (view self.now.members)) }
+        ensures { result_ok result
+            ≡ option_and_then as_bool (get argument.now (view self.now.members)) }
     {
         self.json(argument)?.as_bool().ok_or(RowFault::BadArgument)
     }

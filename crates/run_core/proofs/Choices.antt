@@ -11,7 +11,7 @@ use Rattle.run_core.specs.declared.state.JobPhase.{JobPhase}
 use Rattle.run_core.specs.declared.state.Phase.{Phase}
 use Rattle.run_core.specs.declared.state.Turn.{Turn}
 use Rattle.run_core.specs.inner.Course.{known_in, place_at}
-use Rattle.run_core.specs.inner.Follows.{AfterFailureIn}
+use Rattle.run_core.specs.inner.Follows.{AfterFailure}
 use Rattle.run_core.specs.inner.Picks.{AfterFault, Delivers, MayBeNext, NoneToStage, Picks, Stages, Turns, asks, has_result, stages, waits_for_one}
 use Rattle.run_core.specs.inner.Turn.{collects, works}
 
@@ -40,7 +40,7 @@ turns_asks given course number next call phase place turn is at so =
 
 -- after a call that is no collect
 pub fault_by : (given : Given) (old : Course) (phase : Phase) (fault : HostFault) (turn : Turn) (new : Course) → (phase ≡ Phase.Collecting → ⊥) → (phase ≡ Phase.Draining → ⊥) →
-    AfterFault given old fault turn new → AfterFailureIn given old phase fault turn new
+    AfterFault given old fault turn new → AfterFailure given old phase fault turn new
 fault_by given old Phase.Collecting fault turn new one other after = absurd (one refl)
 fault_by given old Phase.Draining fault turn new one other after = absurd (other refl)
 fault_by given old phase fault turn new one other after = after

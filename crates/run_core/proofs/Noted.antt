@@ -1,5 +1,5 @@
 -- What a step may rest on, once an event is noted.
-use Rattle.std.specs.Prelude.{◌<◌, ◌≤◌}
+use Rattle.std.specs.Prelude.{◌<◌}
 use Rattle.std.proofs.Common.{◌≡◌, ◌+◌, ℕ, List, length, sym, ap, subst, arith}
 use Rattle.job_graph.specs.Jobs.{Job}
 use Rattle.run_core.specs.declared.state.Course.{Course}

@@ -1,14 +1,10 @@
 -- What an event makes of the past, field by field.
-use Rattle.std.specs.Prelude.{◌<◌, is_some, slice_get}
+use Rattle.std.specs.Prelude.{◌<◌}
 use Rattle.std.specs.List.{remove}
-use Rattle.std.proofs.Common.{◌≡◌, ◌∙◌, ◌+◌, ℕ, Bool, true, false, not, List, length, get_or, Some, refl, sym, ap, subst}
-use Rattle.std.proofs.Math.ListN.{set}
-use Rattle.std.proofs.lemmas.Option.{same_Some, slice_get-get_or, slice_get_read}
-use Rattle.job_graph.specs.Jobs.{Job}
+use Rattle.std.proofs.Common.{◌≡◌, ◌∙◌, ℕ, List, length, get_or, Some, refl, ap}
+use Rattle.std.proofs.lemmas.Option.{slice_get-get_or, slice_get_read}
 use Rattle.run_core.specs.declared.state.Flight.{Flight}
-use Rattle.run_core.specs.declared.job_states.JobState.{JobState}
 use Rattle.run_core.specs.inner.Course.{Past, TakesOut}
-use Rattle.run_core.specs.inner.JobStates.{given_up_in}
 
 pub takes_out : (ticket index : ℕ) (flight : Flight) (old : Past) (tickets : List ℕ) (flights : List Flight) →
     index < length old.tickets → get_or old.tickets index ticket ≡ ticket → index < length old.flights → flight ≡ get_or old.flights index flight →

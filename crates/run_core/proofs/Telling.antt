@@ -14,7 +14,7 @@ use Rattle.run_rules.specs.declared.outcome.Outcome.{Outcome}
 use Rattle.run_rules.specs.declared.outcome.RunFault.{RunFault}
 use Rattle.run_core.specs.declared.state.Course.{Course}
 use Rattle.run_core.specs.inner.Course.{known_in, past_of, place_at, with_end}
-use Rattle.run_core.specs.inner.Knows.{IsTold, IsUnfolded, Knows, Learns, end_by, fails, knows}
+use Rattle.run_core.specs.inner.Knows.{IsTold, IsUnfolded, Learns, end_by, fails, knows}
 use Rattle.run_core.proofs.Choosing.{place_there}
 
 -- out of memory before anything is told

@@ -8,7 +8,7 @@ use Rattle.run_rules.specs.declared.request.Request.{Request}
 use Rattle.run_rules.specs.declared.request.Pair.{Pair}
 use Rattle.run_rules.specs.declared.setting.Options.{Options}
 use Rattle.run_rules.specs.Allowed.{Allowed, MayStage}
-use Rattle.run_rules.specs.Answers.{flying_after}
+use Rattle.run_rules.specs.Answers.{MayAnswer, flying_after}
 use Rattle.run_rules.specs.Events.{Progress, unfolding_at}
 use Rattle.run_rules.specs.Plans.{number_of}
 use Rattle.run_rules.specs.Reports.{AreWaits, entries_of}
@@ -56,6 +56,16 @@ pub record Begins (process : Process) (inputs : Fields) (options : Options) (cor
 pub data IsLanded (flying : List ℕ) : Answer → Type 0 where
   none_flies : (answer : Answer) → flying_after flying answer ≡ [] → IsLanded flying answer
   collect_lost : IsLanded flying (Answer.Host (HostAnswer.Failed HostFault.Collect))
+
+-- an answer may be taken that the call of what is asked can give; and any, where memory ran out before
+pub data MayTake (core : Machine) (answer : Answer) : Type 0 where
+  answers : MayAnswer core.flying core.asks answer → MayTake core answer
+  lost_before : IsLost core → MayTake core answer
+
+-- memory ran out before: it is said again, and nothing changes
+pub record StaysLost (old : Machine) (result : Result (Unit {0}) RunFault) (new : Machine) : Type 0 where
+  pub err : result ≡ Err RunFault.OutOfMemory
+  pub same : new ≡ old
 
 -- one answer taken: the pair is noted, and it is one of at most so many. An error is that memory ran out, and the machine then asks nothing
 -- more; it comes once no child is waited for any more. Where only the ends of children were asked for, nothing else is

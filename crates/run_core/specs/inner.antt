@@ -10,7 +10,6 @@ pub mod Knows
 pub mod LowestWaiting
 pub mod Measured
 pub mod Measures
-pub mod Parts
 pub mod Picks
 pub mod Places
 pub mod Standing

@@ -63,7 +63,8 @@ fn settled(alloc: Global, course: &mut Course<'_>) -> Turn
 /// The lowest job that waits, where a slot is free.
 fn next_to_stage(given: &Given<'_>, course: &mut Course<'_>) -> Option<usize>
     ensures same { course.new ≡ course.old }
-    ensures found { MatchOption result (NoneToStage given.now course.old) (MayBeNext given.now course.old) }
+    ensures found { MatchOption result (NoneToStage given.now course.old)
+        (MayBeNext given.now course.old) }
 {
     if course.tickets.len() as u64 >= given.options.slots {
         return None;
@@ -101,7 +102,9 @@ fn plan_for(
     folder: u64,
 ) -> Result<StagePlan, AllocError>
     requires { number < length (jobs_in course.now.known) }
-    ensures { IfOk result (λ plan. (job : Job) → slice_get (jobs_in course.now.known) number ≡ Some job → IsPlan false (in_folder given.now.options.work folder) (sources_in given.now.options course.now job.inputs) plan) }
+    ensures { IfOk result (λ plan. (job : Job) → slice_get (jobs_in course.now.known) number
+        ≡ Some job → IsPlan false (in_folder given.now.options.work folder)
+        (sources_in given.now.options course.now job.inputs) plan) }
 {
     let files = sources_of(
         alloc,

@@ -14,7 +14,9 @@ use crate::state::{JobNext, JobPhase, Kept, Reading};
 use crate::turn::failing;
 use crate::turns::{last_first, put_next};
 use crate::{Cause, CollectCause};
-use collected_outputs::{CollectError, StreamNames, collect_outputs, head_limit, heads_wanted};
+use collected_outputs::{
+    CollectError, LeftBehind, StreamNames, collect_outputs, head_limit, heads_wanted,
+};
 use plain_data::{Items, Keyed, Text};
 use proc_host::HostRequest;
 use staging::{Found, listing_in};
@@ -70,7 +72,8 @@ fn first_reading(
 ) -> Result<Reading, AllocError>
     ensures millis { IfOk result (λ reading. reading.millis ≡ millis) }
     ensures found { IfOk result (λ reading. reading.found ≡ found.now) }
-    ensures left { IfOk result (λ reading. AreHeadsWanted (listing_of found.now) kept.now.inputs site.entry.tool.now.outputs (reverse reading.left)) }
+    ensures left { IfOk result (λ reading. AreHeadsWanted (listing_of found.now) kept.now.inputs
+        site.entry.tool.now.outputs (reverse reading.left)) }
     ensures heads { IfOk result (λ reading. reading.heads ≡ []) }
 {
     Ok(Reading {
@@ -88,7 +91,8 @@ fn names_left(
     kept: &Kept,
     found: &[Found],
 ) -> Result<Items<Text>, AllocError>
-    ensures { IfOk result (λ left. AreHeadsWanted (listing_of found.now) kept.now.inputs site.entry.tool.now.outputs (reverse left)) }
+    ensures { IfOk result (λ left. AreHeadsWanted (listing_of found.now) kept.now.inputs
+        site.entry.tool.now.outputs (reverse left)) }
 {
     match heads_wanted(alloc, site.tool, &kept.inputs, found) {
         Ok(wanted) => Ok(last_first(wanted)),
@@ -112,7 +116,8 @@ pub(crate) fn read(
 
 /// Puts the first bytes of the file whose turn it is under its name.
 fn put_head(alloc: Global, reading: &mut Reading, bytes: &Items<u8>) -> Result<(), AllocError>
-    ensures puts { OnOk result (PutsNext reading.old.left reading.old.heads bytes.now reading.new.left reading.new.heads) }
+    ensures puts { OnOk result (PutsNext reading.old.left reading.old.heads bytes.now
+        reading.new.left reading.new.heads) }
     ensures found { reading.new.found ≡ reading.old.found }
     ensures millis { reading.new.millis ≡ reading.old.millis }
 {
@@ -127,7 +132,8 @@ fn read_on(
     kept: Kept,
     reading: Reading,
 ) -> Result<JobNext, AllocError>
-    ensures { IfOk result (Collects site.entry kept reading.millis reading.found reading.heads (reverse reading.left)) }
+    ensures { IfOk result (Collects site.entry kept reading.millis reading.found reading.heads
+        (reverse reading.left)) }
 {
     // That a list has fewer items than 2^64 is a fact of its type.
     let _few = reading.left.len();
@@ -142,7 +148,9 @@ fn read_on(
 
 /// Asks for the first bytes of a file of the output folder.
 fn head_of(alloc: Global, site: Site<'_, '_>, name: &Text) -> Result<HostRequest, AllocError>
-    ensures { IfOk result (λ asks. asks ≡ Call.Head (path_under (out_folder site.entry.options.now.work site.entry.folder) name.now) (limit_of name.now)) }
+    ensures { IfOk result (λ asks. asks
+        ≡ Call.Head (path_under (out_folder site.entry.options.now.work site.entry.folder) name.now)
+        (limit_of name.now)) }
 {
     let folder = out_folder(alloc, &site.options.work, site.folder)?;
     let path = path_in(alloc, &folder, name)?;
@@ -183,14 +191,13 @@ fn gathered(
         stderr: name_or_empty(&kept.stderr),
     };
     let found = reading.found.as_slice();
-    match collect_outputs(
-        alloc,
-        site.tool,
-        &kept.inputs,
+    let left = LeftBehind {
+        inputs: &kept.inputs,
         streams,
         found,
-        &reading.heads,
-    ) {
+        heads: &reading.heads,
+    };
+    match collect_outputs(alloc, site.tool, left) {
         Ok(outputs) => Ok(JobNext::Gives(outputs)),
         Err(CollectError::Refused(fault)) => {
             let cause = CollectCause::Output(fault);

@@ -132,7 +132,9 @@ pub(crate) fn note_failure(
     cause: Cause,
 ) -> Result<(), AllocError>
     requires { number < length (known_in course.old.known) }
-    ensures ok { OnOk result (past_of course.new ≡ with_end (permanent (place_at (known_in course.old.known) number) cause) (past_of course.old)) }
+    ensures ok { OnOk result (past_of course.new
+        ≡ with_end (permanent (place_at (known_in course.old.known) number) cause)
+        (past_of course.old)) }
     ensures err { OnErr result (past_of course.new ≡ past_of course.old) }
     ensures known { course.new.known ≡ course.old.known }
 {
@@ -150,7 +152,8 @@ pub(crate) fn note_giving_up(
 ) -> Result<(), AllocError>
     requires number { number < length course.old.jobs }
     requires known { number < length (known_in course.old.known) }
-    ensures ok { OnOk result (GivesUp (known_in course.old.known) number retries (past_of course.old) (past_of course.new)) }
+    ensures ok { OnOk result (GivesUp (known_in course.old.known) number retries
+        (past_of course.old) (past_of course.new)) }
     ensures tickets { course.new.tickets.items ≡ course.old.tickets.items }
     ensures folders { course.new.folders ≡ course.old.folders }
     ensures known { course.new.known ≡ course.old.known }
@@ -173,9 +176,12 @@ pub(crate) fn note_success(
     outputs: Keyed<Value>,
 ) -> Result<(), AllocError>
     requires { number < length (known_in course.old.known) }
-    ensures settled { OnOk result (IsSome course.old.end → past_of course.new ≡ past_of course.old) }
+    ensures settled { OnOk result (IsSome course.old.end → past_of course.new
+        ≡ past_of course.old) }
     ensures unlearned { OnOk result (IsSome course.old.end → course.new.known ≡ course.old.known) }
-    ensures learned { OnOk result (course.old.end ≡ None → Learns (record { place = place_at (known_in course.old.known) number; outputs = outputs }) course.old course.new) }
+    ensures learned { OnOk result (course.old.end ≡ None
+        → Learns (record { place = place_at (known_in course.old.known) number; outputs = outputs })
+        course.old course.new) }
     ensures err { OnErr result (past_of course.new ≡ past_of course.old) }
     ensures tickets { course.new.tickets.items ≡ course.old.tickets.items }
     ensures folders { course.new.folders ≡ course.old.folders }
@@ -203,7 +209,8 @@ fn learn(
 ) -> Result<(), UnfoldError>
     requires { number < length (known_in course.old.known) }
     ensures told { (kept : Held) → course.old.known ≡ Some kept →
-        IsTold (record { place = place_at (known_in course.old.known) number; outputs = outputs }) kept course.new.known result }
+        IsTold (record { place = place_at (known_in course.old.known) number; outputs = outputs })
+        kept course.new.known result }
     ensures past { past_of course.new ≡ past_of course.old }
 {
     let place = copy_job(alloc, &job_of(course, number).place)?;

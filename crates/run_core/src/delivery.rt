@@ -1,8 +1,7 @@
 //! The result, once no job is left.
 ghost use Rattle.std.specs.Prelude.{◌≡◌, false, true, IfOk};
 ghost use Rattle.run_core.specs.inner.Knows.{outputs_in};
-ghost use Rattle.run_core.specs.inner.Picks.{Delivers, DeliversFiles, delivered_in, sources_in};
-ghost use Rattle.run_core.specs.inner.Turn.{succeeds};
+ghost use Rattle.run_core.specs.inner.Picks.{Delivers, DeliversFiles, sources_in};
 ghost use Rattle.run_rules.specs.Delivered.{any_file, located};
 ghost use Rattle.job_graph.specs.Words.{last_by_name};
 ghost use Rattle.staging.specs.Plan.{IsPlan};
@@ -108,20 +107,10 @@ fn plan_of(
     course: &Course<'_>,
     outputs: Keyed<Value>,
 ) -> Result<StagePlan, AllocError>
-    ensures { IfOk result (IsPlan true given.now.options.outdir (sources_in given.now.options course.now outputs)) }
+    ensures { IfOk result
+        (IsPlan true given.now.options.outdir (sources_in given.now.options course.now outputs)) }
 {
     let files = sources_of(alloc, &given.options, course, &outputs);
     mem::drop(outputs);
     deliver_plan(alloc, &files?, given.options.outdir.as_str())
-}
-
-/// The result's files are where they are wanted: the outputs that name them are the end.
-pub(crate) fn delivered(phase: &mut Phase) -> Turn
-    ensures { result ≡ succeeds (delivered_in phase.old) }
-{
-    let outputs = match phase {
-        Phase::Delivering(outputs) => mem::replace(outputs, Value::Null),
-        _ => Value::Null,
-    };
-    succeeded(outputs)
 }

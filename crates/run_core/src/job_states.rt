@@ -108,7 +108,8 @@ impl JobStates {
     /// Adds jobs that were never touched, up to the one of this number.
     fn reach(&mut self, number: usize) -> Result<(), AllocError>
         ensures reached { OnOk result (number < length self.new) }
-        ensures same { (folder : ℕ) → staged_in number folder self.new ≡ staged_in number folder self.old }
+        ensures same { (folder : ℕ) → staged_in number folder self.new
+            ≡ staged_in number folder self.old }
     {
         while self.states.len() <= number {
             self.states.push(JobState {

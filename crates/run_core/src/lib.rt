@@ -17,7 +17,6 @@ mod files;
 mod folders;
 mod job_states;
 mod measuring;
-mod parts;
 mod places;
 mod runner;
 mod site;

@@ -5,12 +5,10 @@ ghost use Rattle.job_graph.specs.Paths.{input_paths};
 ghost use Rattle.run_core.specs.inner.Course.{nothing_past, past_of};
 ghost use Rattle.run_core.specs.inner.Knows.{IsUnfolded};
 ghost use Rattle.run_core.specs.inner.Measures.{Begins, MeasuresOn, TakesMeasure};
-ghost use Rattle.run_core.specs.inner.Parts.{measuring_in};
 ghost use Rattle.run_core.specs.inner.Turns.{PutsNext};
 
 use crate::choice::pick;
 use crate::course::{end_by, settle};
-use crate::parts::measuring_in;
 use crate::state::{Course, Given, Measuring, Phase, Turn};
 use crate::turn::waiting;
 use crate::turns::{last_first, put_next};
@@ -42,14 +40,14 @@ pub(crate) fn measured<'a>(
     alloc: Global,
     given: &Given<'a>,
     course: &mut Course<'a>,
-    phase: &mut Phase,
+    mut measuring: Measuring,
     measure: &Measure,
 ) -> Result<Turn, AllocError>
     requires { course.old.folders + 1 < 2 ^ 64 }
-    ensures is { IfOk result (λ turn. TakesMeasure given.now course.old (measuring_in phase.old) measure.now turn course.new) }
+    ensures is { IfOk result (λ turn. TakesMeasure given.now course.old measuring measure.now turn
+        course.new) }
     ensures flying { OnErr result (course.new.tickets.items ≡ course.old.tickets.items) }
 {
-    let mut measuring = measuring_in(alloc, phase);
     put_measure(alloc, &mut measuring, measure)?;
     measure_on(alloc, given, course, measuring)
 }
@@ -59,7 +57,8 @@ fn put_measure(
     measuring: &mut Measuring,
     measure: &Measure,
 ) -> Result<(), AllocError>
-    ensures { OnOk result (PutsNext measuring.old.left measuring.old.measures measure.now measuring.new.left measuring.new.measures) }
+    ensures { OnOk result (PutsNext measuring.old.left measuring.old.measures measure.now
+        measuring.new.left measuring.new.measures) }
 {
     let measure = measure.clone_in(alloc)?;
     put_next(&mut measuring.left, &mut measuring.measures, measure)
@@ -100,7 +99,9 @@ fn know<'a>(
     course: &mut Course<'a>,
     measures: Keyed<Measure>,
 ) -> Result<(), AllocError>
-    ensures is { OnOk result (IsUnfolded (walker given.now.process.now given.now.inputs.now measures) [] course.old course.new) }
+    ensures is { OnOk result
+        (IsUnfolded (walker given.now.process.now given.now.inputs.now measures) [] course.old
+        course.new) }
     ensures past { OnErr result (past_of course.new ≡ past_of course.old) }
 {
     match Unfolding::new(alloc, given.process, given.inputs, measures) {

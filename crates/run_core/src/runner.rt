@@ -1,16 +1,17 @@
 ghost use Rattle.std.specs.Prelude.{◌≡◌, ◌≢◌, ◌↔◌, ◌+◌, ◌<◌, ◌≤◌, ◌∷◌, ◌++◌, [], None, Err, IfOk, IfErr, OnOk, length, vec_len, vec_capacity};
 ghost use Rattle.proc_host.specs.declared.call.HostRequest.{HostRequest};
 ghost use Rattle.run_rules.specs.declared.outcome.RunFault.{RunFault};
+ghost use Rattle.run_rules.specs.declared.request.Answer.{Answer as Told};
 ghost use Rattle.run_rules.specs.declared.request.Request.{Request};
 ghost use Rattle.run_rules.specs.Answers.{MayAnswer, flying_after};
-ghost use Rattle.run_rules.specs.Blame.{BlamesRightly};
+ghost use Rattle.run_rules.specs.Blame.{BlamesRightly, Rise, given_tickets};
 ghost use Rattle.run_rules.specs.Reports.{entries_of, reported, Concludes};
 ghost use Rattle.job_graph.specs.Words.{JobPlace};
 ghost use Rattle.run_core.specs.declared.state.Phase.{Phase};
-ghost use Rattle.run_core.specs.Core.{IsLost, MayAsk, Begins, Took, GaveUp};
+ghost use Rattle.run_core.specs.Core.{IsLost, MayAsk, MayTake, Begins, StaysLost, Took, GaveUp};
 ghost use Rattle.run_core.specs.Limits.{IsWithinLimits};
 ghost use Rattle.run_core.specs.inner.Course.{past_of};
-ghost use Rattle.run_core.specs.inner.Follows.{AsksIn, HasPairs, IsReadyFor, MakesRoom, Moves, told_of};
+ghost use Rattle.run_core.specs.inner.Follows.{AsksIn, AsksOf, HasPairs, IsReadyFor, MakesRoom, Moves, told_of};
 ghost use Rattle.run_core.specs.inner.Measures.{Begins as BeginsAt};
 ghost use Rattle.run_core.specs.inner.Standing.{HasRoom};
 ghost use Rattle.run_core.specs.inner.Turn.{IsEnded};
@@ -19,7 +20,6 @@ ghost use Rattle.workflow_check.specs.Checked.{fault_in};
 use crate::anyway::can_go_on;
 use crate::course::{at_first, reserve_one};
 use crate::measuring::begun;
-use crate::parts::job_in;
 use crate::state::{Course, Given, Phase, Turn};
 use crate::steps::follows;
 use crate::turn::{ended, given_up, lost};
@@ -28,6 +28,7 @@ use cwl_value::Value;
 use document_links::Process;
 use job_graph::see_ids;
 use plain_data::{Items, Keyed};
+use proc_host::HostAnswer;
 use run_rules::an_honest_run_is_reported_rightly;
 use std::alloc::{AllocError, Global};
 use std::marker::Model;
@@ -105,15 +106,19 @@ impl<'a> RunCore<'a> {
     /// What it asks now, which may be asked after the run so far; `Finished` where it has ended.
     pub fn next(&self) -> &Request
         ensures asked { result.now ≡ self.now.asks }
-        ensures flying { (place : JobPlace) → self.now.asks ≡ Request.Host place HostRequest.Collect → self.now.flying ≢ [] }
+        ensures flying { (place : JobPlace) → self.now.asks ≡ Request.Host place HostRequest.Collect
+            → self.now.flying ≢ [] }
         ensures allowed { self.now.asks ≢ Request.Finished → MayAsk self.now }
     {
         &self.turn.asks
     }
 
-    /// The tickets of the children in flight, while it asks something.
+    /// The tickets of the children in flight, while it asks something. They rise where each new ticket is above those given
+    /// before it, as a host's are.
     pub fn in_flight(&self) -> &[u64]
-        ensures { result.now ≡ self.now.flying }
+        ensures flying { result.now ≡ self.now.flying }
+        ensures rising { self.now.asks ≢ Request.Finished
+            → Rise (given_tickets (entries_of self.now.transcript)) → Rise result.now }
     {
         self.course.tickets.as_slice()
     }
@@ -128,11 +133,28 @@ impl<'a> RunCore<'a> {
 
     /// Takes the answer to what it asks. Where memory runs out for what comes next, the pair is kept, the children in
     /// flight are waited for, and nothing else is asked; once none is in flight it answers so, and `finish` says so too.
+    /// From then on any answer is refused so, and changes nothing.
     pub fn take(&mut self, answer: Answer) -> Result<(), RunFault>
+        requires { MayTake self.old answer }
+        ensures took { MayAnswer self.old.flying self.old.asks answer
+            → Took self.old answer result self.new }
+        ensures lost { IsLost self.old → StaysLost self.old result self.new }
+    {
+        match told_of(&self.turn.phase) {
+            Ok(()) => self.take_next(answer),
+            Err(fault) => {
+                mem::drop(answer);
+                Err(fault)
+            }
+        }
+    }
+
+    /// Takes the answer to what it asks.
+    fn take_next(&mut self, answer: Answer) -> Result<(), RunFault>
         requires { MayAnswer self.old.flying self.old.asks answer }
         ensures { Took self.old answer result self.new }
     {
-        can_go_on(&self.course, job_in(&self.turn.phase));
+        can_go_on(&self.course, &self.turn.phase);
         let request = step(
             self.alloc,
             &self.given,
@@ -218,10 +240,11 @@ fn step<'a>(
     ensures asked { result ≡ turn.old.asks }
     ensures moved { Moves given.now course.old turn.old answer.now turn.new course.new }
 {
-    let next = next_turn(alloc, given, course, turn, answer);
-    let asked = mem::replace(&mut turn.asks, Request::Finished);
+    let Turn { asks, phase } = mem::replace(turn, ended(Err(RunFault::OutOfMemory)));
+    let Answer::Host(answer) = answer;
+    let next = next_turn(alloc, given, course, &asks, phase, answer);
     mem::drop(mem::replace(turn, next));
-    asked
+    asks
 }
 
 /// The turn that follows from the answer, or the one that waits for the children in flight alone where memory runs out.
@@ -229,17 +252,18 @@ fn next_turn<'a>(
     alloc: Global,
     given: &Given<'a>,
     course: &mut Course<'a>,
-    turn: &mut Turn,
-    answer: &Answer,
+    asks: &Request,
+    phase: Phase,
+    answer: &HostAnswer,
 ) -> Turn
-    requires answers { MayAnswer course.old.tickets.items turn.old.asks answer.now }
-    requires asks { AsksIn course.old turn.old }
-    requires room { HasRoom course.old turn.old.phase }
-    requires ready { IsReadyFor course.old turn.old.phase }
-    ensures asked { turn.new.asks ≡ turn.old.asks }
-    ensures moved { Moves given.now course.old turn.old answer.now result course.new }
+    requires answers { MayAnswer course.old.tickets.items asks.now (Told.Host answer.now) }
+    requires asks { AsksOf course.old asks.now phase }
+    requires room { HasRoom course.old phase }
+    requires ready { IsReadyFor course.old phase }
+    ensures moved { Moves given.now course.old (record { asks = asks.now; phase = phase })
+        (Told.Host answer.now) result course.new }
 {
-    match follows(alloc, given, course, turn, answer) {
+    match follows(alloc, given, course, asks, phase, answer) {
         Ok(next) => next,
         Err(AllocError) => lost(alloc, course),
     }
@@ -248,7 +272,8 @@ fn next_turn<'a>(
 /// Adds a pair where there is room for it.
 fn note(pairs: &mut Vec<Pair>, request: Request, answer: Answer)
     requires { vec_len pairs.old < vec_capacity pairs.old }
-    ensures items { pairs.new.items ≡ pairs.old.items ++ record { request = request; answer = answer } ∷ [] }
+    ensures items { pairs.new.items ≡ pairs.old.items
+        ++ record { request = request; answer = answer } ∷ [] }
     ensures len { vec_len pairs.new ≡ vec_len pairs.old + 1 }
     ensures room { vec_capacity pairs.old ≤ vec_capacity pairs.new }
 {
@@ -262,7 +287,8 @@ fn make_room(alloc: Global, pairs: &mut Vec<Pair>, course: &mut Course<'_>, turn
     ensures items { pairs.new.items ≡ pairs.old.items }
     ensures past { past_of course.new ≡ past_of course.old }
     ensures known { course.new.known ≡ course.old.known }
-    ensures room { MakesRoom (vec_len pairs.new) (vec_capacity pairs.new) (past_of course.old) turn.old turn.new }
+    ensures room { MakesRoom (vec_len pairs.new) (vec_capacity pairs.new) (past_of course.old)
+        turn.old turn.new }
     ensures one_more { HasRoom course.new turn.new.phase }
 {
     match turn.phase {
@@ -283,7 +309,8 @@ fn reserve(pairs: &mut Vec<Pair>, course: &mut Course<'_>) -> Result<(), AllocEr
     ensures past { past_of course.new ≡ past_of course.old }
     ensures known { course.new.known ≡ course.old.known }
     ensures kept { vec_capacity pairs.old ≤ vec_capacity pairs.new }
-    ensures pairs { OnOk result (vec_len pairs.new + (length course.old.tickets.items + 2) ≤ vec_capacity pairs.new) }
+    ensures pairs { OnOk result (vec_len pairs.new + (length course.old.tickets.items + 2)
+        ≤ vec_capacity pairs.new) }
     ensures tickets { OnOk result (vec_len course.new.tickets < vec_capacity course.new.tickets) }
     ensures flights { OnOk result (vec_len course.new.flights < vec_capacity course.new.flights) }
 {

@@ -29,7 +29,9 @@ pub(crate) fn filled_first(
     site: Site<'_, '_>,
     staged: &Keyed<Value>,
 ) -> Result<JobNext, AllocError>
-    ensures { IfOk result (λ next. Starts site.entry staged.now [] (wanted_heads site.entry.tool.now.inputs staged.now) next) }
+    ensures { IfOk result
+        (λ next. Starts site.entry staged.now []
+        (wanted_heads site.entry.tool.now.inputs staged.now) next) }
 {
     let filling = first_filling(alloc, site, staged)?;
     fill_on(alloc, site, filling)
@@ -41,7 +43,8 @@ fn first_filling(
     staged: &Keyed<Value>,
 ) -> Result<Filling, AllocError>
     ensures staged { IfOk result (λ filling. filling.staged ≡ staged.now) }
-    ensures left { IfOk result (λ filling. filling.left ≡ reverse (wanted_heads site.entry.tool.now.inputs staged.now)) }
+    ensures left { IfOk result (λ filling. filling.left
+        ≡ reverse (wanted_heads site.entry.tool.now.inputs staged.now)) }
     ensures heads { IfOk result (λ filling. filling.heads ≡ []) }
 {
     let wanted = heads_wanted(alloc, site.tool.inputs.as_slice(), staged)?;
@@ -66,7 +69,8 @@ pub(crate) fn filled(
 }
 
 fn put_contents(alloc: Global, filling: &mut Filling, bytes: &Items<u8>) -> Result<(), AllocError>
-    ensures puts { OnOk result (PutsNext filling.old.left filling.old.heads bytes.now filling.new.left filling.new.heads) }
+    ensures puts { OnOk result (PutsNext filling.old.left filling.old.heads bytes.now
+        filling.new.left filling.new.heads) }
     ensures staged { filling.new.staged ≡ filling.old.staged }
 {
     let bytes = Items::from_vec(bytes.as_slice().to_vec(alloc)?);
@@ -75,7 +79,8 @@ fn put_contents(alloc: Global, filling: &mut Filling, bytes: &Items<u8>) -> Resu
 
 /// The next input file's contents are read; where all are, the job is started.
 fn fill_on(alloc: Global, site: Site<'_, '_>, filling: Filling) -> Result<JobNext, AllocError>
-    ensures { IfOk result (λ next. Starts site.entry filling.staged filling.heads (reverse filling.left) next) }
+    ensures { IfOk result (λ next. Starts site.entry filling.staged filling.heads
+        (reverse filling.left) next) }
 {
     // That a list has fewer items than 2^64 is a fact of its type.
     let _few = filling.left.len();
@@ -127,8 +132,12 @@ fn launched(alloc: Global, site: Site<'_, '_>, inputs: Keyed<Value>) -> Result<J
 }
 
 fn launch_of(alloc: Global, site: Site<'_, '_>, inputs: &Keyed<Value>) -> Result<Launch, BuildError>
-    ensures ok { IfOk result (IsLaunch site.entry.tool.now inputs.now (runtime_of site.entry.options.now site.entry.folder)) }
-    ensures err { IfErr result (IsError site.entry.tool.now inputs.now (runtime_of site.entry.options.now site.entry.folder)) }
+    ensures ok { IfOk result
+        (IsLaunch site.entry.tool.now inputs.now
+        (runtime_of site.entry.options.now site.entry.folder)) }
+    ensures err { IfErr result
+        (IsError site.entry.tool.now inputs.now
+        (runtime_of site.entry.options.now site.entry.folder)) }
 {
     let runtime = runtime_of(alloc, site.options, site.folder)?;
     build(alloc, site.tool, inputs, &runtime)
@@ -136,7 +145,8 @@ fn launch_of(alloc: Global, site: Site<'_, '_>, inputs: &Keyed<Value>) -> Result
 
 /// The child is to be started.
 fn starting(alloc: Global, launch: Launch, inputs: Keyed<Value>) -> Result<JobNext, AllocError>
-    ensures { IfOk result (λ next. next ≡ Next.Asks (Call.Start launch) (InPhase.Starting (kept_of inputs launch))) }
+    ensures { IfOk result (λ next. next
+        ≡ Next.Asks (Call.Start launch) (InPhase.Starting (kept_of inputs launch))) }
 {
     let kept = kept_of(alloc, &launch, inputs)?;
     Ok(JobNext::Asks(HostRequest::Start(launch), JobPhase::Starting(kept)))

@@ -2,10 +2,11 @@
 ghost use Rattle.std.specs.Prelude.{◌≡◌, ◌<◌, ◌+◌, ◌^◌, ◌∷◌, ◌++◌, [], Contains, IfOk, OnErr, length, vec_len, vec_capacity};
 ghost use Rattle.run_core.specs.declared.state.Phase.{Phase as Waits};
 ghost use Rattle.run_core.specs.inner.Course.{known_in};
-ghost use Rattle.run_core.specs.inner.Follows.{AfterBytes, AfterFailure, AsksIn, CanStage, Drains, FollowsFrom, IsLeftAfter, IsOneLess, IsReady, IsReadyFor};
-ghost use Rattle.run_core.specs.inner.Parts.{filling_in, job_in, kept_in, millis_in, reading_in};
+ghost use Rattle.run_core.specs.inner.Follows.{AfterFailure, AnswersWork, AsksOf, CanStage, Drains, FollowsIn, FollowsWork, IsLeftAfter, IsOneLess, IsReady, IsReadyFor, IsStaging};
 ghost use Rattle.run_core.specs.inner.Picks.{AfterChild, AfterInputHead, AfterListing, AfterOutputHead, AfterStaging, AfterStart, AfterTemporary, IsScanned, IsSite, Turns};
 ghost use Rattle.run_core.specs.inner.Standing.{HasRoom};
+ghost use Rattle.proc_host.specs.declared.call.HostAnswer.{HostAnswer as HostSays};
+ghost use Rattle.run_rules.specs.declared.request.Answer.{Answer as Told};
 ghost use Rattle.run_rules.specs.Answers.{MayAnswer};
 
 use crate::choice::pick;
@@ -13,14 +14,12 @@ use crate::collects::{listed, read, scanning};
 use crate::course::{
     job_of, note_end, note_failure, note_giving_up, note_staging, note_start, note_success, settle,
 };
-use crate::delivery::delivered;
 use crate::measuring::measured;
-use crate::parts::{filling_in, job_in, kept_in, millis_in, reading_in};
 use crate::site::Site;
 use crate::starts::{filled, filled_first};
-use crate::state::{Course, Flight, Given, JobNext, JobPhase, Phase, Turn};
-use crate::turn::{ended, failing, lost, working};
-use crate::{Answer, Cause, Request, RunFault};
+use crate::state::{Course, Filling, Flight, Given, JobNext, JobPhase, Kept, Phase, Reading, Turn};
+use crate::turn::{ended, failing, lost, succeeded, working};
+use crate::{Cause, Request, RunFault};
 use cwl_value::Value;
 use plain_data::{Items, Keyed};
 use proc_host::{ChildEnd, ExitClass, HostAnswer, HostFault, HostRequest, classify};
@@ -28,40 +27,73 @@ use staging::Found;
 use std::alloc::{AllocError, Global};
 use std::mem;
 
-/// What the machine waits for after this answer to what it asks.
+/// What the machine waits for after this answer to what it asked, by where it was.
 pub(crate) fn follows<'a>(
     alloc: Global,
     given: &Given<'a>,
     course: &mut Course<'a>,
-    turn: &mut Turn,
-    answer: &Answer,
+    asks: &Request,
+    phase: Phase,
+    answer: &HostAnswer,
 ) -> Result<Turn, AllocError>
-    requires answers { MayAnswer course.old.tickets.items turn.old.asks answer.now }
-    requires asks { AsksIn course.old turn.old }
-    requires room { HasRoom course.old turn.old.phase }
-    requires ready { IsReadyFor course.old turn.old.phase }
-    ensures next { IfOk result (λ next. FollowsFrom given.now course.old turn.old answer.now next course.new) }
-    ensures memory { OnErr result (IsLeftAfter course.old.tickets.items answer.now course.new.tickets.items) }
-    ensures going { OnErr result (turn.old.phase ≡ Waits.Draining → ⊥) }
-    ensures asked { turn.new.asks ≡ turn.old.asks }
+    requires answers { MayAnswer course.old.tickets.items asks.now (Told.Host answer.now) }
+    requires asks { AsksOf course.old asks.now phase }
+    requires room { HasRoom course.old phase }
+    requires ready { IsReadyFor course.old phase }
+    ensures next { IfOk result (λ next. FollowsIn given.now course.old phase answer.now asks.now
+        next course.new) }
+    ensures memory { OnErr result (IsLeftAfter course.old.tickets.items (Told.Host answer.now)
+        course.new.tickets.items) }
+    ensures going { OnErr result (phase ≡ Waits.Draining → ⊥) }
 {
-    let Answer::Host(answer) = answer;
-    match answer {
-        HostAnswer::Done => match &turn.asks {
-            Request::Host(_, HostRequest::Stage(plan, _)) => {
-                staged(alloc, given, course, job_in(&turn.phase), &plan.value)
-            }
-            _ => Ok(delivered(&mut turn.phase)),
-        },
-        HostAnswer::Measured(measure) => measured(alloc, given, course, &mut turn.phase, measure),
-        HostAnswer::Started(ticket) => started(alloc, given, course, &mut turn.phase, *ticket),
-        HostAnswer::Ended(ending) => match turn.phase {
-            Phase::Draining => Ok(drained(alloc, course, ending)),
-            _ => landed(alloc, given, course, ending),
-        },
-        HostAnswer::Listed(found) => on_listing(alloc, given, course, &mut turn.phase, found),
-        HostAnswer::FirstBytes(bytes) => on_bytes(alloc, given, course, &mut turn.phase, bytes),
-        HostAnswer::Failed(fault) => failed(alloc, given, course, turn, *fault),
+    if let HostAnswer::Failed(fault) = answer {
+        return failed(alloc, given, course, phase, *fault);
+    }
+    match (phase, answer) {
+        (Phase::Measuring(measuring), HostAnswer::Measured(measure)) => {
+            measured(alloc, given, course, measuring, measure)
+        }
+        (Phase::Staging(job), HostAnswer::Done) => staged(alloc, given, course, job, asks),
+        (Phase::Working(job, work), answer) => works_on(alloc, given, course, job, work, answer),
+        (Phase::Collecting, HostAnswer::Ended(ending)) => landed(alloc, given, course, ending),
+        (Phase::Draining, HostAnswer::Ended(ending)) => Ok(drained(alloc, course, ending)),
+        (Phase::Delivering(outputs), HostAnswer::Done) => Ok(succeeded(outputs)),
+        _ => unreachable!(),
+    }
+}
+
+/// What the machine waits for after an answer to the open work on a job.
+fn works_on(
+    alloc: Global,
+    given: &Given<'_>,
+    course: &mut Course<'_>,
+    number: usize,
+    work: JobPhase,
+    answer: &HostAnswer,
+) -> Result<Turn, AllocError>
+    requires ready { IsReady course.old }
+    requires number { number < length course.old.jobs }
+    requires room { HasRoom course.old (Waits.Working number work) }
+    requires answers { AnswersWork work answer.now }
+    ensures next { IfOk result (λ next. FollowsWork given.now course.old number work answer.now next
+        course.new) }
+    ensures memory { OnErr result (IsLeftAfter course.old.tickets.items (Told.Host answer.now)
+        course.new.tickets.items) }
+{
+    match (work, answer) {
+        (JobPhase::Filling(filling), HostAnswer::FirstBytes(bytes)) => {
+            on_input_bytes(alloc, given, course, number, filling, bytes)
+        }
+        (JobPhase::Starting(kept), HostAnswer::Started(ticket)) => {
+            started(alloc, given, course, number, kept, *ticket)
+        }
+        (JobPhase::Scanning(kept, millis), HostAnswer::Listed(found)) => {
+            on_listing(alloc, given, course, number, kept, millis, found)
+        }
+        (JobPhase::Reading(kept, reading), HostAnswer::FirstBytes(bytes)) => {
+            on_output_bytes(alloc, given, course, number, kept, reading, bytes)
+        }
+        _ => unreachable!(),
     }
 }
 
@@ -106,8 +138,30 @@ fn turn_of(
     }
 }
 
-/// The job's folders are made.
+/// The job's folders are made, as was asked.
 fn staged(
+    alloc: Global,
+    given: &Given<'_>,
+    course: &mut Course<'_>,
+    number: usize,
+    asked: &Request,
+) -> Result<Turn, AllocError>
+    requires ready { IsReady course.old }
+    requires stages { CanStage course.old number }
+    requires asked { IsStaging asked.now }
+    ensures is { IfOk result (λ turn. FollowsIn given.now course.old (Waits.Staging number)
+        HostSays.Done asked.now turn course.new) }
+    ensures flying { OnErr result (course.new.tickets.items ≡ course.old.tickets.items) }
+{
+    match asked {
+        Request::Host(_, HostRequest::Stage(plan, _)) => {
+            staged_by(alloc, given, course, number, &plan.value)
+        }
+        _ => unreachable!(),
+    }
+}
+
+fn staged_by(
     alloc: Global,
     given: &Given<'_>,
     course: &mut Course<'_>,
@@ -116,7 +170,8 @@ fn staged(
 ) -> Result<Turn, AllocError>
     requires ready { IsReady course.old }
     requires stages { CanStage course.old number }
-    ensures is { IfOk result (λ turn. AfterStaging given.now course.old number inputs.now turn course.new) }
+    ensures is { IfOk result (λ turn. AfterStaging given.now course.old number inputs.now turn
+        course.new) }
     ensures flying { OnErr result (course.new.tickets.items ≡ course.old.tickets.items) }
 {
     note_staging(course, number)?;
@@ -129,17 +184,19 @@ fn started(
     alloc: Global,
     given: &Given<'_>,
     course: &mut Course<'_>,
-    phase: &mut Phase,
+    number: usize,
+    kept: Kept,
     ticket: u64,
 ) -> Result<Turn, AllocError>
     requires ready { IsReady course.old }
     requires tickets { vec_len course.old.tickets < vec_capacity course.old.tickets }
     requires flights { vec_len course.old.flights < vec_capacity course.old.flights }
-    ensures is { IfOk result (λ turn. AfterStart given.now course.old (job_in phase.old) (kept_in phase.old) ticket turn course.new) }
-    ensures flying { OnErr result (course.new.tickets.items ≡ course.old.tickets.items ++ ticket ∷ []) }
+    ensures is { IfOk result (λ turn. AfterStart given.now course.old number kept ticket turn
+        course.new) }
+    ensures flying { OnErr result (course.new.tickets.items
+        ≡ course.old.tickets.items ++ ticket ∷ []) }
 {
-    let kept = kept_in(alloc, phase);
-    note_start(course, job_in(phase), kept, ticket);
+    note_start(course, number, kept, ticket);
     pick(alloc, given, course)
 }
 
@@ -153,7 +210,8 @@ fn landed(
     requires ready { IsReady course.old }
     requires flies { Contains course.old.tickets.items ending.now.ticket }
     ensures is { IfOk result (λ turn. AfterChild given.now course.old ending.now turn course.new) }
-    ensures flying { OnErr result (IsOneLess ending.now.ticket course.old.tickets.items course.new.tickets.items) }
+    ensures flying { OnErr result (IsOneLess ending.now.ticket course.old.tickets.items
+        course.new.tickets.items) }
 {
     let flight = note_end(course, ending.ticket);
     match classify(&job_of(course, flight.job).tool.exit_codes, ending.code) {
@@ -183,7 +241,8 @@ fn scanned(
     requires folders { course.old.folders + 1 < 2 ^ 64 }
     requires number { flight.job < length course.old.jobs }
     requires known { flight.job < length (known_in course.old.known) }
-    ensures is { IfOk result (λ turn. IsScanned given.now course.old flight millis turn course.new) }
+    ensures is { IfOk result (λ turn. IsScanned given.now course.old flight millis turn
+        course.new) }
     ensures flying { OnErr result (course.new.tickets.items ≡ course.old.tickets.items) }
 {
     let Flight { job, kept } = flight;
@@ -213,40 +272,19 @@ fn on_listing(
     alloc: Global,
     given: &Given<'_>,
     course: &mut Course<'_>,
-    phase: &mut Phase,
+    number: usize,
+    kept: Kept,
+    millis: u64,
     found: &Items<Found>,
 ) -> Result<Turn, AllocError>
     requires ready { IsReady course.old }
-    requires number { job_in phase.old < length course.old.jobs }
-    ensures is { IfOk result (λ turn. AfterListing given.now course.old (job_in phase.old) (kept_in phase.old) (millis_in phase.old) found.now turn course.new) }
+    requires number { number < length course.old.jobs }
+    ensures is { IfOk result (λ turn. AfterListing given.now course.old number kept millis found.now
+        turn course.new) }
     ensures flying { OnErr result (course.new.tickets.items ≡ course.old.tickets.items) }
 {
-    let number = job_in(phase);
-    let millis = millis_in(phase);
-    let kept = kept_in(alloc, phase);
     let next = listed(alloc, site_of(given, course, number), kept, millis, found)?;
     turn_of(alloc, given, course, number, next)
-}
-
-/// The first bytes of a file are read: of an input, or of what the job's child left.
-fn on_bytes(
-    alloc: Global,
-    given: &Given<'_>,
-    course: &mut Course<'_>,
-    phase: &mut Phase,
-    bytes: &Items<u8>,
-) -> Result<Turn, AllocError>
-    requires ready { IsReady course.old }
-    requires number { job_in phase.old < length course.old.jobs }
-    ensures is { IfOk result (λ turn. AfterBytes given.now course.old phase.old bytes.now turn course.new) }
-    ensures flying { OnErr result (course.new.tickets.items ≡ course.old.tickets.items) }
-{
-    match phase {
-        Phase::Working(_, JobPhase::Filling(_)) => {
-            on_input_bytes(alloc, given, course, phase, bytes)
-        }
-        _ => on_output_bytes(alloc, given, course, phase, bytes),
-    }
 }
 
 /// The first bytes of an input file are read.
@@ -254,16 +292,16 @@ fn on_input_bytes(
     alloc: Global,
     given: &Given<'_>,
     course: &mut Course<'_>,
-    phase: &mut Phase,
+    number: usize,
+    filling: Filling,
     bytes: &Items<u8>,
 ) -> Result<Turn, AllocError>
     requires ready { IsReady course.old }
-    requires number { job_in phase.old < length course.old.jobs }
-    ensures is { IfOk result (λ turn. AfterInputHead given.now course.old (job_in phase.old) (filling_in phase.old) bytes.now turn course.new) }
+    requires number { number < length course.old.jobs }
+    ensures is { IfOk result (λ turn. AfterInputHead given.now course.old number filling bytes.now
+        turn course.new) }
     ensures flying { OnErr result (course.new.tickets.items ≡ course.old.tickets.items) }
 {
-    let number = job_in(phase);
-    let filling = filling_in(alloc, phase);
     let next = filled(alloc, site_of(given, course, number), filling, bytes)?;
     turn_of(alloc, given, course, number, next)
 }
@@ -273,17 +311,17 @@ fn on_output_bytes(
     alloc: Global,
     given: &Given<'_>,
     course: &mut Course<'_>,
-    phase: &mut Phase,
+    number: usize,
+    kept: Kept,
+    reading: Reading,
     bytes: &Items<u8>,
 ) -> Result<Turn, AllocError>
     requires ready { IsReady course.old }
-    requires number { job_in phase.old < length course.old.jobs }
-    ensures is { IfOk result (λ turn. AfterOutputHead given.now course.old (job_in phase.old) (kept_in phase.old) (reading_in phase.old) bytes.now turn course.new) }
+    requires number { number < length course.old.jobs }
+    ensures is { IfOk result (λ turn. AfterOutputHead given.now course.old number kept reading
+        bytes.now turn course.new) }
     ensures flying { OnErr result (course.new.tickets.items ≡ course.old.tickets.items) }
 {
-    let number = job_in(phase);
-    let reading = reading_in(alloc, phase);
-    let kept = kept_in(alloc, phase);
     let next = read(alloc, site_of(given, course, number), kept, reading, bytes)?;
     turn_of(alloc, given, course, number, next)
 }
@@ -293,15 +331,16 @@ fn failed(
     alloc: Global,
     given: &Given<'_>,
     course: &mut Course<'_>,
-    turn: &Turn,
+    phase: Phase,
     fault: HostFault,
 ) -> Result<Turn, AllocError>
-    requires ready { IsReadyFor course.old turn.now.phase }
-    ensures is { IfOk result (λ next. AfterFailure given.now course.old turn.now fault next course.new) }
+    requires ready { IsReadyFor course.old phase }
+    ensures is { IfOk result (λ next. AfterFailure given.now course.old phase fault next
+        course.new) }
     ensures flying { OnErr result (course.new.tickets.items ≡ course.old.tickets.items) }
-    ensures going { OnErr result (turn.now.phase ≡ Waits.Draining → ⊥) }
+    ensures going { OnErr result (phase ≡ Waits.Draining → ⊥) }
 {
-    match turn.phase {
+    match phase {
         Phase::Collecting => {
             let running = mem::replace(&mut course.tickets, Vec::new(alloc));
             Ok(ended(Err(RunFault::Host(fault, Items::from_vec(running)))))
@@ -310,7 +349,8 @@ fn failed(
             course.tickets.clear();
             Ok(lost(alloc, course))
         }
-        _ => {
+        phase => {
+            mem::drop(phase);
             settle(course, Err(RunFault::Host(fault, Items::new(alloc))));
             pick(alloc, given, course)
         }

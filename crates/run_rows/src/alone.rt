@@ -5,13 +5,15 @@ ghost use Rattle.std.specs.Prelude.{◌≡◌, true, IfOk, OnOk};
 ghost use Rattle.proc_host.specs.Answers.{CanAnswer};
 ghost use Rattle.proc_host.specs.declared.call.HostRequest.{HostRequest as Call};
 ghost use Rattle.proc_host.specs.Tickets.{IsFresh};
+ghost use Rattle.run_core.specs.Core.{Took};
+ghost use Rattle.run_rules.specs.Answers.{MayAnswer};
 ghost use Rattle.run_rules.specs.declared.request.Request.{Request as Asks};
 
 use cwl_value::{JobPlace, place_text};
 use plain_data::{Items, Text};
 use proc_host::{ChildEnd, HostAnswer, HostFault, HostRequest};
 use row_io::RowFault;
-use run_core::{Answer, Request, RunCore};
+use run_core::{Answer, Request, RunCore, RunFault};
 use staging::{Found, Measure};
 use std::alloc::{AllocError, Global};
 
@@ -48,7 +50,7 @@ pub fn drive(alloc: Global, core: &mut RunCore<'_>, chance: &mut Chance) -> Resu
 {
     while let Request::Host(place, request) = core.next() {
         let answer = answer_to(alloc, place, request, core.in_flight(), chance)?;
-        if core.take(Answer::Host(answer)).is_err() {
+        if take_answer(core, Answer::Host(answer)).is_err() {
             return Err(RowFault::OutOfMemory);
         }
     }
@@ -67,11 +69,19 @@ pub fn drive_for(
             return Ok(());
         };
         let answer = answer_to(alloc, place, request, core.in_flight(), chance)?;
-        if core.take(Answer::Host(answer)).is_err() {
+        if take_answer(core, Answer::Host(answer)).is_err() {
             return Err(RowFault::OutOfMemory);
         }
     }
     Ok(())
+}
+
+/// Takes an answer that the call can give.
+pub fn take_answer(core: &mut RunCore<'_>, answer: Answer) -> Result<(), RunFault>
+    requires { MayAnswer core.old.flying core.old.asks answer }
+    ensures { Took core.old answer result core.new }
+{
+    core.take(answer)
 }
 
 fn answer_to(
@@ -90,6 +100,8 @@ fn answer_to(
         HostRequest::Collect => Ok(ended(flying, chance)),
         HostRequest::Scan(_) => Ok(HostAnswer::Listed(left_at(alloc, place)?)),
         HostRequest::Head(_, _) => Ok(HostAnswer::FirstBytes(Items::new(alloc))),
+        HostRequest::Fetch(_, _, _) => Ok(HostAnswer::Fetched(Items::new(alloc))),
+        HostRequest::Store(_, _, _) => Ok(HostAnswer::Done),
         HostRequest::Deliver(_) => Ok(HostAnswer::Done),
     }
 }

@@ -3,7 +3,7 @@ ghost use Rattle.std.specs.Prelude.{◌≡◌, ◌≢◌, OnOk};
 ghost use Rattle.run_core.specs.Limits.{IsWithinLimits};
 ghost use Rattle.run_rules.specs.declared.request.Request.{Request as Asks};
 
-use crate::alone::{Chance, drive_for, ended};
+use crate::alone::{Chance, drive_for, ended, take_answer};
 use crate::end::end_json;
 use crate::run::{Case, case_of, options_of};
 use proc_host::HostRequest;
@@ -90,7 +90,7 @@ fn waits(core: &mut RunCore<'_>, chance: &mut Chance) -> Result<u64, RowFault>
             return Err(RowFault::BadArgument);
         };
         let answer = ended(core.in_flight(), chance);
-        let _told = core.take(Answer::Host(answer));
+        let _told = take_answer(core, Answer::Host(answer));
         count = count.saturating_add(1);
     }
     Ok(count)

@@ -1,7 +1,7 @@
 use crate::copies::{listing_json, measure_json};
 use crate::list::{List, numbers};
 use crate::requests::requests;
-use crate::script::script_of;
+use crate::script::{listing_of, script_of};
 use command_line::Launch;
 use plain_data::{Items, Keyed, Text};
 use proc_host::{ChildEnd, Host, HostError, Scripted, Ticket};
@@ -11,7 +11,8 @@ use std::alloc::{AllocError, Global};
 use std::str;
 
 /// What a scripted host answers to the row's calls, one after the other: `measure`, `stage`, `start`, `collect`, `scan`,
-/// `head` (of three bytes at most), `deliver`, and `close` for the ticket that was started last.
+/// `head` (of three bytes at most), `fetch` and `store` (both of the row's `files`), `deliver`, and `close` for the ticket that was
+/// started last.
 pub fn answer(alloc: Global, row: &Row) -> Result<String, RowFault> {
     let script = script_of(alloc, row)?;
     let mut host = Scripted::new(alloc, script, row.natural("least_started")?);
@@ -52,7 +53,7 @@ fn answers(
     let mut list = List::new(alloc)?;
     for call in row.list("calls")? {
         let call = call.as_str().ok_or(RowFault::BadArgument)?;
-        let answer = answer_to(alloc, call, host, held)?;
+        let answer = answer_to(alloc, row, call, host, held)?;
         list.push(answer.as_str())?;
     }
     Ok(list.close()?)
@@ -60,6 +61,7 @@ fn answers(
 
 fn answer_to(
     alloc: Global,
+    row: &Row,
     call: &str,
     host: &mut Scripted,
     held: &mut Vec<Ticket>,
@@ -71,6 +73,8 @@ fn answer_to(
         "collect" => collected(alloc, host),
         "scan" => scanned(alloc, host),
         "head" => read(alloc, host),
+        "fetch" => fetched(alloc, row, host),
+        "store" => stored(alloc, row, host),
         "deliver" => done(alloc, host.deliver(&no_moves(alloc))),
         "close" => closed(alloc, host, held),
         _ => Err(RowFault::BadArgument),
@@ -141,6 +145,22 @@ fn scanned(alloc: Global, host: &mut Scripted) -> Result<String, RowFault> {
         Ok(found) => listing_json(alloc, &found),
         Err(error) => failed(alloc, error),
     }
+}
+
+fn fetched(alloc: Global, row: &Row, host: &mut Scripted) -> Result<String, RowFault> {
+    let key = Text::from_text(alloc, "k")?;
+    let files = listing_of(alloc, row.json("files")?)?;
+    match host.fetch(&key, 1, &files) {
+        Ok(found) => listing_json(alloc, &found),
+        Err(error) => failed(alloc, error),
+    }
+}
+
+fn stored(alloc: Global, row: &Row, host: &mut Scripted) -> Result<String, RowFault> {
+    let key = Text::from_text(alloc, "k")?;
+    let folder = Text::from_text(alloc, "w/j1/out")?;
+    let files = listing_of(alloc, row.json("files")?)?;
+    done(alloc, host.store(&key, &folder, &files))
 }
 
 fn measured(alloc: Global, host: &mut Scripted) -> Result<String, RowFault> {

@@ -1,3 +1,4 @@
+mod archives;
 mod child;
 mod children;
 mod copies;
@@ -20,6 +21,7 @@ pub fn told_of(rt: &HostRuntime, row: &Row) -> Result<String, RowFault> {
 
 fn told_in(rt: &HostRuntime, row: &Row, place: &str) -> Result<String, RowFault> {
     match row.call() {
+        "archive" => archives::told_of(rt, row, place),
         "child" => child::told_of(rt, row, place),
         "children" => children::told_of(rt, row, place),
         "stage" | "deliver" => copies::told_of(rt, row, place),

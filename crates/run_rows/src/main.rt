@@ -4,7 +4,8 @@
 //! A host's script is a list of the answers that it gives: `{"measured":MEASURE}` (null, `[SIZE,SUM]` or
 //! `{"folder":[..]}`), `{"head":TEXT}`, `{"staged":true}`, `{"started":true}`,
 //! `{"ended":[TICKET,CODE,MILLIS]}` (the code is null for a child that a signal ended),
-//! `{"found":[[NAME,IS_DIR,SIZE,SUM]]}` and `{"delivered":true}`. A call that the script does not answer next fails.
+//! `{"found":[[NAME,IS_DIR,SIZE,SUM]]}`, `{"fetched":[..]}` with such entries, `{"stored":true}` and `{"delivered":true}`. A call that
+//! the script does not answer next fails.
 #![tactic(auto)]
 
 mod alone;
@@ -44,6 +45,7 @@ impl Answers for Calls<'_> {
             "main_run" => words::program(self.0, row),
             "main_run_out_of_room" => words::program_out_of_room(self.0, row),
             "child" | "children" | "stage" | "deliver" => machine::told_of(self.0, row),
+            "archive" => machine::told_of(self.0, row),
             "measure" | "scan" | "head" => machine::told_of(self.0, row),
             "main_run_on_files" => machine::told_of(self.0, row),
             _ => Err(RowFault::UnknownCall),

@@ -1,8 +1,9 @@
 use crate::list::List;
 use command_line::Launch;
+use plain_data::Items;
 use proc_host::{Entry, HostRequest};
 use row_io::RowFault;
-use staging::StagePlan;
+use staging::{Found, StagePlan};
 use std::alloc::{AllocError, Global};
 
 /// The requests of a log, as a JSON list of texts.
@@ -23,6 +24,15 @@ fn request(alloc: Global, request: &HostRequest) -> Result<String, AllocError> {
         HostRequest::Head(path, limit) => format!(in alloc; "head {limit} {}", path.as_str()),
         HostRequest::Collect => String::from_str(alloc, "collect"),
         HostRequest::Scan(folder) => format!(in alloc; "scan {}", folder.as_str()),
+        HostRequest::Fetch(key, number, files) => {
+            names(format!(in alloc; "fetch {number} {}", key.as_str())?, files)
+        }
+        HostRequest::Store(key, folder, files) => {
+            names(
+                format!(in alloc; "store {} {}", key.as_str(), folder.as_str())?,
+                files,
+            )
+        }
         HostRequest::Deliver(plan) => moves(String::from_str(alloc, "deliver")?, plan),
     }
 }
@@ -33,6 +43,15 @@ fn start(alloc: Global, launch: &Launch) -> Result<String, AllocError> {
     for word in launch.words.as_slice() {
         text.push(' ')?;
         text.push_str(word.as_str())?;
+    }
+    Ok(text)
+}
+
+/// A text, and behind it the name of each entry of a listing.
+fn names(mut text: String, files: &Items<Found>) -> Result<String, AllocError> {
+    for file in files.as_slice() {
+        text.push(' ')?;
+        text.push_str(file.name.as_str())?;
     }
     Ok(text)
 }

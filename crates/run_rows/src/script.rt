@@ -21,6 +21,9 @@ fn reply_of(alloc: Global, json: &Json) -> Result<Reply, RowFault> {
     if let Some(found) = json.get("found") {
         return Ok(Reply::Scan(listing_of(alloc, found)?));
     }
+    if let Some(found) = json.get("fetched") {
+        return Ok(Reply::Fetch(listing_of(alloc, found)?));
+    }
     if let Some(measure) = json.get("measured") {
         return Ok(Reply::Measure(measure_of(alloc, measure)?));
     }
@@ -58,6 +61,9 @@ fn bare_reply(json: &Json) -> Option<Reply> {
     }
     if json.get("started").is_some() {
         return Some(Reply::Start);
+    }
+    if json.get("stored").is_some() {
+        return Some(Reply::Store);
     }
     json.get("delivered")?;
     Some(Reply::Deliver)

@@ -9,11 +9,11 @@ use Rattle.job_graph.specs.Unfold.{Resolved, Unfolded, is_at, outputs_at, unfold
 use Rattle.job_graph.specs.Words.{Fields, JobPlace, is_same_place}
 use Rattle.job_key.specs.Key.{key}
 use Rattle.run_rules.specs.Scene.{Scene}
-use Rattle.run_rules.specs.Events.{Event, file_measured, job_staged, job_started, child_exited, job_succeeded, job_failed, job_failed_for_now, result_delivered, host_failed, collect_failed, measures, are_measured, resolved, resolves, unfolding_at, job_at}
+use Rattle.run_rules.specs.Events.{Event, file_measured, job_staged, job_started, child_exited, job_succeeded, job_failed, job_failed_for_now, result_delivered, host_failed, collect_failed, measures, are_measured, resolved, resolves, job_at}
 use Rattle.run_rules.specs.Honest.{AgreesAt, AgreesFrom}
-use Rattle.run_rules.proofs.Measuring.{FitsAt, Fits, IsKnownAt, resolved_more, resolved_success}
+use Rattle.run_rules.proofs.Measuring.{FitsAt, Fits, resolved_more, resolved_success}
 use Rattle.run_rules.proofs.Places.{same_place}
-use Rattle.run_rules.proofs.Staying.{measured_if_known, stays_one, unfolding_if}
+use Rattle.run_rules.proofs.Staying.{stays_one, unfolding_if}
 
 -- what places agree with a world: the outputs of each that is resolved are those that the world gives the job that is known there
 abbrev pub Agrees : World → Walker → List Resolved → Type 0

@@ -1,6 +1,6 @@
 -- What is found in a list is one of its items.
 use Rattle.std.specs.Prelude.{Contains}
-use Rattle.std.proofs.Common.{◌≡◌, Bool, true, false, cond, suc, List, [], ◌∷◌, find, Option, Some, None, unwrap_or, ap, refl, arith}
+use Rattle.std.proofs.Common.{◌≡◌, Bool, true, false, cond, suc, List, [], ◌∷◌, find, Option, Some, unwrap_or, ap, arith}
 
 module _ {X : Type 0} (p : X → Bool) where
   by_first : (x : X) (xs : List X) (y : X) (holds : Bool) → cond holds (Some x) (find p xs) ≡ Some y → (find p xs ≡ Some y → Contains xs y) → Contains (x ∷ xs) y

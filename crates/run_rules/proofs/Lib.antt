@@ -4,6 +4,8 @@ pub mod OneJob
 pub mod Few
 pub mod TranscriptTells
 pub mod Measuring
+pub mod Named
+pub mod Rising
 pub mod Places
 pub mod Staying
 pub mod Finding

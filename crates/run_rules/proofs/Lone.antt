@@ -1,5 +1,5 @@
 -- The walk through a lone tool, by any inputs that it has for what was measured.
-use Rattle.std.proofs.Common.{◌≡◌, ◌∙◌, ◌++◌, List, [], Result, sym, ap}
+use Rattle.std.proofs.Common.{◌≡◌, ◌∙◌, ◌++◌, Bool, List, [], Result, sym, ap}
 use Rattle.cwl_process.specs.declared.tool.Tool.{Tool}
 use Rattle.document_links.specs.declared.process.Process.{out-Process, out-roll-Process, fold-roll-Process}
 use Rattle.document_links.specs.declared.process.Process.TheOpen.{Process-F}
@@ -13,17 +13,18 @@ use Rattle.job_graph.specs.Equations.{Meaning, StepMeaning, meaning_of, process_
 use Rattle.job_graph.specs.Inputs.{root_fields, root_fields_at, tool_inputs_for}
 use Rattle.job_graph.specs.Jobs.{Made, tool_walk}
 use Rattle.job_graph.specs.Paths.{input_paths, root_adds}
-use Rattle.job_graph.specs.Words.{Name, Fields}
+use Rattle.job_graph.specs.Words.{Name, Fields, JobPlace}
 use Rattle.run_rules.specs.declared.setting.Options.{Options}
 use Rattle.run_rules.specs.declared.setting.Setting.{Setting}
-use Rattle.run_rules.specs.Scene.{Scene, scene_of}
+use Rattle.run_rules.specs.Scene.{Scene, is_made_before, scene_of}
 
 -- what a tool's inputs are, by what was measured, or why it has none
 abbrev pub InputsBy : Type 0
 InputsBy = Measures → Result Fields Cause
 
-abbrev pub lone : Tool → InputsBy → List Name → Options → Scene
-lone tool inputs_by paths options = record { walker = λ measures. tool_walk tool [] (inputs_by measures); paths = paths; options = options }
+abbrev pub lone : Tool → InputsBy → List Name → Options → (JobPlace → Bool) → Scene
+lone tool inputs_by paths options before =
+    record { walker = λ measures. tool_walk tool [] (inputs_by measures); paths = paths; options = options; made_before = before }
 
 -- the inputs of a tool at the root
 abbrev pub inputs_of : Tool → Fields → InputsBy
@@ -54,7 +55,12 @@ abbrev pub setting_on : Tool → Fields → Options → Setting
 setting_on tool given options = record { process = process.Tool tool; inputs = given; options = options }
 
 abbrev pub scene_by : Tool → Fields → Options → Scene
-scene_by tool given options = lone tool (inputs_of tool given) (tool_paths tool.inputs given) options
+scene_by tool given options = lone tool (inputs_of tool given) (tool_paths tool.inputs given) options (is_made_before (process.Tool tool) given)
 
 pub scene_tool : (tool : Tool) (given : Fields) (options : Options) → scene_of (setting_on tool given options) ≡ scene_by tool given options
-scene_tool tool given options = λ i. record { walker = λ measures. walker_tool tool given measures i; paths = paths_tool tool given i; options = options }
+scene_tool tool given options = λ i. record {
+  walker = λ measures. walker_tool tool given measures i;
+  paths = paths_tool tool given i;
+  options = options;
+  made_before = is_made_before (process.Tool tool) given;
+}

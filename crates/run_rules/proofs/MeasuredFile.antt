@@ -39,7 +39,7 @@ by_file (Some (File size sum)) = two
 by_file _ = λ made. failed [] (Unmet.Missing (codes "f")) []
 
 abbrev waiting : Scene
-waiting = record { walker = λ (measures : Measures). by_file (value_at path measures); paths = path ∷ []; options = options }
+waiting = record { walker = λ (measures : Measures). by_file (value_at path measures); paths = path ∷ []; options = options; made_before = λ place. false }
 
 -- after these events, with nothing due
 abbrev at : List Event → Progress
@@ -89,7 +89,7 @@ abbrev its_job : Job
 its_job = record { place = []; tool = record plain_tool { exit_codes = its_codes }; inputs = [] }
 
 abbrev s : Scene
-s = record { walker = λ measures made. record { met = met_job its_job ∷ []; outs = [] }; paths = []; options = options }
+s = record { walker = λ measures made. record { met = met_job its_job ∷ []; outs = [] }; paths = []; options = options; made_before = λ place. false }
 
 abbrev started : List Event
 started = job_staged [] 1 ∷ job_started [] [] (launch 1) 1 ∷ []

@@ -48,6 +48,8 @@ module _ (s : Scene) (f : Progress) (marks : List Mark) where
   after_lost (Request.Host place HostRequest.Collect) idle is may = yes_and_no lost_one is may.collects
   after_lost (Request.Host place (HostRequest.Scan folder)) idle is may = not_due s f (Request.Host place (HostRequest.Scan folder)) idle may
   after_lost (Request.Host place (HostRequest.Head path limit)) idle is may = not_due s f (Request.Host place (HostRequest.Head path limit)) idle may
+  after_lost (Request.Host place (HostRequest.Fetch key number files)) idle is may = not_due s f (Request.Host place (HostRequest.Fetch key number files)) idle may
+  after_lost (Request.Host place (HostRequest.Store key folder files)) idle is may = not_due s f (Request.Host place (HostRequest.Store key folder files)) idle may
   after_lost (Request.Host place (HostRequest.Deliver plan)) idle is may = yes_and_no lost_one is may.busy.free.still.collects
   after_lost Request.Finished idle is may = not_due s f Request.Finished idle may
 
@@ -59,6 +61,8 @@ module _ (s : Scene) (f : Progress) (marks : List Mark) where
   after_failure end (Request.Host place HostRequest.Collect) idle landed is may = some_in_none (in_flight f.events) may.flying.0 landed may.flying.1
   after_failure end (Request.Host place (HostRequest.Scan folder)) idle landed is may = not_due s f (Request.Host place (HostRequest.Scan folder)) idle may
   after_failure end (Request.Host place (HostRequest.Head path limit)) idle landed is may = not_due s f (Request.Host place (HostRequest.Head path limit)) idle may
+  after_failure end (Request.Host place (HostRequest.Fetch key number files)) idle landed is may = not_due s f (Request.Host place (HostRequest.Fetch key number files)) idle may
+  after_failure end (Request.Host place (HostRequest.Store key folder files)) idle landed is may = not_due s f (Request.Host place (HostRequest.Store key folder files)) idle may
   after_failure end (Request.Host place (HostRequest.Deliver plan)) idle landed is may = some_and_none (settled s f.events) end is may.busy.free.still.unsettled
   after_failure end Request.Finished idle landed is may = not_due s f Request.Finished idle may
 
@@ -79,6 +83,8 @@ module _ (s : Scene) (f : Progress) (marks : List Mark) where
   over (Request.Host place HostRequest.Collect) (succeeds outputs delivered busy landed result is) may =
       some_in_none (in_flight f.events) may.flying.0 landed may.flying.1
   over (Request.Host place (HostRequest.Scan folder)) (succeeds outputs delivered busy landed result is) may = not_due s f (Request.Host place (HostRequest.Scan folder)) busy.free.still.idle may
+  over (Request.Host place (HostRequest.Fetch key number files)) (succeeds outputs delivered busy landed result is) may = not_due s f (Request.Host place (HostRequest.Fetch key number files)) busy.free.still.idle may
+  over (Request.Host place (HostRequest.Store key folder files)) (succeeds outputs delivered busy landed result is) may = not_due s f (Request.Host place (HostRequest.Store key folder files)) busy.free.still.idle may
   over (Request.Host place (HostRequest.Head path limit)) (succeeds outputs delivered busy landed result is) may = not_due s f (Request.Host place (HostRequest.Head path limit)) busy.free.still.idle may
   over (Request.Host place (HostRequest.Deliver plan)) (succeeds outputs delivered busy landed result is) may =
       after_delivery outputs delivered place plan result is may

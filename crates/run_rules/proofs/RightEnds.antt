@@ -14,13 +14,11 @@ use Rattle.run_rules.specs.declared.request.Pair.{Pair}
 use Rattle.run_rules.specs.declared.setting.Setting.{Setting}
 use Rattle.job_key.specs.Key.{key}
 use Rattle.run_rules.specs.Scene.{Scene, scene_of}
-use Rattle.run_rules.specs.Events.{Event, file_measured, job_staged, job_started, child_exited, job_succeeded, job_failed, job_failed_for_now, result_delivered, host_failed, collect_failed, Progress, measures, measures_after, are_measured, resolved, unfolding_at, job_at}
+use Rattle.run_rules.specs.Events.{Event, file_measured, job_staged, job_started, child_exited, job_succeeded, job_failed, job_failed_for_now, result_delivered, host_failed, collect_failed, measures, measures_after, are_measured, resolved, unfolding_at, job_at}
 use Rattle.run_rules.specs.End.{End, succeeds_with, fails_permanently, fails_temporarily, beyond_limits, ended_by_host, fault_end, gives_up, settled_by, unfold_end, settled_from, settled}
-use Rattle.run_rules.specs.EndsSo.{EndsSo}
-use Rattle.plan_checker.specs.declared.plan.Mark.{Mark}
 use Rattle.run_rules.specs.Plans.{InForce}
 use Rattle.run_rules.specs.Honest.{AgreesAt, AgreesFrom, IsHonest, Means}
-use Rattle.run_rules.specs.Run.{Goes, IsRun}
+use Rattle.run_rules.specs.Run.{IsRun}
 use Rattle.run_rules.proofs.Agreeing.{Agrees, AreGiven, agrees, given_first, given_later, given_one}
 use Rattle.run_rules.proofs.Measuring.{Fits, measures_stay, measures_step, goes_fitting}
 use Rattle.run_rules.proofs.Staying.{has_result, measured_if_known, unfolding_if}

@@ -72,7 +72,7 @@ use Rattle.plan_checker.specs.declared.plan.Mark.TheVariants.{Load, Compute}
 use Rattle.run_rules.specs.Allowed.{MayStage}
 use Rattle.job_key.specs.Key.{key}
 use Rattle.run_rules.specs.Reports.{report_of, reported}
-use Rattle.run_rules.specs.Scene.{Scene, scene_of}
+use Rattle.run_rules.specs.Scene.{Scene, is_made_before, scene_of}
 use Rattle.run_rules.proofs.Leads.{Leads, stays, follows}
 use Rattle.run_rules.proofs.Lone.{inputs_of, lone, scene_tool, setting_on as tool_setting}
 use Rattle.run_rules.proofs.Meaning.{fails as world_fails, gives}
@@ -165,7 +165,7 @@ abc_text = roll-Value (Value-F.Text (codes "abc"))
 
 -- its scene: its input is a text, and no file is measured
 abbrev s : Scene
-s = lone hello (λ measures. Ok abc) [] options
+s = lone hello (λ measures. Ok abc) [] options (is_made_before (process.Tool hello) abc)
 
 a_text : fits_member (member.Plain plain.Text) ≡ is_plain plain.Text
 a_text = search (rules, the_lemmas)
@@ -338,15 +338,15 @@ setting_on given = tool_setting hello given options
 its_scene : scene_of (setting_on abc) ≡ s
 its_scene =
     scene_tool hello abc options
-    ∙ (λ i. let x : Scene = lone hello (λ measures. it_fits measures i) (no_paths i) options in x)
+    ∙ (λ i. let x : Scene = lone hello (λ measures. it_fits measures i) (no_paths i) options (is_made_before (process.Tool hello) abc) in x)
 
 abbrev other : Scene
-other = lone hello (λ measures. Err (Unmet.Kind (codes "t"))) [] options
+other = lone hello (λ measures. Err (Unmet.Kind (codes "t"))) [] options (is_made_before (process.Tool hello) [])
 
 its_other_scene : scene_of (setting_on []) ≡ other
 its_other_scene =
     scene_tool hello [] options
-    ∙ (λ i. let x : Scene = lone hello (λ measures. an_input_left_out measures i) (no_paths_at_all i) options in x)
+    ∙ (λ i. let x : Scene = lone hello (λ measures. an_input_left_out measures i) (no_paths_at_all i) options (is_made_before (process.Tool hello) []) in x)
 
 module _ (world : World) (measures : Measures) where
   -- the file without its place, where the world has the file at the job's key

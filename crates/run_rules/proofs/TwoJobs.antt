@@ -98,7 +98,7 @@ abbrev pub two : Made → Walk
 two made = record { met = met_job (job a) ∷ met_job (job b) ∷ []; outs = [] }
 
 abbrev s : Scene
-s = record { walker = λ measures. two; paths = []; options = options }
+s = record { walker = λ measures. two; paths = []; options = options; made_before = λ place. false }
 
 abbrev plan : StagePlan
 plan = record { moves = []; value = [] }
@@ -163,6 +163,7 @@ may_stage = record {
   known = refl;
   computed = refl;
   not_held = refl;
+  parents = λ nothing parent made. let never : false ≡ true = made in absurd cc;
   slot = lit< tt;
   staged = copies_nothing 2;
   next_number = refl;

@@ -9,16 +9,16 @@ use Rattle.staging.specs.declared.plan.StagePlan.{StagePlan}
 use Rattle.input_files.specs.declared.contents.TheConstants.{MOST_CONTENTS}
 use Rattle.run_rules.specs.declared.request.Request.{Request}
 use Rattle.job_graph.specs.Jobs.{Job}
-use Rattle.job_graph.specs.Made.{fields_moved}
+use Rattle.job_graph.specs.Made.{any_made, fields_moved}
 use Rattle.job_graph.specs.Words.{Name, Fields, JobPlace}
 use Rattle.run_rules.specs.Folders.{in_folder}
 use Rattle.run_rules.specs.Delivered.{any_file, source_place}
-use Rattle.run_rules.specs.Events.{Event, Work, nothing_due, input_heads_due, start_due, scan_due, output_heads_due, Progress, in_flight, is_held, is_measured, is_staging, are_measured, delivered_at, folder_at, unfolding_at, job_at}
+use Rattle.run_rules.specs.Events.{Event, Work, nothing_due, input_heads_due, start_due, scan_due, output_heads_due, Progress, in_flight, is_at_hand, is_held, is_measured, is_staging, are_measured, delivered_at, folder_at, unfolding_at, job_at}
 use Rattle.run_rules.specs.End.{settled, IsDelivery, is_lost_collect}
 use Rattle.plan_checker.specs.declared.plan.Mark.{Mark}
 use Rattle.plan_checker.specs.declared.plan.Mark.TheVariants.{Compute}
 use Rattle.run_rules.specs.Plans.{mark_at}
-use Rattle.run_rules.specs.Scene.{Scene}
+use Rattle.run_rules.specs.Scene.{Scene, NothingWasMadeBefore}
 
 module _ (s : Scene) where
   -- nothing is due, no collect has failed, and the end is not settled
@@ -39,14 +39,16 @@ module _ (s : Scene) where
     pub still : IsOpen f
     pub measured : are_measured s f.events ≡ true
 
-  -- a job is staged that the plan computes and that is not held, where a slot is free: its input files are copied to its own folder, those
-  -- that other jobs made from where these left them
+  -- a job is staged that the plan computes and that is not held, where a slot is free and the outputs of its parents are at hand, that is, of
+  -- each job that made a file in its inputs: its input files are copied to its own folder, those that its parents made from where these left
+  -- them
   pub record MayStage (f : Progress) (marks : List Mark) (place : JobPlace) (plan : StagePlan) (number : ℕ) : Type 0 where
     pub free : IsFree f
     pub job : Job
     pub known : job_at s f.events place ≡ Some job
     pub computed : mark_at s marks f.events place ≡ Compute
     pub not_held : is_held f.events place ≡ false
+    pub parents : NothingWasMadeBefore s → (parent : JobPlace) → any_made parent job.inputs ≡ true → is_at_hand f.events parent ≡ true
     pub slot : length (in_flight f.events) < s.options.slots
     pub next_number : number ≡ length (filter is_staging f.events) + 1
     pub staged : IsPlan false (in_folder s.options.work number) (fields_moved (source_place (folder_at s f.events)) job.inputs) plan

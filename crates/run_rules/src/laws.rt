@@ -1,10 +1,19 @@
 //! What follows from the definitions alone, for any run: each law is the contract of a function that
 //! does nothing, or only calls laws of `job_graph`.
-ghost use Rattle.std.specs.Prelude.{◌≡◌, ◌≢◌, true, List, Some, Contains};
+ghost use Rattle.std.specs.Prelude.{◌≡◌, ◌≢◌, ℕ, true, List, Ok, Some, Contains};
 ghost use Rattle.run_rules.specs.declared.request.Pair.{Pair};
 ghost use Rattle.run_rules.specs.declared.request.Request.{Request};
 ghost use Rattle.run_rules.specs.declared.setting.Setting.{Setting};
+ghost use Rattle.cwl_value.specs.Texts.{ReadsAs};
+ghost use Rattle.cwl_value.specs.declared.value.Value.{Value};
+ghost use Rattle.cwl_value.specs.declared.value.Value.TheVariants as value;
+ghost use Rattle.document_links.specs.Library.{Documents};
+ghost use Rattle.document_links.specs.ProcessOf.{IsItsProcess};
+ghost use Rattle.document_links.specs.declared.process.Process.{Process};
 ghost use Rattle.document_links.specs.declared.process.Process as process;
+ghost use Rattle.file_values.specs.Resolved.{resolved};
+ghost use Rattle.url.specs.Parts.{Parts};
+ghost use Rattle.run_rules.specs.declared.setting.Options.{Options};
 ghost use Rattle.cwl_process.specs.declared.tool.Tool.{Tool};
 ghost use Rattle.input_files.specs.Measured.{Measures};
 ghost use Rattle.cwl_value.specs.Erased.{erased, fields_erased};
@@ -23,7 +32,7 @@ ghost use Rattle.run_rules.specs.Honest.{IsHonest, Means};
 ghost use Rattle.plan_checker.specs.declared.plan.Mark.{Mark};
 ghost use Rattle.run_rules.specs.Reports.{IsRight, report_of};
 ghost use Rattle.run_rules.specs.Run.{IsRun};
-ghost use Rattle.run_rules.specs.Scene.{Scene, scene_of};
+ghost use Rattle.run_rules.specs.Scene.{NothingWasMadeBefore, Scene, scene_of};
 ghost use Rattle.run_rules.specs.RanWell.{RanWell};
 
 use job_graph::{
@@ -33,8 +42,10 @@ use job_graph::{
 
 /// In a run that ends in success each known job ran well: a child was started for the job at its place, and it ended well.
 pub fn success_ran_each_job()
-    ensures { (setting : Setting) (t : List Pair) (outputs delivered : Fields) (run : IsRun setting t (succeeds_with outputs delivered)) (job : Job)
-        → Contains (unfolding_at (scene_of setting) run.happened.events).jobs job → RanWell t job.place job.tool.exit_codes }
+    ensures { (setting : Setting) (t : List Pair) (outputs delivered : Fields)
+        (run : IsRun setting t (succeeds_with outputs delivered)) (job : Job)
+        → Contains (unfolding_at (scene_of setting) run.happened.events).jobs job
+        → RanWell t job.place job.tool.exit_codes }
 {
     known_places_differ();
     results_learned_each_job();
@@ -63,8 +74,10 @@ pub fn a_lone_tool_is_within_limits()
 /// the process there, on the input files as they were measured, and where it failed permanently the process has none. No
 /// two steps of a workflow have one id: documents are read so.
 pub fn an_honest_run_ends_rightly()
-    ensures { (setting : Setting) (t : List Pair) (end : End) (run : IsRun setting t end) (world : World)
-        → ids_differ setting.process ≡ true → IsHonest setting world run.happened.events → Means setting (measures run.happened.events) world end }
+    ensures { (setting : Setting) (t : List Pair) (end : End) (run : IsRun setting t end)
+        (world : World)
+        → ids_differ setting.process ≡ true → IsHonest setting world run.happened.events
+        → Means setting (measures run.happened.events) world end }
 {
     known_jobs_agree();
     results_are_eval();
@@ -74,8 +87,10 @@ pub fn an_honest_run_ends_rightly()
 
 /// And so is what is reported of it: without places, the output object of a success is the value of the process.
 pub fn an_honest_run_is_reported_rightly()
-    ensures { (setting : Setting) (t : List Pair) (end : End) (run : IsRun setting t end) (world : World)
-        → ids_differ setting.process ≡ true → IsHonest setting world run.happened.events → IsRight setting (measures run.happened.events) world (report_of end) }
+    ensures { (setting : Setting) (t : List Pair) (end : End) (run : IsRun setting t end)
+        (world : World)
+        → ids_differ setting.process ≡ true → IsHonest setting world run.happened.events
+        → IsRight setting (measures run.happened.events) world (report_of end) }
 {
     known_jobs_agree();
     results_are_eval();
@@ -87,5 +102,20 @@ pub fn an_honest_run_is_reported_rightly()
 /// in the order of their names.
 pub fn delivery_keeps_the_value()
     ensures { (s : Scene) (es : List Event) (outputs delivered : Fields)
-        → IsDelivered s es outputs delivered → erased (located delivered) ≡ object_of (fields_erased outputs) }
+        → IsDelivered s es outputs delivered → erased (located delivered)
+        ≡ object_of (fields_erased outputs) }
+{}
+
+/// Says that no file of a process that was read from documents, on inputs that were read from text, is said to be made by a
+/// job before any ran. So where jobs are staged, the outputs of their parents are at hand (`MayStage`).
+pub fn nothing_read_was_made_before()
+    ensures { (bytes : List ℕ) (base : Parts) (docs : Documents) (process : Process)
+        (text : List ℕ) (at : Parts) (read : Value) (inputs : Fields) (options : Options)
+        → IsItsProcess bytes base docs process → ReadsAs text (Ok read)
+        → resolved at read ≡ Ok (value.Fields inputs)
+        → NothingWasMadeBefore (scene_of (record {
+          process = process;
+          inputs = inputs;
+          options = options;
+        })) }
 {}

@@ -65,7 +65,8 @@ impl Gathering {
         requires some { shape.now.lengths ≢ [] }
         requires taken { IsTaken shape.now.method shape.now.lengths }
         requires one_each { length self ≡ length (tuples_of shape.now.method shape.now.lengths) }
-        ensures { IfOk result (λ value. value ≡ gathered shape.now.method shape.now.lengths (values_in self)) }
+        ensures { IfOk result (λ value. value
+            ≡ gathered shape.now.method shape.now.lengths (values_in self)) }
     {
         let Gathering { slots } = self;
         gather(alloc, shape, values_of(alloc, slots)?)

@@ -18,8 +18,10 @@ use std::vec::IntoIter;
 pub fn gather(alloc: Global, shape: &Shape, values: Vec<Value>) -> Result<Value, AllocError>
     requires some { shape.now.lengths ≢ [] }
     requires taken { IsTaken shape.now.method shape.now.lengths }
-    requires one_each { length values.items ≡ length (tuples_of shape.now.method shape.now.lengths) }
-    ensures in_place { IfOk result (λ value. value ≡ gathered shape.now.method shape.now.lengths values.items) }
+    requires one_each { length values.items
+        ≡ length (tuples_of shape.now.method shape.now.lengths) }
+    ensures in_place { IfOk result (λ value. value
+        ≡ gathered shape.now.method shape.now.lengths values.items) }
 
     // One list takes no memory.
     ensures one_list { shape.now.method ≢ NestedCrossproduct → IsOk result }
@@ -39,7 +41,8 @@ fn nested(
     values: &mut IntoIter<Value, Global>,
 ) -> Result<Value, AllocError>
     requires { HasAllBelow lengths.now (into_iter_items values.old) }
-    ensures { IfOk result (IsNested lengths.now (into_iter_items values.old) (into_iter_items values.new)) }
+    ensures { IfOk result (IsNested lengths.now (into_iter_items values.old)
+        (into_iter_items values.new)) }
 {
     match lengths {
         [] => match values.next() {

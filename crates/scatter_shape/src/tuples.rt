@@ -128,7 +128,8 @@ fn push_extensions(
     tuple: &Items<usize>,
     length: usize,
 ) -> Result<(), AllocError>
-    ensures { OnOk result (longer.new ≡ longer.old ++ map (λ index. tuple.now ++ index ∷ []) (below length)) }
+    ensures { OnOk result (longer.new ≡ longer.old
+        ++ map (λ index. tuple.now ++ index ∷ []) (below length)) }
 {
     for index in 0..length {
         longer.push(with_last(alloc, tuple.as_slice(), index)?)?;

@@ -18,8 +18,10 @@ pub(crate) struct Inside<'t> {
 
 /// The bracket that has been opened before a text, and what follows its `]`; none where it isn't closed.
 pub(crate) fn bracket(alloc: Global, text: &str) -> Result<Option<(Bracket, &str)>, AllocError>
-    ensures exact { IfOk result (λ found. MatchOption found (is_closed (chars text.now) ≡ false) (λ taken. BracketThen (chars text.now) taken.0 (chars taken.1.now))) }
-    ensures shorter { IfOk result (λ found. MatchOption found (is_closed (chars text.now) ≡ false) (λ taken. length taken.1.now ≤ length text.now)) }
+    ensures exact { IfOk result (λ found. MatchOption found (is_closed (chars text.now)
+        ≡ false) (λ taken. BracketThen (chars text.now) taken.0 (chars taken.1.now))) }
+    ensures shorter { IfOk result (λ found. MatchOption found (is_closed (chars text.now)
+        ≡ false) (λ taken. length taken.1.now ≤ length text.now)) }
 {
     if let Some(listed) = after(text, '!') {
         return match members(alloc, listed)? {
@@ -47,8 +49,10 @@ pub(crate) fn bracket(alloc: Global, text: &str) -> Result<Option<(Bracket, &str
 
 // The members up to the `]`, which may itself be the first, and what follows it.
 fn members(alloc: Global, text: &str) -> Result<Option<(Items<CharRange>, &str)>, AllocError>
-    ensures exact { IfOk result (λ found. MatchOption found (closes_later (chars text.now) ≡ false) (λ taken. MembersThen (chars text.now) taken.0 (chars taken.1.now))) }
-    ensures shorter { IfOk result (λ found. MatchOption found (closes_later (chars text.now) ≡ false) (λ taken. length taken.1.now ≤ length text.now)) }
+    ensures exact { IfOk result (λ found. MatchOption found (closes_later (chars text.now)
+        ≡ false) (λ taken. MembersThen (chars text.now) taken.0 (chars taken.1.now))) }
+    ensures shorter { IfOk result (λ found. MatchOption found (closes_later (chars text.now)
+        ≡ false) (λ taken. length taken.1.now ≤ length text.now)) }
 {
     let Some((first, others)) = first_char(text) else {
         return Ok(None);
@@ -69,8 +73,10 @@ fn members(alloc: Global, text: &str) -> Result<Option<(Items<CharRange>, &str)>
 
 // How many characters stand before the next `]` of the component, and what follows it.
 fn close(text: &str) -> Option<(usize, &str)>
-    ensures exact { MatchOption result (has_close (chars text.now) ≡ false) (λ found. ClosesAt (chars text.now) found.0 (chars found.1.now)) }
-    ensures shorter { MatchOption result (has_close (chars text.now) ≡ false) (λ found. found.0 + length found.1.now < length text.now) }
+    ensures exact { MatchOption result (has_close (chars text.now)
+        ≡ false) (λ found. ClosesAt (chars text.now) found.0 (chars found.1.now)) }
+    ensures shorter { MatchOption result (has_close (chars text.now)
+        ≡ false) (λ found. found.0 + length found.1.now < length text.now) }
 {
     let mut count = 0usize;
     let mut rest = text;
@@ -101,8 +107,10 @@ fn ranges(alloc: Global, inside: Inside<'_>) -> Result<Items<CharRange>, AllocEr
 
 // The range, or the member that stands alone, at the front.
 fn first_range(inside: Inside<'_>) -> Option<(CharRange, Inside<'_>)>
-    ensures exact { MatchOption result (inside_of inside.entry ≡ []) (λ taken. RangeThen (inside_of inside.entry) taken.0 (inside_of taken.1)) }
-    ensures shorter { MatchOption result (inside_of inside.entry ≡ []) (λ taken. taken.1.left < inside.entry.left) }
+    ensures exact { MatchOption result (inside_of inside.entry
+        ≡ []) (λ taken. RangeThen (inside_of inside.entry) taken.0 (inside_of taken.1)) }
+    ensures shorter { MatchOption result (inside_of inside.entry ≡ []) (λ taken. taken.1.left
+        < inside.entry.left) }
 {
     let (low, rest) = first_inside(inside)?;
     if let Some((hyphen, dashed)) = first_inside(rest) {
@@ -116,8 +124,10 @@ fn first_range(inside: Inside<'_>) -> Option<(CharRange, Inside<'_>)>
 }
 
 fn first_inside(inside: Inside<'_>) -> Option<(char, Inside<'_>)>
-    ensures exact { MatchOption result (inside_of inside.entry ≡ []) (λ taken. inside_of inside.entry ≡ taken.0 ∷ inside_of taken.1) }
-    ensures shorter { MatchOption result (inside_of inside.entry ≡ []) (λ taken. taken.1.left < inside.entry.left) }
+    ensures exact { MatchOption result (inside_of inside.entry
+        ≡ []) (λ taken. inside_of inside.entry ≡ taken.0 ∷ inside_of taken.1) }
+    ensures shorter { MatchOption result (inside_of inside.entry ≡ []) (λ taken. taken.1.left
+        < inside.entry.left) }
 {
     if inside.left == 0 {
         return None;

@@ -6,7 +6,9 @@ ghost use Rattle.staging.specs.inner.Scans.{begins_with};
 
 /// The first character of a text, and what follows it.
 pub(crate) fn first_char(text: &str) -> Option<(char, &str)>
-    ensures { MatchOption result (chars text.now ≡ []) (λ taken. (chars text.now ≡ taken.0 ∷ chars taken.1.now) × (length taken.1.now < length text.now)) }
+    ensures { MatchOption result (chars text.now
+        ≡ []) (λ taken. (chars text.now ≡ taken.0 ∷ chars taken.1.now)
+        × (length taken.1.now < length text.now)) }
 {
     let mut characters = text.chars();
     let first = characters.next()?;
@@ -15,8 +17,10 @@ pub(crate) fn first_char(text: &str) -> Option<(char, &str)>
 
 /// What follows a character at the front of a text.
 pub(crate) fn after(text: &str, character: char) -> Option<&str>
-    ensures exact { MatchOption result (begins_with character (chars text.now) ≡ false) (λ rest. chars text.now ≡ character ∷ chars rest.now) }
-    ensures shorter { MatchOption result (begins_with character (chars text.now) ≡ false) (λ rest. length rest.now < length text.now) }
+    ensures exact { MatchOption result (begins_with character (chars text.now)
+        ≡ false) (λ rest. chars text.now ≡ character ∷ chars rest.now) }
+    ensures shorter { MatchOption result (begins_with character (chars text.now)
+        ≡ false) (λ rest. length rest.now < length text.now) }
 {
     let (first, rest) = first_char(text)?;
     if first == character { Some(rest) } else { None }

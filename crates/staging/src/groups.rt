@@ -92,7 +92,8 @@ pub(crate) fn dir_group(alloc: Global, dir: &DirVal) -> Result<Items<Member>, Al
 }
 
 fn member(alloc: Global, place: &Place, name: &Option<Text>) -> Result<Member, AllocError>
-    ensures { IfOk result (λ m. m ≡ record { source = path_at place.now; name = name_in name.now }) }
+    ensures { IfOk result (λ m. m
+        ≡ record { source = path_at place.now; name = name_in name.now }) }
 {
     Ok(Member {
         source: Text::from_text(alloc, path_of(place))?,

@@ -49,7 +49,8 @@ impl FolderIndex {
         folder: usize,
     ) -> Result<bool, AllocError>
         ensures new { IfOk result (λ new. new ≡ is_none (number_of self.old group.now)) }
-        ensures noted { OnOk result ((placed : List Placed) → IsIndex self.old placed → IsIndex self.new (placed ++ record { members = group.now; folder = folder } ∷ [])) }
+        ensures noted { OnOk result ((placed : List Placed) → IsIndex self.old placed
+            → IsIndex self.new (placed ++ record { members = group.now; folder = folder } ∷ [])) }
     {
         let texts = texts_of(alloc, group)?;
         if self.folder_at(texts.as_slice()).is_some() {

@@ -19,7 +19,8 @@ pub(crate) fn moves_of(
     index: &mut FolderIndex,
 ) -> Result<Items<Move>, AllocError>
     requires { IsIndex index.old [] }
-    ensures moves { IfOk result (AreMoves (path_of folders.entry.holds_others folders.entry.dir.now) placed.now) }
+    ensures moves { IfOk result (AreMoves (path_of folders.entry.holds_others folders.entry.dir.now)
+        placed.now) }
     ensures noted { OnOk result (IsIndex index.new placed.now) }
 {
     let mut moves = Items::new(alloc);
@@ -37,7 +38,10 @@ fn push_moves(
     folders: Folders<'_>,
     moves: &mut Items<Move>,
 ) -> Result<(), AllocError>
-    ensures { OnOk result (moves.new ≡ moves.old ++ map (move_of (path_of folders.entry.holds_others folders.entry.dir.now placed.now.folder)) placed.now.members) }
+    ensures { OnOk result (moves.new ≡ moves.old
+        ++ map
+        (move_of (path_of folders.entry.holds_others folders.entry.dir.now placed.now.folder))
+        placed.now.members) }
 {
     let folder = folder_path(alloc, folders, placed.folder)?;
     for member in placed.members.as_slice() {

@@ -101,7 +101,8 @@ fn moved_dir(alloc: Global, dir: &DirVal, way: Way<'_>) -> Result<DirVal, AllocE
 }
 
 fn folder_of_file(alloc: Global, file: &FileVal, way: Way<'_>) -> Result<String, AllocError>
-    ensures { IfOk result (λ folder. string_bytes folder ≡ folder_by way.entry (group_at file.now)) }
+    ensures { IfOk result (λ folder. string_bytes folder
+        ≡ folder_by way.entry (group_at file.now)) }
 {
     match way {
         Way::Inside(folder) => String::from_str(alloc, folder),
@@ -113,14 +114,17 @@ fn folder_of_file(alloc: Global, file: &FileVal, way: Way<'_>) -> Result<String,
 }
 
 fn path_of_dir(alloc: Global, dir: &DirVal, way: Way<'_>) -> Result<Text, AllocError>
-    ensures { IfOk result (λ path. path ≡ path_at (folder_by way.entry (dir_group_at dir.now)) (name_in (out-DirVal dir.now).basename)) }
+    ensures { IfOk result (λ path. path
+        ≡ path_at (folder_by way.entry (dir_group_at dir.now))
+        (name_in (out-DirVal dir.now).basename)) }
 {
     let folder = folder_of_dir(alloc, dir, way)?;
     path_in(alloc, folder.as_str(), name_of(&dir.basename))
 }
 
 fn folder_of_dir(alloc: Global, dir: &DirVal, way: Way<'_>) -> Result<String, AllocError>
-    ensures { IfOk result (λ folder. string_bytes folder ≡ folder_by way.entry (dir_group_at dir.now)) }
+    ensures { IfOk result (λ folder. string_bytes folder
+        ≡ folder_by way.entry (dir_group_at dir.now)) }
 {
     match way {
         Way::Inside(folder) => String::from_str(alloc, folder),
@@ -138,7 +142,8 @@ fn folder_of_group(
     index: &FolderIndex,
     folders: Folders<'_>,
 ) -> Result<String, AllocError>
-    ensures { IfOk result (λ folder. string_bytes folder ≡ folder_by (Way.Placed index.entry folders.entry) group.now) }
+    ensures { IfOk result (λ folder. string_bytes folder
+        ≡ folder_by (Way.Placed index.entry folders.entry) group.now) }
 {
     let found = index.folder_of(alloc, group)?;
     folder_path(alloc, folders, found.unwrap_or(0))

@@ -54,8 +54,10 @@ fn next_folder(
     requires names { IsNamed names.old placed.now }
     ensures folder { IfOk result (IsFolder holds_others placed.now group.now) }
     ensures near { IfOk result (λ k. k ≤ length placed.now + 1) }
-    ensures noted { IfOk result (λ k. IsIndex index.new (placed.now ++ record { members = group.now; folder = k } ∷ [])) }
-    ensures named { IfOk result (λ k. IsNamed names.new (placed.now ++ record { members = group.now; folder = k } ∷ [])) }
+    ensures noted { IfOk result (λ k. IsIndex index.new (placed.now
+        ++ record { members = group.now; folder = k } ∷ [])) }
+    ensures named { IfOk result (λ k. IsNamed names.new (placed.now
+        ++ record { members = group.now; folder = k } ∷ [])) }
 {
     let folder = folder_of(alloc, index, names, placed, group, holds_others)?;
     index.note(alloc, group, folder)?;
@@ -103,7 +105,8 @@ fn lowest_folder(
 // A number below which each folder is taken: past folder 0, where that holds the others and the group has one of their
 // names.
 fn lowest_allowed(names: &FolderNames, group: &[Member], holds_others: bool) -> usize
-    ensures early { (placed : List Placed) → IsNamed names.now placed → (j : ℕ) → j < result → is_taken holds_others placed group.now j ≡ true }
+    ensures early { (placed : List Placed) → IsNamed names.now placed → (j : ℕ) → j < result
+        → is_taken holds_others placed group.now j ≡ true }
     ensures allowed { result ≡ 0 → (holds_others && has_reserved group.now) ≡ false }
 {
     let floor = names.floor_of(group);

@@ -69,9 +69,12 @@ fn first_item(
     unclosed: bool,
 ) -> Result<Option<(PatternItem, &str, bool)>, AllocError>
     requires { unclosed ≡ true → none_closed (chars text.now) ≡ true }
-    ensures exact { IfOk result (λ found. MatchOption found (Reads (chars text.now) []) (λ taken. ItemThen (chars text.now) taken.0 (chars taken.1.now))) }
-    ensures shorter { IfOk result (λ found. MatchOption found (Reads (chars text.now) []) (λ taken. length taken.1.now < length text.now)) }
-    ensures unclosed { IfOk result (λ found. MatchOption found (Reads (chars text.now) []) (λ taken. taken.2 ≡ true → none_closed (chars taken.1.now) ≡ true)) }
+    ensures exact { IfOk result (λ found. MatchOption found (Reads (chars text.now) [])
+        (λ taken. ItemThen (chars text.now) taken.0 (chars taken.1.now))) }
+    ensures shorter { IfOk result (λ found. MatchOption found (Reads (chars text.now) [])
+        (λ taken. length taken.1.now < length text.now)) }
+    ensures unclosed { IfOk result (λ found. MatchOption found (Reads (chars text.now) [])
+        (λ taken. taken.2 ≡ true → none_closed (chars taken.1.now) ≡ true)) }
 {
     let Some((first, rest)) = first_char(text) else {
         return Ok(None);
@@ -103,9 +106,11 @@ fn opened(
     unclosed: bool,
 ) -> Result<(PatternItem, &str, bool), AllocError>
     requires { unclosed ≡ true → none_closed (91 ∷ chars text.now) ≡ true }
-    ensures exact { IfOk result (λ taken. ItemThen (91 ∷ chars text.now) taken.0 (chars taken.1.now)) }
+    ensures exact { IfOk result (λ taken. ItemThen (91 ∷ chars text.now) taken.0
+        (chars taken.1.now)) }
     ensures shorter { IfOk result (λ taken. length taken.1.now ≤ length text.now) }
-    ensures unclosed { IfOk result (λ taken. taken.2 ≡ true → none_closed (chars taken.1.now) ≡ true) }
+    ensures unclosed { IfOk result (λ taken. taken.2 ≡ true → none_closed (chars taken.1.now)
+        ≡ true) }
 {
     if unclosed {
         return Ok((PatternItem::Literal('['), text, true));

@@ -65,7 +65,8 @@ impl FolderNames {
 
     /// Returns a number below which each folder holds a name of the group.
     pub(crate) fn floor_of(&self, group: &[Member]) -> usize
-        ensures { IsFloored self.now → (j : ℕ) → j < result → any_holds self.now group.now j ≡ true }
+        ensures { IsFloored self.now → (j : ℕ) → j < result → any_holds self.now group.now j
+            ≡ true }
     {
         let mut most = 0;
         for member in group {
@@ -87,7 +88,8 @@ impl FolderNames {
         group: &[Member],
         folder: usize,
     ) -> Result<(), AllocError>
-        ensures { OnOk result ((placed : List Placed) → IsNamed self.old placed → IsNamed self.new (placed ++ record { members = group.now; folder = folder } ∷ [])) }
+        ensures { OnOk result ((placed : List Placed) → IsNamed self.old placed
+            → IsNamed self.new (placed ++ record { members = group.now; folder = folder } ∷ [])) }
     {
         for member in group {
             self.put(alloc, &member.name, folder)?;
@@ -97,7 +99,8 @@ impl FolderNames {
     }
 
     fn put(&mut self, alloc: Global, name: &Text, folder: usize) -> Result<(), AllocError>
-        ensures held { OnOk result ((q : List ℕ) (k : ℕ) → holds self.new q k ≡ (holds self.old q k || (folder == k && bytes_eq q name.now))) }
+        ensures held { OnOk result ((q : List ℕ) (k : ℕ) → holds self.new q k
+            ≡ (holds self.old q k || (folder == k && bytes_eq q name.now))) }
         ensures floors { OnOk result (self.new.floors ≡ self.old.floors) }
     {
         let name = name.copied(alloc)?;
@@ -121,7 +124,8 @@ impl FolderNames {
 
     // The first folder from here on that doesn't hold the name.
     fn end_of_run(&self, alloc: Global, name: &Text, from: usize) -> Result<usize, AllocError>
-        ensures { IfOk result (λ end. (j : ℕ) → from ≤ j → j < end → holds self.now name.now j ≡ true) }
+        ensures { IfOk result (λ end. (j : ℕ) → from ≤ j → j < end → holds self.now name.now j
+            ≡ true) }
     {
         for folder in from..usize::MAX {
             if !self.has(alloc, name, folder)? {

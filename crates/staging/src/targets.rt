@@ -20,7 +20,8 @@ pub(crate) fn folder_path(
     folders: Folders<'_>,
     number: usize,
 ) -> Result<String, AllocError>
-    ensures { IfOk result (λ path. string_bytes path ≡ folder_path folders.entry.holds_others folders.entry.dir.now number) }
+    ensures { IfOk result (λ path. string_bytes path
+        ≡ folder_path folders.entry.holds_others folders.entry.dir.now number) }
 {
     let dir = folders.dir;
     if !folders.holds_others {

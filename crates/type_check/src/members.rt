@@ -76,7 +76,8 @@ impl<'t> Members<'t> {
 
     /// Whether an enum overlaps one of the members.
     pub(crate) fn meets_enum(&self, symbols: &Items<Text>) -> bool
-        ensures { result ≡ (self.now.texts || list_any (λ symbol. is_held symbol self.now.symbols) symbols.now) }
+        ensures { result
+            ≡ (self.now.texts || list_any (λ symbol. is_held symbol self.now.symbols) symbols.now) }
     {
         self.texts || self.has_some(symbols)
     }

@@ -27,7 +27,8 @@ use std::alloc::Global;
 pub(crate) fn check_steps<'p>(alloc: Global, scope: Scope<'_, 'p>) -> Result<(), AcceptError>
     requires { scope.file.now ≡ file_type }
     ensures ok { OnOk result (steps_fault (around scope.entry) scope.entry.steps.now ≡ None) }
-    ensures err { IfErr result (IsErrorOf (steps_fault (around scope.entry) scope.entry.steps.now)) }
+    ensures err { IfErr result
+        (IsErrorOf (steps_fault (around scope.entry) scope.entry.steps.now)) }
 {
     for entry in scope.steps.as_slice() {
         if let Err(error) = check_step(alloc, scope, &entry.1) {
@@ -91,8 +92,11 @@ fn check_entry(
     scattered: bool,
 ) -> Result<(), AcceptError>
     requires { scope.file.now ≡ file_type }
-    ensures ok { OnOk result (entry_fault (around scope.entry) input.now scattered (option_map asked asked_of.entry) ≡ None) }
-    ensures err { IfErr result (IsErrorOf (entry_fault (around scope.entry) input.now scattered (option_map asked asked_of.entry))) }
+    ensures ok { OnOk result (entry_fault (around scope.entry) input.now scattered
+        (option_map asked asked_of.entry) ≡ None) }
+    ensures err { IfErr result
+        (IsErrorOf (entry_fault (around scope.entry) input.now scattered
+        (option_map asked asked_of.entry))) }
 {
     check_sources(alloc, scope, &input.links)?;
     match asked_of {
@@ -109,8 +113,10 @@ fn check_asked(
     scattered: bool,
 ) -> Result<(), AcceptError>
     requires { scope.file.now ≡ file_type }
-    ensures ok { OnOk result (asked_fault (around scope.entry) input.now scattered (asked asked_of.entry) ≡ None) }
-    ensures err { IfErr result (IsErrorOf (asked_fault (around scope.entry) input.now scattered (asked asked_of.entry))) }
+    ensures ok { OnOk result (asked_fault (around scope.entry) input.now scattered
+        (asked asked_of.entry) ≡ None) }
+    ensures err { IfErr result
+        (IsErrorOf (asked_fault (around scope.entry) input.now scattered (asked asked_of.entry))) }
 {
     if input.default.is_some() || input.value_from.is_some() {
         return Ok(());
@@ -160,8 +166,10 @@ fn check_overlap(
     kind: &Items<MemberType>,
 ) -> Result<(), AcceptError>
     requires { scope.file.now ≡ file_type }
-    ensures ok { OnOk result (type_fault (around scope.entry) links.now sources.now scattered kind.now ≡ None) }
-    ensures err { IfErr result (IsErrorOf (type_fault (around scope.entry) links.now sources.now scattered kind.now)) }
+    ensures ok { OnOk result (type_fault (around scope.entry) links.now sources.now scattered
+        kind.now ≡ None) }
+    ensures err { IfErr result
+        (IsErrorOf (type_fault (around scope.entry) links.now sources.now scattered kind.now)) }
 {
     if sources.is_empty() {
         return Ok(());
@@ -189,7 +197,8 @@ fn check_each_source(
     sources: &[Source],
 ) -> Result<(), AcceptError>
     ensures ok { OnOk result (first_of (source_fault (around scope.entry)) sources.now ≡ None) }
-    ensures err { IfErr result (IsErrorOf (first_of (source_fault (around scope.entry)) sources.now)) }
+    ensures err { IfErr result
+        (IsErrorOf (first_of (source_fault (around scope.entry)) sources.now)) }
 {
     for source in sources {
         if !is_there(scope, source) {
@@ -224,8 +233,10 @@ fn check_tool_inputs(
     file: &Items<MemberType>,
 ) -> Result<(), AcceptError>
     requires { file.now ≡ file_type }
-    ensures ok { OnOk result (first_of (other_fault entries.now) (map_values tool_asked inputs.now) ≡ None) }
-    ensures err { IfErr result (IsErrorOf (first_of (other_fault entries.now) (map_values tool_asked inputs.now))) }
+    ensures ok { OnOk result (first_of (other_fault entries.now) (map_values tool_asked inputs.now)
+        ≡ None) }
+    ensures err { IfErr result
+        (IsErrorOf (first_of (other_fault entries.now) (map_values tool_asked inputs.now))) }
 {
     for input in inputs.as_slice() {
         check_other(alloc, &input.0, tool_taken(&input.1, file), entries)?;
@@ -238,8 +249,10 @@ fn check_workflow_inputs(
     inputs: &Entries<WorkflowInput>,
     entries: &Index<'_, StepInput>,
 ) -> Result<(), AcceptError>
-    ensures ok { OnOk result (first_of (other_fault entries.now) (map_values workflow_asked inputs.now) ≡ None) }
-    ensures err { IfErr result (IsErrorOf (first_of (other_fault entries.now) (map_values workflow_asked inputs.now))) }
+    ensures ok { OnOk result
+        (first_of (other_fault entries.now) (map_values workflow_asked inputs.now) ≡ None) }
+    ensures err { IfErr result
+        (IsErrorOf (first_of (other_fault entries.now) (map_values workflow_asked inputs.now))) }
 {
     for input in inputs.as_slice() {
         check_other(alloc, &input.0, workflow_taken(&input.1), entries)?;
@@ -254,7 +267,8 @@ fn check_other(
     entries: &Index<'_, StepInput>,
 ) -> Result<(), AcceptError>
     ensures ok { OnOk result (other_fault entries.now (id.now, asked asked_of.entry) ≡ None) }
-    ensures err { IfErr result (IsErrorOf (other_fault entries.now (id.now, asked asked_of.entry))) }
+    ensures err { IfErr result
+        (IsErrorOf (other_fault entries.now (id.now, asked asked_of.entry))) }
 {
     if entries.has(id) {
         return Ok(());

@@ -68,7 +68,8 @@ pub(crate) fn links_overlap(
     kind: &Items<MemberType>,
 ) -> Result<bool, AllocError>
     requires { scope.file.now ≡ file_type }
-    ensures { IfOk result (λ overlap. overlap ≡ may_carry (around scope.entry) links.now sources.now scattered kind.now) }
+    ensures { IfOk result (λ overlap. overlap
+        ≡ may_carry (around scope.entry) links.now sources.now scattered kind.now) }
 {
     let levels = Levels::of(alloc, kind)?;
     let sink = Sink {
@@ -87,7 +88,8 @@ fn sources_overlap(
     sink: Sink<'_, '_>,
 ) -> bool
     requires { scope.file.now ≡ file_type }
-    ensures { result ≡ may_carry (around scope.entry) links.now sources.now sink.entry.scattered (members_at sink.entry.kind) }
+    ensures { result ≡ may_carry (around scope.entry) links.now sources.now sink.entry.scattered
+        (members_at sink.entry.kind) }
 {
     let form = form_of(links.merge, links.pick, sources.len() == 1);
     if form.in_array {
@@ -131,7 +133,8 @@ fn source_overlaps(scope: Scope<'_, '_>, source: &Source, form: Form, sink: Sink
 fn list_overlaps(scope: Scope<'_, '_>, sources: &[Source], form: Form, kind: Level<'_, '_>) -> bool
     requires { scope.file.now ≡ file_type }
     ensures { result ≡ list_any (members_overlap (array_of (flat_map (part_of form)
-        (map (gift scope.entry.inputs.now scope.entry.steps.now) sources.now)) None)) (members_at kind.entry) }
+        (map (gift scope.entry.inputs.now scope.entry.steps.now) sources.now)) None))
+        (members_at kind.entry) }
 {
     if kind.has_lists() {
         return true;

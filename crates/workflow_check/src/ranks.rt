@@ -37,7 +37,8 @@ fn input_late(ranks: &BTreeMap<&str, usize>, own: usize, input: &StepInput) -> b
 }
 
 fn each_late(ranks: &BTreeMap<&str, usize>, own: usize, sources: &[Source]) -> bool
-    ensures { result ≡ list_any (λ source. is_late (rank_of ranks.now) own source.step) sources.now }
+    ensures { result ≡ list_any (λ source. is_late (rank_of ranks.now) own source.step)
+        sources.now }
 {
     sources.iter().any(|source| is_late(ranks, own, source))
 }

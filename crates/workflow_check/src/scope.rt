@@ -226,7 +226,8 @@ pub(crate) fn is_there(scope: Scope<'_, '_>, source: &Source) -> bool
 /// What the source gives, where it is there.
 pub(crate) fn source_given<'p>(scope: Scope<'_, 'p>, source: &Source) -> Option<Given<'p>>
     requires { scope.file.now ≡ file_type }
-    ensures { option_map gift_seen result ≡ gift scope.entry.inputs.now scope.entry.steps.now source.now }
+    ensures { option_map gift_seen result
+        ≡ gift scope.entry.inputs.now scope.entry.steps.now source.now }
 {
     match &source.step {
         None => match scope.inputs.find(&source.name) {

@@ -4,7 +4,7 @@ use Rattle.proc_host.specs.declared.call.Entry.{Entry}
 use Rattle.proc_host.specs.declared.call.HostFault.{HostFault}
 use Rattle.proc_host.specs.Log.{failures}
 use Rattle.run_rules.specs.declared.outcome.RunFault.{RunFault}
-use Rattle.run_rules.specs.Blame.{IsToBlame}
+use Rattle.run_rules.specs.Blame.{IsToBlame, Rise}
 
 -- the host's failures rose: what its log gained has a call that failed with this very fault and the starts
 -- of these children
@@ -18,3 +18,9 @@ abbrev pub IsHostsFault : List Entry → List Entry → RunFault → Type 0
 IsHostsFault before after (RunFault.Host fault running) = HasFailed before after fault running
 IsHostsFault before after RunFault.TooManyJobs = Unit {0}
 IsHostsFault before after RunFault.OutOfMemory = Unit {0}
+
+-- the tickets that nobody waits for any more are in rising order
+abbrev pub HasRisingTickets : RunFault → Type 0
+HasRisingTickets (RunFault.Host fault running) = Rise running
+HasRisingTickets RunFault.TooManyJobs = Unit {0}
+HasRisingTickets RunFault.OutOfMemory = Unit {0}

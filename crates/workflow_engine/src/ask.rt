@@ -1,8 +1,9 @@
 //! One question to the host.
 ghost use Rattle.std.specs.Prelude.{◌≡◌, ◌≢◌, ◌++◌, [], IfOk, OnErr};
 ghost use Rattle.proc_host.specs.Answers.{CanAnswer, flying_with};
-ghost use Rattle.proc_host.specs.Log.{answer_behind, answer_behind_error};
+ghost use Rattle.proc_host.specs.Log.{answer_behind, answer_behind_error, starts};
 ghost use Rattle.workflow_engine.specs.inner.Held.{Covers};
+ghost use Rattle.workflow_engine.specs.inner.Numbered.{IsNumbered};
 ghost use Rattle.workflow_engine.specs.Gains.{answered, gained_by};
 
 use crate::tickets::close_ended;
@@ -23,7 +24,9 @@ pub(crate) fn ask<H: Host>(
     requires covered { Covers held.old.items (H.running host.old) }
     ensures logged { H.log host.new ≡ H.log host.old ++ gained_by request.now result }
     ensures answers { IfOk result (CanAnswer (H.running host.old) request.now) }
-    ensures running { IfOk result (λ answer. H.running host.new ≡ flying_with (H.running host.old) answer) }
+    ensures running { IfOk result (λ answer. H.running host.new
+        ≡ flying_with (H.running host.old) answer) }
+    ensures numbered { IfOk result (IsNumbered (starts (H.log host.old))) }
     ensures kept { OnErr result (H.running host.new ≡ H.running host.old) }
     ensures covered { Covers held.new.items (H.running host.new) }
 {
@@ -34,6 +37,8 @@ pub(crate) fn ask<H: Host>(
         HostRequest::Collect => collect(host, held),
         HostRequest::Scan(folder) => listed(host.scan(folder)),
         HostRequest::Head(path, limit) => read(host.head(path, *limit)),
+        HostRequest::Fetch(key, number, files) => fetched(host.fetch(key, *number, files)),
+        HostRequest::Store(key, folder, files) => done(host.store(key, folder, files)),
         HostRequest::Deliver(plan) => done(host.deliver(plan)),
     }
 }
@@ -45,9 +50,12 @@ fn start<H: Host>(
     held: &mut Vec<Ticket>,
 ) -> Result<HostAnswer, AllocError>
     requires covered { Covers held.old.items (H.running host.old) }
-    ensures logged { H.log host.new ≡ H.log host.old ++ gained_by (HostRequest.Start launch.now) result }
+    ensures logged { H.log host.new ≡ H.log host.old
+        ++ gained_by (HostRequest.Start launch.now) result }
     ensures answers { IfOk result (CanAnswer (H.running host.old) (HostRequest.Start launch.now)) }
-    ensures running { IfOk result (λ answer. H.running host.new ≡ flying_with (H.running host.old) answer) }
+    ensures running { IfOk result (λ answer. H.running host.new
+        ≡ flying_with (H.running host.old) answer) }
+    ensures numbered { IfOk result (IsNumbered (starts (H.log host.old))) }
     ensures kept { OnErr result (H.running host.new ≡ H.running host.old) }
     ensures covered { Covers held.new.items (H.running host.new) }
 {
@@ -67,7 +75,9 @@ fn collect<H: Host>(host: &mut H, held: &mut Vec<Ticket>) -> Result<HostAnswer, 
     requires covered { Covers held.old.items (H.running host.old) }
     ensures logged { H.log host.new ≡ H.log host.old ++ gained_by HostRequest.Collect result }
     ensures answers { IfOk result (CanAnswer (H.running host.old) HostRequest.Collect) }
-    ensures running { IfOk result (λ answer. H.running host.new ≡ flying_with (H.running host.old) answer) }
+    ensures running { IfOk result (λ answer. H.running host.new
+        ≡ flying_with (H.running host.old) answer) }
+    ensures numbered { IfOk result (IsNumbered (starts (H.log host.old))) }
     ensures kept { OnErr result (H.running host.new ≡ H.running host.old) }
     ensures covered { Covers held.new.items (H.running host.new) }
 {
@@ -112,6 +122,15 @@ fn listed(outcome: Result<Items<Found>, HostError>) -> Result<HostAnswer, AllocE
 {
     match outcome {
         Ok(found) => Ok(HostAnswer::Listed(found)),
+        Err(error) => failed(error),
+    }
+}
+
+fn fetched(outcome: Result<Items<Found>, HostError>) -> Result<HostAnswer, AllocError>
+    ensures { result ≡ answered (answer_behind (λ found. HostAnswer.Fetched found) outcome) }
+{
+    match outcome {
+        Ok(found) => Ok(HostAnswer::Fetched(found)),
         Err(error) => failed(error),
     }
 }

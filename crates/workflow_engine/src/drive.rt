@@ -1,10 +1,13 @@
 //! A whole run on a host.
 ghost use Rattle.std.specs.Prelude.{◌≡◌, ◌++◌, [], None, IfErr};
+ghost use Rattle.proc_host.specs.Log.{starts};
 ghost use Rattle.run_core.specs.Limits.{IsWithinLimits};
 ghost use Rattle.run_rules.specs.Reports.{entries_of};
 ghost use Rattle.workflow_check.specs.Checked.{fault_in};
-ghost use Rattle.workflow_engine.specs.Blame.{IsHostsFault};
+ghost use Rattle.workflow_engine.specs.Blame.{HasRisingTickets, IsHostsFault};
 ghost use Rattle.workflow_engine.specs.inner.Held.{Covers};
+ghost use Rattle.workflow_engine.specs.inner.Numbered.{AreNumbered};
+ghost use Rattle.workflow_engine.specs.inner.Told.{IsTold, MayBeTold};
 ghost use Rattle.workflow_engine.specs.Gains.{RunsOn};
 
 use crate::ask::ask;
@@ -13,9 +16,10 @@ use crate::watch::Watch;
 use cwl_value::Value;
 use document_links::Process;
 use plain_data::Keyed;
-use proc_host::{Host, Ticket};
+use proc_host::{Host, HostAnswer, Ticket};
 use run_core::{Answer, Options, Report, Request, RunCore, RunFault};
 use std::alloc::{AllocError, Global};
+use std::mem;
 
 /// Runs an accepted process on an input object.
 ///
@@ -39,6 +43,7 @@ pub fn run<H: Host, W: Watch>(
     ensures run { RunsOn (H.log host.old) (H.log host.new) process.now inputs.now options result }
     // A fault is the host's only where its failures rose, by this very fault.
     ensures fault { IfErr result (IsHostsFault (H.log host.old) (H.log host.new)) }
+    ensures rising { IfErr result HasRisingTickets }
     ensures closed { H.running host.new ≡ [] }
 {
     let mut core = RunCore::new(alloc, process, inputs, options)?;
@@ -61,18 +66,28 @@ fn drive<H: Host, W: Watch>(
     requires covered { Covers held.old.items (H.running host.old) }
     ensures setting { core.new.setting ≡ core.old.setting }
     ensures logged { H.log host.new ≡ H.log host.old ++ entries_of core.new.transcript }
+    ensures numbered { AreNumbered (starts (H.log host.old)) (entries_of core.new.transcript) }
     ensures finished { core.new.asks ≡ Request.Finished }
     ensures covered { Covers held.new.items (H.running host.new) }
 {
     while let Request::Host(place, request) = core.next() {
         watcher.asks(place, request, core.known());
-        // An error is that the machine asks nothing more: `finish` says so too.
-        let _told = match ask(host, request, held) {
-            Ok(answer) => {
-                watcher.answers(place, &answer);
-                core.take(Answer::Host(answer))
-            }
-            Err(AllocError) => core.give_up(),
-        };
+        let answer = ask(host, request, held);
+        if let Ok(answer) = &answer {
+            watcher.answers(place, answer);
+        }
+        tell(core, answer);
+    }
+}
+
+/// Tells the machine what the host answered, or that it ran out of memory.
+fn tell(core: &mut RunCore<'_>, told: Result<HostAnswer, AllocError>)
+    requires { MayBeTold core.old told }
+    ensures { IsTold core.old told core.new }
+{
+    // An error is that the machine asks nothing more: `finish` says so too.
+    match told {
+        Ok(answer) => mem::drop(core.take(Answer::Host(answer))),
+        Err(AllocError) => mem::drop(core.give_up()),
     }
 }

@@ -1,5 +1,5 @@
 -- What a course reflects goes on with each event: a lemma for each.
-use Rattle.std.specs.Prelude.{Ok, ◌<◌, ◌≤◌, ◌||◌, Contains, IsSome, is_some, Result, Err, option_map}
+use Rattle.std.specs.Prelude.{Ok, ◌<◌, ◌||◌, Contains, IsSome, is_some, Result, Err, option_map}
 use Rattle.std.specs.List.{list_any}
 use Rattle.std.proofs.Common.{◌≡◌, ◌∙◌, ◌+◌, ℕ, Bool, true, false, List, [], ◌∷◌, ◌++◌, length, Option, Some, None, refl, sym, ap, subst}
 use Rattle.std.proofs.lemmas.Bool.{or_from}
@@ -11,6 +11,8 @@ use Rattle.job_graph.specs.declared.fault.UnfoldFault.{UnfoldFault}
 use Rattle.job_graph.specs.declared.unfolding.Unfolding.{Unfolding}
 use Rattle.staging.specs.declared.plan.StagePlan.{StagePlan}
 use Rattle.job_graph.specs.Jobs.{Job, Walker}
+use Rattle.job_graph.specs.Made.{any_made}
+use Rattle.job_graph.specs.Makers.{AreNamed, IsLearned}
 use Rattle.job_graph.specs.Unfold.{Fault, Resolved, Unfolded, outputs_at, unfolded}
 use Rattle.job_graph.specs.Words.{Fields, JobPlace}
 use Rattle.run_rules.specs.declared.outcome.Cause.{Cause}
@@ -19,7 +21,7 @@ use Rattle.run_rules.specs.declared.outcome.RunFault.{RunFault}
 use Rattle.run_rules.specs.End.{End, beyond_limits, ended_by_host, fails_permanently, fault_end, is_lost_collect, settled, settled_by}
 use Rattle.run_rules.specs.Events.{Event, child_exited, delivered_at, delivered_if, in_flight, job_at, job_failed, job_failed_for_now, job_staged, job_started, job_succeeded, host_failed, measures, number_at, resolved, started_at, unfolding_at}
 use Rattle.run_rules.specs.Reports.{outcome_of}
-use Rattle.run_rules.specs.Scene.{Scene}
+use Rattle.run_rules.specs.Scene.{Scene, NothingWasMadeBefore}
 use Rattle.run_rules.proofs.events.Known.{IsFront, found_still, front_itself, is_measure, measured_still, measures_stay, resolved_stay, teaches, unfolding_learns}
 use Rattle.run_rules.proofs.events.Places.{AreApart, IsJob, found_at}
 use Rattle.run_rules.proofs.events.Readings.{delivered_after, lost_after, resolved_after, started_after}
@@ -117,12 +119,15 @@ pub unfolds_by : (o : Option Unfolding) (walks : Walker) (learned : List Resolve
 unfolds_by None walks learned one old new is known learns = absurd known
 unfolds_by (Some kept) walks learned one old new is known learns = learns walks learned kept is known
 
--- two laws of walks: known jobs are at different places, and where each known job is resolved and no equation fails the result is there
+-- three laws of walks: known jobs are at different places; where each known job is resolved and no equation fails the result is there; and what made
+-- a file in the inputs of a known job was learned
 pub record Laws (s : Scene) : Type 0 where
   pub differ : (walks : Walker) (learned : List Resolved) → AreApart (unfolded walks learned).jobs
   pub results : (measures : Measures) (learned : List Resolved) → (unfolded (s.walker measures) learned).fault ≡ None →
       ((job : Job) → Contains (unfolded (s.walker measures) learned).jobs job → is_some (outputs_at learned job.place) ≡ true) →
       IsSome (unfolded (s.walker measures) learned).result
+  pub makers : NothingWasMadeBefore s → (measures : Measures) (learned : List Resolved) → AreNamed learned → (job : Job) →
+      Contains (unfolded (s.walker measures) learned).jobs job → (maker : JobPlace) → any_made maker job.inputs ≡ true → IsLearned learned maker
 
 module _ (s : Scene) where
   -- the same course

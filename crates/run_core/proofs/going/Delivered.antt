@@ -1,5 +1,5 @@
 -- The result's files are copied to their targets: the run has ended.
-use Rattle.std.specs.Prelude.{◌≤◌, is_some}
+use Rattle.std.specs.Prelude.{is_some}
 use Rattle.std.proofs.Common.{◌≡◌, ◌∙◌, ℕ, true, List, [], ◌∷◌, ◌++◌, length, None, refl, sym, ap, subst}
 use Rattle.plan_checker.specs.declared.plan.Mark.{Mark}
 use Rattle.proc_host.specs.declared.call.HostAnswer.{HostAnswer}

@@ -1,8 +1,8 @@
 -- A run goes on with each answer to what is asked.
 use Rattle.std.specs.Prelude.{◌≤◌}
-use Rattle.std.proofs.Common.{◌≡◌, ◌+◌, ℕ, List, [], ◌∷◌, ◌++◌, Option, Some, None, length, subst}
+use Rattle.std.proofs.Common.{◌≡◌, ◌+◌, ℕ, List, [], ◌∷◌, ◌++◌, Some, None, length, subst}
 use Rattle.plan_checker.specs.declared.plan.Mark.{Mark}
-use Rattle.proc_host.specs.Answers.{CanAnswer, is_measured, is_staged, is_started, has_ended, is_listed, is_read, is_delivered, has_failed}
+use Rattle.proc_host.specs.Answers.{CanAnswer, is_measured, is_staged, is_started, has_ended, is_listed, is_read, is_delivered, has_failed, is_fetched, is_stored}
 use Rattle.proc_host.specs.declared.call.HostAnswer.{HostAnswer}
 use Rattle.proc_host.specs.declared.call.HostRequest.{HostRequest}
 use Rattle.staging.specs.declared.measure.Measure.{Measure}
@@ -92,6 +92,10 @@ module _ (s : Scene) (given : Given) (same : given.options ≡ s.options) (its :
         listing_goes_on s given same laws picks t f marks goes old n job folder found r turn new phase w follows
     work_by n job phase (is_read path limit bytes few) r w follows =
         bytes_go_on s given same laws picks t f marks goes old n job path limit bytes r turn new phase w follows
+    work_by n job phase (is_fetched key number files found among) r w follows =
+        absurd (for_job s.options (state_at old.jobs n).folder [] (HostRequest.Fetch key number files) phase w.calls.due)
+    work_by n job phase (is_stored key folder files) r w follows =
+        absurd (for_job s.options (state_at old.jobs n).folder [] (HostRequest.Store key folder files) phase w.calls.due)
     work_by n job phase (is_delivered plan) r w follows =
         absurd (for_job s.options (state_at old.jobs n).folder [] (HostRequest.Deliver plan) phase w.calls.due)
     work_by n job phase (has_failed request) r w follows =

@@ -23,7 +23,8 @@ use Rattle.run_rules.specs.Reports.{outcome_of}
 use Rattle.run_rules.specs.Run.{Goes}
 use Rattle.run_rules.specs.Scene.{Scene}
 use Rattle.run_rules.proofs.PlacesErased.{map_by_name}
-use Rattle.run_rules.proofs.events.Asks.{may_collect, may_collect_settled, may_deliver}
+use Rattle.run_rules.proofs.Named.{learned_are_named, learned_is_at_hand}
+use Rattle.run_rules.proofs.events.Asks.{AreParentsAtHand, may_collect, may_collect_settled, may_deliver}
 use Rattle.run_rules.proofs.events.Course.{Keeps as AreKept}
 use Rattle.run_rules.proofs.events.Flights.{Flight as Flying, is_flying}
 use Rattle.run_rules.proofs.events.Known.{unfolding_when}
@@ -157,17 +158,27 @@ module _ (s : Scene) (given : Given) (same : given.options ≡ s.options) where
       ∙ ap (λ (values : Fields). sources_in given.options course (last_by_name values)) (sym kept)
 
   module _ {t : List Pair} (f : Progress) (marks : List Mark) (goes : Goes s (InForce s) t f marks) (idle : f.work ≡ nothing_due) where
+    -- what made a known job's files is at hand
+    parents_there : Laws s → (course : Course) → Reflects s f.events course None → course.end ≡ None → (n : ℕ) (job : Job) → IsJob (known_in course.known) n job →
+        AreParentsAtHand s f job
+    parents_there laws course r going n job it nothing parent made =
+        let walks : Walker = s.walker (measures f.events) in
+        let there : Contains (unfolded walks (resolved f.events)).jobs job =
+        subst (λ (jobs : List Job). Contains jobs job) (known_jobs course.known walks (resolved f.events) (r.knows going)) (n, it.within, it.is) in
+        learned_is_at_hand f.events parent (laws.makers nothing (measures f.events) (resolved f.events) (learned_are_named s goes) job there parent made)
+
     -- the lowest job that waits is staged
-    staged_next : (course : Course) (n : ℕ) (turn : Turn) → Reflects s f.events course None → course.end ≡ None → length course.tickets.items < s.options.slots →
+    staged_next : Laws s → (course : Course) (n : ℕ) (turn : Turn) → Reflects s f.events course None → course.end ≡ None → length course.tickets.items < s.options.slots →
         IsLowest course.jobs (length (known_in course.known)) n → Stages given course n turn → IsAt s f marks course turn
-    staged_next course n turn r going slot lowest st =
+    staged_next laws course n turn r going slot lowest st =
         let it : IsJob (known_in course.known) n st.job = job_there (known_in course.known) n st.job st.known in
         let whole : known_in course.known ≡ jobs_in s f = all_known s f.events course None r going in
         subst (IsAt s f marks course) (sym st.is)
         (staging n st.job st.plan r (record {
           it = it;
           may = waiting_may_stage s f marks (course_of (past_of course) None r.keeps.gave_up) (all_kept s f.events course None r going)
-              (is_free s f course None r idle going) n st.job st.plan goes (subst (λ (jobs : List Job). IsJob jobs n st.job) whole it) lowest.waits slot
+              (is_free s f course None r idle going) n st.job st.plan goes (subst (λ (jobs : List Job). IsJob jobs n st.job) whole it) lowest.waits
+              (parents_there laws course r going n st.job it) slot
               (plan_same f.events course None r n st);
           lowest = lowest;
           going = going;
@@ -280,6 +291,6 @@ module _ (s : Scene) (given : Given) (same : given.options ≡ s.options) where
       picked (drains new over flying past known) = at_same s f marks old new past known (drained old r over flying)
       picked (ends_so told new is none left known) = ended_so old r told is none new
       picked (stages number turn new going slot lowest st past known) =
-          at_same s f marks old new past known (staged_next old number turn r going (subst (λ (o : Options). length old.tickets.items < o.slots) same slot) lowest st)
+          at_same s f marks old new past known (staged_next laws old number turn r going (subst (λ (o : Options). length old.tickets.items < o.slots) same slot) lowest st)
       picked (waits_for_one new going flying none past known) = at_same s f marks old new past known (waited_for old r going flying none)
       picked (has_result turn new going none nothing d past known) = at_same s f marks old new past known (result_there old r going laws some none nothing d)

@@ -1,5 +1,5 @@
 -- A child has ended: well, so that its output folder is listed, or permanently, or temporarily, so that its job may be started again.
-use Rattle.std.proofs.Common.{◌≡◌, ◌∙◌, ℕ, Bool, true, false, cond, List, [], ◌∷◌, ◌++◌, Option, Some, None, refl, sym, ap, subst, append_assoc, append-nil}
+use Rattle.std.proofs.Common.{◌≡◌, ◌∙◌, ℕ, List, [], ◌∷◌, ◌++◌, Option, Some, None, refl, sym, ap, subst, append_assoc, append-nil}
 use Rattle.plan_checker.specs.declared.plan.Mark.{Mark}
 use Rattle.proc_host.specs.declared.call.HostAnswer.{HostAnswer}
 use Rattle.proc_host.specs.declared.call.HostRequest.{HostRequest}
@@ -35,7 +35,6 @@ use Rattle.run_core.specs.inner.Picks.{AfterChild, AfterEnd, AfterTemporary, IsS
 use Rattle.run_core.specs.inner.Standing.{Runs}
 use Rattle.run_core.proofs.events.Numbers.{job_there}
 use Rattle.run_core.proofs.events.Reflecting.{Landed, Laws, gave_up_reflects, known_there, landed_reflects}
-use Rattle.run_core.proofs.going.Same.{at_same}
 use Rattle.run_core.proofs.job_steps.Sites.{Fits, site_fits}
 use Rattle.run_core.proofs.job_steps.Turns.{PicksAt, turns_at}
 use Rattle.run_core.specs.inner.JobStates.{state_at}

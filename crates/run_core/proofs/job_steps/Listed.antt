@@ -22,11 +22,10 @@ use Rattle.run_core.specs.declared.state.Course.{Course}
 use Rattle.run_core.specs.declared.state.Given.{Given}
 use Rattle.run_core.specs.declared.state.JobPhase.{JobPhase}
 use Rattle.run_core.specs.declared.state.Kept.{Kept}
-use Rattle.run_core.specs.declared.state.Phase.{Phase}
 use Rattle.run_core.specs.declared.state.Turn.{Turn}
 use Rattle.run_core.specs.inner.Due.{call_for, events_next, work_next}
 use Rattle.run_core.specs.inner.Keeps.{Reflects}
-use Rattle.run_core.specs.inner.Parts.{kept_in, millis_in}
+use Rattle.run_core.specs.inner.Follows.{FollowsWork}
 use Rattle.run_core.specs.inner.Picks.{AfterListing}
 use Rattle.run_core.specs.inner.Standing.{IsWorking, Runs}
 use Rattle.run_core.proofs.events.Reflecting.{Laws, folder_there, known_there}
@@ -82,7 +81,7 @@ module _ (s : Scene) (given : Given) (same : given.options ≡ s.options) (laws 
       }
 
     -- a folder is listed in no other phase
-    pub listing_goes_on : (phase : JobPhase) → IsWorking s f old n job (HostRequest.Scan its_folder) phase → AfterListing given old n (kept_in (Phase.Working n phase)) (millis_in (Phase.Working n phase)) found turn new →
+    pub listing_goes_on : (phase : JobPhase) → IsWorking s f old n job (HostRequest.Scan its_folder) phase → FollowsWork given old n phase (HostAnswer.Listed found) turn new →
         Runs s (t ++ call job.place (HostRequest.Scan its_folder) (HostAnswer.Listed found) ∷ []) new turn
     listing_goes_on (JobPhase.Filling filling) is after =
         absurd (never_input s.options folder filling.staged filling.heads (reverse filling.left) its_folder is.calls.due)

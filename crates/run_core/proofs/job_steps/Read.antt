@@ -20,11 +20,10 @@ use Rattle.run_core.specs.declared.state.Course.{Course}
 use Rattle.run_core.specs.declared.state.Given.{Given}
 use Rattle.run_core.specs.declared.state.JobPhase.{JobPhase}
 use Rattle.run_core.specs.declared.state.Kept.{Kept}
-use Rattle.run_core.specs.declared.state.Phase.{Phase}
 use Rattle.run_core.specs.declared.state.Reading.{Reading}
 use Rattle.run_core.specs.declared.state.Turn.{Turn}
 use Rattle.run_core.specs.inner.Due.{Collects, call_for, events_next, work_next}
-use Rattle.run_core.specs.inner.Follows.{AfterBytes}
+use Rattle.run_core.specs.inner.Follows.{FollowsWork}
 use Rattle.run_core.specs.inner.Keeps.{Reflects}
 use Rattle.run_core.specs.inner.Picks.{AfterOutputHead}
 use Rattle.run_core.specs.inner.Standing.{IsWorking, Runs}
@@ -91,7 +90,7 @@ module _ (s : Scene) (given : Given) (same : given.options ≡ s.options) (laws 
       }
 
     -- first bytes are of an input file, or of a file of the output folder
-    pub bytes_go_on : (phase : JobPhase) → IsWorking s f old n job (HostRequest.Head path limit) phase → AfterBytes given old (Phase.Working n phase) bytes turn new →
+    pub bytes_go_on : (phase : JobPhase) → IsWorking s f old n job (HostRequest.Head path limit) phase → FollowsWork given old n phase (HostAnswer.FirstBytes bytes) turn new →
         Runs s (t ++ call job.place (HostRequest.Head path limit) (HostAnswer.FirstBytes bytes) ∷ []) new turn
     bytes_go_on (JobPhase.Filling filling) is after =
         input_head_goes_on s given same laws picks t f marks goes old n job path limit bytes filling r is turn new after

@@ -18,11 +18,10 @@ use Rattle.run_core.specs.declared.state.Course.{Course}
 use Rattle.run_core.specs.declared.state.Given.{Given}
 use Rattle.run_core.specs.declared.state.JobPhase.{JobPhase}
 use Rattle.run_core.specs.declared.state.Kept.{Kept}
-use Rattle.run_core.specs.declared.state.Phase.{Phase}
 use Rattle.run_core.specs.declared.state.Turn.{Turn}
+use Rattle.run_core.specs.inner.Follows.{FollowsWork}
 use Rattle.run_core.specs.inner.Due.{IsKept, call_for, kept_of}
 use Rattle.run_core.specs.inner.Keeps.{Reflects}
-use Rattle.run_core.specs.inner.Parts.{kept_in}
 use Rattle.run_core.specs.inner.Picks.{AfterStart}
 use Rattle.run_core.specs.inner.Standing.{IsWorking, Runs}
 use Rattle.run_core.proofs.events.Reflecting.{folder_there, started_reflects}
@@ -65,7 +64,7 @@ module _ (s : Scene) (given : Given) (picks : PicksAt s given) (t : List Pair) (
       }
 
     -- none is started in another phase
-    pub start_goes_on : (phase : JobPhase) → IsWorking s f old n job (HostRequest.Start launch) phase → AfterStart given old n (kept_in (Phase.Working n phase)) ticket turn new →
+    pub start_goes_on : (phase : JobPhase) → IsWorking s f old n job (HostRequest.Start launch) phase → FollowsWork given old n phase (HostAnswer.Started ticket) turn new →
         Runs s (t ++ call job.place (HostRequest.Start launch) (HostAnswer.Started ticket) ∷ []) new turn
     start_goes_on (JobPhase.Filling filling) is after =
         absurd (input_starts_none s.options (state_at old.jobs n).folder filling.staged filling.heads (reverse filling.left) launch is.calls.due)

@@ -1,6 +1,6 @@
 -- What each answer leaves.
 use Rattle.std.specs.Prelude.{Contains}
-use Rattle.std.proofs.Common.{◌≡◌, ◌∙◌, List, [], Option, None, Result, Err, refl, sym, ap, subst, arith}
+use Rattle.std.proofs.Common.{◌≡◌, ◌∙◌, List, [], Option, None, Result, Err, refl, sym, ap, subst}
 use Rattle.proc_host.specs.Answers.{fault_of, is_measured, is_staged, is_started, has_ended, is_listed, is_read, is_delivered, has_failed}
 use Rattle.proc_host.specs.declared.call.Entry.{Entry}
 use Rattle.proc_host.specs.declared.call.HostAnswer.{HostAnswer}
@@ -11,6 +11,7 @@ use Rattle.cwl_process.specs.declared.tool.Tool.{Tool}
 use Rattle.job_graph.specs.declared.unfolding.Unfolding.{Unfolding}
 use Rattle.run_rules.specs.Answers.{MayAnswer, by_host}
 use Rattle.run_rules.specs.Blame.{IsToBlame, WereStarted, logged_answers}
+use Rattle.run_rules.proofs.Rising.{none_started}
 use Rattle.run_rules.specs.declared.outcome.Outcome.{Outcome}
 use Rattle.run_rules.specs.declared.outcome.RunFault.{RunFault}
 use Rattle.run_rules.specs.declared.request.Answer.{Answer}
@@ -44,10 +45,9 @@ asks_none course place (HostRequest.Start launch) outcome fits = fits
 asks_none course place HostRequest.Collect outcome fits = fits
 asks_none course place (HostRequest.Scan folder) outcome fits = fits
 asks_none course place (HostRequest.Head path limit) outcome fits = fits
+asks_none course place (HostRequest.Fetch key number files) outcome fits = fits
+asks_none course place (HostRequest.Store key folder files) outcome fits = fits
 asks_none course place (HostRequest.Deliver plan) outcome fits = fits
-
-pub none_started : (entries : List Entry) → WereStarted entries []
-none_started entries = record { each = λ ticket there. absurd (omega (arith, there.1)) }
 
 -- what was known is known still
 pub known_still : (old new : Course) → new.end ≡ old.end → new.known ≡ old.known → (old.end ≡ None → KnowsSome old) → new.end ≡ None → KnowsSome new
@@ -63,7 +63,7 @@ after_measure given old entries turn new few measuring books (measures rest path
     let now : Books given.options entries (past_of new) = books_course given.options entries new old same books in
     record { bounded = now.bounded; blames = now.blames; not_lost = λ lost. cc; goes = λ drains. cc }
 
-module _ (given : Given) (old : Course) (entries : List Entry) (turn : Turn) (new : Course) (few : FewKnown turn new) where
+module _ (given : Given) (old : Course) (entries : List Entry) (turn : Turn) (new : Course) (few : FewKnown turn new) (began : WereStarted entries old.tickets.items) where
   abbrev Left : Type 0
   Left = Leaves given.options entries turn new
 
@@ -105,7 +105,7 @@ module _ (given : Given) (old : Course) (entries : List Entry) (turn : Turn) (ne
   step_leaves asks (Phase.Working number (JobPhase.Starting kept)) answer (by_host place request its (is_started launch ticket fresh)) fits goes knows told bounded blames follows =
       picks_leave given.options entries given refl follows.started turn new few
       (subst (λ (p : Past). Books given.options entries p) (sym follows.past)
-      (books_start given.options entries (past_of old) number kept ticket told (record { bounded = bounded; blames = blames }))) follows.picks
+      (books_start given.options entries (past_of old) number kept ticket (record { bounded = bounded; blames = blames }))) follows.picks
   step_leaves asks (Phase.Working number (JobPhase.Starting kept)) answer (by_host place request its (has_failed call)) fits goes knows told bounded blames follows =
       after_fault (fault_of call) told (record { bounded = bounded; blames = blames }) follows
   step_leaves asks (Phase.Working number (JobPhase.Scanning kept millis)) answer (by_host place request its (is_listed folder found)) fits goes knows told bounded blames follows =
@@ -122,7 +122,7 @@ module _ (given : Given) (old : Course) (entries : List Entry) (turn : Turn) (ne
       after_end follows.landed follows.flight follows.job.tool ending
       (known_still old follows.landed (ap (λ (p : Past). p.end) follows.taken.is) follows.known knows) books follows.ends
   step_leaves asks Phase.Collecting answer (by_host place request its (has_failed call)) fits goes knows told bounded blames follows =
-      let blame : IsToBlame entries (fault_of call) old.tickets.items = record { failed = told; started = blames.flying } in
+      let blame : IsToBlame entries (fault_of call) old.tickets.items = record { failed = told; started = began } in
       leaves_end given.options entries (Err (RunFault.Host (fault_of call) old.tickets.items)) turn new (ap (λ (t : Turn). t.phase) follows.0) blame
   step_leaves asks (Phase.Delivering outputs) answer (by_host place request its (is_delivered plan)) fits goes knows told bounded blames follows =
       leaves_end given.options entries _ turn new (ap (λ (t : Turn). t.phase) follows.0) tt

@@ -3,10 +3,12 @@ use Rattle.std.proofs.Common.{◌≡◌, ◌∙◌, ℕ, ◌+◌, ◌≤◌, tru
 use Rattle.proc_host.specs.declared.call.Entry.{Entry}
 use Rattle.workflow_check.specs.Checked.{fault_in}
 use Rattle.job_graph.specs.Apart.{ids_differ}
+use Rattle.run_rules.specs.Blame.{WereStarted}
 use Rattle.run_rules.specs.Reports.{entries_of}
 use Rattle.run_rules.specs.Scene.{scene_of}
 use Rattle.run_rules.specs.declared.request.Pair.{Pair}
 use Rattle.run_rules.specs.declared.setting.Options.{Options}
+use Rattle.run_rules.proofs.Rising.{none_started}
 use Rattle.run_core.specs.Core.{Begins}
 use Rattle.run_core.specs.inner.Inside.{Stands, on_run, seen, setting_in}
 use Rattle.run_core.specs.Limits.{IsWithinLimits}
@@ -17,7 +19,7 @@ use Rattle.run_core.specs.inner.Course.{Past, nothing_past, past_of}
 use Rattle.run_core.specs.inner.Measures.{Begins as BeginsAt}
 use Rattle.run_core.specs.inner.Standing.{HasRoom, Runs, pairs_ahead}
 use Rattle.run_core.proofs.going.Given.{begins_run, laws_of}
-use Rattle.run_core.proofs.standing.Answered.{after_measure, none_started}
+use Rattle.run_core.proofs.standing.Answered.{after_measure}
 use Rattle.run_core.proofs.standing.Books.{Books}
 use Rattle.run_core.proofs.standing.Facts.{few_known}
 use Rattle.run_core.proofs.standing.Flown.{measures_fly}
@@ -27,7 +29,7 @@ use Rattle.run_core.proofs.standing.Modes.{lost_phase}
 nothing_booked : (options : Options) (entries : List Entry) → Books options entries nothing_past
 nothing_booked options entries = record {
   bounded = record { jobs = omega arith; retries = tt; folders = omega arith };
-  blames = record { flying = none_started entries; settled = λ end is. absurd cc };
+  blames = record { settled = λ end is. absurd cc };
 }
 
 two_at_most : (past : Past) (phase : Phase) → pairs_ahead past phase ≤ length past.tickets + 2
@@ -66,6 +68,7 @@ module _ (core : Inside) (limits : IsWithinLimits core.given.options) (accepted 
     going = on_run (subst (λ (t : List Pair). Runs (scene_of (setting_in core.given)) t core.course core.turn) (sym empty) runs);
     bounded = leaves.bounded;
     blames = leaves.blames;
+    started = λ asks. subst (λ (ns : List ℕ). WereStarted (entries_of core.pairs.items) ns) (sym none_flies) (none_started (entries_of core.pairs.items));
     room = room;
     pairs_room = pairs_fit;
   }

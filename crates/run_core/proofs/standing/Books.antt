@@ -1,23 +1,18 @@
 -- What bounds a run and what it blames on its host, as what has happened goes on.
-use Rattle.std.specs.Prelude.{Contains, slice_get}
-use Rattle.std.specs.List.{remove}
-use Rattle.std.proofs.Common.{◌≡◌, ◌∙◌, inl, inr, ℕ, true, ◌+◌, ◌<◌, ◌≤◌, List, length, Option, Some, None, Result, refl, sym, subst, arith}
-use Rattle.std.proofs.lemmas.List.Elements.{Contains-push_cases}
+use Rattle.std.specs.Prelude.{slice_get}
+use Rattle.std.proofs.Common.{◌≡◌, ℕ, true, ◌+◌, ◌<◌, ◌≤◌, List, Option, Some, None, Result, sym, subst, arith}
 use Rattle.plan_checker.specs.declared.graph.TheConstants.{MOST_VERTICES}
 use Rattle.proc_host.specs.declared.call.Entry.{Entry}
-use Rattle.proc_host.specs.declared.call.HostAnswer.{HostAnswer}
 use Rattle.job_graph.specs.Unfold.{or_else}
 use Rattle.run_rules.specs.declared.outcome.Outcome.{Outcome}
 use Rattle.run_rules.specs.declared.outcome.RunFault.{RunFault}
 use Rattle.run_rules.specs.declared.setting.Options.{Options}
-use Rattle.run_rules.specs.Blame.{WereStarted, logged_answers}
 use Rattle.run_core.specs.declared.state.Flight.{Flight}
 use Rattle.run_core.specs.declared.job_states.JobState.{JobState}
 use Rattle.run_core.specs.declared.state.Kept.{Kept}
 use Rattle.run_core.specs.inner.Attempts.{IsBounded}
 use Rattle.run_core.specs.inner.Course.{Past, TakesOut, with_end, with_giving_up, with_staging, with_start}
 use Rattle.run_core.specs.inner.Standing.{BlamesSoFar, SettlesRightly}
-use Rattle.run_core.proofs.standing.Tickets.{left_there}
 use Rattle.run_core.proofs.standing.Tries.{gave_up_before, gave_up_once_more, gave_up_staged, length_before, tries_before, tries_given_up, tries_staged}
 use Rattle.run_core.specs.inner.JobStates.{waits_in}
 use Rattle.run_core.proofs.States.{given_up_length, staged_few}
@@ -41,35 +36,20 @@ module _ (options : Options) (entries : List Entry) (past : Past) where
   pub books_end : (end : Result Outcome RunFault) → SettlesRightly entries end → Books options entries past → Books options entries (with_end end past)
   books_end end now books = record {
     bounded = record { jobs = books.bounded.jobs; retries = books.bounded.retries; folders = books.bounded.folders };
-    blames = record {
-      flying = books.blames.flying;
-      settled = λ its is. settled_with entries past.end end its books.blames.settled now is;
-    };
+    blames = record { settled = λ its is. settled_with entries past.end end its books.blames.settled now is };
   }
 
-  pub books_start : (number : ℕ) (kept : Kept) (ticket : ℕ) → Contains (logged_answers entries) (HostAnswer.Started ticket) → Books options entries past →
-      Books options entries (with_start number kept ticket past)
-  books_start number kept ticket told books = record {
+  pub books_start : (number : ℕ) (kept : Kept) (ticket : ℕ) → Books options entries past → Books options entries (with_start number kept ticket past)
+  books_start number kept ticket books = record {
     bounded = record { jobs = books.bounded.jobs; retries = books.bounded.retries; folders = books.bounded.folders };
-    blames = record {
-      flying = record {
-        each = λ n there. elim (Contains-push_cases past.tickets ticket n there) [
-          | inl before ↦ books.blames.flying.each n before
-          | inr same ↦ subst (λ m. Contains (logged_answers entries) (HostAnswer.Started m)) same told
-        ];
-      };
-      settled = books.blames.settled;
-    };
+    blames = record { settled = books.blames.settled };
   }
-
-  fewer_started : (index : ℕ) → WereStarted entries past.tickets → WereStarted entries (remove past.tickets index)
-  fewer_started index began = record { each = λ n there. began.each n (left_there past.tickets index there.0 n there.1 there.2) }
 
   pub books_landed : (ticket : ℕ) (flight : Flight) (new : Past) → TakesOut ticket flight past new → Books options entries past → Books options entries new
   books_landed ticket flight new taken books =
       subst (λ (p : Past). Books options entries p) (sym taken.is) (record {
         bounded = record { jobs = books.bounded.jobs; retries = books.bounded.retries; folders = books.bounded.folders };
-        blames = record { flying = fewer_started taken.index books.blames.flying; settled = books.blames.settled };
+        blames = record { settled = books.blames.settled };
       })
 
   -- A job is staged
@@ -77,7 +57,7 @@ module _ (options : Options) (entries : List Entry) (past : Past) where
   pub books_staged : (number : ℕ) → BooksAt options entries past number → Books options entries (with_staging number past)
   books_staged number books = record {
     bounded = books.bounded;
-    blames = record { flying = books.blames.flying; settled = books.blames.settled };
+    blames = record { settled = books.blames.settled };
   }
 
   -- it is not, since the call failed
@@ -118,5 +98,5 @@ module _ (options : Options) (entries : List Entry) (past : Past) where
       Books options entries (with_giving_up number past)
   books_given_up number state there few books = record {
     bounded = bounded_given_up number state there few books.bounded;
-    blames = record { flying = books.blames.flying; settled = books.blames.settled };
+    blames = record { settled = books.blames.settled };
   }

@@ -1,5 +1,5 @@
 -- The children in flight after each answer.
-use Rattle.std.specs.Prelude.{Bool, nat_eq}
+use Rattle.std.specs.Prelude.{nat_eq}
 use Rattle.std.specs.List.{IsDistinct}
 use Rattle.std.proofs.Common.{◌≡◌, ◌∙◌, ℕ, List, [], None, refl, sym, ap}
 use Rattle.proc_host.specs.Answers.{fault_of, is_measured, is_staged, is_started, has_ended, is_listed, is_read, is_delivered, has_failed}
@@ -142,4 +142,5 @@ module _ (given : Given) where
   left_flies old new (Answer.Host (HostAnswer.Started ticket)) apart left = left
   left_flies old new (Answer.Host (HostAnswer.Listed found)) apart left = left
   left_flies old new (Answer.Host (HostAnswer.FirstBytes bytes)) apart left = left
+  left_flies old new (Answer.Host (HostAnswer.Fetched found)) apart left = left
   left_flies old new (Answer.Host (HostAnswer.Failed fault)) apart left = left

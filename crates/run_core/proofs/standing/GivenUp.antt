@@ -175,6 +175,7 @@ module _ (core : Inside) (asks : core.turn.asks ≢ Request.Finished) where
       going = off_run (off_now stands.going turn at);
       bounded = lost_bounded_at core.given.options past at;
       blames = lost_blames_at (entries_of core.pairs.items) past at;
+      started = λ asks_then. stands.started asks;
       room = lost_room_at core.course at;
       pairs_room = still_fit (vec_len core.pairs) (vec_capacity core.pairs) (pairs_ahead past turn.phase) (pairs_ahead past core.turn.phase) (length core.course.tickets.items)
           (lost_ahead_at past at) (ahead_some stands.going) stands.pairs_room;

@@ -1,5 +1,5 @@
 -- How far a machine is, and what it tells.
-use Rattle.std.proofs.Common.{◌≡◌, Ok, Err, refl}
+use Rattle.std.proofs.Common.{◌≡◌, ◌∙◌, Ok, Err, refl, sym}
 use Rattle.run_rules.specs.declared.outcome.RunFault.{RunFault}
 use Rattle.run_core.specs.declared.state.Phase.{Phase}
 use Rattle.run_core.specs.Machine.{is_draining, is_over}
@@ -40,3 +40,11 @@ tells (Phase.Working number phase) = tells_ok refl (λ lost. cc)
 tells Phase.Collecting = tells_ok refl (λ lost. cc)
 tells (Phase.Delivering outputs) = tells_ok refl (λ lost. cc)
 tells Phase.Draining = tells_ok refl (λ lost. cc)
+
+told_by : (phase : Phase) (fault : RunFault) → Tells phase → told_of phase ≡ Err fault → phase ≡ Phase.Ended (Err RunFault.OutOfMemory)
+told_by phase fault (tells_ok is other) told = let never : Ok tt ≡ Err fault = sym is ∙ told in absurd cc
+told_by phase fault (tells_lost is) told = is
+
+-- an error is that memory ran out
+pub told_lost : (phase : Phase) (fault : RunFault) → told_of phase ≡ Err fault → phase ≡ Phase.Ended (Err RunFault.OutOfMemory)
+told_lost phase fault told = told_by phase fault (tells phase) told

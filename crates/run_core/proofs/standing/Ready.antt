@@ -1,6 +1,6 @@
 -- A machine that stands is ready for an answer.
 use Rattle.std.specs.Prelude.{◌^◌}
-use Rattle.std.proofs.Common.{◌≡◌, ◌+◌, ◌<◌, ◌≤◌, true, None, Result, refl, sym, subst, arith}
+use Rattle.std.proofs.Common.{◌≡◌, ◌+◌, ◌<◌, ◌≤◌, true, None, Result, Err, refl, sym, subst, arith}
 use Rattle.workflow_check.specs.Checked.{fault_in}
 use Rattle.job_graph.specs.Apart.{ids_differ}
 use Rattle.run_rules.specs.Answers.{MayAnswer}
@@ -18,7 +18,7 @@ use Rattle.run_core.specs.declared.state.Phase.{Phase}
 use Rattle.run_core.specs.declared.state.Turn.{Turn}
 use Rattle.run_core.specs.inner.Attempts.{StaysBounded, most_stagings}
 use Rattle.run_core.specs.inner.Course.{Past, past_of, with_staging}
-use Rattle.run_core.specs.inner.Follows.{AsksIn, IsReady, IsReadyFor}
+use Rattle.run_core.specs.inner.Follows.{AsksIn, IsReady, IsReadyFor, told_of}
 use Rattle.run_core.specs.inner.Standing.{IsLostAt, draining, lost, pairs_ahead}
 use Rattle.run_core.proofs.events.Reflecting.{Laws}
 use Rattle.run_core.proofs.going.Asked.{AreFitting, asks_in, readies}
@@ -26,6 +26,7 @@ use Rattle.run_core.proofs.going.Given.{allows, follows_on, laws_of}
 use Rattle.run_core.proofs.going.Same.{runs_same}
 use Rattle.run_core.proofs.standing.Facts.{never_drains}
 use Rattle.run_core.proofs.standing.Lost.{some_there}
+use Rattle.run_core.proofs.standing.Modes.{told_lost}
 use Rattle.run_core.proofs.standing.Taken.{IsGoing, RunsOn, ahead_now, asks_some, not_ended, off, on}
 use Rattle.run_core.proofs.standing.Took.{going_of}
 use Rattle.run_core.proofs.standing.Weights.{folders_at_most}
@@ -106,3 +107,7 @@ module _ (core : Inside) (answer : Answer) (stands : Stands core) (may : MayAnsw
 
   pub some_ahead : 0 < pairs_ahead (past_of core.course) core.turn.phase
   some_ahead = ahead_by (going_of core stands.going)
+
+  -- so memory has not run out before
+  pub never_told : (fault : RunFault) → told_of core.turn.phase ≡ Err fault → ⊥
+  never_told fault told = not_ended core.course core.turn.phase may asks (Err RunFault.OutOfMemory) (told_lost core.turn.phase fault told)

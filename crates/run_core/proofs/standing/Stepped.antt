@@ -1,11 +1,12 @@
 -- Where the machine is after each answer, whether memory was there or not.
 use Rattle.std.specs.Prelude.{◌-◌, ◌*◌, Contains}
 use Rattle.std.proofs.Common.{◌≡◌, ◌∙◌, ℕ, ◌+◌, ◌<◌, ◌≤◌, List, [], ◌∷◌, ◌++◌, length, refl, sym, ap, subst, arith}
-use Rattle.std.proofs.lemmas.List.Elements.{Contains-append_left, Contains-push}
+use Rattle.std.proofs.lemmas.List.Elements.{Contains-push}
 use Rattle.proc_host.specs.declared.call.HostAnswer.{HostAnswer}
 use Rattle.proc_host.specs.declared.call.HostRequest.{HostRequest}
 use Rattle.run_rules.specs.Answers.{MayAnswer}
-use Rattle.run_rules.specs.Blame.{logged_answers}
+use Rattle.run_rules.specs.Blame.{WereStarted, logged_answers}
+use Rattle.run_rules.proofs.Rising.{started_still}
 use Rattle.run_rules.specs.Reports.{entries_of}
 use Rattle.run_rules.specs.Scene.{Scene, scene_of}
 use Rattle.run_rules.specs.declared.request.Answer.{Answer}
@@ -16,11 +17,10 @@ use Rattle.run_core.specs.declared.state.Given.{Given}
 use Rattle.run_core.specs.declared.state.Phase.{Phase}
 use Rattle.run_core.specs.declared.state.Turn.{Turn}
 use Rattle.run_core.specs.inner.Inside.{setting_in}
-use Rattle.run_core.specs.inner.Anyway.{CanGoOn}
+use Rattle.run_core.specs.inner.Anyway.{CanGoOn, job_in}
 use Rattle.run_core.specs.inner.Attempts.{StaysBounded, answers_left, many_files, most_stagings, weight_of, weight_of_past}
 use Rattle.run_core.specs.inner.Course.{Past, past_of}
 use Rattle.run_core.specs.inner.Follows.{AsksIn, FollowsFrom, IsLeftAfter, MakesRoom, Moves, gives_up, has_room, moves, no_room}
-use Rattle.run_core.specs.inner.Parts.{job_in}
 use Rattle.run_core.specs.inner.Standing.{Blames, IsLostAt, RanOut, Runs, draining, lost, pairs_ahead}
 use Rattle.run_core.specs.inner.Turn.{lost_after}
 use Rattle.run_core.proofs.standing.Answered.{host_answer, step_leaves}
@@ -55,11 +55,6 @@ module _ (given : Given) (runs_on : RunsOn given) (t : List Pair) (old : Course)
   knows : MayKnow old before.phase
   knows = knows_some s t old before r (asks_some may)
 
-  told_still : (its : HostAnswer) → Contains (logged_answers (entries_of t)) its → Contains (logged_answers (entries_of longer)) its
-  told_still its there =
-      subst (λ (all : List HostAnswer). Contains all its) (sym (answers_more t may))
-      (Contains-append_left (logged_answers (entries_of t)) (host_answer answer ∷ []) its there)
-
   told : Contains (logged_answers (entries_of longer)) (host_answer answer)
   told = subst (λ (all : List HostAnswer). Contains all (host_answer answer)) (sym (answers_more t may)) (Contains-push (logged_answers (entries_of t)) (host_answer answer))
 
@@ -78,15 +73,16 @@ module _ (given : Given) (runs_on : RunsOn given) (t : List Pair) (old : Course)
       (omega (arith, few, most))
 
   module _ (bounded : StaysBounded given.options (past_of old) before.phase) where
-    module _ (blames : Blames (entries_of t) (past_of old) before.phase) where
+    module _ (blames : Blames (entries_of t) (past_of old) before.phase) (began : WereStarted (entries_of t) old.tickets.items) where
       -- memory was there
       taken_on : (turn : Turn) (new : Course) → FollowsFrom given old before answer turn new → Taken given t old before answer turn new
       taken_on turn new follows =
           let runs : Runs s longer new turn = runs_on.follows_on t old before answer turn new r may follows in
           let few : FewKnown turn new = few_known s longer new turn runs in
           let leaves : Leaves given.options (entries_of longer) turn new =
-          step_leaves given old (entries_of longer) turn new few before.asks before.phase answer may fits goes knows told bounded
-          (blames_more (entries_of t) (entries_of longer) told_still (past_of old) before.phase blames) follows in
+          step_leaves given old (entries_of longer) turn new few
+          (started_still (entries_of t) (entries_of longer) (host_answer answer) (answers_more t may) old.tickets.items began) before.asks before.phase answer may fits goes knows told bounded
+          (blames_more (entries_of t) (entries_of longer) (host_answer answer) (answers_more t may) (past_of old) before.phase blames) follows in
           record {
             going = on runs;
             bounded = leaves.bounded;
@@ -131,17 +127,17 @@ module _ (given : Given) (runs_on : RunsOn given) (t : List Pair) (old : Course)
 -- the turn that comes next, and room for what comes after it
 on_taken : (given : Given) → RunsOn given → (t : List Pair) (old : Course) (before : Turn) (answer : Answer) (next turn : Turn) (new : Course) (pairs room : ℕ) →
     Runs (scene_of (setting_in given)) t old before → MayAnswer old.tickets.items before.asks answer → CanGoOn old (job_in before.phase) →
-    StaysBounded given.options (past_of old) before.phase → Blames (entries_of t) (past_of old) before.phase → Moves given old before answer next new →
-    MakesRoom pairs room (past_of new) next turn → Taken given t old before answer turn new
-on_taken given runs_on t old before answer next turn new pairs room r may can bounded blames (moves its its_new follows) (has_room enough) =
-    taken_on given runs_on t old before answer r may bounded blames next new follows
-on_taken given runs_on t old before answer next turn new pairs room r may can bounded blames (moves its its_new follows) (no_room enough) =
+    StaysBounded given.options (past_of old) before.phase → Blames (entries_of t) (past_of old) before.phase → WereStarted (entries_of t) old.tickets.items →
+    Moves given old before answer next new → MakesRoom pairs room (past_of new) next turn → Taken given t old before answer turn new
+on_taken given runs_on t old before answer next turn new pairs room r may can bounded blames began (moves its its_new follows) (has_room enough) =
+    taken_on given runs_on t old before answer r may bounded blames began next new follows
+on_taken given runs_on t old before answer next turn new pairs room r may can bounded blames began (moves its its_new follows) (no_room enough) =
     taken_off given runs_on t old before answer r may bounded next.asks new (still_goes given runs_on t old before answer r may next new follows)
     (next_flies given runs_on t old before answer r may next new follows)
-on_taken given runs_on t old before answer next turn new pairs room r may can bounded blames (gives_up its_new goes left) (has_room enough) =
+on_taken given runs_on t old before answer next turn new pairs room r may can bounded blames began (gives_up its_new goes left) (has_room enough) =
     taken_off given runs_on t old before answer r may bounded before.asks new (goes_so given runs_on t old before answer r may can)
     (left_after given runs_on t old before answer r may new left)
-on_taken given runs_on t old before answer next turn new pairs room r may can bounded blames (gives_up its_new goes left) (no_room enough) =
+on_taken given runs_on t old before answer next turn new pairs room r may can bounded blames began (gives_up its_new goes left) (no_room enough) =
     taken_off given runs_on t old before answer r may bounded before.asks new (goes_so given runs_on t old before answer r may can)
     (left_after given runs_on t old before answer r may new left)
 
@@ -203,11 +199,11 @@ off_room given old before answer next new (draining some) may (gives_up its_new 
 
 pub taken : (given : Given) → RunsOn given → (t : List Pair) (old : Course) (before : Turn) (answer : Answer) (next turn : Turn) (new : Course) (pairs room : ℕ) →
     IsGoing (scene_of (setting_in given)) t old before → MayAnswer old.tickets.items before.asks answer → CanGoOn old (job_in before.phase) →
-    StaysBounded given.options (past_of old) before.phase → Blames (entries_of t) (past_of old) before.phase → Moves given old before answer next new →
-    MakesRoom pairs room (past_of new) next turn → Taken given t old before answer turn new
-taken given runs_on t old before answer next turn new pairs room (on r) may can bounded blames moved made =
-    on_taken given runs_on t old before answer next turn new pairs room r may can bounded blames moved made
-taken given runs_on t old before answer next turn new pairs room (off out) may can bounded blames moved made =
+    StaysBounded given.options (past_of old) before.phase → Blames (entries_of t) (past_of old) before.phase → WereStarted (entries_of t) old.tickets.items →
+    Moves given old before answer next new → MakesRoom pairs room (past_of new) next turn → Taken given t old before answer turn new
+taken given runs_on t old before answer next turn new pairs room (on r) may can bounded blames began moved made =
+    on_taken given runs_on t old before answer next turn new pairs room r may can bounded blames began moved made
+taken given runs_on t old before answer next turn new pairs room (off out) may can bounded blames began moved made =
     off_taken given t old before answer next turn new pairs room out out.at may moved made
 
 pub leaves_room : (given : Given) → RunsOn given → (t : List Pair) (old : Course) (before : Turn) (answer : Answer) (next : Turn) (new : Course) →

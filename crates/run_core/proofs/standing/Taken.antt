@@ -1,5 +1,5 @@
 -- One answer taken: what the machine is in then.
-use Rattle.std.specs.Prelude.{◌≢◌, ◌*◌, Contains, IfErr}
+use Rattle.std.specs.Prelude.{◌≢◌, ◌*◌, IfErr}
 use Rattle.std.proofs.Common.{◌≡◌, ◌∙◌, ℕ, ◌+◌, ◌<◌, ◌≤◌, List, [], ◌∷◌, ◌++◌, length, Result, Ok, Err, refl, sym, ap, subst, arith, length-append}
 use Rattle.std.proofs.lemmas.List.{map-append}
 use Rattle.std.proofs.lemmas.List.Elements.{filter_map-append}
@@ -12,6 +12,7 @@ use Rattle.proc_host.specs.declared.call.HostRequest.{HostRequest}
 use Rattle.run_rules.specs.Allowed.{Allowed}
 use Rattle.run_rules.specs.Answers.{MayAnswer, by_host, flying_after}
 use Rattle.run_rules.specs.Blame.{BlamesRightly, IsToBlame, WereStarted, logged_answers}
+use Rattle.run_rules.proofs.Rising.{flown, started_still, told_still}
 use Rattle.run_rules.specs.Reports.{entries_of, entry_of}
 use Rattle.run_rules.specs.Scene.{Scene, scene_of}
 use Rattle.run_rules.specs.declared.outcome.Outcome.{Outcome}
@@ -82,14 +83,21 @@ answers_more t {asks = asks} {answer = answer} may =
     ∙ map-append (λ (entry : Entry). entry.answer) (entries_of t) (entries_of (record { request = asks; answer = answer } ∷ []))
     ∙ ap (λ (more : List HostAnswer). logged_answers (entries_of t) ++ more) (one_answer may)
 
+-- the children in flight after an answer were started
+pub started_after : (t : List Pair) {flying : List ℕ} {asks : Request} {answer : Answer} → MayAnswer flying asks answer → WereStarted (entries_of t) flying →
+    WereStarted (entries_of (t ++ record { request = asks; answer = answer } ∷ [])) (flying_after flying answer)
+started_after t {flying = flying} (by_host place request answer can) began =
+    flown (entries_of t) (entries_of (t ++ record { request = Request.Host place request; answer = Answer.Host answer } ∷ [])) answer
+    (answers_more t (by_host place request answer can)) flying began
+
 -- What was blamed is so still
 
-module _ (entries more : List Entry) (told : (answer : HostAnswer) → Contains (logged_answers entries) answer → Contains (logged_answers more) answer) where
-  started_more : (tickets : List ℕ) → WereStarted entries tickets → WereStarted more tickets
-  started_more tickets began = record { each = λ ticket there. told (HostAnswer.Started ticket) (began.each ticket there) }
-
+module _ (entries more : List Entry) (answer : HostAnswer) (is : logged_answers more ≡ logged_answers entries ++ answer ∷ []) where
   blame_more : (fault : HostFault) (running : List ℕ) → IsToBlame entries fault running → IsToBlame more fault running
-  blame_more fault running blame = record { failed = told (HostAnswer.Failed fault) blame.failed; started = started_more running blame.started }
+  blame_more fault running blame = record {
+    failed = told_still entries more answer is (HostAnswer.Failed fault) blame.failed;
+    started = started_still entries more answer is running blame.started;
+  }
 
   settles_more : (end : Result Outcome RunFault) → SettlesRightly entries end → SettlesRightly more end
   settles_more (Ok report) settles = tt
@@ -106,8 +114,7 @@ module _ (entries more : List Entry) (told : (answer : HostAnswer) → Contains 
   pub blames_more : (past : Past) (phase : Phase) → Blames entries past phase → Blames more past phase
   blames_more past (Phase.Ended outcome) blames = ends_more outcome blames
   blames_more past Phase.Draining blames = tt
-  blames_more past phase blames =
-      record { flying = started_more past.tickets blames.flying; settled = λ end is. settles_more end (blames.settled end is) }
+  blames_more past phase blames = record { settled = λ end is. settles_more end (blames.settled end is) }
 
 -- How many fly
 
@@ -123,6 +130,7 @@ after_few old (Answer.Host HostAnswer.Done) = omega arith
 after_few old (Answer.Host (HostAnswer.Measured measure)) = omega arith
 after_few old (Answer.Host (HostAnswer.Listed found)) = omega arith
 after_few old (Answer.Host (HostAnswer.FirstBytes bytes)) = omega arith
+after_few old (Answer.Host (HostAnswer.Fetched found)) = omega arith
 after_few old (Answer.Host (HostAnswer.Failed fault)) = omega arith
 
 pub flown_few : (old : List ℕ) (next : Request) (answer : Answer) (new : List ℕ) → FliesAfter old next answer new → length new ≤ length old + rise answer
@@ -137,6 +145,7 @@ rise_at_most (Answer.Host HostAnswer.Done) = omega arith
 rise_at_most (Answer.Host (HostAnswer.Measured measure)) = omega arith
 rise_at_most (Answer.Host (HostAnswer.Listed found)) = omega arith
 rise_at_most (Answer.Host (HostAnswer.FirstBytes bytes)) = omega arith
+rise_at_most (Answer.Host (HostAnswer.Fetched found)) = omega arith
 rise_at_most (Answer.Host (HostAnswer.Failed fault)) = omega arith
 
 some_weight_of_job : (phase : JobPhase) → 0 < weight_of_job phase

@@ -29,16 +29,6 @@ one_less (x ∷ tickets) (suc index) ticket apart there =
     ∙ sym (ap (λ b. cond (not b) (x ∷ without ticket tickets) (without ticket tickets))
     (other x tickets index ticket (IsDistinct-head nat_eq x tickets apart) there))
 
--- what is left was there
-pub left_there : (tickets : List ℕ) (index k ticket : ℕ) → k < length (remove tickets index) → slice_index_or (remove tickets index) k ticket ≡ ticket → Contains tickets ticket
-left_there [] zero k ticket within is = absurd (omega (arith, within))
-left_there [] (suc index) k ticket within is = absurd (omega (arith, within))
-left_there (x ∷ tickets) zero k ticket within is = (suc k, omega (arith, within), is)
-left_there (x ∷ tickets) (suc index) zero ticket within is = (0, omega arith, is)
-left_there (x ∷ tickets) (suc index) (suc k) ticket within is =
-    let later : Contains tickets ticket = left_there tickets index k ticket (omega (arith, within)) is in
-    (suc later.0, omega (arith, later.1), later.2)
-
 no_more : (b : Bool) (x : ℕ) (left : List ℕ) → length (cond b (x ∷ left) left) ≤ length left + 1
 no_more true x left = omega arith
 no_more false x left = omega arith

@@ -3,7 +3,8 @@ use Rattle.std.specs.Prelude.{◌≢◌}
 use Rattle.std.proofs.Common.{◌≡◌, ◌∙◌, ℕ, ◌+◌, ◌<◌, ◌≤◌, List, [], ◌∷◌, ◌++◌, Vec, Global, length, vec_len, vec_capacity, Result, refl, sym, ap, subst, arith}
 use Rattle.std.proofs.lemmas.List.Elements.{filter_map-append}
 use Rattle.proc_host.specs.declared.call.HostRequest.{HostRequest}
-use Rattle.run_rules.specs.Answers.{MayAnswer}
+use Rattle.run_rules.specs.Answers.{MayAnswer, flying_after}
+use Rattle.run_rules.specs.Blame.{WereStarted}
 use Rattle.run_rules.specs.Reports.{entries_of, entry_of}
 use Rattle.run_rules.specs.Scene.{scene_of}
 use Rattle.run_rules.specs.declared.outcome.RunFault.{RunFault}
@@ -17,16 +18,15 @@ use Rattle.run_core.specs.declared.state.Turn.{Turn}
 use Rattle.run_core.specs.Core.{IsDraining, Took}
 use Rattle.run_core.specs.Machine.{Machine}
 use Rattle.run_core.specs.inner.Inside.{Goes, Stands, mode_of, off_run, on_run, seen, setting_in}
-use Rattle.run_core.specs.inner.Anyway.{CanGoOn}
+use Rattle.run_core.specs.inner.Anyway.{CanGoOn, job_in}
 use Rattle.run_core.specs.inner.Course.{Past, past_of}
 use Rattle.run_core.specs.inner.Follows.{HasPairs, MakesRoom, Moves, has_room, no_room, told_of}
-use Rattle.run_core.specs.inner.Parts.{job_in}
 use Rattle.run_core.specs.inner.Standing.{Blames, HasRoom, RanOut, Runs, pairs_ahead}
 use Rattle.run_core.specs.inner.Turn.{lost_after, waits}
 use Rattle.run_core.proofs.standing.Lost.{lost_room}
 use Rattle.run_core.proofs.standing.Modes.{Tells, draining_phase, tells, tells_lost, tells_ok}
 use Rattle.run_core.proofs.standing.Stepped.{leaves_room, taken}
-use Rattle.run_core.proofs.standing.Taken.{IsGoing, RunsOn, Taken, off, on, taken_same}
+use Rattle.run_core.proofs.standing.Taken.{IsGoing, RunsOn, Taken, asks_some, off, on, started_after, taken_same}
 
 -- The machine as a whole
 
@@ -55,7 +55,8 @@ pairs_fit pairs room past last old new same (no_room fits) =
 module _ (core : Inside) (answer : Answer) (pairs : Vec Pair Global) (course : Course) (turn : Turn) (stands : Stands core)
     (longer : pairs.items ≡ core.pairs.items ++ noted core.turn.asks answer ∷ []) (room : HasRoom course turn.phase)
     (fits : vec_len pairs + pairs_ahead (past_of course) turn.phase ≤ vec_capacity pairs)
-    (it : Taken core.given core.pairs.items core.course core.turn answer turn course) where
+    (it : Taken core.given core.pairs.items core.course core.turn answer turn course)
+    (began : WereStarted (entries_of (core.pairs.items ++ noted core.turn.asks answer ∷ [])) (flying_after core.course.tickets.items answer)) where
   stands_then : Stands (core_with core pairs course turn)
   stands_then = record {
     limits = stands.limits;
@@ -64,6 +65,8 @@ module _ (core : Inside) (answer : Answer) (pairs : Vec Pair Global) (course : C
     going = goes_so (core_with core pairs course turn) (core.pairs.items ++ noted core.turn.asks answer ∷ []) longer it.going;
     bounded = it.bounded;
     blames = subst (λ (t : List Pair). Blames (entries_of t) (past_of course) turn.phase) (sym longer) it.blames;
+    started = λ asks. subst (λ (ns : List ℕ). WereStarted (entries_of pairs.items) ns) (sym (it.flying asks))
+        (subst (λ (t : List Pair). WereStarted (entries_of t) (flying_after core.course.tickets.items answer)) (sym longer) began);
     room = room;
     pairs_room = fits;
   }
@@ -121,7 +124,7 @@ module _ (core : Inside) (answer : Answer) (runs_on : RunsOn core.given) (stands
       took_told core answer pairs course turn stands longer room (pairs_fit (vec_len pairs) (vec_capacity pairs) (past_of new) (past_of course) next turn same made)
       (taken_same core.given runs_on core.pairs.items core.course core.turn answer turn new course same known
       (taken core.given runs_on core.pairs.items core.course core.turn answer next turn new (vec_len pairs) (vec_capacity pairs) (going_of core stands.going) may can
-      stands.bounded stands.blames moved made)) result is
+      stands.bounded stands.blames (stands.started (asks_some may)) moved made)) (started_after core.pairs.items may (stands.started (asks_some may))) result is
 
   -- the end of each child in flight has room once the pair is noted
   pub keeps_pairs : (new : Course) (next : Turn) (pairs room : ℕ) → Moves core.given core.course core.turn answer next new → pairs ≡ vec_len core.pairs + 1 →

@@ -6,7 +6,14 @@ use Rattle.collected_outputs.specs.Laws.{EveryFolderHasOutputsOrAFault, SomeHead
 use Rattle.command_line.specs.Laws.{LaunchOrRefusal}
 use Rattle.job_graph.specs.Jobs.{Job}
 use Rattle.run_core.specs.declared.state.Course.{Course}
+use Rattle.run_core.specs.declared.state.Phase.{Phase}
 use Rattle.run_core.specs.inner.Course.{known_in}
+
+-- the number of the job that the phase is of; where it is of none, that of any
+abbrev pub job_in : Phase → ℕ
+job_in (Phase.Staging job) = job
+job_in (Phase.Working job phase) = job
+job_in phase = 0
 
 -- no two inputs of the tool of the job of this number have one id, so it has a launch or is refused
 pub record CanGoOn (course : Course) (number : ℕ) : Type 0 where

@@ -18,8 +18,7 @@ use Rattle.run_core.specs.declared.state.Phase.{Phase}
 use Rattle.run_core.specs.declared.state.Turn.{Turn}
 use Rattle.run_core.specs.inner.Course.{Past, known_in, past_of}
 use Rattle.run_core.specs.inner.Measures.{TakesMeasure}
-use Rattle.run_core.specs.inner.Parts.{job_in, kept_in, measuring_in, millis_in, reading_in}
-use Rattle.run_core.specs.inner.Picks.{AfterChild, AfterFault, AfterInputHead, AfterListing, AfterOutputHead, AfterStaging, AfterStart, delivered_in}
+use Rattle.run_core.specs.inner.Picks.{AfterChild, AfterFault, AfterInputHead, AfterListing, AfterOutputHead, AfterStaging, AfterStart}
 use Rattle.run_core.specs.inner.Standing.{pairs_ahead}
 use Rattle.run_core.specs.inner.Turn.{ends, lost_after, succeeds}
 
@@ -61,36 +60,46 @@ pub record Drains (old : Course) (ending : ChildEnd) (turn : Turn) (new : Course
   pub tickets : new.tickets.items ≡ without ending.ticket old.tickets.items
   pub is : turn ≡ lost_after (past_of new)
 
-abbrev pub AfterDone : Given → Course → Request → Phase → Turn → Course → Type 0
-AfterDone given old (Request.Host place (HostRequest.Stage plan folder)) phase turn new = AfterStaging given old (job_in phase) plan.value turn new
-AfterDone given old asks phase turn new = (turn ≡ succeeds (delivered_in phase)) × (new ≡ old)
-
--- the first bytes of an input file, or of a file of the output folder
-abbrev pub AfterBytes : Given → Course → Phase → List ℕ → Turn → Course → Type 0
-AfterBytes given old (Phase.Working job (JobPhase.Filling filling)) bytes turn new = AfterInputHead given old job filling bytes turn new
-AfterBytes given old phase bytes turn new = AfterOutputHead given old (job_in phase) (kept_in phase) (reading_in phase) bytes turn new
-
-abbrev pub AfterEnding : Given → Course → Phase → ChildEnd → Turn → Course → Type 0
-AfterEnding given old Phase.Draining ending turn new = Drains old ending turn new
-AfterEnding given old phase ending turn new = AfterChild given old ending turn new
-
 -- a call failed; after a failed collect nobody waits for the children in flight any more
-abbrev pub AfterFailureIn : Given → Course → Phase → HostFault → Turn → Course → Type 0
-AfterFailureIn given old Phase.Collecting fault turn new = (turn ≡ ends (Err (RunFault.Host fault old.tickets.items))) × (new.known ≡ old.known) × (new.tickets.items ≡ [])
-AfterFailureIn given old Phase.Draining fault turn new = (turn ≡ ends (Err RunFault.OutOfMemory)) × (new.tickets.items ≡ [])
-AfterFailureIn given old phase fault turn new = AfterFault given old fault turn new
+abbrev pub AfterFailure : Given → Course → Phase → HostFault → Turn → Course → Type 0
+AfterFailure given old Phase.Collecting fault turn new = (turn ≡ ends (Err (RunFault.Host fault old.tickets.items))) × (new.known ≡ old.known) × (new.tickets.items ≡ [])
+AfterFailure given old Phase.Draining fault turn new = (turn ≡ ends (Err RunFault.OutOfMemory)) × (new.tickets.items ≡ [])
+AfterFailure given old phase fault turn new = AfterFault given old fault turn new
 
-abbrev pub AfterFailure : Given → Course → Turn → HostFault → Turn → Course → Type 0
-AfterFailure given old before fault turn new = AfterFailureIn given old before.phase fault turn new
+-- the open work on a job goes on, by what it waits for
+abbrev pub FollowsWork : Given → Course → ℕ → JobPhase → HostAnswer → Turn → Course → Type 0
+FollowsWork given old number work (HostAnswer.Failed fault) turn new = AfterFault given old fault turn new
+FollowsWork given old number (JobPhase.Filling filling) (HostAnswer.FirstBytes bytes) turn new = AfterInputHead given old number filling bytes turn new
+FollowsWork given old number (JobPhase.Starting kept) (HostAnswer.Started ticket) turn new = AfterStart given old number kept ticket turn new
+FollowsWork given old number (JobPhase.Scanning kept millis) (HostAnswer.Listed found) turn new = AfterListing given old number kept millis found turn new
+FollowsWork given old number (JobPhase.Reading kept reading) (HostAnswer.FirstBytes bytes) turn new = AfterOutputHead given old number kept reading bytes turn new
+FollowsWork given old number work answer turn new = ⊥
+
+-- what follows from an answer, by where the machine was
+abbrev pub FollowsIn : Given → Course → Phase → HostAnswer → Request → Turn → Course → Type 0
+FollowsIn given old phase (HostAnswer.Failed fault) asks turn new = AfterFailure given old phase fault turn new
+FollowsIn given old (Phase.Measuring measuring) (HostAnswer.Measured measure) asks turn new = TakesMeasure given old measuring measure turn new
+FollowsIn given old (Phase.Staging number) HostAnswer.Done (Request.Host place (HostRequest.Stage plan folder)) turn new = AfterStaging given old number plan.value turn new
+FollowsIn given old (Phase.Working number work) answer asks turn new = FollowsWork given old number work answer turn new
+FollowsIn given old Phase.Collecting (HostAnswer.Ended ending) asks turn new = AfterChild given old ending turn new
+FollowsIn given old Phase.Draining (HostAnswer.Ended ending) asks turn new = Drains old ending turn new
+FollowsIn given old (Phase.Delivering outputs) HostAnswer.Done asks turn new = (turn ≡ succeeds outputs) × (new ≡ old)
+FollowsIn given old phase answer asks turn new = ⊥
 
 abbrev pub FollowsFrom : Given → Course → Turn → Answer → Turn → Course → Type 0
-FollowsFrom given old before (Answer.Host HostAnswer.Done) turn new = AfterDone given old before.asks before.phase turn new
-FollowsFrom given old before (Answer.Host (HostAnswer.Measured measure)) turn new = TakesMeasure given old (measuring_in before.phase) measure turn new
-FollowsFrom given old before (Answer.Host (HostAnswer.Started ticket)) turn new = AfterStart given old (job_in before.phase) (kept_in before.phase) ticket turn new
-FollowsFrom given old before (Answer.Host (HostAnswer.Ended ending)) turn new = AfterEnding given old before.phase ending turn new
-FollowsFrom given old before (Answer.Host (HostAnswer.Listed found)) turn new = AfterListing given old (job_in before.phase) (kept_in before.phase) (millis_in before.phase) found turn new
-FollowsFrom given old before (Answer.Host (HostAnswer.FirstBytes bytes)) turn new = AfterBytes given old before.phase bytes turn new
-FollowsFrom given old before (Answer.Host (HostAnswer.Failed fault)) turn new = AfterFailure given old before fault turn new
+FollowsFrom given old before (Answer.Host answer) turn new = FollowsIn given old before.phase answer before.asks turn new
+
+-- an answer to what the open work on a job waits for
+abbrev pub AnswersWork : JobPhase → HostAnswer → Type 0
+AnswersWork (JobPhase.Filling filling) (HostAnswer.FirstBytes bytes) = Unit {0}
+AnswersWork (JobPhase.Starting kept) (HostAnswer.Started ticket) = Unit {0}
+AnswersWork (JobPhase.Scanning kept millis) (HostAnswer.Listed found) = Unit {0}
+AnswersWork (JobPhase.Reading kept reading) (HostAnswer.FirstBytes bytes) = Unit {0}
+AnswersWork work answer = ⊥
+
+abbrev pub IsStaging : Request → Type 0
+IsStaging (Request.Host place (HostRequest.Stage plan folder)) = Unit {0}
+IsStaging asks = ⊥
 
 -- one child is taken out of those in flight
 pub record IsOneLess (ticket : ℕ) (old new : List ℕ) : Type 0 where

@@ -1,7 +1,9 @@
 -- What a machine's fields are to its callers, and what they keep.
-use Rattle.std.specs.Prelude.{◌≡◌, ◌≤◌, ◌+◌, None, true, vec_len, vec_capacity}
+use Rattle.std.specs.Prelude.{◌≡◌, ◌≢◌, ◌≤◌, ◌+◌, None, true, vec_len, vec_capacity}
 use Rattle.job_graph.specs.Apart.{ids_differ}
+use Rattle.run_rules.specs.declared.request.Request.{Request}
 use Rattle.run_rules.specs.declared.setting.Setting.{Setting}
+use Rattle.run_rules.specs.Blame.{WereStarted}
 use Rattle.run_rules.specs.Reports.{entries_of}
 use Rattle.run_rules.specs.Scene.{scene_of}
 use Rattle.workflow_check.specs.Checked.{fault_in}
@@ -38,7 +40,8 @@ pub data Goes (core : Inside) : Type 0 where
   on_run : Runs (scene_of (setting_in core.given)) core.pairs.items core.course core.turn → Goes core
   off_run : RanOut (scene_of (setting_in core.given)) core.pairs.items (past_of core.course) core.turn → Goes core
 
--- its process is an accepted one, what it blames on the host is so, and while it asks there is room for the answer
+-- its process is an accepted one, what it blames on the host is so, and while it asks the children in flight were started, and there is room for
+-- the answer
 pub record Stands (core : Inside) : Type 0 where
   pub limits : IsWithinLimits core.given.options
   pub accepted : fault_in core.given.process.now ≡ None
@@ -46,5 +49,6 @@ pub record Stands (core : Inside) : Type 0 where
   pub going : Goes core
   pub bounded : StaysBounded core.given.options (past_of core.course) core.turn.phase
   pub blames : Blames (entries_of core.pairs.items) (past_of core.course) core.turn.phase
+  pub started : core.turn.asks ≢ Request.Finished → WereStarted (entries_of core.pairs.items) core.course.tickets.items
   pub room : HasRoom core.course core.turn.phase
   pub pairs_room : vec_len core.pairs + pairs_ahead (past_of core.course) core.turn.phase ≤ vec_capacity core.pairs

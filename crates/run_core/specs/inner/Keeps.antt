@@ -1,5 +1,5 @@
 -- What the machine keeps of the events of its run.
-use Rattle.std.specs.Prelude.{◌≡◌, ◌≤◌, ◌+◌, ℕ, true, false, List, Option, Some, None, Contains, is_some, length, map, option_map, slice_index_or}
+use Rattle.std.specs.Prelude.{◌≡◌, ◌≤◌, ◌+◌, ℕ, true, false, List, Option, Some, None, Contains, is_some, length, map, option_map}
 use Rattle.std.specs.List.{list_any}
 use Rattle.job_graph.specs.Jobs.{Job}
 use Rattle.run_rules.specs.End.{is_lost_collect, settled}
@@ -12,7 +12,6 @@ use Rattle.run_rules.proofs.events.Places.{IsJob}
 use Rattle.run_rules.proofs.events.Tally.{readings}
 use Rattle.run_core.specs.declared.state.Course.{Course}
 use Rattle.run_core.specs.declared.state.Flight.{Flight}
-use Rattle.run_core.specs.declared.job_states.JobState.{JobState}
 use Rattle.run_core.specs.inner.Course.{Past, known_in, past_of}
 use Rattle.run_core.specs.inner.Due.{IsKept}
 use Rattle.run_core.specs.inner.JobStates.{state_at, waits_in}

@@ -1,7 +1,5 @@
 -- What the machine turns to where nothing is due, and after each answer. That all this makes a run are laws above it.
 use Rattle.std.specs.Prelude.{◌≡◌, ◌≢◌, ◌≤◌, ◌<◌, ◌+◌, ℕ, true, false, List, [], Some, None, Result, Err, IsSome, length, slice_get}
-use Rattle.cwl_value.specs.declared.value.Value.{Value}
-use Rattle.cwl_value.specs.declared.value.Value as value
 use Rattle.cwl_process.specs.declared.tool.Tool.{Tool}
 use Rattle.input_files.specs.Contents.{heads_wanted}
 use Rattle.proc_host.specs.declared.call.HostFault.{HostFault}
@@ -67,11 +65,6 @@ pub record DeliversFiles (given : Given) (course : Course) (values : Fields) (tu
 pub data Delivers (given : Given) (course : Course) : Turn → Type 0 where
   delivers : (turn : Turn) → any_file (outputs_in course.known) ≡ true → DeliversFiles given course (last_by_name (outputs_in course.known)) turn → Delivers given course turn
   succeeds_at_once : any_file (outputs_in course.known) ≡ false → Delivers given course (succeeds (located (last_by_name (outputs_in course.known))))
-
--- the output object that is delivered
-abbrev pub delivered_in : Phase → Value
-delivered_in (Phase.Delivering outputs) = outputs
-delivered_in phase = value.Null
 
 -- no slot is free, or no known job waits
 pub data NoneToStage (given : Given) (course : Course) : Type 0 where

@@ -1,5 +1,5 @@
 -- Where the machine is in its run.
-use Rattle.std.specs.Prelude.{◌≡◌, ◌≢◌, ◌≤◌, ◌<◌, ◌+◌, ℕ, List, [], ◌∷◌, ◌++◌, Option, Some, None, Result, Ok, Err, IfErr, length, vec_len, vec_capacity}
+use Rattle.std.specs.Prelude.{◌≡◌, ◌≢◌, ◌<◌, ◌+◌, ℕ, List, [], ◌∷◌, ◌++◌, Some, None, Result, Ok, Err, IfErr, length, vec_len, vec_capacity}
 use Rattle.plan_checker.specs.declared.plan.Mark.{Mark}
 use Rattle.proc_host.specs.declared.call.Entry.{Entry}
 use Rattle.proc_host.specs.declared.call.HostRequest.{HostRequest}
@@ -12,7 +12,7 @@ use Rattle.run_rules.specs.declared.outcome.RunFault.{RunFault}
 use Rattle.run_rules.specs.declared.request.Pair.{Pair}
 use Rattle.run_rules.specs.declared.request.Request.{Request}
 use Rattle.run_rules.specs.Allowed.{MayStage, MayCollect, MayDeliver}
-use Rattle.run_rules.specs.Blame.{BlamesRightly, IsToBlame, WereStarted}
+use Rattle.run_rules.specs.Blame.{BlamesRightly, IsToBlame}
 use Rattle.run_rules.specs.Delivered.{located}
 use Rattle.run_rules.specs.End.{End}
 use Rattle.run_rules.specs.EndsSo.{EndsSo}
@@ -108,9 +108,8 @@ SettlesRightly entries (Err (RunFault.Host fault running)) = IsToBlame entries f
 SettlesRightly entries (Err RunFault.TooManyJobs) = Unit {0}
 SettlesRightly entries (Err RunFault.OutOfMemory) = ⊥
 
--- what it knows of its host while it goes on: the children in flight were started, and what settled the end blames it rightly
+-- what it knows of its host while it goes on: what settled the end blames it rightly
 pub record BlamesSoFar (entries : List Entry) (past : Past) : Type 0 where
-  pub flying : WereStarted entries past.tickets
   pub settled : (end : Result Outcome RunFault) → past.end ≡ Some end → SettlesRightly entries end
 
 -- and an end by the host's fault blames it rightly

@@ -69,7 +69,8 @@ pub fn machine<'a>(
     place: &str,
 ) -> Result<Machine<&'a HostRuntime>, AllocError> {
     let work = Text::from_text(rt.alloc(), place)?;
-    Ok(Machine::new(rt, work, below(rt.alloc(), place, "results")?))
+    let outdir = below(rt.alloc(), place, "results")?;
+    Ok(Machine::new(rt, work, None, outdir))
 }
 
 /// A plan that copies nothing.

@@ -5,15 +5,14 @@ use Rattle.std.proofs.Common.{◌≡◌, ◌∙◌, ◌+◌, ℕ, true, false, L
 use Rattle.plan_checker.specs.declared.plan.Mark.{Mark}
 use Rattle.staging.specs.Plan.{IsPlan}
 use Rattle.staging.specs.declared.plan.StagePlan.{StagePlan}
-use Rattle.run_rules.specs.declared.request.Pair.{Pair}
 use Rattle.run_rules.specs.declared.request.Request.{Request}
 use Rattle.job_graph.specs.Words.{Fields, JobPlace}
-use Rattle.job_graph.specs.Made.{fields_moved}
+use Rattle.job_graph.specs.Made.{any_made, fields_moved}
 use Rattle.run_rules.specs.Folders.{in_folder}
 use Rattle.job_graph.specs.Jobs.{Job}
-use Rattle.run_rules.specs.Scene.{Scene}
+use Rattle.run_rules.specs.Scene.{Scene, NothingWasMadeBefore}
 use Rattle.run_rules.specs.Delivered.{any_file, source_place}
-use Rattle.run_rules.specs.Events.{Work, nothing_due, Progress, in_flight, is_held, is_staging, delivered_at, folder_at, unfolding_at}
+use Rattle.run_rules.specs.Events.{Work, nothing_due, Progress, in_flight, is_at_hand, is_held, is_staging, delivered_at, folder_at, unfolding_at}
 use Rattle.run_rules.specs.End.{End, settled, IsDelivery, is_lost_collect}
 use Rattle.run_rules.specs.Allowed.{IsFree, MayStage, IsBusy, MayCollect, MayDeliver, due, due_in}
 use Rattle.run_rules.specs.Plans.{mark_at}
@@ -23,6 +22,10 @@ use Rattle.run_rules.proofs.events.Places.{AreApart, IsFound, IsJob, found_at, f
 use Rattle.run_rules.proofs.Places.{same_place}
 use Rattle.run_rules.proofs.events.Planned.{jobs_in}
 
+-- the outputs of the jobs that made files in the inputs of a job are at hand
+abbrev pub AreParentsAtHand : Scene → Progress → Job → Type 0
+AreParentsAtHand s f job = NothingWasMadeBefore s → (parent : JobPlace) → any_made parent job.inputs ≡ true → is_at_hand f.events parent ≡ true
+
 module _ (s : Scene) (f : Progress) (marks : List Mark) where
   -- what is due is asked
   pub due_when : (work : Work) (request : Request) → f.work ≡ work → due_in s f.events work ≡ Some request → due s f ≡ Some request
@@ -30,15 +33,16 @@ module _ (s : Scene) (f : Progress) (marks : List Mark) where
 
   -- a job may be staged that the plan computes and that is not held
   pub may_stage : (n : ℕ) (job : Job) (plan : StagePlan) (number : ℕ) → IsFree s f → AreApart (jobs_in s f) →
-      IsJob (jobs_in s f) n job → mark_at s marks f.events job.place ≡ Compute → is_held f.events job.place ≡ false → length (in_flight f.events) < s.options.slots →
+      IsJob (jobs_in s f) n job → mark_at s marks f.events job.place ≡ Compute → is_held f.events job.place ≡ false → AreParentsAtHand s f job → length (in_flight f.events) < s.options.slots →
       number ≡ length (filter is_staging f.events) + 1 → IsPlan false (in_folder s.options.work number) (fields_moved (source_place (folder_at s f.events)) job.inputs) plan →
       MayStage s f marks job.place plan number
-  may_stage n job plan number free apart it computed away slot next staged = record {
+  may_stage n job plan number free apart it computed away parents slot next staged = record {
     free = free;
     job = job;
     known = found_at (jobs_in s f) apart n job it;
     computed = computed;
     not_held = away;
+    parents = parents;
     slot = slot;
     next_number = next;
     staged = staged;

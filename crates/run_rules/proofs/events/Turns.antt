@@ -20,7 +20,7 @@ use Rattle.run_rules.specs.Events.{Progress, folder_at, is_held}
 use Rattle.run_rules.specs.Allowed.{IsFree, IsBusy, MayStage}
 use Rattle.run_rules.specs.Plans.{InForce, number_of}
 use Rattle.run_rules.specs.Run.{Goes}
-use Rattle.run_rules.proofs.events.Asks.{busy_when_full, busy_when_held, may_stage}
+use Rattle.run_rules.proofs.events.Asks.{AreParentsAtHand, busy_when_full, busy_when_held, may_stage}
 use Rattle.run_rules.proofs.events.Course.{Course, IsAt, Keeps, flies_there, keys_removed}
 use Rattle.run_rules.proofs.events.Flights.{Flight, is_flying, landed_is_one_less, tickets_landed}
 use Rattle.run_rules.proofs.Places.{same_place}
@@ -100,11 +100,11 @@ module _ (s : Scene) (f : Progress) (marks : List Mark) (c : Course) (k : Keeps 
 
   -- a job that waits may be staged
   pub waiting_may_stage : {t : List Pair} (n : ℕ) (job : Job) (plan : StagePlan) → Goes s (InForce s) t f marks → IsJob (jobs_in s f) n job → c.waits n ≡ true →
-      length c.tickets < s.options.slots → IsPlan false (in_folder s.options.work (c.folders + 1)) (fields_moved (source_place (folder_at s f.events)) job.inputs) plan →
+      AreParentsAtHand s f job → length c.tickets < s.options.slots → IsPlan false (in_folder s.options.work (c.folders + 1)) (fields_moved (source_place (folder_at s f.events)) job.inputs) plan →
       MayStage s f marks job.place plan (c.folders + 1)
-  waiting_may_stage n job plan goes it waits slot staged =
+  waiting_may_stage n job plan goes it waits parents slot staged =
       may_stage s f marks n job plan (c.folders + 1) free k.apart it
-      (computed s n job goes free.still.idle free.still.collects free.still.unsettled k.apart it (k.waiting n job it waits)) (k.waiting n job it waits)
+      (computed s n job goes free.still.idle free.still.collects free.still.unsettled k.apart it (k.waiting n job it waits)) (k.waiting n job it waits) parents
       (omega (arith, slot, so_many (jobs_in s f) (readings f.events) c k)) (ap (λ n. n + 1) k.folders) staged
 
   -- none before the lowest one that waits may be

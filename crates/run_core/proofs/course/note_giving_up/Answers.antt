@@ -1,5 +1,5 @@
-use Rattle.std.specs.Prelude.{Ok, slice_get}
-use Rattle.std.proofs.Common.{◌≡◌, ◌∙◌, ◌<◌, ◌≤◌, List, Some, Result, sym, ap, subst}
+use Rattle.std.specs.Prelude.{Ok}
+use Rattle.std.proofs.Common.{◌∙◌, ◌<◌, ◌≤◌, List, Result, sym, ap, subst}
 use Rattle.job_graph.specs.Words.{JobPlace}
 use Rattle.job_graph.specs.KnownJobs.{job_of}
 use Rattle.run_rules.specs.declared.outcome.Outcome.{Outcome}

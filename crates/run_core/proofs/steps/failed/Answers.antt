@@ -9,7 +9,7 @@ pub returns-in_default : goal.returns-in_default
 returns-in_default c = record {
   is = if_ok c.pick.result
       (λ next picks.
-      fault_by c.args.given.now c.args.course.now c.args.turn.now.phase c.args.fault next c.pick.new.course c.in_default.not-Collecting c.in_default.not-Draining
+      fault_by c.args.given.now c.args.course.now c.args.phase c.args.fault next c.pick.new.course c.in_default.not-Collecting c.in_default.not-Draining
       (record {
         settled = c.settle.new.course;
         past = c.settle.ensures.past ∙ ap (λ (running : List ℕ). with_end (Err (RunFault.Host c.args.fault running)) (past_of c.args.course.now)) c.new-in_default.ensures;

@@ -1,5 +1,5 @@
-use Rattle.std.proofs.Common.{[], arith}
-use Rattle.proc_host.specs.Answers.{is_delivered, is_listed, is_measured, is_read, is_staged}
+use Rattle.std.proofs.Common.{[], arith, refl}
+use Rattle.proc_host.specs.Answers.{is_delivered, is_fetched, is_listed, is_measured, is_read, is_staged, is_stored}
 use Rattle.run_rows.proofs.alone.answer_to.Goals as goal
 
 pub returns-in_ok-one_byte-in-Measure : goal.returns-in_ok-one_byte-in-Measure
@@ -13,6 +13,12 @@ returns-in_ok-left_at-in-Scan c = rw c.in-Scan.is (is_listed _ _)
 
 pub returns-in-Head : goal.returns-in-Head
 returns-in-Head c = rw (c.in-Head.is, c.new.ensures) (is_read c.in-Head.field-0 c.in-Head.field-1 [] (omega arith))
+
+pub returns-in-Fetch : goal.returns-in-Fetch
+returns-in-Fetch c = rw (c.in-Fetch.is, c.new-in-Fetch.ensures) (is_fetched c.in-Fetch.field-0 c.in-Fetch.field-1 c.in-Fetch.field-2 [] refl)
+
+pub returns-in-Store : goal.returns-in-Store
+returns-in-Store c = rw c.in-Store.is (is_stored _ _ _)
 
 pub returns-in-Deliver : goal.returns-in-Deliver
 returns-in-Deliver c = rw c.in-Deliver.is (is_delivered _)

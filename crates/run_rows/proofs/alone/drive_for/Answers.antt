@@ -5,8 +5,8 @@ use Rattle.run_rules.specs.declared.request.Answer.{Answer}
 use Rattle.run_rules.specs.declared.request.Request.{Request}
 use Rattle.run_rows.proofs.alone.drive_for.Goals as goal
 
-pub take-requires : goal.take-requires
-take-requires c =
+pub take_answer-requires : goal.take_answer-requires
+take_answer-requires c =
     subst (λ (asks : Request). MayAnswer c.loop.core.flying asks (Answer.Host c.in_ok-answer.answer)) (sym c.in-Host.is ∙ c.next.ensures.asked)
     (by_host c.in-Host.place c.in-Host.request c.in_ok-answer.answer
-    (subst (λ (flying : List ℕ). CanAnswer flying c.in-Host.request c.in_ok-answer.answer) c.in_flight.ensures c.in_ok-answer.ensures))
+    (subst (λ (flying : List ℕ). CanAnswer flying c.in-Host.request c.in_ok-answer.answer) c.in_flight.ensures.flying c.in_ok-answer.ensures))

@@ -1,7 +1,7 @@
-use Rattle.proc_host.specs.Answers.{is_measured, is_staged, is_listed, is_delivered}
+use Rattle.proc_host.specs.Answers.{is_measured, is_staged, is_listed, is_stored, is_delivered}
 use Rattle.proc_host.specs.declared.call.HostAnswer.{HostAnswer}
 use Rattle.proc_host.specs.declared.call.HostRequest.{HostRequest}
-use Rattle.workflow_engine.proofs.Calls.{answer_told, head_told}
+use Rattle.workflow_engine.proofs.Calls.{answer_told, fetch_told, head_told}
 use Rattle.workflow_engine.proofs.ask.ask.Goals as goal
 
 pub returns-in-Stage-clause-answers : goal.returns-in-Stage-clause-answers
@@ -28,3 +28,13 @@ pub returns-in-Deliver-clause-answers : goal.returns-in-Deliver-clause-answers
 returns-in-Deliver-clause-answers g c =
     rw c.in-Deliver.is (answer_told (g.H.Host.running c.args.host.now) (HostRequest.Deliver c.in-Deliver.plan) (λ _. HostAnswer.Done) c.deliver.result c.done-in-Deliver.result c.done-in-Deliver.ensures
     (λ _. is_delivered c.in-Deliver.plan) c.deliver.ensures.own)
+
+pub returns-in-Fetch-clause-answers : goal.returns-in-Fetch-clause-answers
+returns-in-Fetch-clause-answers g c =
+    rw c.in-Fetch.is (fetch_told (g.H.Host.running c.args.host.now) c.in-Fetch.key c.in-Fetch.number c.in-Fetch.files c.fetch.result c.fetched.result c.fetched.ensures c.fetch.ensures.among
+    c.fetch.ensures.own)
+
+pub returns-in-Store-clause-answers : goal.returns-in-Store-clause-answers
+returns-in-Store-clause-answers g c =
+    rw c.in-Store.is (answer_told (g.H.Host.running c.args.host.now) (HostRequest.Store c.in-Store.key c.in-Store.folder c.in-Store.files) (λ _. HostAnswer.Done) c.store.result c.done-in-Store.result c.done-in-Store.ensures
+    (λ _. is_stored c.in-Store.key c.in-Store.folder c.in-Store.files) c.store.ensures.own)

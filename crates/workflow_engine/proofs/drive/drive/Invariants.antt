@@ -1,7 +1,9 @@
 use Rattle.std.proofs.Common.{◌≡◌, ◌≢◌, ◌++◌}
 use Rattle.run_rules.specs.Reports.{entries_of}
 use Rattle.run_rules.specs.declared.request.Request.{Request}
+use Rattle.proc_host.specs.Log.{starts}
 use Rattle.workflow_engine.specs.inner.Held.{Covers}
+use Rattle.workflow_engine.specs.inner.Numbered.{AreNumbered}
 use Rattle.workflow_engine.proofs.drive.drive.Given as goal
 
 abbrev pub invariant-loop-place : goal.invariant-loop-place
@@ -9,6 +11,7 @@ invariant-loop-place g l = record {
   setting : l.core.setting ≡ l.initial.core.setting;
   logged : g.H.Host.log l.host ≡ g.H.Host.log l.initial.host ++ entries_of l.core.transcript;
   flying : l.core.asks ≢ Request.Finished → l.core.flying ≡ g.H.Host.running l.host;
+  numbered : AreNumbered (starts (g.H.Host.log l.initial.host)) (entries_of l.core.transcript);
   covered : Covers l.held.items (g.H.Host.running l.host);
 }
 

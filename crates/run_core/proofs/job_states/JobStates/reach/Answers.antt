@@ -1,6 +1,6 @@
-use Rattle.std.proofs.Common.{◌≡◌, ◌∙◌, ◌≤◌, ◌<◌, ◌++◌, ◌∷◌, [], ℕ, List, length, refl, sym, ap, subst, arith}
+use Rattle.std.proofs.Common.{◌∙◌, ◌≤◌, List, length, sym, ap, subst, arith}
 use Rattle.run_core.specs.declared.job_states.JobState.{JobState}
-use Rattle.run_core.specs.inner.JobStates.{NoneWaits, staged_in, untouched}
+use Rattle.run_core.specs.inner.JobStates.{NoneWaits, staged_in}
 use Rattle.run_core.proofs.States.{none_waits_still, staged_past}
 use Rattle.run_core.proofs.job_states.JobStates.reach.Goals as goal
 

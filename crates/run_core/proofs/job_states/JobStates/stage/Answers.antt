@@ -1,4 +1,4 @@
-use Rattle.std.proofs.Common.{◌≡◌, ◌∙◌, ◌<◌, List, length, refl, sym, ap, subst}
+use Rattle.std.proofs.Common.{◌∙◌, ◌<◌, List, length, refl, sym, ap, subst}
 use Rattle.run_core.specs.declared.job_states.JobState.{JobState}
 use Rattle.std.proofs.lemmas.Option.{slice_get_read}
 use Rattle.run_core.specs.inner.JobStates.{staged_in}

@@ -1,55 +1,10 @@
-use Rattle.std.proofs.Common.{◌∙◌, ◌++◌, ◌∷◌, ℕ, [], sym, ap, subst, vec_len, vec_capacity}
-use Rattle.run_rules.specs.declared.request.Request.{Request}
+use Rattle.std.proofs.Common.{◌∙◌, sym, subst}
 use Rattle.run_rules.specs.Answers.{MayAnswer}
-use Rattle.run_core.specs.Core.{Took}
 use Rattle.run_core.specs.Machine.{Machine}
-use Rattle.run_core.specs.inner.Anyway.{CanGoOn}
-use Rattle.run_core.specs.inner.Inside.{seen}
-use Rattle.run_core.proofs.standing.Ready.{asks, ready, runs_on, some_ahead}
-use Rattle.run_core.proofs.standing.Took.{core_with, keeps_pairs, noted, one_fits, took}
+use Rattle.run_core.proofs.standing.Ready.{never_told}
 use Rattle.run_core.proofs.runner.RunCore.take.Goals as goal
 
-pub step-request-requires-clause-asks : goal.step-request-requires-clause-asks
-step-request-requires-clause-asks c =
-    asks c.self.inside c.args.answer c.self.invariant (subst (λ (core : Machine). MayAnswer core.flying core.asks c.args.answer) (sym c.self.view_is) c.requires)
-
-pub step-request-requires-clause-answers : goal.step-request-requires-clause-answers
-step-request-requires-clause-answers c = subst (λ (core : Machine). MayAnswer core.flying core.asks c.args.answer) (sym c.self.view_is) c.requires
-
-pub step-request-requires-clause-room : goal.step-request-requires-clause-room
-step-request-requires-clause-room c = c.self.invariant.room
-
-pub step-request-requires-clause-ready : goal.step-request-requires-clause-ready
-step-request-requires-clause-ready c =
-    ready c.self.inside c.args.answer c.self.invariant (subst (λ (core : Machine). MayAnswer core.flying core.asks c.args.answer) (sym c.self.view_is) c.requires)
-
-pub note-requires : goal.note-requires
-note-requires c =
-    one_fits (vec_len c.self.inside.pairs) (vec_capacity c.self.inside.pairs) _
-    (some_ahead c.self.inside c.args.answer c.self.invariant (subst (λ (core : Machine). MayAnswer core.flying core.asks c.args.answer) (sym c.self.view_is) c.requires))
-    c.self.invariant.pairs_room
-
-pub make_room-requires : goal.make_room-requires
-make_room-requires c =
-    keeps_pairs c.self.inside c.args.answer (runs_on c.self.inside c.self.invariant) c.self.invariant
-    (subst (λ (core : Machine). MayAnswer core.flying core.asks c.args.answer) (sym c.self.view_is) c.requires) c.step-request.new.course c.step-request.new.turn
-    _ _ c.step-request.ensures.moved c.note.ensures.len c.note.ensures.room
-
-pub invariant_of-self : goal.invariant_of-self
-invariant_of-self c =
-    (took c.self.inside c.args.answer (runs_on c.self.inside c.self.invariant) c.self.invariant
-    (subst (λ (core : Machine). MayAnswer core.flying core.asks c.args.answer) (sym c.self.view_is) c.requires) c.make_room.new.pairs c.step-request.new.course
-    c.make_room.new.course c.step-request.new.turn c.make_room.new.turn c.told_of.result
-    (subst (λ (n : ℕ). CanGoOn c.self.inside.course n) c.job_in.ensures c.can_go_on.ensures)
-    (c.make_room.ensures.items ∙ c.note.ensures.items ∙ ap (λ (asked : Request). c.self.inside.pairs.items ++ noted asked c.args.answer ∷ []) c.step-request.ensures.asked)
-    c.step-request.ensures.moved c.make_room.ensures.room c.make_room.ensures.past c.make_room.ensures.known c.make_room.ensures.one_more c.told_of.ensures).0
-
-pub returns : goal.returns
-returns c =
-    subst (λ (old : Machine). Took old c.args.answer c.told_of.result (seen (core_with c.self.inside c.make_room.new.pairs c.make_room.new.course c.make_room.new.turn)))
-    c.self.view_is (took c.self.inside c.args.answer (runs_on c.self.inside c.self.invariant) c.self.invariant
-    (subst (λ (core : Machine). MayAnswer core.flying core.asks c.args.answer) (sym c.self.view_is) c.requires) c.make_room.new.pairs c.step-request.new.course
-    c.make_room.new.course c.step-request.new.turn c.make_room.new.turn c.told_of.result
-    (subst (λ (n : ℕ). CanGoOn c.self.inside.course n) c.job_in.ensures c.can_go_on.ensures)
-    (c.make_room.ensures.items ∙ c.note.ensures.items ∙ ap (λ (asked : Request). c.self.inside.pairs.items ++ noted asked c.args.answer ∷ []) c.step-request.ensures.asked)
-    c.step-request.ensures.moved c.make_room.ensures.room c.make_room.ensures.past c.make_room.ensures.known c.make_room.ensures.one_more c.told_of.ensures).1
+pub returns-in-Err-clause-took : goal.returns-in-Err-clause-took
+returns-in-Err-clause-took c = λ may.
+    absurd (never_told c.self.inside c.args.answer c.self.invariant
+    (subst (λ (core : Machine). MayAnswer core.flying core.asks c.args.answer) (sym c.self.view_is) may) c.in-Err.fault (sym c.told_of.ensures ∙ c.in-Err.is))

@@ -1,0 +1,44 @@
+-- What a job's child leaves behind, and what it was given, as jobs of a run have it (CWL v1.2, Command Line Tool, "Output binding").
+use Rattle.std.specs.Prelude.{◌≡◌, Bool, true, false, IsTrue, not, List, ◌∷◌, ◌++◌, All}
+use Rattle.std.specs.List.{list_any}
+use Rattle.std.specs.Map.{values_of}
+use Rattle.plain_data.specs.ByName.{map_values}
+use Rattle.cwl_process.specs.declared.tool.SecondaryFile.{SecondaryFile}
+use Rattle.cwl_process.specs.declared.tool.ToolOutput.{ToolOutput}
+use Rattle.cwl_value.specs.Reading.{is_name}
+use Rattle.cwl_value.specs.declared.place.Place.{Place}
+use Rattle.cwl_value.specs.declared.value.Value.{Value}
+use Rattle.collected_outputs.specs.Laws.{is_name as is_name_there}
+use Rattle.collected_outputs.specs.Listing.{listing_of}
+use Rattle.collected_outputs.specs.Matched.{Name}
+use Rattle.collected_outputs.specs.Object.{Named}
+use Rattle.collected_outputs.specs.Outputs.{Left}
+use Rattle.collected_outputs.specs.Patterns.{runtime}
+use Rattle.collected_outputs.specs.Readable.{seen, is_classed}
+use Rattle.collected_outputs.specs.Throughout.{all_places}
+use Rattle.collected_outputs.specs.Values.{is_slash}
+use Rattle.staging.specs.declared.found.Found.{Found}
+
+-- the path of what stands below a folder: a name, or a name in such a folder
+pub data IsPath : Name → Type 0 where
+  name : (name : Name) → IsTrue (is_name name) → IsPath name
+  inside : (folder name : Name) → IsPath folder → IsTrue (is_name name) → IsPath (folder ++ 47 ∷ name)
+
+-- a place that is no name in the job's folder
+abbrev pub is_elsewhere : Place → Bool
+is_elsewhere place = not (is_name_there place)
+
+-- what was found has paths below the folder, and no File of the inputs stands at such a path: they are copies, elsewhere
+pub record IsLeftBy (found : List Found) (left : Left) : Type 0 where
+  pub listed : left.listing ≡ listing_of found
+  pub paths : All (λ f. IsPath f.name) found
+  pub elsewhere : All (λ v. all_places is_elsewhere v ≡ true) (values_of left.inputs)
+  pub runtime : left.runtime ≡ runtime
+
+-- each pattern of a secondary file makes a name of a name: it has no `/`
+abbrev pub ArePatternsOfNames : List (Name × ToolOutput) → Type 0
+ArePatternsOfNames outputs = All (λ (output : Name × ToolOutput). All (λ (file : SecondaryFile). list_any is_slash file.pattern ≡ false) output.1.secondary_files) outputs
+
+-- no output is named `class` and has the text `File` or `Directory`
+abbrev pub AreUnclassed : Named → Type 0
+AreUnclassed values = is_classed (map_values seen values) ≡ false

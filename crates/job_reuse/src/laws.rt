@@ -1,0 +1,26 @@
+//! Laws of rows and of what was collected: each is the contract of a function that does nothing.
+ghost use Rattle.job_reuse.specs.Laws.{CollectedOutputsAreKept, CollectedOutputsReadBack, RowsOfJobsAreSound, SameWhereErasedAndNamedAlike, FetchedFilesStandIn};
+
+/// Says that the outputs of a job are such as a record keeps and gives back as they were, by whatever way they were collected:
+/// where what was found has paths below the job's folder, the job's inputs stand elsewhere, and no output is named `class` with
+/// the text `File` or `Directory`.
+pub fn collected_outputs_are_kept()
+    ensures kept { CollectedOutputsAreKept }
+    ensures read { CollectedOutputsReadBack }
+{}
+
+/// Says that the row that is put of a job is one of the job's tool, so that it isn't refused when it is found.
+pub fn rows_of_jobs_are_sound()
+    ensures { RowsOfJobsAreSound }
+{}
+
+/// Says what a difference of outputs is: one in their values without places, or in the names that their Files and Directories have
+/// in the job's folder.
+pub fn outputs_differ_in_values_or_names()
+    ensures { SameWhereErasedAndNamedAlike }
+{}
+
+/// Says that fetched files which agree with a row's stand in for them: what its outputs name is among them.
+pub fn fetched_files_stand_in()
+    ensures { FetchedFilesStandIn }
+{}

@@ -1,0 +1,2 @@
+pub mod Piece
+pub mod Taken

@@ -1,0 +1,122 @@
+//! Copies that are summed on their way: each byte is read once.
+ghost use Rattle.std.specs.Prelude.{◌≡◌, ◌<◌, ◌+◌, false, IfOk, OnOk, IsTrue, length};
+ghost use Rattle.file_values.specs.Sum.{SumsHeld};
+ghost use Rattle.process_machine.specs.Copied.{IsCopied};
+ghost use Rattle.process_machine.specs.inner.Piece.{IsPiece};
+
+use crate::trouble::Trouble;
+use file_values::FileSum;
+use plain_data::Text;
+use sha1::Sha1;
+use staging::Found;
+use std::alloc::{AllocError, Global};
+use std::io::{Read, Write};
+
+/// The bytes that one read asks for.
+const BLOCK: usize = 65_536;
+
+/// Copies what a reader has left to a writer. It has to have the size and the sum of a file as it was found.
+pub(crate) fn copy_as_found<F: Read, W: Write>(
+    alloc: Global,
+    file: &Found,
+    reader: &mut F,
+    writer: &mut W,
+) -> Result<(), Trouble>
+    ensures { OnOk result (IsCopied (F.remaining reader.old) (F.remaining reader.new)
+        (W.contents writer.old) (W.contents writer.new)
+        (record { sum = file.now.sum; size = file.now.size })) }
+{
+    let sum = copy_summed(alloc, reader, writer)?;
+    if is_as_found(&sum, file) {
+        Ok(())
+    } else {
+        Err(Trouble::Failed)
+    }
+}
+
+fn is_as_found(sum: &FileSum, file: &Found) -> bool
+    ensures { IsTrue result → sum.now ≡ record { sum = file.now.sum; size = file.now.size } }
+{
+    sum.size == file.size && sum.sum.equals(&file.sum)
+}
+
+/// Copies what a reader has left to a writer, and tells it as a file of this name.
+pub(crate) fn copy_told<F: Read, W: Write>(
+    alloc: Global,
+    name: &Text,
+    reader: &mut F,
+    writer: &mut W,
+) -> Result<Found, Trouble>
+    ensures name { IfOk result (λ file. file.name ≡ name.now) }
+    ensures kind { IfOk result (λ file. file.is_dir ≡ false) }
+    ensures copied { IfOk result (λ file. IsCopied (F.remaining reader.old) (F.remaining reader.new)
+        (W.contents writer.old) (W.contents writer.new)
+        (record { sum = file.sum; size = file.size })) }
+{
+    let name = name.copied(alloc)?;
+    let FileSum { sum, size } = copy_summed(alloc, reader, writer)?;
+    Ok(Found {
+        name,
+        is_dir: false,
+        size,
+        sum,
+    })
+}
+
+// Reads to the end in blocks, writes each, and sums them.
+fn copy_summed<F: Read, W: Write>(
+    alloc: Global,
+    reader: &mut F,
+    writer: &mut W,
+) -> Result<FileSum, Trouble>
+    ensures { IfOk result (IsCopied (F.remaining reader.old) (F.remaining reader.new)
+        (W.contents writer.old) (W.contents writer.new)) }
+{
+    let mut block = vec![in alloc; 0u8; BLOCK]?;
+    let mut hasher = Sha1::new();
+    let mut size: u64 = 0;
+    for _ in 0..u64::MAX {
+        let count = copy_piece(reader, writer, &mut hasher, &mut block)?;
+        if count == 0 {
+            return Ok(finished(alloc, hasher, size)?);
+        }
+        size = added(size, count)?;
+    }
+    Err(Trouble::Failed)
+}
+
+// Reads into the block once, writes what was read, and puts it behind what the hasher holds.
+fn copy_piece<F: Read, W: Write>(
+    reader: &mut F,
+    writer: &mut W,
+    hasher: &mut Sha1,
+    block: &mut [u8],
+) -> Result<usize, Trouble>
+    requires { 0 < length block.old }
+    ensures { IfOk result (IsPiece (F.remaining reader.old) (F.remaining reader.new)
+        (W.contents writer.old) (W.contents writer.new) hasher.old hasher.new) }
+{
+    let count = reader.read(block)?;
+    let piece = &block[..count];
+    writer.write_all(piece)?;
+    hasher.update(piece);
+    Ok(count)
+}
+
+// Both together, where that is a number of 64 bits.
+fn added(size: u64, count: usize) -> Result<u64, Trouble>
+    ensures { IfOk result (λ sum. sum ≡ size + count) }
+{
+    size.checked_add(count as u64).ok_or(Trouble::Failed)
+}
+
+// The sum of what the hasher holds, which are so many bytes.
+fn finished(alloc: Global, hasher: Sha1, size: u64) -> Result<FileSum, AllocError>
+    ensures { IfOk result (SumsHeld hasher size) }
+{
+    let sum = hex::encode(alloc, hasher.finalize())?;
+    Ok(FileSum {
+        sum: Text::from_string(sum),
+        size,
+    })
+}

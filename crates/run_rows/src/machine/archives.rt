@@ -1,0 +1,168 @@
+use crate::machine::listing::{put_fault, put_listing};
+use crate::machine::place::{below, done, prepared};
+use crate::script::listing_of;
+use plain_data::{Items, Text};
+use proc_host::{Host, HostError};
+use process_machine::{Machine, World};
+use row_io::{AnswerText, Row, RowFault};
+use serde_json::Value as Json;
+use staging::Found;
+use std::alloc::Global;
+use std::process::{Command, Stdio};
+use std::{mem, str};
+
+/// What a row's steps answer, one after the other, of a host that keeps its archive in the row's `archive`, where the row has one.
+///
+/// A step is `{"scan":FOLDER}`, the listing of a folder; `{"files":LISTING}`; `{"store":[KEY,FOLDER]}` and `{"fetch":[KEY,NUMBER]}`,
+/// both of the files that were listed last; or `{"sh":SCRIPT}`, which answers what the shell writes.
+pub fn told_of(rt: &HostRuntime, row: &Row, place: &str) -> Result<String, RowFault> {
+    prepared(rt, row, place)?;
+    let mut host = machine_of(rt, row, place)?;
+    let mut out = AnswerText::new(rt.alloc());
+    let mut files = Items::new(rt.alloc());
+    out.put("[");
+    for step in row.list("steps")? {
+        out.put_comma();
+        take_step(rt, &mut host, step, place, &mut files, &mut out)?;
+    }
+    out.put("]");
+    out.finish()
+}
+
+fn machine_of<'a>(
+    rt: &'a HostRuntime,
+    row: &Row,
+    place: &str,
+) -> Result<Machine<&'a HostRuntime>, RowFault> {
+    let archive = archive_of(rt.alloc(), row, place)?;
+    let work = Text::from_text(rt.alloc(), place)?;
+    let outdir = below(rt.alloc(), place, "results")?;
+    Ok(Machine::new(rt, work, archive, outdir))
+}
+
+fn archive_of(alloc: Global, row: &Row, place: &str) -> Result<Option<Text>, RowFault> {
+    match row.find("archive") {
+        None => Ok(None),
+        Some(_) => Ok(Some(below(alloc, place, row.text("archive")?)?)),
+    }
+}
+
+fn take_step<H: Host>(
+    rt: &HostRuntime,
+    host: &mut H,
+    step: &Json,
+    place: &str,
+    files: &mut Items<Found>,
+    out: &mut AnswerText,
+) -> Result<(), RowFault> {
+    if let Some(folder) = step.get("scan") {
+        let folder = below(rt.alloc(), place, text_of(folder)?)?;
+        put_scanned(host, &folder, files, out);
+    } else if let Some(listing) = step.get("files") {
+        mem::drop(mem::replace(files, listing_of(rt.alloc(), listing)?));
+        put_listing(out, files.as_slice());
+    } else if let Some(script) = step.get("sh") {
+        put_said(rt, text_of(script)?, place, out)?;
+    } else {
+        take_call(rt.alloc(), host, step, place, files, out)?;
+    }
+    Ok(())
+}
+
+fn take_call<H: Host>(
+    alloc: Global,
+    host: &mut H,
+    step: &Json,
+    place: &str,
+    files: &Items<Found>,
+    out: &mut AnswerText,
+) -> Result<(), RowFault> {
+    if let Some(store) = step.get("store") {
+        let key = Text::from_text(alloc, text_at(store, 0)?)?;
+        let folder = below(alloc, place, text_at(store, 1)?)?;
+        put_done(host.store(&key, &folder, files), out);
+        return Ok(());
+    }
+    let fetch = step.get("fetch").ok_or(RowFault::BadArgument)?;
+    let key = Text::from_text(alloc, text_at(fetch, 0)?)?;
+    let number = fetch.get(1).and_then(|number| number.as_u64());
+    put_fetched(
+        host.fetch(&key, number.ok_or(RowFault::BadArgument)?, files),
+        out,
+    );
+    Ok(())
+}
+
+fn put_scanned<H: Host>(
+    host: &mut H,
+    folder: &Text,
+    files: &mut Items<Found>,
+    out: &mut AnswerText,
+) {
+    match host.scan(folder) {
+        Ok(found) => {
+            put_listing(out, found.as_slice());
+            mem::drop(mem::replace(files, found));
+        }
+        Err(error) => put_fault(out, error),
+    }
+}
+
+fn put_done(outcome: Result<(), HostError>, out: &mut AnswerText) {
+    match outcome {
+        Ok(()) => out.put_quoted("done"),
+        Err(error) => put_fault(out, error),
+    }
+}
+
+fn put_fetched(outcome: Result<Items<Found>, HostError>, out: &mut AnswerText) {
+    match outcome {
+        Ok(found) => put_listing(out, found.as_slice()),
+        Err(error) => put_fault(out, error),
+    }
+}
+
+// What a script of the shell writes in the row's folder.
+fn put_said(
+    rt: &HostRuntime,
+    script: &str,
+    place: &str,
+    out: &mut AnswerText,
+) -> Result<(), RowFault> {
+    let mut shell = Command::new(rt.alloc(), "/bin/sh")?;
+    let said = said_by(rt, &mut shell, script, place);
+    mem::drop(shell);
+    let said = said?;
+    match str::from_utf8(said.as_slice()) {
+        Ok(text) => out.put_quoted(text),
+        Err(_) => out.fail(RowFault::BadArgument),
+    }
+    Ok(())
+}
+
+fn said_by(
+    rt: &HostRuntime,
+    shell: &mut Command,
+    script: &str,
+    place: &str,
+) -> Result<Vec<u8>, RowFault> {
+    shell.arg("-c")?;
+    shell.arg(script)?;
+    shell.current_dir(place)?;
+    shell.stdin(Stdio::null());
+    shell.stderr(Stdio::inherit());
+    let output = done(shell.output(rt))?;
+    if output.status.success() {
+        Ok(output.stdout)
+    } else {
+        Err(RowFault::BadArgument)
+    }
+}
+
+fn text_at(list: &Json, index: usize) -> Result<&str, RowFault> {
+    text_of(list.get(index).ok_or(RowFault::BadArgument)?)
+}
+
+fn text_of(json: &Json) -> Result<&str, RowFault> {
+    json.as_str().ok_or(RowFault::BadArgument)
+}

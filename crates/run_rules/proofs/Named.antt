@@ -1,0 +1,226 @@
+-- The outputs that a run has collected are named: each place in them is a name in their job's folder, and of no job. So what made a file in the
+-- inputs of a known job is at hand.
+use Rattle.std.specs.Prelude.{◌&&◌, ◌||◌, is_some}
+use Rattle.std.specs.List.{AllByRecursion}
+use Rattle.std.specs.Map.{values_of}
+use Rattle.std.specs.Option.{IfSome, option_map_or}
+use Rattle.std.proofs.Common.{◌≡◌, ◌∙◌, ℕ, Bool, true, false, cond, List, [], ◌∷◌, ◌++◌, map, find, Option, Some, None, option_map, Ok, refl, sym, ap, rules}
+use Rattle.std.proofs.lemmas.List.Elements.{All-from_recursion, recursion_from_All}
+use Rattle.plain_data.specs.ByName.{map_values}
+use Rattle.plan_checker.specs.declared.plan.Mark.{Mark}
+use Rattle.cwl_process.specs.declared.tool.ToolOutput.{ToolOutput}
+use Rattle.cwl_value.proofs.Induction.{Cases, induction}
+use Rattle.cwl_value.specs.declared.place.Place.{Place}
+use Rattle.cwl_value.specs.declared.value.Value.{Value, the_lemmas}
+use Rattle.cwl_value.specs.declared.value.Value.TheOpen.{FileVal-F, DirVal-F}
+use Rattle.cwl_value.specs.declared.value.FileVal.{FileVal, roll-FileVal}
+use Rattle.cwl_value.specs.declared.value.DirVal.{DirVal, roll-DirVal}
+use Rattle.staging.proofs.Greedy.{both_first, both_second}
+use Rattle.staging.specs.declared.found.Found.{Found}
+use Rattle.collected_outputs.specs.Checked.{every}
+use Rattle.collected_outputs.specs.Collected.{IsCollected}
+use Rattle.collected_outputs.specs.Contents.{Heads}
+use Rattle.collected_outputs.specs.Laws.{is_name}
+use Rattle.collected_outputs.specs.Outputs.{Left}
+use Rattle.collected_outputs.specs.Throughout.{all_places}
+use Rattle.collected_outputs.proofs.Inside.{each_name}
+use Rattle.collected_outputs.proofs.Throughout.{dir_level, dir_pass, dir_value, fields_pass, file_level, file_pass, file_value, list_passes}
+use Rattle.job_graph.specs.Jobs.{Job}
+use Rattle.job_graph.specs.Made.{any_made, dir_holds, file_holds, holds_made, is_of, some_true}
+use Rattle.job_graph.specs.Makers.{AreNamed, AreUnmade, IsLearned}
+use Rattle.job_graph.specs.Unfold.{Resolved, outputs_at}
+use Rattle.job_graph.specs.Words.{Name, Fields, JobPlace, is_same_place}
+use Rattle.job_graph.proofs.laws_of_walks.Held.{a_dir, a_file, both_false, holds-DirVal, holds-Fields, holds-FileVal, holds-List}
+use Rattle.job_graph.proofs.laws_of_walks.Passed.{Each, EachField}
+use Rattle.run_rules.specs.declared.request.Pair.{Pair}
+use Rattle.run_rules.specs.declared.setting.Options.{Options}
+use Rattle.run_rules.specs.Scene.{Scene}
+use Rattle.run_rules.specs.Events.{Event, file_measured, job_staged, job_started, child_exited, job_succeeded, job_failed, job_failed_for_now, result_delivered, host_failed, collect_failed, Work, Progress, Started, is_at_hand, resolved}
+use Rattle.run_rules.specs.StartsOn.{StartsOn, reads_on as starts_reading, has_launch, has_no_launch, has_no_contents}
+use Rattle.run_rules.specs.CollectsOn.{CollectsOn, left_of, reads_on as collects_reading, collects, collects_none}
+use Rattle.run_rules.specs.Steps.{Steps, measures_file, stages, reads_input, starts, exits_well, exits_for_now, exits_badly, scans, reads_output, delivers, loses_collect, call_fails}
+use Rattle.run_rules.specs.Run.{Goes, begins, asks}
+
+-- ---- a value whose places are names holds nothing that a job made
+
+not_of : (job : JobPlace) (place : Place) → is_name place ≡ true → is_of job place ≡ false
+not_of job Place.Nowhere named = absurd cc
+not_of job (Place.Url name) named = refl
+not_of job (Place.Path path) named = absurd cc
+not_of job (Place.Made maker name) named = absurd cc
+
+module _ (job : JobPlace) where
+  abbrev at_file : FileVal-F Bool Bool Bool → Bool
+  at_file f = is_name f.place
+
+  abbrev at_dir : DirVal-F Bool Bool Bool → Bool
+  at_dir d = is_name d.place
+
+  abbrev P : Value → Type 0
+  P v = all_places is_name v ≡ true → holds_made job v ≡ false
+
+  abbrev Q : FileVal → Type 0
+  Q f = file_pass at_file at_dir f ≡ true → file_holds job f ≡ false
+
+  abbrev R : DirVal → Type 0
+  R d = dir_pass at_file at_dir d ≡ true → dir_holds job d ≡ false
+
+  items : (vs : List Value) → AllByRecursion P vs → every (map (all_places is_name) vs) ≡ true → Each (λ v. holds_made job v ≡ false) vs
+  items [] each named = tt
+  items (v ∷ vs) each named = (
+    each.0 (both_first (all_places is_name v) (every (map (all_places is_name) vs)) named),
+    items vs each.1 (both_second (all_places is_name v) (every (map (all_places is_name) vs)) named),
+  )
+
+  abbrev flags : List (List ℕ × Value) → List Bool
+  flags es = map (λ (e : List ℕ × Bool). e.1) (map_values (all_places is_name) es)
+
+  in_fields : (es : List (List ℕ × Value)) → AllByRecursion (λ (e : List ℕ × Value). P e.1) es → every (flags es) ≡ true →
+      EachField (λ v. holds_made job v ≡ false) es
+  in_fields [] each named = tt
+  in_fields (e ∷ es) each named = (
+    each.0 (both_first (all_places is_name e.1) (every (flags es)) named),
+    in_fields es each.1 (both_second (all_places is_name e.1) (every (flags es)) named),
+  )
+
+  listed : (o : Option (List Value)) → IfSome o (AllByRecursion P) → option_map_or every (option_map (map (all_places is_name)) o) true ≡ true →
+      IfSome o (Each (λ v. holds_made job v ≡ false))
+  listed None each named = tt
+  listed (Some vs) each named = items vs each named
+
+  of_file : (f : FileVal-F Value DirVal FileVal) → AllByRecursion P f.secondary → Q (roll-FileVal f)
+  of_file f each named =
+      let here : (is_name f.place && every (map (all_places is_name) f.secondary)) ≡ true = sym (file_level at_file at_dir f) ∙ named in
+      a_file job f (not_of job f.place (both_first (is_name f.place) (every (map (all_places is_name) f.secondary)) here))
+      (items f.secondary each (both_second (is_name f.place) (every (map (all_places is_name) f.secondary)) here))
+
+  of_dir : (d : DirVal-F Value DirVal FileVal) → IfSome d.listing (AllByRecursion P) → R (roll-DirVal d)
+  of_dir d each named =
+      let inside : Bool = option_map_or every (option_map (map (all_places is_name)) d.listing) true in
+      let here : (is_name d.place && inside) ≡ true = sym (dir_level at_file at_dir d) ∙ named in
+      a_dir job d (not_of job d.place (both_first (is_name d.place) inside here)) (listed d.listing each (both_second (is_name d.place) inside here))
+
+  none_held : (vs : List Value) → Each (λ v. holds_made job v ≡ false) vs → some_true (map (holds_made job) vs) ≡ false
+  none_held [] all = refl
+  none_held (v ∷ vs) all = both_false (holds_made job v) (some_true (map (holds_made job) vs)) all.0 (none_held vs all.1)
+
+  none_in_fields : (es : List (List ℕ × Value)) → EachField (λ v. holds_made job v ≡ false) es →
+      some_true (map (λ f. f.1) (map_values (holds_made job) es)) ≡ false
+  none_in_fields [] all = refl
+  none_in_fields (e ∷ es) all =
+      both_false (holds_made job e.1) (some_true (map (λ (f : List ℕ × Bool). f.1) (map_values (holds_made job) es))) all.0 (none_in_fields es all.1)
+
+  cases : Cases P Q R
+  cases = record {
+    null = λ named. search (rules, the_lemmas);
+    boolean = λ b named. search (rules, the_lemmas);
+    whole = λ n named. search (rules, the_lemmas);
+    text = λ s named. search (rules, the_lemmas);
+    file = λ f one named. holds-FileVal job f ∙ one (sym (file_value at_file at_dir f) ∙ named);
+    dir = λ d one named. holds-DirVal job d ∙ one (sym (dir_value at_file at_dir d) ∙ named);
+    list = λ vs each named. holds-List job vs ∙ none_held vs (items vs each (sym (list_passes at_file at_dir vs) ∙ named));
+    fields = λ es each named. holds-Fields job es ∙ none_in_fields es (in_fields es each (sym (fields_pass at_file at_dir es) ∙ named));
+    a_file = of_file;
+    a_dir = of_dir;
+  }
+
+  named_is_unmade : (v : Value) → all_places is_name v ≡ true → holds_made job v ≡ false
+  named_is_unmade = induction cases
+
+  none_made : (values : Fields) → AllByRecursion (λ v. all_places is_name v ≡ true) (values_of values) → any_made job values ≡ false
+  none_made [] all = refl
+  none_made (e ∷ es) all =
+      ap (λ b. b || any_made job es) (named_is_unmade e.1 all.0) ∙ none_made es all.1
+
+-- ---- so are the outputs of a job
+
+collected_unmade : (left : Left) (outputs : List (Name × ToolOutput)) (values : Fields) → IsCollected left outputs (Ok values) → AreUnmade values
+collected_unmade left outputs values is = λ job.
+    none_made job values (recursion_from_All (λ v. all_places is_name v ≡ true) (values_of values) (each_name left outputs values is))
+
+-- ---- and of a run
+
+-- the outputs that an event brings
+abbrev NamedAt : Event → Type 0
+NamedAt (job_succeeded place outputs) = AreUnmade outputs
+NamedAt _ = Unit {0}
+
+all_append : (es later : List Event) → AllByRecursion NamedAt es → AllByRecursion NamedAt later → AllByRecursion NamedAt (es ++ later)
+all_append [] later all more = more
+all_append (e ∷ es) later all more = (all.0, all_append es later all.1 more)
+
+starts_named : {options : Options} {place : JobPlace} {job : Job} {number : ℕ} {staged : Fields} {read : Heads} {todo : List Name} {work : Work} {more : List Event} →
+    StartsOn options place job number staged read todo work more → AllByRecursion NamedAt more
+starts_named (starts_reading path more) = tt
+starts_named (has_launch inputs launch with is) = tt
+starts_named (has_no_launch inputs fault with is) = (tt, tt)
+starts_named (has_no_contents fault is) = (tt, tt)
+
+collects_named : {place : JobPlace} {job : Job} {started : Started} {millis : ℕ} {found : List Found} {read : Heads} {todo : List Name} {work : Work} {more : List Event} →
+    CollectsOn place job started millis found read todo work more → AllByRecursion NamedAt more
+collects_named (collects_reading name more) = tt
+collects_named {job = job} {started = started} {found = found} {read = read} (collects outputs is) =
+    (collected_unmade (left_of started found read) job.tool.outputs outputs is, tt)
+collects_named (collects_none fault is) = (tt, tt)
+
+module _ (s : Scene) where
+  steps_named : {f : Progress} {p : Pair} {work : Work} {new : List Event} → Steps s f p work new → AllByRecursion NamedAt new
+  steps_named (measures_file path measure) = (tt, tt)
+  steps_named (stages place plan number job work more known on) = (tt, starts_named on)
+  steps_named (reads_input place path limit bytes staged todo read job work more due known on) = starts_named on
+  steps_named (starts place inputs launch ticket due) = (tt, tt)
+  steps_named (exits_well place e job flies known class) = (tt, tt)
+  steps_named (exits_for_now place e job flies known class) = (tt, (tt, tt))
+  steps_named (exits_badly place e job flies known class) = (tt, (tt, tt))
+  steps_named (scans place folder millis found job started wanted work more due known at are on) = collects_named on
+  steps_named (reads_output place path limit bytes millis found name todo read job started work more due known at on) = collects_named on
+  steps_named (delivers place plan) = (tt, tt)
+  steps_named loses_collect = (tt, tt)
+  steps_named (call_fails place request other) = (tt, tt)
+
+  module _ {Plans : Progress → List Mark → Type 0} where
+    goes_named : {t : List Pair} {f : Progress} {marks : List Mark} → Goes s Plans t f marks → AllByRecursion NamedAt f.events
+    goes_named (begins marks plans) = tt
+    goes_named (asks t f old p work new marks goes may steps plans) = all_append f.events new (goes_named goes) (steps_named steps)
+
+named_resolved : (es : List Event) → AllByRecursion NamedAt es → AllByRecursion (λ (r : Resolved). AreUnmade r.outputs) (resolved es)
+named_resolved [] all = tt
+named_resolved (job_succeeded place outputs ∷ es) all = (all.0, named_resolved es all.1)
+named_resolved (file_measured path measure ∷ es) all = named_resolved es all.1
+named_resolved (job_staged place number ∷ es) all = named_resolved es all.1
+named_resolved (job_started place inputs launch ticket ∷ es) all = named_resolved es all.1
+named_resolved (child_exited ticket ∷ es) all = named_resolved es all.1
+named_resolved (job_failed place cause ∷ es) all = named_resolved es all.1
+named_resolved (job_failed_for_now place ∷ es) all = named_resolved es all.1
+named_resolved (result_delivered plan ∷ es) all = named_resolved es all.1
+named_resolved (host_failed place fault ∷ es) all = named_resolved es all.1
+named_resolved (collect_failed ∷ es) all = named_resolved es all.1
+
+-- the outputs that a run has learned are named
+pub learned_are_named : (s : Scene) {Plans : Progress → List Mark → Type 0} {t : List Pair} {f : Progress} {marks : List Mark} → Goes s Plans t f marks → AreNamed (resolved f.events)
+learned_are_named s {f = f} goes =
+    All-from_recursion (λ (r : Resolved). AreUnmade r.outputs) (resolved f.events) (named_resolved f.events (goes_named s goes))
+
+-- ---- what was learned is at hand
+
+hand_by : (test : Bool) (p place : JobPlace) (outputs : Fields) (learned : List Resolved) (later : Bool) → is_same_place p place ≡ test →
+    is_some (outputs_at (record { place = p; outputs = outputs } ∷ learned) place) ≡ true →
+    (is_some (outputs_at learned place) ≡ true → later ≡ true) → (is_same_place p place || later) ≡ true
+hand_by true p place outputs learned later same is rest = ap (λ b. b || later) same
+hand_by false p place outputs learned later differs is rest =
+    ap (λ b. b || later) differs
+    ∙ rest (ap (λ b. is_some (option_map (λ (r : Resolved). r.outputs) (cond b (Some (record { place = p; outputs = outputs })) (find (λ r. is_same_place r.place place) learned)))) (sym differs) ∙ is)
+
+pub learned_is_at_hand : (es : List Event) (place : JobPlace) → IsLearned (resolved es) place → is_at_hand es place ≡ true
+learned_is_at_hand [] place is = absurd cc
+learned_is_at_hand (job_succeeded p outputs ∷ es) place is =
+    hand_by (is_same_place p place) p place outputs (resolved es) (is_at_hand es place) refl is (learned_is_at_hand es place)
+learned_is_at_hand (file_measured path measure ∷ es) place is = learned_is_at_hand es place is
+learned_is_at_hand (job_staged at number ∷ es) place is = learned_is_at_hand es place is
+learned_is_at_hand (job_started at inputs launch ticket ∷ es) place is = learned_is_at_hand es place is
+learned_is_at_hand (child_exited ticket ∷ es) place is = learned_is_at_hand es place is
+learned_is_at_hand (job_failed at cause ∷ es) place is = learned_is_at_hand es place is
+learned_is_at_hand (job_failed_for_now at ∷ es) place is = learned_is_at_hand es place is
+learned_is_at_hand (result_delivered plan ∷ es) place is = learned_is_at_hand es place is
+learned_is_at_hand (host_failed at fault ∷ es) place is = learned_is_at_hand es place is
+learned_is_at_hand (collect_failed ∷ es) place is = learned_is_at_hand es place is
