@@ -28,7 +28,7 @@ help:
 	@echo "make test          the whole gate: every proof that is not kept, the tests, the programs, the wrong bodies in must-fail/, the importer,"
 	@echo "                   the examples, a package (94 minutes from nothing, when last kept: docs/gate.md)"
 	@echo "make gate-cost     what the last gate cost, by crate and part (a second)"
-	@echo "make wrong-bodies  try all wrong bodies over what \`rt check\` keeps (several hours); NAME=crate: those of one crate (3 to 40 minutes)"
+	@echo "make wrong-bodies  try all wrong bodies over what \`rt check\` keeps (several hours); NAME=crate: those of one crate (3 to 40 minutes), NAME=crate/edit: one"
 
 demo:
 	@scripts/demo
