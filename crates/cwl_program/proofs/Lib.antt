@@ -1,3 +1,4 @@
+pub mod CodeTexts
 pub mod CommandLines
 pub mod Ends
 pub mod JobLines

@@ -1,16 +1,17 @@
 -- Texts that a shell reads as words, made piece by piece.
-use Rattle.std.proofs.Common.{◌≡◌, ◌≢◌, length, get_or, take, length-take-le, ◌⊎◌, inl, inr, ℕ, ◌+◌, ◌*◌, ◌/◌, ◌%◌, ◌<◌, ◌≤◌, true, false, ◌==◌, nat_lt, cond, ⊎_elim, List, [], ◌∷◌, ◌++◌, All, Option, Some, Result, Ok, Err, OnOk, codes, is_ok, refl, sym, ap, ap₂, subst, ◌∙◌, arith, append_assoc}
+use Rattle.std.proofs.Common.{◌≡◌, ◌≢◌, length, get_or, take, length-take-le, ◌⊎◌, inl, inr, ℕ, ◌+◌, ◌*◌, ◌/◌, ◌%◌, ◌<◌, ◌≤◌, true, false, ◌==◌, cond, ⊎_elim, List, [], ◌∷◌, ◌++◌, All, Option, Some, Result, Ok, Err, OnOk, codes, is_ok, refl, sym, ap, subst, ◌∙◌, arith, append_assoc}
 use Rattle.std.specs.List.{flat_map, list_any, list_all, join_with_byte}
 use Rattle.std.specs.Str.{NonePass, chars, IsUtf8}
 use Rattle.std.proofs.Math.Utf8.{encode, encodes}
 use Rattle.std.proofs.lemmas.Bool.{ne_eqb, cond-true, cond-false, cases_eq, eq-eqb, cond_both, or_parts, and_parts}
 use Rattle.std.proofs.lemmas.Bool.Decides.{nat_tests}
-use Rattle.std.proofs.lemmas.List.{append-nil}
+use Rattle.std.proofs.lemmas.List.{append-nil, take_all, take_more}
 use Rattle.std.proofs.lemmas.List.Elements.{all_zip_more, length_all_zip, All-nil, All-head, All-tail, All-append, All-from_get_or}
 use Rattle.std.proofs.lemmas.Str.{encode_ascii, encodes-append, encodes-chars, chars_from_encodes, NoCharPasses-nil, NoCharPasses-append}
 use Rattle.std.proofs.lemmas.Str.Pattern.{NoCharPasses-char}
 use Rattle.command_line.specs.declared.launch.Launch.{Launch}
-use Rattle.cwl_program.specs.ShellWords.{Adds, AreRead, IsLineOf, IsRedirection, IsEscaped, IsRead, IsShown, IsTextOf, IsWritten, ends, plain, quote, backslash, octal, bare, kept_quote, single_quoted, dollar_quoted, alone, followed, is_bare, is_control}
+use Rattle.cwl_program.specs.ShellWords.{Adds, AreRead, IsLineOf, IsRedirection, IsEscaped, IsRead, IsShown, IsTextOf, IsWritten, ends, plain, quote, backslash, octal, bare, kept_quote, single_quoted, dollar_quoted, alone, followed, is_bare}
+use Rattle.cwl_program.specs.Visible.{is_hidden}
 
 pub on_ok : {T E : Type 0} (r : Result T E) (P Q : Type 0) → (P → Q) → OnOk r P → OnOk r Q
 on_ok (Ok x) P Q f h = f h
@@ -31,20 +32,20 @@ four_pushed old s₁ s₂ s₃ s₄ a b c d p q r t = rw (t, r, q, p) (simp appe
 
 -- ---- what is shown
 
-pub shown_char : (c : ℕ) → is_control c ≡ false → IsShown (encode c)
+pub shown_char : (c : ℕ) → is_hidden c ≡ false → IsShown (encode c)
 shown_char c other = (c ∷ [], append-nil (encode c), (other, tt))
 
-pub shown_byte : (c : ℕ) → c < 128 → is_control c ≡ false → IsShown (c ∷ [])
+pub shown_byte : (c : ℕ) → c < 128 → is_hidden c ≡ false → IsShown (c ∷ [])
 shown_byte c ascii other = subst IsShown (encode_ascii c ascii) (shown_char c other)
 
 pub shown_append : (xs ys : List ℕ) → IsShown xs → IsShown ys → IsShown (xs ++ ys)
-shown_append xs ys = NoCharPasses-append is_control xs ys
+shown_append xs ys = NoCharPasses-append is_hidden xs ys
 
-pub shown_cons : (c : ℕ) (xs : List ℕ) → c < 128 → is_control c ≡ false → IsShown xs → IsShown (c ∷ xs)
+pub shown_cons : (c : ℕ) (xs : List ℕ) → c < 128 → is_hidden c ≡ false → IsShown xs → IsShown (c ∷ xs)
 shown_cons c xs ascii other rest = shown_append (c ∷ []) xs (shown_byte c ascii other) rest
 
 pub shown_nil : IsShown []
-shown_nil = NoCharPasses-nil is_control
+shown_nil = NoCharPasses-nil is_hidden
 
 -- ---- inside `$'..'`
 
@@ -77,7 +78,7 @@ pub byte_escaped : (b : ℕ) → b < 256 → IsEscaped (byte_text b) (b ∷ [])
 byte_escaped b byte =
     subst (λ n. IsEscaped (byte_text b) (n ∷ [])) (byte_whole b) (octal (b / 64) (b / 8 % 8) (b % 8) (omega arith) (omega arith) (omega arith) ends)
 
-digit_shown : (d : ℕ) → d < 8 → is_control (48 + d) ≡ false
+digit_shown : (d : ℕ) → d < 8 → is_hidden (48 + d) ≡ false
 digit_shown d digit = grind (arith, nat_tests)
 
 pub byte_shown : (b : ℕ) → b < 256 → IsShown (byte_text b)
@@ -87,20 +88,25 @@ byte_shown b byte =
     (shown_cons (48 + b / 8 % 8) _ (omega arith) (digit_shown (b / 8 % 8) (omega arith))
     (shown_cons (48 + b % 8) _ (omega arith) (digit_shown (b % 8) (omega arith)) shown_nil)))
 
--- a control character that is not ASCII has two bytes
-pub control_bytes : (c : ℕ) → is_control c ≡ true → 128 ≤ c → encode c ≡ 194 ∷ c ∷ []
-unfolding encode
-control_bytes c is high =
-    let low : c < 160 = grind (arith, nat_tests) in
-    let not_one : nat_lt c 128 ≡ false = grind (arith, nat_tests) in
-    let is_two : nat_lt c 2048 ≡ true = grind (arith, nat_tests) in
-    let first : 192 + c / 64 ≡ 194 = omega arith in
-    let second : 128 + c % 64 ≡ c = omega arith in
-    cond-false _ _ _ not_one ∙ cond-true _ _ _ is_two ∙ ap₂ (λ x y. x ∷ y ∷ []) first second
-
 -- how a character is written inside `$'..'`
 pub written_both : (run more s t : List ℕ) → IsWritten run s → IsWritten more t → IsWritten (run ++ more) (s ++ t)
 written_both run more s t a b = (escaped_append a.0 b.0, shown_append s t a.1 b.1)
+
+-- a byte more
+pub bytes_more : (bytes : List ℕ) (i : ℕ) (old mid new : List ℕ) → i < length bytes → Adds (IsWritten (take i bytes)) old mid
+    → Adds (IsWritten (get_or bytes i 0 ∷ [])) mid new → Adds (IsWritten (take (i + 1) bytes)) old new
+bytes_more bytes i old mid new within before more =
+    let byte = get_or bytes i 0 in
+    adds_both (IsWritten (take i bytes)) (IsWritten (byte ∷ [])) (IsWritten (take (i + 1) bytes)) old mid new before more
+    (λ s t a b. subst (λ run. IsWritten run (s ++ t)) (sym (take_more bytes i 0 within)) (written_both (take i bytes) (byte ∷ []) s t a b))
+
+-- and all
+pub bytes_all : (bytes : List ℕ) (i c : ℕ) (old new : List ℕ) → length bytes ≤ i → bytes ≡ encode c
+    → Adds (IsWritten (take i bytes)) old new → Adds (IsWritten (encode c)) old new
+bytes_all bytes i c old new all is written = subst (λ run. Adds (IsWritten run) old new) (take_all i bytes all ∙ is) written
+
+pub bytes_none : (bytes old : List ℕ) → Adds (IsWritten (take 0 bytes)) old old
+bytes_none bytes old = ([], sym (append-nil old), (ends, shown_nil))
 
 pub written_quote : (c : ℕ) → c ≡ 39 → IsWritten (encode c) (92 ∷ 39 ∷ [])
 written_quote c is =
@@ -112,7 +118,7 @@ written_backslash c is =
     subst (λ run. IsWritten run (92 ∷ 92 ∷ [])) (sym (encode_ascii c (omega arith) ∙ ap (λ x. x ∷ []) is))
     (backslash ends, shown_cons 92 _ (omega arith) refl (shown_cons 92 _ (omega arith) refl shown_nil))
 
-pub written_plain : (c : ℕ) → c ≢ 39 → c ≢ 92 → is_control c ≡ false → IsWritten (encode c) (encode c)
+pub written_plain : (c : ℕ) → c ≢ 39 → c ≢ 92 → is_hidden c ≡ false → IsWritten (encode c) (encode c)
 written_plain c p q other = (plain_char c p q, shown_char c other)
 
 pub encodes_push : (cs : List ℕ) (c : ℕ) → encodes cs ++ encode c ≡ encodes (cs ++ c ∷ [])
@@ -159,7 +165,7 @@ quoted_on (c ∷ cs) run none =
 pub quoted_word : (cs : List ℕ) → IsRead (39 ∷ flat_map in_quotes cs ++ 39 ∷ []) (encodes cs)
 quoted_word cs = quoted_on cs [] (All-nil (λ b. b ≢ 39))
 
-pub quoted_shown : (cs : List ℕ) → NonePass is_control cs → IsShown (flat_map in_quotes cs)
+pub quoted_shown : (cs : List ℕ) → NonePass is_hidden cs → IsShown (flat_map in_quotes cs)
 quoted_shown [] none = shown_nil
 quoted_shown (c ∷ cs) none =
     shown_append (in_quotes c) (flat_map in_quotes cs)
@@ -169,22 +175,22 @@ quoted_shown (c ∷ cs) none =
     (quoted_shown cs none.1)
 
 -- the characters of a text, none of which is a control character
-none_passes : (cs : List ℕ) → list_any is_control cs ≡ false → NonePass is_control cs
+none_passes : (cs : List ℕ) → list_any is_hidden cs ≡ false → NonePass is_hidden cs
 none_passes [] none = tt
 none_passes (c ∷ cs) none =
     let both = or_parts _ _ none in
     (both.0, none_passes cs both.1)
 
-pub shown_text : (bs : List ℕ) → IsUtf8 bs → list_any is_control (chars bs) ≡ false → IsShown bs
+pub shown_text : (bs : List ℕ) → IsUtf8 bs → list_any is_hidden (chars bs) ≡ false → IsShown bs
 shown_text bs text none = (chars bs, encodes-chars bs text, none_passes (chars bs) none)
 
-pub none_in : (bs : List ℕ) → IsUtf8 bs → IsShown bs → NonePass is_control (chars bs)
-none_in bs text shown = subst (NonePass is_control) (chars_from_encodes shown.0 bs text shown.1) shown.2
+pub none_in : (bs : List ℕ) → IsUtf8 bs → IsShown bs → NonePass is_hidden (chars bs)
+none_in bs text shown = subst (NonePass is_hidden) (chars_from_encodes shown.0 bs text shown.1) shown.2
 
 -- a word in single quotes
 pub quoted : (cs word : List ℕ) → cs ≡ chars word → IsUtf8 word → IsShown word → IsRead (39 ∷ flat_map in_quotes cs ++ 39 ∷ []) word × IsShown (39 ∷ flat_map in_quotes cs ++ 39 ∷ [])
 quoted cs word are text shown =
-    let none = subst (NonePass is_control) (sym are) (none_in word text shown) in (
+    let none = subst (NonePass is_hidden) (sym are) (none_in word text shown) in (
       subst (IsRead (39 ∷ flat_map in_quotes cs ++ 39 ∷ [])) (ap encodes are ∙ encodes-chars word text) (quoted_word cs),
       shown_cons 39 _ (omega arith) refl (shown_append (flat_map in_quotes cs) (39 ∷ []) (quoted_shown cs none) (shown_byte 39 (omega arith) refl)),
     )

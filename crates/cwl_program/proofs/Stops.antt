@@ -1,5 +1,5 @@
 -- What is wrong before anything is run ends the program.
-use Rattle.std.proofs.Common.{◌≡◌, ◌≢◌, ◌≤◌, ℕ, List, length, Option, Some, subst, sym, Result, Ok, Err, IfOk, IfErr, OnErr}
+use Rattle.std.proofs.Common.{◌≡◌, ◌≢◌, ◌≤◌, ◌∙◌, ap, ℕ, true, List, length, Option, Some, None, subst, sym, Result, Ok, Err, IfOk, IfErr, OnErr}
 use Rattle.std.proofs.lemmas.Result.{IfOk-weaker}
 use Rattle.std.specs.declared.alloc.AllocError.{AllocError}
 use Rattle.clap.specs.Words.{Text}
@@ -15,10 +15,15 @@ use Rattle.cwl_value.specs.declared.value.Value.{Value}
 use Rattle.cwl_value.specs.declared.value.Value.TheVariants as values
 use Rattle.file_values.specs.Resolved.{resolved}
 use Rattle.job_graph.specs.Words.{Fields}
+use Rattle.process_machine.specs.declared.trouble.Hindrance.{Hindrance}
+use Rattle.run_facts.specs.Holding.{can_hold_files}
+use Rattle.run_facts.specs.declared.made_by.WorkTrouble.{WorkTrouble}
+use Rattle.run_rules.specs.declared.setting.Options.{Options}
 use Rattle.cwl_program.specs.Demo as demo
+use Rattle.cwl_program.specs.Leaving.{left_of}
 use Rattle.cwl_program.specs.RunWords.{RunWish}
 use Rattle.cwl_program.specs.Paths.{IsAt, from_root}
-use Rattle.cwl_program.specs.Runs.{IsInputsText, IsInputsUnread, IsInputsUrl, IsNamedInputs, IsNamedProcess, IsNoInputs, IsNoProcess, IsReady, IsRunExit, document_unread, document_wrong, inputs_unread, inputs_wrong, lost, no_inputs, no_process, no_work, stops}
+use Rattle.cwl_program.specs.Runs.{IsAsked, IsInputsText, IsInputsUnread, IsInputsUrl, IsNamedInputs, IsNamedProcess, IsNoInputs, IsNoProcess, IsRan, IsRead, IsReady, IsRunExit, document_unread, document_wrong, inputs_unread, inputs_wrong, lost, no_inputs, no_outdir, no_process, no_work, runs, stops}
 use Rattle.cwl_program.specs.Certificates.{IsCheck, unread}
 use Rattle.cwl_program.specs.Sources.{IsAbsent, IsAccepted, IsDocumentStop, IsInputs, IsInputsStop, IsOfDocuments, bad_document, no_object, too_many}
 use Rattle.cwl_program.specs.Stops.{IsStop, IsUnread}
@@ -28,6 +33,7 @@ use Rattle.cwl_program.specs.declared.exit.Fault.TheVariants as faults
 use Rattle.cwl_program.specs.declared.exit.Refusal.TheVariants as refusals
 use Rattle.document_links.specs.declared.fault.LinkFault.TheVariants as link_faults
 use Rattle.cwl_program.specs.declared.run.Given.{Given}
+use Rattle.cwl_program.specs.declared.run_end.RunEnd.{RunEnd}
 use Rattle.cwl_program.specs.declared.stop.Stop.{Stop}
 use Rattle.cwl_program.specs.declared.stop.Stop.TheVariants.{Early, OutOfMemory}
 
@@ -75,15 +81,23 @@ pub unread_inputs : {T : Type 0} (here : Text) (words : RunWish) (name : Text) (
 unread_inputs here words name answer named is =
     stops_so _ _ (λ exit end. inputs_unread (subst (λ (n : Option Text). IsInputsUnread n exit) (sym named) end)) answer is
 
+-- the inputs' text is that of their file
+pub read_inputs : {T : Type 0} (bytes_of : T → List ℕ) (given : Option Text) (name : Text) (answer : Result T Stop)
+    → given ≡ Some name → IfOk answer (λ t. IsRead (bytes_of t)) → IfOk answer (λ t. IsInputsText given (bytes_of t))
+read_inputs bytes_of given name answer named short =
+    IfOk-weaker answer _ _ (λ t s. subst (λ (n : Option Text). IsInputsText n (bytes_of t)) (sym named) s) short
+
 pub named_process : (here : Text) (words : RunWish) (bytes : List ℕ) (base : Parts) (answer : Result Process Stop)
-    → IsAt here words.document base → IfOk answer (λ process. (docs : Documents) × IsAccepted bytes base docs process)
+    → IsRead bytes → IsAt here words.document base → IfOk answer (λ process. (docs : Documents) × IsAccepted bytes base docs process)
     → IfOk answer (IsNamedProcess here words)
-named_process here words bytes base answer at accepted = IfOk-weaker answer _ _ (λ process p. (bytes, base, p.0, at, p.1)) accepted
+named_process here words bytes base answer short at accepted =
+    IfOk-weaker answer _ _ (λ process p. (bytes, base, p.0, short, at, p.1)) accepted
 
 pub no_named_process : {T : Type 0} (here : Text) (words : RunWish) (bytes : List ℕ) (base : Parts) (answer : Result T Stop)
-    → IsAt here words.document base → IfErr answer (IsStop (λ exit. (docs : Documents) × IsDocumentStop bytes base docs exit))
+    → IsRead bytes → IsAt here words.document base → IfErr answer (IsStop (λ exit. (docs : Documents) × IsDocumentStop bytes base docs exit))
     → IfErr answer (IsStop (IsNoProcess here words))
-no_named_process here words bytes base answer at is = stops_so _ _ (λ exit end. document_wrong bytes base end.0 at end.1) answer is
+no_named_process here words bytes base answer short at is =
+    stops_so _ _ (λ exit end. document_wrong bytes base end.0 short at end.1) answer is
 
 pub named_inputs : (here : Text) (words : RunWish) (bytes : List ℕ) (base : Parts) (answer : Result Fields Stop)
     → IsInputsText words.inputs bytes → IsInputsUrl here words base → IfOk answer (IsInputs bytes base) → IfOk answer (IsNamedInputs here words)
@@ -106,29 +120,88 @@ pub check_stops : (file : Text) (stop : Stop) (answer : Result Exit AllocError)
     → IsStop (IsUnread file) stop → IfOk answer (λ exit. stop ≡ Early exit) → IfOk answer (IsCheck file)
 check_stops file stop answer is same = IfOk-weaker answer _ _ (λ exit end. unread end) (ends_so _ stop answer is same)
 
-pub without_folder : (words : RunWish) (path : Text) (answer : Result Exit AllocError)
-    → IfOk answer (λ exit. exit ≡ exits.Fault faults.Folder) → IfOk answer (IsRunExit words path)
-without_folder words path answer is =
-    IfOk-weaker answer _ _ (λ exit end. subst (λ (e : Exit). IsRunExit words path e) (sym end) lost) is
+-- the end of a run that leaves nothing is this one
+ends_as : (IsEnd : Exit → Option Text → Type 0) (exit : Exit) (answer : Result RunEnd AllocError)
+    → IsEnd exit None → IfOk answer (λ end. end.exit ≡ exit) → IfOk answer (λ end. end.left ≡ None)
+    → IfOk answer (λ end. IsEnd end.exit end.left)
+ends_as IsEnd exit (Err error) is same gone = tt
+ends_as IsEnd exit (Ok end) is same gone =
+    subst (λ (l : Option Text). IsEnd end.exit l) (sym gone) (subst (λ (e : Exit). IsEnd e None) (sym same) is)
 
-pub without_process : (here : Text) (words : RunWish) (path : Text) (stop : Stop) (answer : Result Exit AllocError)
-    → IsStop (IsNoProcess here words) stop → IfOk answer (λ exit. stop ≡ Early exit) → IfOk answer (IsRunExit words path)
-without_process here words path stop answer is same =
-    IfOk-weaker answer _ _ (λ exit end. stops here (no_process end)) (ends_so _ stop answer is same)
+-- or the stop's
+run_ends_so : (IsEnd : Exit → Option Text → Type 0) (stop : Stop) (answer : Result RunEnd AllocError)
+    → IsStop (λ exit. IsEnd exit None) stop → IfOk answer (λ end. stop ≡ Early end.exit) → IfOk answer (λ end. end.left ≡ None)
+    → IfOk answer (λ end. IsEnd end.exit end.left)
+run_ends_so IsEnd stop (Err error) is same gone = tt
+run_ends_so IsEnd stop (Ok end) is same gone =
+    subst (λ (l : Option Text). IsEnd end.exit l) (sym gone) (subst (λ (s : Stop). IsStop (λ exit. IsEnd exit None) s) same is)
 
-pub without_inputs : (here : Text) (words : RunWish) (path : Text) (process : Process) (stop : Stop) (answer : Result Exit AllocError)
+pub without_folder : (words : RunWish) (path : Text) (answer : Result RunEnd AllocError)
+    → IfOk answer (λ end. end.exit ≡ exits.Fault faults.Folder) → IfOk answer (λ end. end.left ≡ None)
+    → IfOk answer (λ end. IsRunExit words path end.exit end.left)
+without_folder words path answer is gone = ends_as (IsRunExit words path) _ answer lost is gone
+
+pub without_process : (here : Text) (words : RunWish) (path : Text) (stop : Stop) (answer : Result RunEnd AllocError)
+    → IsStop (IsNoProcess here words) stop → IfOk answer (λ end. stop ≡ Early end.exit) → IfOk answer (λ end. end.left ≡ None)
+    → IfOk answer (λ end. IsRunExit words path end.exit end.left)
+without_process here words path stop answer is same gone =
+    run_ends_so (IsRunExit words path) stop answer (stop_so _ _ (λ exit end. stops here (no_process end)) stop is) same gone
+
+pub without_inputs : (here : Text) (words : RunWish) (path : Text) (process : Process) (stop : Stop) (answer : Result RunEnd AllocError)
     → IsNamedProcess here words process → IsStop (IsNoInputs here words) stop
-    → IfOk answer (λ exit. stop ≡ Early exit) → IfOk answer (IsRunExit words path)
-without_inputs here words path process stop answer named is same =
-    IfOk-weaker answer _ _ (λ exit end. stops here (no_inputs process named end)) (ends_so _ stop answer is same)
+    → IfOk answer (λ end. stop ≡ Early end.exit) → IfOk answer (λ end. end.left ≡ None)
+    → IfOk answer (λ end. IsRunExit words path end.exit end.left)
+without_inputs here words path process stop answer named is same gone =
+    run_ends_so (IsRunExit words path) stop answer (stop_so _ _ (λ exit end. stops here (no_inputs process named end)) stop is) same gone
 
-pub without_work : (here : Text) (words : RunWish) (path : Text) (given : Given) (work : Text) (answer : Result Exit AllocError)
+-- a folder of the run is in the way, for some reason
+hindered : {Why : Type 0} (IsEnd : Exit → Option Text → Type 0) (exit_for : Why → Exit) (answer : Result RunEnd AllocError)
+    → ((why : Why) → IsEnd (exit_for why) None) → IfOk answer (λ end. (why : Why) × (end.exit ≡ exit_for why))
+    → IfOk answer (λ end. end.left ≡ None) → IfOk answer (λ end. IsEnd end.exit end.left)
+hindered IsEnd exit_for (Err error) is same gone = tt
+hindered IsEnd exit_for (Ok end) is same gone = ends_as IsEnd (exit_for same.0) (Ok end) (is same.0) same.1 gone
+
+pub without_work : (here : Text) (words : RunWish) (path : Text) (given : Given) (work : Text) (answer : Result RunEnd AllocError)
     → IsReady here words given → work ≡ from_root here words.work
-    → IfOk answer (λ exit. exit ≡ exits.Fault (faults.Work work)) → IfOk answer (IsRunExit words path)
-without_work here words path given work answer ready named is =
-    let end : IsRunExit words path (exits.Fault (faults.Work work)) =
-    subst (λ (w : Text). IsRunExit words path (exits.Fault (faults.Work w))) (sym named) (stops here (no_work given ready)) in
-    IfOk-weaker answer _ _ (λ exit same. subst (λ (e : Exit). IsRunExit words path e) (sym same) end) is
+    → IfOk answer (λ end. (why : WorkTrouble) × (end.exit ≡ exits.Fault (faults.Work work why))) → IfOk answer (λ end. end.left ≡ None)
+    → IfOk answer (λ end. IsRunExit words path end.exit end.left)
+without_work here words path given work answer ready named is gone =
+    hindered (IsRunExit words path) (λ why. exits.Fault (faults.Work work why)) answer
+    (λ why. subst (λ (w : Text). IsRunExit words path (exits.Fault (faults.Work w why)) None) (sym named) (stops here (no_work given why ready)))
+    is gone
+
+pub without_outdir : (here : Text) (words : RunWish) (path : Text) (given : Given) (outdir : Text) (answer : Result RunEnd AllocError)
+    → IsReady here words given → can_hold_files given.process ≡ true → outdir ≡ from_root here words.outdir
+    → IfOk answer (λ end. (why : Hindrance) × (end.exit ≡ exits.Fault (faults.Outdir outdir why))) → IfOk answer (λ end. end.left ≡ None)
+    → IfOk answer (λ end. IsRunExit words path end.exit end.left)
+without_outdir here words path given outdir answer ready holds named is gone =
+    hindered (IsRunExit words path) (λ why. exits.Fault (faults.Outdir outdir why)) answer
+    (λ why. subst (λ (o : Text). IsRunExit words path (exits.Fault (faults.Outdir o why)) None) (sym named) (stops here (no_outdir given why ready holds)))
+    is gone
+
+-- a run's end, with what was noted of it
+pub noted_so : (IsEnd : Exit → Type 0) (exit : Exit) (told : Result Exit AllocError) (answer : Result RunEnd AllocError)
+    → IfOk told (λ e. e ≡ exit) → IfOk answer (λ end. told ≡ Ok end.exit) → IsEnd exit → IfOk answer (λ end. IsEnd end.exit)
+noted_so IsEnd exit told (Err error) is same end_is = tt
+noted_so IsEnd exit told (Ok end) is same end_is =
+    subst IsEnd (sym (subst (λ (t : Result Exit AllocError). IfOk t (λ e. e ≡ exit)) same is)) end_is
+
+-- an end of which nothing else is told
+pub bare_so : (IsEnd : Exit → Type 0) (told : Result Exit AllocError) (answer : Result RunEnd AllocError)
+    → IfOk told IsEnd → IfOk answer (λ end. told ≡ Ok end.exit) → IfOk answer (λ end. end.left ≡ None)
+    → IfOk answer (λ end. IsEnd end.exit × (end.left ≡ None))
+bare_so IsEnd told (Err error) is same gone = tt
+bare_so IsEnd told (Ok end) is same gone = (subst (λ (t : Result Exit AllocError). IfOk t IsEnd) same is, gone)
+
+-- a run's end, with the work folder where it stays
+pub leaves_so : (here : Text) (words : RunWish) (path : Text) (given : Given) (options : Options) (work : Text) (exit : Exit) (answer : Result RunEnd AllocError)
+    → IsReady here words given → IsAsked here words path options → IsRan given.process given.inputs options exit
+    → work ≡ from_root here words.work → IfOk answer (λ end. end.exit ≡ exit) → IfOk answer (λ end. end.left ≡ left_of words exit work)
+    → IfOk answer (λ end. IsRunExit words path end.exit end.left)
+leaves_so here words path given options work exit (Err error) ready asked is named same left = tt
+leaves_so here words path given options work exit (Ok end) ready asked is named same left =
+    subst (λ (l : Option Text). IsRunExit words path end.exit l) (sym (left ∙ ap (left_of words exit) named))
+    (subst (λ (e : Exit). IsRunExit words path e (left_of words exit (from_root here words.work))) (sym same) (runs here given options ready asked is))
 
 pub demo_without_process : (path : Text) (stop : Stop) (answer : Result Exit AllocError)
     → IsStop demo.IsNoDemoProcess stop → IfOk answer (λ exit. stop ≡ Early exit) → IfOk answer (demo.IsDemoExit path)

@@ -1,5 +1,5 @@
 -- What the program says of the bytes of a certificate's file.
-use Rattle.std.specs.Prelude.{ℕ, List, ◌++◌, codes, decimal}
+use Rattle.std.specs.Prelude.{ℕ, ◌≤◌, List, ◌++◌, length, codes, decimal}
 use Rattle.plan_checker.specs.declared.vertex.Vertex.{Vertex}
 use Rattle.plan_checker.specs.declared.plan.Mark.{Mark}
 use Rattle.plan_checker.specs.declared.charges.Charges.{Charges}
@@ -8,7 +8,7 @@ use Rattle.plan_checker.specs.Broken.{IsFirstBroken}
 use Rattle.plan_checker.specs.Certificate.{IsCertificate}
 use Rattle.plan_checker.specs.Format.{IsTextOf, IsFirstBad}
 use Rattle.plan_checker.specs.Plan.{cost}
-use Rattle.cwl_program.specs.Stops.{IsUnread}
+use Rattle.cwl_program.specs.Stops.{IsUnread, most_bytes}
 use Rattle.cwl_program.specs.declared.exit.Exit.{Exit}
 use Rattle.cwl_program.specs.declared.exit.Exit.TheVariants.{Output, Broken, Refused}
 use Rattle.cwl_program.specs.declared.exit.Refusal.TheVariants as refusals
@@ -28,7 +28,7 @@ pub data IsVerdict (bytes : List ℕ) : Exit → Type 0 where
       IsTextOf bytes graph marks charges → IsJudgement graph marks charges exit → IsVerdict bytes exit
   unreadable : (line : ℕ) → IsFirstBad bytes line → IsVerdict bytes (Refused (refusals.Certificate line))
 
--- what is said of a certificate's file
+-- what is said of a certificate's file, of which 64 MiB are read at most
 pub data IsCheck (file : List ℕ) : Exit → Type 0 where
-  read : {exit : Exit} (bytes : List ℕ) → IsVerdict bytes exit → IsCheck file exit
+  read : {exit : Exit} (bytes : List ℕ) → length bytes ≤ most_bytes → IsVerdict bytes exit → IsCheck file exit
   unread : {exit : Exit} → IsUnread file exit → IsCheck file exit

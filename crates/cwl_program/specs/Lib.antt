@@ -4,6 +4,7 @@ pub mod Demo
 pub mod FailedCalls
 pub mod Flags
 pub mod JobLines
+pub mod Leaving
 pub mod Paths
 pub mod RecordWords
 pub mod RunWords
@@ -14,4 +15,5 @@ pub mod Status
 pub mod Stops
 pub mod Tells
 pub mod Terminal
+pub mod Visible
 pub mod Words

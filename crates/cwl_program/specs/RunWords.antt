@@ -4,7 +4,7 @@ use Rattle.std.specs.Str.Parse.{IsNumeral, digits_value, without_leading_plus}
 use Rattle.clap.specs.Words.{App, Row, Rule, Text, first_of, new_app, new_rule, with_rule}
 use Rattle.clap.specs.declared.builder.ArgAction.TheVariants.{Set}
 use Rattle.clap.specs.declared.builder.value_parser.ValueParser.TheVariants.{Unsigned}
-use Rattle.cwl_program.specs.Flags.{flag_rule, is_wanted, with_flags}
+use Rattle.cwl_program.specs.Flags.{flag_rule, is_given, is_wanted, with_flags}
 use Rattle.cwl_program.specs.declared.run_words.RunWords.{RunWords}
 use Rattle.cwl_program.specs.declared.telling.Telling.{Telling}
 use Rattle.cwl_program.specs.declared.telling.Telling.TheVariants.{Nothing, Lines, OneLine}
@@ -20,8 +20,8 @@ named_rule id = record (new_rule id) { long = Some id; action = Some Set; value_
 abbrev pub numbered_rule : Text → ℕ → ℕ → Rule
 numbered_rule id least most = record (named_rule id) { parser = Some (Unsigned least most) }
 
--- `run` with its two folders alone, with its two numbers, with what it tells of its jobs, with the options of each command, with its
--- document, and with the input object too
+-- `run` with its two folders alone, with its two numbers, with what it tells of its jobs, with whether its work folder stays, with the
+-- options of each command, with its document, and with the input object too
 abbrev pub with_folders : App
 with_folders = with_rule (with_rule (new_app (codes "run")) (named_rule (codes "work"))) (named_rule (codes "outdir"))
 
@@ -37,8 +37,14 @@ with_verbose = with_rule with_numbers (flag_rule (codes "verbose"))
 abbrev pub with_progress : App
 with_progress = with_rule with_verbose (flag_rule (codes "progress"))
 
+abbrev pub with_keep : App
+with_keep = with_rule with_progress (flag_rule (codes "keep"))
+
+abbrev pub with_keep_failed : App
+with_keep_failed = with_rule with_keep (flag_rule (codes "keep-failed"))
+
 abbrev pub with_options : App
-with_options = with_flags with_progress
+with_options = with_flags with_keep_failed
 
 abbrev pub with_document : App
 with_document = with_rule with_options (placed_rule (codes "DOCUMENT") true)
@@ -53,8 +59,8 @@ telling_in rows =
     else if is_wanted (codes "progress") rows then OneLine
     else Nothing
 
--- the document, the input object's file where one is named, the two folders, the texts of the two numbers that are given, how to tell
--- of its jobs, and whether to say in words what went wrong
+-- the document, the input object's file where one is named, the two folders, the texts of the two numbers that are given, whether the
+-- work folder is to stay, and whether it is to stay after a failure, how to tell of the jobs, and whether to say in words what went wrong
 pub record RunWish : Type 0 where
   pub document : Text
   pub inputs : Option Text
@@ -62,6 +68,8 @@ pub record RunWish : Type 0 where
   pub outdir : Text
   pub slots : Option Text
   pub retries : Option Text
+  pub keep : Bool
+  pub keep_failed : Bool
   pub telling : Telling
   pub explain : Bool
 
@@ -74,6 +82,8 @@ run_wish rows = record {
   outdir = unwrap_or (first_of (codes "outdir") rows) (codes ".");
   slots = first_of (codes "slots") rows;
   retries = first_of (codes "retries") rows;
+  keep = is_given (codes "keep") rows;
+  keep_failed = is_given (codes "keep-failed") rows;
   telling = telling_in rows;
   explain = is_wanted (codes "explain") rows;
 }
@@ -86,6 +96,8 @@ wish_of_run words = record {
   outdir = words.outdir.now;
   slots = option_map (λ s. s.now) words.slots;
   retries = option_map (λ s. s.now) words.retries;
+  keep = words.keep;
+  keep_failed = words.keep_failed;
   telling = words.telling;
   explain = words.explain;
 }

@@ -1,5 +1,5 @@
 -- How a run of a document on inputs ends the program.
-use Rattle.std.specs.Prelude.{◌≡◌, ⊤, ℕ, false, List, codes, Option, Some, None, unwrap_or, Result, Ok, Err, IfErr}
+use Rattle.std.specs.Prelude.{◌≡◌, ◌≤◌, ℕ, true, false, List, [], length, codes, Option, Some, None, unwrap_or, Result, Ok, Err, IfErr}
 use Rattle.serde_json.specs.Written.{compact_text}
 use Rattle.clap.specs.Words.{Text}
 use Rattle.url.specs.Parts.{Parts}
@@ -17,13 +17,19 @@ use Rattle.run_rules.specs.declared.outcome.Report.{Report}
 use Rattle.run_rules.specs.declared.outcome.RunFault.{RunFault}
 use Rattle.run_rules.specs.declared.outcome.RunFault.TheVariants as run_faults
 use Rattle.run_rules.specs.declared.setting.Options.{Options}
+use Rattle.run_rules.specs.Recorded.{Line}
 use Rattle.workflow_engine.specs.Blame.{IsHostsFault}
 use Rattle.workflow_engine.specs.Gains.{RunsOn}
+use Rattle.process_machine.specs.declared.trouble.Hindrance.{Hindrance}
+use Rattle.run_facts.specs.Holding.{can_hold_files}
+use Rattle.run_facts.specs.declared.made_by.WorkTrouble.{WorkTrouble}
 use Rattle.cwl_program.specs.FailedCalls.{failed_on}
+use Rattle.cwl_program.specs.Leaving.{left_of}
 use Rattle.cwl_program.specs.Paths.{IsAt, from_root}
 use Rattle.cwl_program.specs.RunWords.{IsChosen, RunWish}
 use Rattle.cwl_program.specs.Sources.{IsAccepted, IsDocumentStop, IsInputs, IsInputsStop}
-use Rattle.cwl_program.specs.Stops.{IsUnread}
+use Rattle.cwl_program.specs.Stops.{IsUnread, most_bytes}
+use Rattle.cwl_program.specs.Visible.{visible}
 use Rattle.cwl_program.specs.declared.exit.Exit.{Exit}
 use Rattle.cwl_program.specs.declared.exit.Exit.TheVariants as exits
 use Rattle.cwl_program.specs.declared.exit.Fault.{Fault}
@@ -31,9 +37,9 @@ use Rattle.cwl_program.specs.declared.exit.Fault.TheVariants as faults
 use Rattle.cwl_program.specs.declared.run.Given.{Given}
 use Rattle.cwl_program.specs.declared.run.Places.{Places}
 
--- the place of a job as JSON text, as `"main/step[0]"`
+-- the place of a job as JSON text, as `"main/step[0]"`, where what a terminal would not show is escaped
 abbrev pub place_json : List Segment → List ℕ
-place_json place = compact_text (json_of (values.Text (job_text place)))
+place_json place = visible (compact_text (json_of (values.Text (job_text place))))
 
 -- the output object in one line, or which job failed and how
 abbrev pub outcome_exit : Outcome → Exit
@@ -44,6 +50,7 @@ outcome_exit (outcomes.TemporaryFail place) = exits.Temporary (place_json place)
 -- a run that has no outcome is a fault; of the host's one it is told what the call was about
 abbrev pub fault_of : (log : List Entry) → RunFault → Fault
 fault_of log (run_faults.Host fault running) = faults.Host fault (failed_on log fault)
+fault_of log (run_faults.Record refusal) = faults.Record refusal
 fault_of log run_faults.TooManyJobs = faults.TooManyJobs
 fault_of log run_faults.OutOfMemory = faults.OutOfMemory
 
@@ -51,23 +58,27 @@ abbrev pub run_exit : (log : List Entry) → Result Report RunFault → Exit
 run_exit log (Ok report) = outcome_exit report.outcome
 run_exit log (Err fault) = exits.Fault (fault_of log fault)
 
--- a host's log gained a run of this process on these inputs, where a fault is the host's only if a call of it failed so, and the program
--- ends as that run
+-- the logs of a host and of a fresh record gained a run of this process on these inputs, where a fault is the host's only if a call of it
+-- failed so, and the program ends as that run
 pub data IsRan (process : Process) (inputs : Fields) (options : Options) : Exit → Type 0 where
-  ran : (before after : List Entry) (result : Result Report RunFault) → RunsOn before after process inputs options result →
+  ran : (before after : List Entry) (lines : List Line) (result : Result Report RunFault) → RunsOn before after [] lines process inputs options result →
       IfErr result (IsHostsFault before after) → IsRan process inputs options (run_exit after result)
 
 -- ---- what the words of `run` name, for a program that is called in the folder `here`
 
+-- what is read of a file has 64 MiB at most
+abbrev pub IsRead : List ℕ → Type 0
+IsRead bytes = length bytes ≤ most_bytes
+
 -- the process of the document that is named: of some text at its URL, with some documents
 abbrev pub IsNamedProcess : (here : Text) (words : RunWish) → Process → Type 0
 IsNamedProcess here words process =
-    (bytes : List ℕ) × (base : Parts) × (docs : Documents) × IsAt here words.document base × IsAccepted bytes base docs process
+    (bytes : List ℕ) × (base : Parts) × (docs : Documents) × IsRead bytes × IsAt here words.document base × IsAccepted bytes base docs process
 
--- the text of the inputs, where no file is named
+-- the text of the inputs: that of their file, or `{}` where none is named
 abbrev pub IsInputsText : Option Text → List ℕ → Type 0
 IsInputsText None bytes = bytes ≡ codes "{}"
-IsInputsText (Some name) bytes = ⊤
+IsInputsText (Some name) bytes = IsRead bytes
 
 -- its URL is that of its file, or the document's
 abbrev pub IsInputsUrl : (here : Text) (words : RunWish) → Parts → Type 0
@@ -85,7 +96,7 @@ pub record IsReady (here : Text) (words : RunWish) (given : Given) : Type 0 wher
 -- there is no such process, and the program ends so: the document's file can't be read, or its text is wrong
 pub data IsNoProcess (here : Text) (words : RunWish) : Exit → Type 0 where
   document_unread : {exit : Exit} → IsUnread words.document exit → IsNoProcess here words exit
-  document_wrong : {exit : Exit} (bytes : List ℕ) (base : Parts) (docs : Documents) → IsAt here words.document base →
+  document_wrong : {exit : Exit} (bytes : List ℕ) (base : Parts) (docs : Documents) → IsRead bytes → IsAt here words.document base →
       IsDocumentStop bytes base docs exit → IsNoProcess here words exit
 
 -- their file can't be read, where one is named
@@ -99,11 +110,15 @@ pub data IsNoInputs (here : Text) (words : RunWish) : Exit → Type 0 where
   inputs_wrong : {exit : Exit} (bytes : List ℕ) (base : Parts) → IsInputsText words.inputs bytes → IsInputsUrl here words base →
       IsInputsStop bytes base exit → IsNoInputs here words exit
 
--- there is nothing to run: the document is looked at first, then the inputs, and last the work folder is made
+-- there is nothing to run: the document is looked at first, then the inputs, then the work folder is made, and last the output folder is
+-- looked at, where an output can be or hold a File or Directory
 pub data IsStopExit (here : Text) (words : RunWish) : Exit → Type 0 where
   no_process : {exit : Exit} → IsNoProcess here words exit → IsStopExit here words exit
   no_inputs : {exit : Exit} (process : Process) → IsNamedProcess here words process → IsNoInputs here words exit → IsStopExit here words exit
-  no_work : (given : Given) → IsReady here words given → IsStopExit here words (exits.Fault (faults.Work (from_root here words.work)))
+  no_work : (given : Given) (why : WorkTrouble) → IsReady here words given →
+      IsStopExit here words (exits.Fault (faults.Work (from_root here words.work) why))
+  no_outdir : (given : Given) (why : Hindrance) → IsReady here words given → can_hold_files given.process ≡ true →
+      IsStopExit here words (exits.Fault (faults.Outdir (from_root here words.outdir) why))
 
 -- ---- how the words of `run` end the program
 
@@ -124,10 +139,10 @@ pub record IsAsked (here : Text) (words : RunWish) (path : Text) (options : Opti
   pub rate : options.rate ≡ 100000
   pub keep : options.keep ≡ false
 
--- a run of the named process on the named inputs, or nothing to run
-pub data IsRunExit (words : RunWish) (path : Text) : Exit → Type 0 where
+-- a run of the named process on the named inputs, or nothing to run; and the work folder, where it stays
+pub data IsRunExit (words : RunWish) (path : Text) : Exit → (left : Option Text) → Type 0 where
   runs : {exit : Exit} (here : Text) (given : Given) (options : Options) → IsReady here words given → IsAsked here words path options →
-      IsRan given.process given.inputs options exit → IsRunExit words path exit
-  stops : {exit : Exit} (here : Text) → IsStopExit here words exit → IsRunExit words path exit
+      IsRan given.process given.inputs options exit → IsRunExit words path exit (left_of words exit (from_root here words.work))
+  stops : {exit : Exit} (here : Text) → IsStopExit here words exit → IsRunExit words path exit None
   -- the folder that the program is called in can't be told
-  lost : IsRunExit words path (exits.Fault faults.Folder)
+  lost : IsRunExit words path (exits.Fault faults.Folder) None

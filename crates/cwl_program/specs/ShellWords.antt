@@ -1,13 +1,11 @@
 -- How a shell reads a word, and a line of words (POSIX.1-2024, Shell Command Language). Words and their texts are UTF-8 bytes.
 -- These are rules of words alone: a first word that is an alias (2.3.1), a reserved word (2.4) or an assignment, as `a=b` (2.9.1), a
 -- shell takes in another way.
-use Rattle.std.specs.Prelude.{◌≡◌, ◌≢◌, ℕ, ◌+◌, ◌*◌, ◌<◌, Bool, true, ◌&&◌, ◌||◌, ◌==◌, nat_le, nat_lt, List, [], ◌∷◌, ◌++◌, All, codes, Option, Some, None}
+use Rattle.std.specs.Prelude.{◌≡◌, ◌≢◌, ℕ, ◌+◌, ◌*◌, ◌<◌, Bool, true, ◌||◌, ◌==◌, List, [], ◌∷◌, ◌++◌, All, codes, Option, Some, None}
 use Rattle.std.specs.List.{AllZip, join_with_byte}
 use Rattle.std.specs.Str.{NoCharPasses}
 use Rattle.command_line.specs.declared.launch.Launch.{Launch}
-
-abbrev is_between : ℕ → ℕ → ℕ → Bool
-is_between low high b = nat_le low b && nat_le b high
+use Rattle.cwl_program.specs.Visible.{is_between, is_hidden}
 
 -- letters, digits and % + , - . / : = @ _ , which stand for themselves (2.2)
 abbrev pub is_bare : ℕ → Bool
@@ -59,13 +57,9 @@ pub record IsLineOf (launch : Launch) (line : List ℕ) : Type 0 where
   pub is_stderr : IsRedirection (codes " 2>") launch.stderr stderr
   pub joined : line ≡ words ++ stdin ++ stdout ++ stderr
 
--- a character below the space, DEL, or one of U+0080 to U+009F (ISO/IEC 6429)
-abbrev pub is_control : ℕ → Bool
-is_control c = nat_lt c 32 || is_between 127 159 c
-
--- the text stays in its line
+-- the text stays in its line, and turns no direction of writing
 abbrev pub IsShown : List ℕ → Type 0
-IsShown text = NoCharPasses is_control text
+IsShown text = NoCharPasses is_hidden text
 
 -- what is written for a word, and for a run inside `$'..'`
 abbrev pub IsTextOf : (word text : List ℕ) → Type 0

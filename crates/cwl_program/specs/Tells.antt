@@ -1,5 +1,5 @@
 -- What the program writes to its two writers for these words and this `PATH`, and the status that it then answers.
-use Rattle.std.specs.Prelude.{◌≡◌, ◌≢◌, ⊤, ℕ, List, ◌++◌, Bool, true, false, Option, codes}
+use Rattle.std.specs.Prelude.{◌≡◌, ◌≢◌, ⊤, ℕ, List, ◌++◌, Bool, true, false, Option, Some, None, codes}
 use Rattle.std.specs.Io.KnownBytes.{Appends}
 use Rattle.clap.specs.Words.{IsAmong, Text, fault_of}
 use Rattle.clap.specs.declared.error.ErrorKind.{ErrorKind}
@@ -13,6 +13,7 @@ use Rattle.cwl_program.specs.Demo.{IsDemoExit}
 use Rattle.cwl_program.specs.RunWords.{wish_of_run}
 use Rattle.cwl_program.specs.Runs.{IsRunExit}
 use Rattle.cwl_program.specs.Status.{status_of}
+use Rattle.cwl_program.specs.Visible.{visible}
 use Rattle.cwl_program.specs.Words.{name_of, word_of, refusal_code}
 use Rattle.cwl_program.specs.declared.command.Choice.{Choice}
 use Rattle.cwl_program.specs.declared.command.Choice.TheVariants.{Demo, Check, Run, Record}
@@ -44,12 +45,12 @@ Prints (Fault fault) out out_new err err_new = IsGiven (codes "fault: " ++ word_
 pub data IsRecordExit : Exit → Type 0 where
   shows : (ending : Ending) → record_program.IsEnding ending → IsRecordExit (Shows ending)
 
--- what the choice comes to, with this `PATH`
-abbrev pub IsEndOf : (path : Text) → Choice → Exit → Type 0
-IsEndOf path (Demo explains) exit = IsDemoExit path exit
-IsEndOf path (Check file explains) exit = IsCheck file.now exit
-IsEndOf path (Run words) exit = IsRunExit (wish_of_run words) path exit
-IsEndOf path (Record words) exit = IsRecordExit exit
+-- what the choice comes to, with this `PATH`, and the work folder, where it stays
+abbrev pub IsEndOf : (path : Text) → Choice → Exit → (left : Option Text) → Type 0
+IsEndOf path (Demo explains) exit left = IsDemoExit path exit × (left ≡ None)
+IsEndOf path (Check file explains) exit left = IsCheck file.now exit × (left ≡ None)
+IsEndOf path (Run words) exit left = IsRunExit (wish_of_run words) path exit left
+IsEndOf path (Record words) exit left = IsRecordExit exit × (left ≡ None)
 
 -- whether the choice asks for words on what went wrong
 abbrev pub asks_why : Choice → Bool
@@ -63,15 +64,16 @@ abbrev pub telling_of : Choice → Telling
 telling_of (Run words) = words.telling
 telling_of choice = Nothing
 
--- the end that these words lead to with this `PATH`, whether it is to be explained, and how jobs are told of on the way
-pub data LeadsTo (words : List Text) (path : Text) : Exit → Bool → Telling → Type 0 where
-  chooses : {exit : Exit} (choice : Choice) → Asks words (wish_of choice) → IsEndOf path choice exit →
-      LeadsTo words path exit (asks_why choice) (telling_of choice)
+-- the end that these words lead to with this `PATH`, the work folder that it leaves, whether it is to be explained, and how jobs are told
+-- of on the way
+pub data LeadsTo (words : List Text) (path : Text) : Exit → (left : Option Text) → Bool → Telling → Type 0 where
+  chooses : {exit : Exit} {left : Option Text} (choice : Choice) → Asks words (wish_of choice) → IsEndOf path choice exit left →
+      LeadsTo words path exit left (asks_why choice) (telling_of choice)
   -- memory ran out on the way to that end
   out_of_memory : (choice : Choice) → Asks words (wish_of choice) →
-      LeadsTo words path (Fault faults.OutOfMemory) (asks_why choice) (telling_of choice)
+      LeadsTo words path (Fault faults.OutOfMemory) None (asks_why choice) (telling_of choice)
   -- or before the words were read
-  unread : LeadsTo words path (Fault faults.OutOfMemory) false Nothing
+  unread : LeadsTo words path (Fault faults.OutOfMemory) None false Nothing
 
 -- what the errors take before the end is said: nothing where no words want the jobs to be told of
 abbrev pub IsRunTold : Telling → (err err_run : Held) → Type 0
@@ -90,9 +92,18 @@ pub data Explains (kind : ErrorKind) (out out_new err err_new : Held) : ℕ → 
   -- a write failed
   unwritten : Explains kind out out_new err err_new 3
 
--- a writer was given a line more
+-- a writer was given a line as it is shown, so that it stays one line
+abbrev pub IsPut : (line : List ℕ) → (old new : Held) → Type 0
+IsPut line old new = Appends old new (visible line ++ codes "\n")
+
+-- a line more
 abbrev pub HasLine : (old new : Held) → Type 0
-HasLine old new = (words : List ℕ) × Appends old new (words ++ codes "\n")
+HasLine old new = (line : List ℕ) × IsPut line old new
+
+-- and any number of lines
+pub data HasLines (old : Held) : Held → Type 0 where
+  none : HasLines old old
+  more : {mid new : Held} → HasLines old mid → HasLine mid new → HasLines old new
 
 -- what follows the rows of a record on the errors: nothing, and else a line in words
 abbrev pub IsEndingExplained : Ending → (err err_new : Held) → Type 0
@@ -105,23 +116,38 @@ IsExplained (Output line) err err_new = err_new ≡ err
 IsExplained (Shows ending) err err_new = IsEndingExplained ending err err_new
 IsExplained exit err err_new = HasLine err err_new
 
--- an end is said in its line; where it is to be explained, words follow on the errors
-pub data IsTold (exit : Exit) (out out_new err err_new : Held) : Bool → Type 0 where
-  alone : Prints exit out out_new err err_new → IsTold exit out out_new err err_new false
-  explained : (err_told : Held) → Prints exit out out_new err err_told → IsExplained exit err_told err_new →
-      IsTold exit out out_new err err_new true
+-- lines on what failed: none where nothing did
+abbrev pub AreNotes : Exit → (err err_new : Held) → Type 0
+AreNotes (Output line) err err_new = err_new ≡ err
+AreNotes (Shows ending) err err_new = err_new ≡ err
+AreNotes exit err err_new = HasLines err err_new
+
+-- where the work folder is, if it stays
+abbrev pub left_words : (work : List ℕ) → List ℕ
+left_words work = codes "the work folder " ++ work ++ codes " stays"
+
+abbrev pub IsLeftTold : Option Text → (err err_new : Held) → Type 0
+IsLeftTold None err err_new = err_new ≡ err
+IsLeftTold (Some work) err err_new = IsPut (left_words work) err err_new
+
+-- an end is said in its line; where it is to be explained, words follow on the errors, lines on what failed, and where the work folder is
+pub data IsTold (exit : Exit) (left : Option Text) (out out_new err err_new : Held) : Bool → Type 0 where
+  alone : Prints exit out out_new err err_new → IsTold exit left out out_new err err_new false
+  explained : (err_told err_words err_noted : Held) → Prints exit out out_new err err_told → IsExplained exit err_told err_words →
+      AreNotes exit err_words err_noted → IsLeftTold left err_noted err_new → IsTold exit left out out_new err err_new true
 
 -- an end is said, with its status
-pub data Says (exit : Exit) (explains : Bool) (out out_new err err_new : Held) : ℕ → Type 0 where
-  says : IsTold exit out out_new err err_new explains → Says exit explains out out_new err err_new (status_of exit)
+pub data Says (exit : Exit) (left : Option Text) (explains : Bool) (out out_new err err_new : Held) : ℕ → Type 0 where
+  says : IsTold exit left out out_new err err_new explains → Says exit left explains out out_new err err_new (status_of exit)
   -- a write failed
-  fails : Says exit explains out out_new err err_new 3
+  fails : Says exit left explains out out_new err err_new 3
 
 -- what is written and answered for these words and this `PATH`
 pub data Tells (words : List Text) (path : Text) (out out_new err err_new : Held) (status : ℕ) : Type 0 where
   -- the words lead to this end, before which a run may have told of its jobs
-  ends : (exit : Exit) (explains : Bool) (telling : Telling) (err_run : Held) → LeadsTo words path exit explains telling →
-      IsRunTold telling err err_run → Says exit explains out out_new err_run err_new status → Tells words path out out_new err err_new status
+  ends : (exit : Exit) (left : Option Text) (explains : Bool) (telling : Telling) (err_run : Held) →
+      LeadsTo words path exit left explains telling → IsRunTold telling err err_run →
+      Says exit left explains out out_new err_run err_new status → Tells words path out out_new err err_new status
   -- the words ask for help, or are refused, by a kind that they may be refused by
   explains : (kind : ErrorKind) → IsAmong kind (fault_of command_line words) →
       Explains kind out out_new err err_new status → Tells words path out out_new err err_new status

@@ -4,6 +4,7 @@ use Rattle.document_links.specs.Codes.{code_of as link_code}
 use Rattle.workflow_check.specs.Codes.{code_of as rule_code}
 use Rattle.cwl_value.specs.Codes.{code_of as value_code}
 use Rattle.file_values.specs.Codes.{code_of as file_code}
+use Rattle.job_rows.specs.Log.{code_of as record_code}
 use Rattle.plan_checker.specs.declared.broken.Broken.{Broken}
 use Rattle.plan_checker.specs.declared.broken.Broken.TheVariants as rules
 use Rattle.proc_host.specs.Faults.{code_of as host_code}
@@ -34,9 +35,11 @@ refusal_code (refusals.Certificate line) = codes "X1"
 
 abbrev pub word_of : Fault → List ℕ
 word_of (faults.Host fault name) = host_code fault
+word_of (faults.Record refusal) = record_code refusal
 word_of faults.Folder = codes "input"
 word_of (faults.Unread name why) = codes "input"
 word_of faults.NoObject = codes "input"
-word_of (faults.Work path) = codes "work"
+word_of (faults.Work path why) = codes "work"
+word_of (faults.Outdir path why) = codes "H9"
 word_of faults.TooManyJobs = codes "TooManyJobs"
 word_of faults.OutOfMemory = codes "OutOfMemory"

@@ -2,11 +2,11 @@ ghost use Rattle.std.specs.Prelude.{◌≡◌, IfOk, decimal};
 ghost use Rattle.cwl_program.specs.Certificates.{IsCheck, IsJudgement, IsVerdict, ok_line};
 
 use crate::exit::{Exit, Refusal};
+use crate::reading::bytes_of_file;
 use crate::stop::{stopped, unread};
 use plain_data::Text;
 use plan_checker::{CertificateError, Charges, Graph, Plan, check, read_certificate};
 use std::alloc::{AllocError, Global};
-use std::fs;
 use std::rt::Files;
 
 /// Says what the certificate in a file shows.
@@ -14,9 +14,9 @@ use std::rt::Files;
 pub fn exit_of_check<R: AllocGlobal + Files>(rt: &R, file: &str) -> Result<Exit, AllocError>
     ensures { IfOk result (IsCheck file.now) }
 {
-    match fs::read(rt, file) {
+    match bytes_of_file(rt, file) {
         Ok(bytes) => verdict(rt.alloc(), bytes.as_slice()),
-        Err(error) => stopped(unread(rt.alloc(), &error, file)),
+        Err(trouble) => stopped(unread(rt.alloc(), trouble, file)),
     }
 }
 

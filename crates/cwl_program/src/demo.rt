@@ -15,6 +15,7 @@ use crate::run::Given;
 use crate::stop::{Stop, stopped};
 use cwl_value::Value;
 use document_links::{Docs, Process};
+use job_rows::MemoryRecord;
 use plain_data::{Items, Keyed, Text};
 use proc_host::{Reply, Scripted};
 use run_core::Options;
@@ -50,7 +51,13 @@ fn process_of(alloc: Global) -> Result<Process, Stop>
     ensures err { IfErr result (IsStop spec.IsNoDemoProcess) }
 {
     let base = base_of(alloc, ROOT, "hello.json")?;
-    accepted_of(alloc, DOCUMENT.as_bytes(), &base, &Docs::new(alloc))
+    accepted_of(
+        alloc,
+        DOCUMENT.as_bytes(),
+        &base,
+        &Docs::new(alloc),
+        &Keyed::new(alloc),
+    )
 }
 
 fn on_process(alloc: Global, process: Process, path: &str) -> Result<Exit, AllocError>
@@ -95,9 +102,11 @@ fn ended(alloc: Global, given: &Given, world: World) -> Result<Exit, AllocError>
 {
     let World { options, script } = world;
     let mut host = Scripted::new(alloc, script, 0);
+    let mut rows = MemoryRecord::new(alloc);
     let report = run(
         alloc,
         &mut host,
+        &mut rows,
         &given.process,
         &given.inputs,
         options,
@@ -105,6 +114,7 @@ fn ended(alloc: Global, given: &Given, world: World) -> Result<Exit, AllocError>
     );
     let exit = exit_of_run(alloc, host.log(), report);
     mem::drop(host);
+    mem::drop(rows);
     exit
 }
 

@@ -2,47 +2,68 @@
 ghost use Rattle.std.specs.Prelude.{◌≡◌, IfOk, IfErr};
 ghost use Rattle.document_links.specs.Documents.{IsLinked, IsRefused};
 ghost use Rattle.cwl_program.specs.Sources.{IsAbsent, IsAccepted, IsDocumentStop};
-ghost use Rattle.cwl_program.specs.Stops.{IsStop};
+ghost use Rattle.cwl_program.specs.Stops.{IsCause, IsStop};
 
-use crate::exit::{Exit, Refusal};
-use crate::stop::{Stop, not_there};
+use crate::exit::{Exit, Refusal, Unreadable};
+use crate::reading::sound;
+use crate::stop::{Stop, unread_for};
 use document_links::{Docs, LinkError, LinkFault, MOST_PROCESSES, Process, read_process};
 use file_values::{FileError, location_to_path};
-use plain_data::Text;
+use plain_data::{Keyed, Text};
 use std::alloc::Global;
 use std::mem;
 use url::Url;
 use workflow_check::{AcceptError, accept};
 
-/// The process of a document at a URL, with those that its steps name, where its links are right.
-pub fn accepted_of(alloc: Global, document: &[u8], base: &Url, docs: &Docs) -> Result<Process, Stop>
+/// The process of a document at a URL, with those that its steps name, where its links are right. Of those that are lacking `missed` says
+/// why, under their paths.
+pub fn accepted_of(
+    alloc: Global,
+    document: &[u8],
+    base: &Url,
+    docs: &Docs,
+    missed: &Keyed<Unreadable>,
+) -> Result<Process, Stop>
     ensures ok { IfOk result (IsAccepted document.now base.now docs.now) }
     ensures err { IfErr result (IsStop (IsDocumentStop document.now base.now docs.now)) }
 {
-    let process = linked(alloc, document, base, docs)?;
+    let process = linked(alloc, document, base, docs, missed)?;
     accepted(alloc, document, base, docs, process)
 }
 
 /// Puts a document and those that it leads to together.
-fn linked(alloc: Global, document: &[u8], base: &Url, docs: &Docs) -> Result<Process, Stop>
+fn linked(
+    alloc: Global,
+    document: &[u8],
+    base: &Url,
+    docs: &Docs,
+    missed: &Keyed<Unreadable>,
+) -> Result<Process, Stop>
     ensures ok { IfOk result (IsLinked document.now base.now docs.now) }
     ensures err { IfErr result (IsStop (IsDocumentStop document.now base.now docs.now)) }
 {
     match read_process(alloc, document, base, docs) {
         Ok(process) => Ok(process),
         Err(LinkError::OutOfMemory) => Err(Stop::OutOfMemory),
-        Err(LinkError::Refused(fault)) => Err(faulty(alloc, document, base, docs, fault)),
+        Err(LinkError::Refused(fault)) => Err(faulty(alloc, document, base, docs, missed, fault)),
     }
 }
 
 /// Says what is wrong with a document, or with those that it leads to.
-fn faulty(alloc: Global, _document: &[u8], base: &Url, docs: &Docs, fault: LinkFault) -> Stop
+fn faulty(
+    alloc: Global,
+    _document: &[u8],
+    base: &Url,
+    docs: &Docs,
+    missed: &Keyed<Unreadable>,
+    fault: LinkFault,
+) -> Stop
     requires { IsRefused (LinkError.Refused fault) _document.now base.now docs.now }
     ensures { IsStop (IsDocumentStop _document.now base.now docs.now) result }
 {
     match fault {
         LinkFault::NotLoaded(url) => {
-            let stop = not_loaded(alloc, _document, base, docs, &url);
+            let stop = not_loaded(alloc, _document, base, docs, missed, &url);
             mem::drop(url);
             stop
         }
@@ -59,7 +80,14 @@ fn wrong(fault: LinkFault) -> Stop
 }
 
 /// Says why a document is not there: there are too many of them, its URL is no file's, or its file can't be read.
-fn not_loaded(alloc: Global, _document: &[u8], base: &Url, docs: &Docs, url: &Text) -> Stop
+fn not_loaded(
+    alloc: Global,
+    _document: &[u8],
+    base: &Url,
+    docs: &Docs,
+    missed: &Keyed<Unreadable>,
+    url: &Text,
+) -> Stop
     requires { IsAbsent _document.now base.now docs.now url.now }
     ensures { IsStop (IsDocumentStop _document.now base.now docs.now) result }
 {
@@ -68,12 +96,22 @@ fn not_loaded(alloc: Global, _document: &[u8], base: &Url, docs: &Docs, url: &Te
     }
     match location_to_path(alloc, url.as_str(), base) {
         Ok(path) => {
-            let stop = not_there(alloc, path.as_str());
+            let stop = unread_for(alloc, path.as_str(), cause_in(missed, path.as_str()));
             mem::drop(path);
             stop
         }
         Err(FileError::Refused(fault)) => Stop::Early(Exit::Refused(Refusal::Location(fault))),
         Err(FileError::OutOfMemory) => Stop::OutOfMemory,
+    }
+}
+
+// Why the file of this path was not read.
+fn cause_in(missed: &Keyed<Unreadable>, path: &str) -> Unreadable
+    ensures { IsCause result }
+{
+    match missed.get(path) {
+        Some(why) => sound(*why),
+        None => Unreadable::Other,
     }
 }
 

@@ -1,16 +1,16 @@
-ghost use Rattle.std.specs.Prelude.{◌≡◌, ◌≢◌, IfOk, IfErr, OnOk, OnErr, map, string_bytes};
+ghost use Rattle.std.specs.Prelude.{◌≡◌, ◌≢◌, None, Ok, IfOk, IfErr, OnOk, OnErr, map, string_bytes};
 ghost use Rattle.clap.specs.Words.{HasKind, fault_of, kind_of};
 ghost use Rattle.cwl_program.specs.CommandLine.{Asks, command_line};
 ghost use Rattle.cwl_program.specs.Tells.{Explains, IsEndOf, IsRecordExit, IsRunTold, IsTold, LeadsTo, Says, Tells, asks_why, telling_of};
-ghost use Rattle.std.specs.Result.{result_unwrap_or};
 
 use crate::certificate::exit_of_check;
 use crate::command::{Choice, choice_of};
 use crate::demo::exit_of_demo;
 use crate::exit::{Exit, Fault};
-use crate::explaining::explain_exit;
+use crate::explaining::{explain_exit, put_left, put_notes};
 use crate::record_words::RecordWords;
-use crate::run::exit_of_process;
+use crate::run::end_of_process;
+use crate::run_end::RunEnd;
 use crate::telling::Telling;
 use crate::terminal::add_terminal_words;
 use clap::Error;
@@ -89,7 +89,7 @@ where
 /// How the program ends, and whether that is to be explained in words.
 #[derive(Drop)]
 struct End {
-    exit: Exit,
+    run: RunEnd,
     explains: bool,
     // how its jobs were told of
     telling: Telling,
@@ -97,23 +97,25 @@ struct End {
 
 /// Says how the program ends.
 fn say<O: Write, E: Write>(alloc: Global, end: &End, out: &mut O, err: &mut E) -> u8
-    ensures { Says end.now.exit end.now.explains (O.contents out.old) (O.contents out.new)
-        (E.contents err.old) (E.contents err.new) result }
+    ensures { Says end.now.run.exit end.now.run.left end.now.explains (O.contents out.old)
+        (O.contents out.new) (E.contents err.old) (E.contents err.new) result }
 {
     match tell(alloc, end, out, err) {
-        Ok(()) => end.exit.status(),
+        Ok(()) => end.run.exit.status(),
         Err(_) => FAULT,
     }
 }
 
-// Writes the line of an end, and behind it the words that it is to be explained in.
+// Writes the line of an end, and behind it the words that it is to be explained in, the notes on it, and where the work folder is.
 fn tell<O: Write, E: Write>(alloc: Global, end: &End, out: &mut O, err: &mut E) -> io::Result<()>
-    ensures { OnOk result (IsTold end.now.exit (O.contents out.old) (O.contents out.new)
-        (E.contents err.old) (E.contents err.new) end.now.explains) }
+    ensures { OnOk result (IsTold end.now.run.exit end.now.run.left (O.contents out.old)
+        (O.contents out.new) (E.contents err.old) (E.contents err.new) end.now.explains) }
 {
-    end.exit.print(out, err)?;
+    end.run.exit.print(out, err)?;
     if end.explains {
-        return explain_exit(alloc, &end.exit, end.telling, err);
+        explain_exit(alloc, &end.run.exit, err)?;
+        put_notes(alloc, &end.run.exit, end.run.notes.as_slice(), err)?;
+        return put_left(alloc, &end.run.left, err);
     }
     Ok(())
 }
@@ -129,7 +131,7 @@ fn end_of<R: World + Env + Records, E: Write>(
 where
     R::File: Into<Stdio>,
     ensures ok { IfOk result (λ end. LeadsTo (map (λ word. string_bytes word) words.now) path.now
-        end.exit end.explains end.telling) }
+        end.run.exit end.run.left end.explains end.telling) }
     ensures told { IfOk result (λ end. IsRunTold end.telling (E.contents err.old)
         (E.contents err.new)) }
     ensures untold { OnErr result (E.contents err.new ≡ E.contents err.old) }
@@ -137,14 +139,15 @@ where
     ensures err { IfErr result
         (HasKind (fault_of command_line (map (λ word. string_bytes word) words.now))) }
 {
-    match choice_of(rt.alloc(), words) {
+    let alloc = rt.alloc();
+    match choice_of(alloc, words) {
         Ok(choice) => Ok(End {
-            exit: exit_or_fault(end_of_choice(rt, &choice, path, err)),
+            run: end_or_fault(alloc, end_of_choice(rt, &choice, path, err)),
             explains: asks_why(&choice),
             telling: telling_of(&choice),
         }),
         Err(error) if matches!(error.kind(), ErrorKind::OutOfMemory) => Ok(End {
-            exit: Exit::Fault(Fault::OutOfMemory),
+            run: RunEnd::bare(alloc, Exit::Fault(Fault::OutOfMemory)),
             explains: false,
             telling: Telling::Nothing,
         }),
@@ -157,18 +160,26 @@ fn end_of_choice<R: World + Env + Records, E: Write>(
     choice: &Choice,
     path: &str,
     err: &mut E,
-) -> Result<Exit, AllocError>
+) -> Result<RunEnd, AllocError>
 where
     R::File: Into<Stdio>,
-    ensures end { IfOk result (IsEndOf path.now choice.now) }
+    ensures end { IfOk result (λ end. IsEndOf path.now choice.now end.exit end.left) }
     ensures told { IsRunTold (telling_of choice.now) (E.contents err.old) (E.contents err.new) }
 {
     match choice {
-        Choice::Demo(_) => exit_of_demo(rt.alloc(), path),
-        Choice::Check(file, _) => exit_of_check(rt, file),
-        Choice::Run(words) => exit_of_process(rt, words, path, err),
-        Choice::Record(words) => Ok(exit_of_record(rt, words)),
+        Choice::Demo(_) => bare(rt.alloc(), exit_of_demo(rt.alloc(), path)),
+        Choice::Check(file, _) => bare(rt.alloc(), exit_of_check(rt, file)),
+        Choice::Run(words) => end_of_process(rt, words, path, err),
+        Choice::Record(words) => Ok(RunEnd::bare(rt.alloc(), exit_of_record(rt, words))),
     }
+}
+
+// An end of which nothing else is told.
+fn bare(alloc: Global, exit: Result<Exit, AllocError>) -> Result<RunEnd, AllocError>
+    ensures exit { IfOk result (λ end. exit ≡ Ok end.exit) }
+    ensures left { IfOk result (λ end. end.left ≡ None) }
+{
+    Ok(RunEnd::bare(alloc, exit?))
 }
 
 #[tactic(auto, using(crate::specs::Tells::shows))]
@@ -201,12 +212,14 @@ fn telling_of(choice: &Choice) -> Telling
 }
 
 /// Out of memory ends the program as a fault.
-fn exit_or_fault(ended: Result<Exit, AllocError>) -> Exit
-    ensures { result ≡ result_unwrap_or ended (Exit.Fault Fault.OutOfMemory) }
+fn end_or_fault(alloc: Global, ended: Result<RunEnd, AllocError>) -> RunEnd
+    ensures ok { IfOk ended (λ end. result ≡ end) }
+    ensures err { OnErr ended (result.exit ≡ Exit.Fault Fault.OutOfMemory) }
+    ensures bare { OnErr ended (result.left ≡ None) }
 {
     match ended {
-        Ok(exit) => exit,
-        Err(AllocError) => Exit::Fault(Fault::OutOfMemory),
+        Ok(end) => end,
+        Err(AllocError) => RunEnd::bare(alloc, Exit::Fault(Fault::OutOfMemory)),
     }
 }
 

@@ -6,11 +6,14 @@ ghost use Rattle.cwl_program.specs.Words.{name_of, word_of, refusal_code};
 use cwl_value::ValueRefusal;
 use document_links::LinkFault;
 use file_values::FileFault;
+use job_rows::RecordRefusal;
 use plain_data::Text;
 use plan_checker::Broken;
 use proc_host::HostFault;
+use process_machine::Hindrance;
 use record_program::Ending;
 use run_core::Cause;
+use run_facts::WorkTrouble;
 use std::io;
 use std::io::Write;
 use workflow_check::LinkCheckFault;
@@ -53,14 +56,18 @@ pub enum Refusal {
 pub enum Fault {
     /// A call of the host failed: which, and the path or the program that it was about.
     Host(HostFault, Option<Text>),
+    /// The record of jobs refused a command.
+    Record(RecordRefusal),
     /// The folder that the program is called in can't be told.
     Folder,
     /// The file of this name can't be read, and why.
     Unread(Text, Unreadable),
     /// The value of the inputs' text is no object.
     NoObject,
-    /// The work folder of this path is there already, or can't be made.
-    Work(Text),
+    /// The work folder of this path is there already, or can't be made, and why.
+    Work(Text, WorkTrouble),
+    /// The output folder of this path can't be used, and why.
+    Outdir(Text, Hindrance),
     /// A run has more jobs than the limits allow.
     TooManyJobs,
     OutOfMemory,
@@ -72,6 +79,10 @@ pub enum Unreadable {
     Absent,
     Forbidden,
     IsFolder,
+    /// It is neither a file nor a folder.
+    NoFile,
+    /// It has this many bytes, which are too many.
+    TooLong(u64),
     Other,
 }
 
@@ -97,8 +108,10 @@ impl Fault {
     {
         match self {
             Fault::Host(fault, _) => fault.code(),
+            Fault::Record(refusal) => refusal.code(),
             Fault::Folder | Fault::Unread(_, _) | Fault::NoObject => "input",
-            Fault::Work(_) => "work",
+            Fault::Work(_, _) => "work",
+            Fault::Outdir(_, _) => "H9",
             Fault::TooManyJobs => "TooManyJobs",
             Fault::OutOfMemory => "OutOfMemory",
         }

@@ -1,43 +1,36 @@
 //! What went wrong, in words (`--explain`).
-ghost use Rattle.std.specs.Prelude.{OnOk};
-ghost use Rattle.cwl_program.specs.Tells.{HasLine, IsEndingExplained, IsExplained};
+ghost use Rattle.std.specs.Prelude.{◌≡◌, IfOk, OnOk, string_bytes};
+ghost use Rattle.cwl_program.specs.Tells.{AreNotes, HasLine, HasLines, IsEndingExplained, IsExplained, IsLeftTold, IsPut, left_words};
 
 use crate::exit::{Exit, Fault, Refusal, Unreadable};
-use crate::telling::Telling;
+use crate::shell_words::add_word;
+use crate::visible::{cut, visible};
 use job_graph::Cause as NoValue;
 use plain_data::Text;
 use plan_checker::Broken;
 use proc_host::HostFault;
+use process_machine::Hindrance;
 use record_program::Ending;
 use run_core::{Cause, CollectCause};
+use run_facts::WorkTrouble;
 use std::alloc::{AllocError, Global};
 use std::io;
 use std::io::Write;
 
-/// Writes a line that says what went wrong and where; nothing of an end in which nothing did. Of a command that failed it says how
-/// to see its messages, unless they were shown.
-pub fn explain_exit<E: Write>(
-    alloc: Global,
-    exit: &Exit,
-    telling: Telling,
-    err: &mut E,
-) -> io::Result<()>
+/// Writes a line that says what went wrong and where; nothing of an end in which nothing did.
+pub fn explain_exit<E: Write>(alloc: Global, exit: &Exit, err: &mut E) -> io::Result<()>
     ensures { OnOk result (IsExplained exit.now (E.contents err.old) (E.contents err.new)) }
 {
     match exit {
         Exit::Output(_) => Ok(()),
-        Exit::Broken(broken) => put_line(broken_words(alloc, *broken)?.as_str(), err),
+        Exit::Broken(broken) => put_words(alloc, broken_words(alloc, *broken)?.as_str(), err),
         Exit::Record(ending) => explain_ending(alloc, ending, err),
-        Exit::Refused(refusal) => put_line(refusal_words(alloc, refusal)?.as_str(), err),
-        Exit::Permanent(place, cause) => put_line(
-            cause_words(alloc, place, cause, hint_of(telling))?.as_str(),
-            err,
-        ),
-        Exit::Temporary(place) => put_line(
-            temporary_words(alloc, place, hint_of(telling))?.as_str(),
-            err,
-        ),
-        Exit::Fault(fault) => put_line(fault_words(alloc, fault)?.as_str(), err),
+        Exit::Refused(refusal) => put_words(alloc, refusal_words(alloc, refusal)?.as_str(), err),
+        Exit::Permanent(place, cause) => {
+            put_words(alloc, cause_words(alloc, place, cause)?.as_str(), err)
+        }
+        Exit::Temporary(place) => put_words(alloc, temporary_words(alloc, place)?.as_str(), err),
+        Exit::Fault(fault) => put_words(alloc, fault_words(alloc, fault)?.as_str(), err),
     }
 }
 
@@ -47,19 +40,68 @@ fn explain_ending<E: Write>(alloc: Global, ending: &Ending, err: &mut E) -> io::
 {
     match ending {
         Ending::Rows(_) => Ok(()),
-        Ending::Input => put_line(
+        Ending::Input => put_words(
+            alloc,
             "the file is not there, is a folder, or can't be looked at",
             err,
         ),
-        Ending::Record(fault) => put_line(format!(in alloc; "{fault}")?.as_str(), err),
+        Ending::Record(fault) => put_words(alloc, format!(in alloc; "{fault}")?.as_str(), err),
     }
 }
 
-// Writes these words as a line.
-fn put_line<E: Write>(words: &str, err: &mut E) -> io::Result<()>
+/// Writes the lines on what failed; none where nothing did.
+pub fn put_notes<E: Write>(
+    alloc: Global,
+    exit: &Exit,
+    notes: &[String],
+    err: &mut E,
+) -> io::Result<()>
+    ensures { OnOk result (AreNotes exit.now (E.contents err.old) (E.contents err.new)) }
+{
+    match exit {
+        Exit::Output(_) | Exit::Record(_) => Ok(()),
+        _ => put_lines(alloc, notes, err),
+    }
+}
+
+fn put_lines<E: Write>(alloc: Global, lines: &[String], err: &mut E) -> io::Result<()>
+    ensures { OnOk result (HasLines (E.contents err.old) (E.contents err.new)) }
+{
+    for line in lines {
+        put_line(alloc, line.as_str(), err)?;
+    }
+    Ok(())
+}
+
+/// Writes where the work folder is, if it stays.
+pub fn put_left<E: Write>(alloc: Global, left: &Option<Text>, err: &mut E) -> io::Result<()>
+    ensures { OnOk result (IsLeftTold left.now (E.contents err.old) (E.contents err.new)) }
+{
+    match left {
+        None => Ok(()),
+        Some(work) => put_line(alloc, left_words(alloc, work)?.as_str(), err),
+    }
+}
+
+fn left_words(alloc: Global, work: &Text) -> Result<String, AllocError>
+    ensures { IfOk result (λ words. string_bytes words ≡ left_words work.now) }
+{
+    format!(in alloc; "the work folder {work} stays")
+}
+
+// Writes these words as a line, and of long ones their ends.
+fn put_words<E: Write>(alloc: Global, words: &str, err: &mut E) -> io::Result<()>
     ensures { OnOk result (HasLine (E.contents err.old) (E.contents err.new)) }
 {
-    writeln!(err, "{words}")
+    put_line(alloc, cut(alloc, words)?.as_str(), err)
+}
+
+// Writes a line as it is shown.
+fn put_line<E: Write>(alloc: Global, line: &str, err: &mut E) -> io::Result<()>
+    ensures { OnOk result (IsPut line.now (E.contents err.old) (E.contents err.new)) }
+{
+    let shown = visible(alloc, line)?;
+    writeln!(err, "{shown}")
 }
 
 fn refusal_words(alloc: Global, refusal: &Refusal) -> Result<String, AllocError> {
@@ -124,33 +166,20 @@ fn line_of(vertex: usize) -> usize {
     vertex.saturating_add(3)
 }
 
-// How to see what a command says, where that was not shown.
-fn hint_of(telling: Telling) -> &'static str {
-    match telling {
-        Telling::Lines => "",
-        Telling::Nothing | Telling::OneLine => "; `--verbose` shows its messages",
-    }
-}
-
-fn temporary_words(alloc: Global, place: &Text, hint: &str) -> Result<String, AllocError> {
+fn temporary_words(alloc: Global, place: &Text) -> Result<String, AllocError> {
     format!(in alloc;
-        "the command of {place} ended by a signal, or with a code of `temporaryFailCodes`{hint}"
+        "the command of {place} ended by a signal, or with a code of `temporaryFailCodes`"
     )
 }
 
-fn cause_words(
-    alloc: Global,
-    place: &Text,
-    cause: &Cause,
-    hint: &str,
-) -> Result<String, AllocError> {
+fn cause_words(alloc: Global, place: &Text, cause: &Cause) -> Result<String, AllocError> {
     match cause {
         Cause::Equation(cause) => equation_words(alloc, cause),
         Cause::Build(fault) => format!(in alloc; "no command: {fault}"),
         Cause::Exit(Some(code)) => {
-            format!(in alloc; "the command of {place} ended with code {code}{hint}")
+            format!(in alloc; "the command of {place} ended with code {code}")
         }
-        Cause::Exit(None) => format!(in alloc; "the command of {place} ended by a signal{hint}"),
+        Cause::Exit(None) => format!(in alloc; "the command of {place} ended by a signal"),
         Cause::Collect(CollectCause::Input(fault)) => format!(in alloc; "{fault}"),
         Cause::Collect(CollectCause::Output(fault)) => format!(in alloc; "no outputs: {fault}"),
     }
@@ -180,6 +209,7 @@ fn equation_words(alloc: Global, cause: &NoValue) -> Result<String, AllocError> 
 fn fault_words(alloc: Global, fault: &Fault) -> Result<String, AllocError> {
     match fault {
         Fault::Host(fault, name) => call_words(alloc, host_words(*fault), name.as_ref()),
+        Fault::Record(refusal) => format!(in alloc; "{refusal}"),
         Fault::Folder => {
             String::from_str(
                 alloc,
@@ -188,8 +218,10 @@ fn fault_words(alloc: Global, fault: &Fault) -> Result<String, AllocError> {
         }
         Fault::Unread(name, why) => unread_words(alloc, name, *why),
         Fault::NoObject => String::from_str(alloc, "the value of the input file is no object"),
-        Fault::Work(path) => {
-            format!(in alloc; "the work folder {path} is there already, or can't be made")
+        Fault::Work(path, why) => work_words(alloc, path, *why),
+        Fault::Outdir(path, why) => {
+            let why = hindrance_words(*why);
+            format!(in alloc; "the output folder {path} can't be used: {why}")
         }
         Fault::TooManyJobs => {
             String::from_str(
@@ -198,6 +230,69 @@ fn fault_words(alloc: Global, fault: &Fault) -> Result<String, AllocError> {
             )
         }
         Fault::OutOfMemory => String::from_str(alloc, "out of memory"),
+    }
+}
+
+// Why the work folder could not be made, and what would do.
+fn work_words(alloc: Global, path: &Text, why: WorkTrouble) -> Result<String, AllocError> {
+    let remover = remover_of(alloc, path)?;
+    match why {
+        WorkTrouble::There => {
+            format!(in alloc;
+                "{path} is there already, and no run made it as its work folder: `--work` names another one"
+            )
+        }
+        WorkTrouble::Kept => {
+            format!(in alloc;
+                "the work folder {path} is there already, since a run has left it: `{remover}` removes it"
+            )
+        }
+        WorkTrouble::Left => {
+            format!(in alloc;
+                "the work folder {path} was left by a run that was interrupted: `{remover}` removes it"
+            )
+        }
+        WorkTrouble::Busy => {
+            format!(in alloc;
+                "the work folder {path} is that of a run which still goes on: `--work` names another one"
+            )
+        }
+        WorkTrouble::Elsewhere => {
+            format!(in alloc;
+                "the work folder {path} was made by a run on another computer, in another container or before this computer was started: if that run is over, `{remover}` removes it"
+            )
+        }
+        other => {
+            let why = making_words(other);
+            format!(in alloc; "the work folder {path} can't be made: {why}")
+        }
+    }
+}
+
+fn making_words(why: WorkTrouble) -> &'static str {
+    match why {
+        WorkTrouble::NoParent => "the folder that it is to be in is not there",
+        WorkTrouble::Forbidden => "it is not allowed",
+        WorkTrouble::Full => "there is no room",
+        _ => "the system refuses it",
+    }
+}
+
+// The command that removes a folder, as a shell takes it.
+fn remover_of(alloc: Global, path: &Text) -> Result<String, AllocError> {
+    let mut command = String::from_str(alloc, "rm -r ")?;
+    add_word(&mut command, path.as_str())?;
+    Ok(command)
+}
+
+/// What hinders the use of a folder or a file for results.
+pub fn hindrance_words(why: Hindrance) -> &'static str {
+    match why {
+        Hindrance::Given => "a file that the run was given is there",
+        Hindrance::Taken => "a file is where a folder is needed, or a folder where a file is",
+        Hindrance::Forbidden => "it is not allowed",
+        Hindrance::Full => "there is no room",
+        Hindrance::Other => "the system refuses it",
     }
 }
 
@@ -214,6 +309,12 @@ fn unread_words(alloc: Global, name: &Text, why: Unreadable) -> Result<String, A
         Unreadable::Absent => format!(in alloc; "there is no file {name}"),
         Unreadable::Forbidden => format!(in alloc; "the file {name} may not be read"),
         Unreadable::IsFolder => format!(in alloc; "{name} is a folder"),
+        Unreadable::NoFile => format!(in alloc;
+            "{name} is no regular file, and only those are read"
+        ),
+        Unreadable::TooLong(size) => {
+            format!(in alloc; "the file {name} has {size} bytes, and at most 67108864 are read")
+        }
         Unreadable::Other => format!(in alloc; "the file {name} is not there, or can't be read"),
     }
 }

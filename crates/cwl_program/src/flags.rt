@@ -47,8 +47,8 @@ pub fn is_wanted(words: &ArgMatches, id: &str) -> bool
     is_given(words, id)
 }
 
-// Whether an option is there.
-fn is_given(words: &ArgMatches, id: &str) -> bool
+/// Whether an option is there.
+pub fn is_given(words: &ArgMatches, id: &str) -> bool
     ensures { result ≡ is_given id.now (rows_of (found_of words.now)) }
 {
     words.get_str(id).unwrap_or("") == "true"

@@ -3,6 +3,7 @@ ghost use Rattle.cwl_program.specs.Runs.{fault_of, outcome_exit, place_json, run
 
 use crate::exit::{Exit, Fault};
 use crate::failed_call::failed_on;
+use crate::visible::visible_text;
 use cwl_value::{JobPlace, Value, canonical_text, place_text};
 use plain_data::Text;
 use proc_host::Entry;
@@ -73,11 +74,12 @@ fn of_failure(alloc: Global, place: JobPlace, cause: Cause) -> Result<Exit, Allo
     }
 }
 
-/// Writes a job's place as JSON text.
+/// Writes a job's place as JSON text. A character that moves, hides or turns others on a terminal is escaped there, as JSON allows.
 pub fn place_in(alloc: Global, place: &JobPlace) -> Result<Text, AllocError>
     ensures { IfOk result (λ text. text ≡ place_json place.now) }
 {
-    canonical_text(alloc, &Value::Text(place_text(alloc, place)?))
+    let text = canonical_text(alloc, &Value::Text(place_text(alloc, place)?))?;
+    visible_text(alloc, &text)
 }
 
 fn of_fault(alloc: Global, log: &[Entry], fault: &RunFault) -> Result<Fault, AllocError>
@@ -85,6 +87,7 @@ fn of_fault(alloc: Global, log: &[Entry], fault: &RunFault) -> Result<Fault, All
 {
     match fault {
         RunFault::Host(fault, _) => Ok(Fault::Host(*fault, failed_on(alloc, log, *fault)?)),
+        RunFault::Record(refusal) => Ok(Fault::Record(*refusal)),
         RunFault::TooManyJobs => Ok(Fault::TooManyJobs),
         RunFault::OutOfMemory => Ok(Fault::OutOfMemory),
     }

@@ -1,10 +1,10 @@
 //! A run of the user's own process, over real processes and files.
-ghost use Rattle.std.specs.Prelude.{◌≡◌, [], None, IfOk, IfErr};
+ghost use Rattle.std.specs.Prelude.{◌≡◌, [], None, Ok, IfOk, IfErr};
 ghost use Rattle.run_core.specs.Limits.{IsWithinLimits};
 ghost use Rattle.document_links.specs.Library.{Documents};
 ghost use Rattle.workflow_check.specs.Checked.{fault_in};
 ghost use Rattle.cwl_program.specs.RunWords.{wish_of_run};
-ghost use Rattle.cwl_program.specs.Runs.{AreNamed, IsAsked, IsInputsText, IsNamedInputs, IsNamedProcess, IsNoInputs, IsNoProcess, IsRan, IsReady, IsRunExit};
+ghost use Rattle.cwl_program.specs.Runs.{AreNamed, IsAsked, IsInputsText, IsNamedInputs, IsNamedProcess, IsNoInputs, IsNoProcess, IsRan, IsRead, IsReady, IsRunExit};
 ghost use Rattle.cwl_program.specs.Sources.{IsAccepted, IsDocumentStop};
 ghost use Rattle.cwl_program.specs.Stops.{IsStop, IsUnread};
 ghost use Rattle.cwl_program.specs.Tells.{IsRunTold};
@@ -12,14 +12,21 @@ ghost use Rattle.cwl_program.specs.Tells.{IsRunTold};
 use crate::documents::accepted_of;
 use crate::exit::{Exit, Fault};
 use crate::inputs::inputs_at;
+use crate::notes::notes_on;
+use crate::outdir::{outdir_for, without_outdir};
 use crate::paths::{base_of, from_root};
+use crate::reading::bytes_of_file;
 use crate::report::exit_of_run;
+use crate::run_end::RunEnd;
 use crate::run_words::{RunWords, retries_of, slots_of};
-use crate::search::docs_of;
-use crate::stop::{Stop, stopped, unread};
+use crate::search::reached_from;
+use crate::starts::Starts;
+use crate::stop::{Stop, stopped_run, unread};
 use crate::telling::{Teller, Telling};
+use crate::work_folder::{leave, mark_made, without_work};
 use cwl_value::Value;
 use document_links::Process;
+use job_rows::MemoryRecord;
 use plain_data::{Keyed, Text};
 use process_machine::{Machine, World};
 use run_core::Options;
@@ -65,16 +72,17 @@ impl Places {
 }
 
 /// Runs the process of a document on an input object, in a work folder that is made for it and removed again.
-pub fn exit_of_process<R: World + Env, E: Write>(
+pub fn end_of_process<R: World + Env, E: Write>(
     rt: &R,
     words: &RunWords,
     path: &str,
     err: &mut E,
-) -> Result<Exit, AllocError>
+) -> Result<RunEnd, AllocError>
 where
     R::File: Into<Stdio>,
     ensures told { IsRunTold words.now.telling (E.contents err.old) (E.contents err.new) }
-    ensures exit { IfOk result (IsRunExit (wish_of_run words.now) path.now) }
+    ensures end { IfOk result (λ end. IsRunExit (wish_of_run words.now) path.now end.exit
+        end.left) }
 {
     match here_of(rt) {
         Ok(here) => {
@@ -83,11 +91,11 @@ where
                 words,
                 path,
             };
-            let exit = exit_of_call(rt, &call, err);
+            let end = end_of_call(rt, &call, err);
             mem::drop(here);
-            exit
+            end
         }
-        Err(error) => without_folder(&error),
+        Err(error) => without_folder(rt.alloc(), &error),
     }
 }
 
@@ -97,29 +105,30 @@ fn here_of<R: World + Env>(rt: &R) -> io::Result<String> {
 }
 
 /// The end of a program that can't tell the folder that it is called in.
-fn without_folder(error: &io::Error) -> Result<Exit, AllocError>
-    ensures { IfOk result (λ exit. exit ≡ Exit.Fault Fault.Folder) }
+fn without_folder(alloc: Global, error: &io::Error) -> Result<RunEnd, AllocError>
+    ensures exit { IfOk result (λ end. end.exit ≡ Exit.Fault Fault.Folder) }
+    ensures left { IfOk result (λ end. end.left ≡ None) }
 {
     match error.kind() {
         io::ErrorKind::OutOfMemory => Err(AllocError),
-        _ => Ok(Exit::Fault(Fault::Folder)),
+        _ => Ok(RunEnd::bare(alloc, Exit::Fault(Fault::Folder))),
     }
 }
 
-#[tactic(auto, using(crate::proofs::Stops::without_process))]
-fn exit_of_call<R: World, E: Write>(
+fn end_of_call<R: World, E: Write>(
     rt: &R,
     call: &Call<'_>,
     err: &mut E,
-) -> Result<Exit, AllocError>
+) -> Result<RunEnd, AllocError>
 where
     R::File: Into<Stdio>,
     ensures told { IsRunTold call.now.words.now.telling (E.contents err.old) (E.contents err.new) }
-    ensures exit { IfOk result (IsRunExit (wish_of_run call.now.words.now) call.now.path.now) }
+    ensures end { IfOk result (λ end. IsRunExit (wish_of_run call.now.words.now) call.now.path.now
+        end.exit end.left) }
 {
     match process_of(rt, call) {
         Ok(process) => on_process(rt, process, call, err),
-        Err(stop) => stopped(stop),
+        Err(stop) => stopped_run(rt.alloc(), stop),
     }
 }
 
@@ -140,25 +149,27 @@ fn process_at<R: World>(rt: &R, document: &[u8], base: &Url) -> Result<Process, 
     ensures err { IfErr result (IsStop (λ exit. (docs : Documents)
         × IsDocumentStop document.now base.now docs exit)) }
 {
-    let docs = docs_of(rt, document, base)?;
-    let process = accepted_of(rt.alloc(), document, base, &docs);
-    mem::drop(docs);
+    let reached = reached_from(rt, document, base)?;
+    let process = accepted_of(rt.alloc(), document, base, &reached.docs, &reached.missed);
+    mem::drop(reached);
     process
 }
 
 fn document_bytes<R: World>(rt: &R, call: &Call<'_>) -> Result<Vec<u8>, Stop>
-    ensures { IfErr result
+    ensures ok { IfOk result (λ bytes. IsRead bytes.items) }
+    ensures err { IfErr result
         (IsStop (IsNoProcess call.now.here.now (wish_of_run call.now.words.now))) }
 {
     file_bytes(rt, call.words.document)
 }
 
 fn file_bytes<R: World>(rt: &R, file: &str) -> Result<Vec<u8>, Stop>
-    ensures { IfErr result (IsStop (IsUnread file.now)) }
+    ensures ok { IfOk result (λ bytes. IsRead bytes.items) }
+    ensures err { IfErr result (IsStop (IsUnread file.now)) }
 {
-    match fs::read(rt, file) {
+    match bytes_of_file(rt, file) {
         Ok(bytes) => Ok(bytes),
-        Err(error) => Err(unread(rt.alloc(), &error, file)),
+        Err(trouble) => Err(unread(rt.alloc(), trouble, file)),
     }
 }
 
@@ -167,23 +178,24 @@ fn on_process<R: World, E: Write>(
     process: Process,
     call: &Call<'_>,
     err: &mut E,
-) -> Result<Exit, AllocError>
+) -> Result<RunEnd, AllocError>
 where
     R::File: Into<Stdio>,
     requires { IsNamedProcess call.now.here.now (wish_of_run call.now.words.now) process }
     ensures told { IsRunTold call.now.words.now.telling (E.contents err.old) (E.contents err.new) }
-    ensures exit { IfOk result (IsRunExit (wish_of_run call.now.words.now) call.now.path.now) }
+    ensures end { IfOk result (λ end. IsRunExit (wish_of_run call.now.words.now) call.now.path.now
+        end.exit end.left) }
 {
     match inputs_of(rt, call) {
         Ok(inputs) => {
             let given = Given { process, inputs };
-            let exit = in_places(rt, &given, call, err);
+            let end = in_places(rt, &given, call, err);
             mem::drop(given);
-            exit
+            end
         }
         Err(stop) => {
             mem::drop(process);
-            stopped(stop)
+            stopped_run(rt.alloc(), stop)
         }
     }
 }
@@ -218,17 +230,18 @@ fn in_places<R: World, E: Write>(
     given: &Given,
     call: &Call<'_>,
     err: &mut E,
-) -> Result<Exit, AllocError>
+) -> Result<RunEnd, AllocError>
 where
     R::File: Into<Stdio>,
     requires { IsReady call.now.here.now (wish_of_run call.now.words.now) given.now }
     ensures told { IsRunTold call.now.words.now.telling (E.contents err.old) (E.contents err.new) }
-    ensures exit { IfOk result (IsRunExit (wish_of_run call.now.words.now) call.now.path.now) }
+    ensures end { IfOk result (λ end. IsRunExit (wish_of_run call.now.words.now) call.now.path.now
+        end.exit end.left) }
 {
     let places = places_of(rt.alloc(), call)?;
-    let exit = on_disk(rt, given, &places, call, err);
+    let end = on_disk(rt, given, &places, call, err);
     mem::drop(places);
-    exit
+    end
 }
 
 /// The folders as paths from the root.
@@ -240,57 +253,79 @@ fn places_of(alloc: Global, call: &Call<'_>) -> Result<Places, AllocError>
     Ok(Places { work, outdir })
 }
 
-/// Makes the work folder, runs, and removes the folder where that is possible.
+/// Makes the work folder, runs, and removes the folder where that is possible, unless it is to stay.
 fn on_disk<R: World, E: Write>(
     rt: &R,
     given: &Given,
     places: &Places,
     call: &Call<'_>,
     err: &mut E,
-) -> Result<Exit, AllocError>
+) -> Result<RunEnd, AllocError>
 where
     R::File: Into<Stdio>,
     requires ready { IsReady call.now.here.now (wish_of_run call.now.words.now) given.now }
     requires named { AreNamed call.now.here.now (wish_of_run call.now.words.now) places.now }
     ensures told { IsRunTold call.now.words.now.telling (E.contents err.old) (E.contents err.new) }
-    ensures exit { IfOk result (IsRunExit (wish_of_run call.now.words.now) call.now.path.now) }
+    ensures end { IfOk result (λ end. IsRunExit (wish_of_run call.now.words.now) call.now.path.now
+        end.exit end.left) }
 {
     match fs::create_dir(rt, places.work.as_str()) {
         Ok(()) => {
-            let exit = in_work(rt, given, places, call, err);
-            let _removed = fs::remove_dir_all(rt, places.work.as_str());
-            exit
+            mark_made(rt, &places.work);
+            let end = in_work(rt, given, places, call, err);
+            leave(rt, &places.work, call.words, &end);
+            end
         }
-        Err(error) => without_work(rt.alloc(), &error, &places.work),
+        Err(error) => without_work(rt, error.kind(), &places.work),
     }
 }
 
-/// The end of a program that can't make its work folder.
-fn without_work(alloc: Global, error: &io::Error, work: &Text) -> Result<Exit, AllocError>
-    ensures { IfOk result (λ exit. exit ≡ Exit.Fault (Fault.Work work.now)) }
-{
-    match error.kind() {
-        io::ErrorKind::OutOfMemory => Err(AllocError),
-        _ => Ok(Exit::Fault(Fault::Work(work.copied(alloc)?))),
-    }
-}
-
+/// Runs where the output folder can be used. One that was made, and into which nothing was delivered, is removed again.
 fn in_work<R: World, E: Write>(
     rt: &R,
     given: &Given,
     places: &Places,
     call: &Call<'_>,
     err: &mut E,
-) -> Result<Exit, AllocError>
+) -> Result<RunEnd, AllocError>
 where
     R::File: Into<Stdio>,
     requires ready { IsReady call.now.here.now (wish_of_run call.now.words.now) given.now }
     requires named { AreNamed call.now.here.now (wish_of_run call.now.words.now) places.now }
     ensures told { IsRunTold call.now.words.now.telling (E.contents err.old) (E.contents err.new) }
-    ensures exit { IfOk result (IsRunExit (wish_of_run call.now.words.now) call.now.path.now) }
+    ensures end { IfOk result (λ end. IsRunExit (wish_of_run call.now.words.now) call.now.path.now
+        end.exit end.left) }
+{
+    match outdir_for(rt, &given.process, &places.outdir) {
+        Ok(is_new) => {
+            let end = in_folders(rt, given, places, call, err);
+            if is_new {
+                let _removed = fs::remove_dir(rt, places.outdir.as_str());
+            }
+            end
+        }
+        Err(trouble) => without_outdir(rt.alloc(), trouble, &places.outdir),
+    }
+}
+
+fn in_folders<R: World, E: Write>(
+    rt: &R,
+    given: &Given,
+    places: &Places,
+    call: &Call<'_>,
+    err: &mut E,
+) -> Result<RunEnd, AllocError>
+where
+    R::File: Into<Stdio>,
+    requires ready { IsReady call.now.here.now (wish_of_run call.now.words.now) given.now }
+    requires named { AreNamed call.now.here.now (wish_of_run call.now.words.now) places.now }
+    ensures told { IsRunTold call.now.words.now.telling (E.contents err.old) (E.contents err.new) }
+    ensures end { IfOk result (λ end. IsRunExit (wish_of_run call.now.words.now) call.now.path.now
+        end.exit end.left) }
 {
     let options = options_of(rt.alloc(), places, call)?;
-    with_options(rt, given, options, places, call.words.telling, err)
+    let end = with_options(rt, given, options, places, call.words, err)?;
+    end.leaving(rt.alloc(), call.words, &places.work)
 }
 
 fn options_of(alloc: Global, places: &Places, call: &Call<'_>) -> Result<Options, AllocError>
@@ -316,18 +351,19 @@ fn with_options<R: World, E: Write>(
     given: &Given,
     options: Options,
     places: &Places,
-    telling: Telling,
+    words: &RunWords,
     err: &mut E,
-) -> Result<Exit, AllocError>
+) -> Result<RunEnd, AllocError>
 where
     R::File: Into<Stdio>,
     requires accepted { fault_in given.now.process ≡ None }
     requires limits { IsWithinLimits options }
-    ensures told { IsRunTold telling (E.contents err.old) (E.contents err.new) }
-    ensures exit { IfOk result (IsRan given.now.process given.now.inputs options) }
+    ensures told { IsRunTold words.now.telling (E.contents err.old) (E.contents err.new) }
+    ensures exit { IfOk result (λ end. IsRan given.now.process given.now.inputs options
+        end.exit) }
 {
-    match machine_of(rt, places) {
-        Ok(host) => told_of(rt.alloc(), host, given, options, telling, err),
+    match machine_of(rt, places, words.keep) {
+        Ok(host) => told_of(rt, host, given, options, words.telling, err),
         Err(error) => {
             mem::drop(options);
             Err(error)
@@ -335,102 +371,123 @@ where
     }
 }
 
-fn machine_of<R: World>(rt: &R, places: &Places) -> Result<Machine<R>, AllocError>
+fn machine_of<R: World>(rt: &R, places: &Places, keep: bool) -> Result<Machine<R>, AllocError>
     ensures { IfOk result (λ host. host.running ≡ []) }
 {
     let places = places.clone_in(rt.alloc())?;
-    Ok(machine_at(rt.clone()?, places))
+    Ok(machine_at(rt.clone()?, places, keep))
 }
 
-fn machine_at<R: World>(rt: R, places: Places) -> Machine<R>
+fn machine_at<R: World>(rt: R, places: Places, keep: bool) -> Machine<R>
     ensures { result.running ≡ [] }
 {
     let Places { work, outdir } = places;
-    Machine::new(rt, work, None, outdir)
+    let mut host = Machine::new(rt, work, None, outdir);
+    if keep {
+        host.keep_folders();
+    }
+    host
 }
 
 /// Runs, and tells of the jobs as they start and end. Where each has lines, the messages of the children are shown too.
 fn told_of<R: World, E: Write>(
-    alloc: Global,
+    rt: &R,
     mut host: Machine<R>,
     given: &Given,
     options: Options,
     telling: Telling,
     err: &mut E,
-) -> Result<Exit, AllocError>
+) -> Result<RunEnd, AllocError>
 where
     R::File: Into<Stdio>,
     requires idle { host.running ≡ [] }
     requires accepted { fault_in given.now.process ≡ None }
     requires limits { IsWithinLimits options }
     ensures told { IsRunTold telling (E.contents err.old) (E.contents err.new) }
-    ensures exit { IfOk result (IsRan given.now.process given.now.inputs options) }
+    ensures exit { IfOk result (λ end. IsRan given.now.process given.now.inputs options
+        end.exit) }
 {
     match telling {
-        Telling::Nothing => ended(alloc, host, given, options, &mut Unwatched),
+        Telling::Nothing => ended(rt, host, given, options, &mut Unwatched),
         Telling::Lines => {
             host.show_messages();
-            told_by(
-                alloc,
-                host,
-                given,
-                options,
-                Teller::new(alloc, err, telling),
-            )
+            let teller = Teller::new(rt.alloc(), err, telling);
+            told_by(rt, host, given, options, teller)
         }
-        Telling::OneLine => told_by(
-            alloc,
-            host,
-            given,
-            options,
-            Teller::new(alloc, err, telling),
-        ),
+        Telling::OneLine => {
+            let teller = Teller::new(rt.alloc(), err, telling);
+            told_by(rt, host, given, options, teller)
+        }
     }
 }
 
 fn told_by<R: World, E: Write>(
-    alloc: Global,
+    rt: &R,
     host: Machine<R>,
     given: &Given,
     options: Options,
     mut teller: Teller<'_, E>,
-) -> Result<Exit, AllocError>
+) -> Result<RunEnd, AllocError>
 where
     R::File: Into<Stdio>,
     requires idle { host.running ≡ [] }
     requires accepted { fault_in given.now.process ≡ None }
     requires limits { IsWithinLimits options }
-    ensures { IfOk result (IsRan given.now.process given.now.inputs options) }
+    ensures { IfOk result (λ end. IsRan given.now.process given.now.inputs options end.exit) }
 {
-    let exit = ended(alloc, host, given, options, &mut teller);
+    let end = ended(rt, host, given, options, &mut teller);
     teller.finish();
     mem::drop(teller);
-    exit
+    end
 }
 
 fn ended<R: World, W: Watch>(
-    alloc: Global,
+    rt: &R,
     mut host: Machine<R>,
     given: &Given,
     options: Options,
     watcher: &mut W,
-) -> Result<Exit, AllocError>
+) -> Result<RunEnd, AllocError>
 where
     R::File: Into<Stdio>,
     requires idle { host.running ≡ [] }
     requires accepted { fault_in given.now.process ≡ None }
     requires limits { IsWithinLimits options }
-    ensures { IfOk result (IsRan given.now.process given.now.inputs options) }
+    ensures { IfOk result (λ end. IsRan given.now.process given.now.inputs options end.exit) }
 {
+    let mut rows = MemoryRecord::new(rt.alloc());
+    let mut starts = Starts::new(rt.alloc(), watcher);
     let report = run(
-        alloc,
+        rt.alloc(),
         &mut host,
+        &mut rows,
         &given.process,
         &given.inputs,
         options,
-        watcher,
+        &mut starts,
     );
-    let exit = exit_of_run(alloc, host.log(), report);
+    let exit = exit_of_run(rt.alloc(), host.log(), report);
+    let end = noted(rt, &host, starts.tickets(), exit);
+    mem::drop(starts);
     mem::drop(host);
-    exit
+    mem::drop(rows);
+    end
+}
+
+/// Adds what is told of a failure.
+fn noted<R: World>(
+    rt: &R,
+    host: &Machine<R>,
+    tickets: &Keyed<u64>,
+    exit: Result<Exit, AllocError>,
+) -> Result<RunEnd, AllocError>
+    ensures { IfOk result (λ end. exit ≡ Ok end.exit) }
+{
+    let exit = exit?;
+    let notes = notes_on(rt, host, tickets, &exit);
+    Ok(RunEnd {
+        exit,
+        left: None,
+        notes,
+    })
 }

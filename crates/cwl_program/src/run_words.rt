@@ -1,9 +1,9 @@
 ghost use Rattle.std.specs.Prelude.{◌≡◌, ◌≤◌, IfOk, IfErr, Some, false, option_map};
 ghost use Rattle.clap.specs.Words.{app_of, found_of, kind_of, rows_of, rule_of};
 ghost use Rattle.cwl_program.specs.Flags.{IsLocal};
-ghost use Rattle.cwl_program.specs.RunWords.{IsChosen, named_rule, numbered_rule, placed_rule, run_command, run_wish, telling_in, wish_of_run, with_document, with_folders, with_numbers, with_options, with_progress, with_slots, with_verbose};
+ghost use Rattle.cwl_program.specs.RunWords.{IsChosen, named_rule, numbered_rule, placed_rule, run_command, run_wish, telling_in, wish_of_run, with_document, with_folders, with_keep, with_keep_failed, with_numbers, with_options, with_progress, with_slots, with_verbose};
 
-use crate::flags::{flag, is_wanted, with_flags};
+use crate::flags::{flag, is_given, is_wanted, with_flags};
 use crate::telling::Telling;
 use clap::builder::ValueParser;
 use clap::error::ErrorKind;
@@ -31,6 +31,10 @@ const VERBOSE_HELP: &str =
 const PROGRESS_HELP: &str =
     "Show in one line how many jobs are done; on a terminal it is shown unasked";
 
+const KEEP_HELP: &str = "Leave the work folder as it is at the end, and say where it is";
+
+const KEEP_FAILED_HELP: &str = "Leave it after a failure";
+
 const INPUTS_HELP: &str = "The input object's file, in JSON; without it the object is empty";
 
 /// The files and folders that the words of a run name, and the texts of its numbers.
@@ -42,6 +46,9 @@ pub struct RunWords<'a> {
     pub outdir: &'a str,
     pub slots: Option<&'a str>,
     pub retries: Option<&'a str>,
+    /// Whether the work folder is to stay, and whether it is to stay after a failure.
+    pub keep: bool,
+    pub keep_failed: bool,
     /// How to tell of the jobs.
     pub telling: Telling,
     /// Whether to say in words what went wrong.
@@ -143,13 +150,35 @@ fn progress_command<'a>(alloc: Global) -> Result<Command<'a>, Error>
     Ok(command)
 }
 
+// And with the option that leaves the work folder.
+fn keep_command<'a>(alloc: Global) -> Result<Command<'a>, Error>
+    ensures ok { IfOk result (λ command. app_of command ≡ with_keep) }
+    ensures local { IfOk result IsLocal }
+    ensures err { IfErr result (λ e. kind_of e ≡ ErrorKind.OutOfMemory) }
+{
+    let keep = flag(alloc, "keep", KEEP_HELP);
+    let command = progress_command(alloc)?.arg(keep)?;
+    Ok(command)
+}
+
+// And with the one that leaves it after a failure.
+fn keep_failed_command<'a>(alloc: Global) -> Result<Command<'a>, Error>
+    ensures ok { IfOk result (λ command. app_of command ≡ with_keep_failed) }
+    ensures local { IfOk result IsLocal }
+    ensures err { IfErr result (λ e. kind_of e ≡ ErrorKind.OutOfMemory) }
+{
+    let keep_failed = flag(alloc, "keep-failed", KEEP_FAILED_HELP);
+    let command = keep_command(alloc)?.arg(keep_failed)?;
+    Ok(command)
+}
+
 // And with the options of each command.
 fn options_command<'a>(alloc: Global) -> Result<Command<'a>, Error>
     ensures ok { IfOk result (λ command. app_of command ≡ with_options) }
     ensures local { IfOk result IsLocal }
     ensures err { IfErr result (λ e. kind_of e ≡ ErrorKind.OutOfMemory) }
 {
-    let command = progress_command(alloc)?;
+    let command = keep_failed_command(alloc)?;
     with_flags(alloc, command)
 }
 
@@ -191,6 +220,8 @@ pub fn run_words<'a>(words: &ArgMatches<'a>) -> RunWords<'a>
         outdir: words.get_str("outdir").unwrap_or("."),
         slots: words.get_str("slots"),
         retries: words.get_str("retries"),
+        keep: is_given(words, "keep"),
+        keep_failed: is_given(words, "keep-failed"),
         telling: telling_of(words),
         explain: is_wanted(words, "explain"),
     }

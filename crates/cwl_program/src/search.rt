@@ -1,17 +1,27 @@
 //! The documents that a document leads to.
 
+use crate::exit::Unreadable;
+use crate::reading::{NoBytes, bytes_of_file};
 use document_links::{Docs, LinkError, MOST_PROCESSES, needed_docs};
 use file_values::{FileError, location_to_path};
 use plain_data::{Items, Keyed, Text};
 use std::alloc::{AllocError, Global};
+use std::mem;
 use std::rt::Files;
-use std::{fs, io, mem};
 use url::{ParseError, Url};
+
+/// The documents that a document leads to, and why others of them can't be read, under their paths.
+#[derive(Drop)]
+pub struct Reached {
+    pub docs: Docs,
+    pub missed: Keyed<Unreadable>,
+}
 
 /// The documents that are read so far.
 #[derive(Drop)]
 struct Search {
     docs: Docs,
+    missed: Keyed<Unreadable>,
     // the URLs that were named so far
     named: Keyed<bool>,
     // those of them whose files were not looked at
@@ -21,11 +31,11 @@ struct Search {
 /// Reads the documents that a document leads to, where their files can be read: `MOST_PROCESSES` at most, since more are refused.
 ///
 /// A document with a fault names nothing here: what is wrong, and what is absent, is said where the documents are put together.
-pub fn docs_of<R: AllocGlobal + Files>(
+pub fn reached_from<R: AllocGlobal + Files>(
     rt: &R,
     document: &[u8],
     base: &Url,
-) -> Result<Docs, AllocError> {
+) -> Result<Reached, AllocError> {
     let mut search = Search::new(rt.alloc());
     search.add_named(rt.alloc(), document, base)?;
     for _ in 0..u64::MAX {
@@ -36,18 +46,20 @@ pub fn docs_of<R: AllocGlobal + Files>(
     }
     let Search {
         docs,
+        missed,
         named,
         waiting,
     } = search;
     mem::drop(named);
     mem::drop(waiting);
-    Ok(docs)
+    Ok(Reached { docs, missed })
 }
 
 impl Search {
     fn new(alloc: Global) -> Search {
         Search {
             docs: Docs::new(alloc),
+            missed: Keyed::new(alloc),
             named: Keyed::new(alloc),
             waiting: Vec::new(alloc),
         }
@@ -67,11 +79,30 @@ impl Search {
         let Some(base) = url_of(rt.alloc(), &url)? else {
             return Ok(());
         };
-        let Some(bytes) = bytes_of(rt, &url, &base)? else {
+        let Some(path) = path_of(rt.alloc(), &url, &base)? else {
             return Ok(());
         };
-        self.add_named(rt.alloc(), bytes.as_slice(), &base)?;
+        match bytes_of_file(rt, path.as_str()) {
+            Ok(bytes) => self.add_document(rt.alloc(), url, &base, bytes),
+            Err(NoBytes::Unreadable(why)) => self.add_missed(path, why),
+            Err(NoBytes::OutOfMemory) => Err(AllocError),
+        }
+    }
+
+    fn add_document(
+        &mut self,
+        alloc: Global,
+        url: Text,
+        base: &Url,
+        bytes: Vec<u8>,
+    ) -> Result<(), AllocError> {
+        self.add_named(alloc, bytes.as_slice(), base)?;
         self.docs.insert(url, Items::from_vec(bytes))?;
+        Ok(())
+    }
+
+    fn add_missed(&mut self, path: Text, why: Unreadable) -> Result<(), AllocError> {
+        self.missed.insert(path, why)?;
         Ok(())
     }
 
@@ -108,22 +139,10 @@ fn url_of(alloc: Global, text: &Text) -> Result<Option<Url>, AllocError> {
     }
 }
 
-fn bytes_of<R: AllocGlobal + Files>(
-    rt: &R,
-    text: &Text,
-    url: &Url,
-) -> Result<Option<Vec<u8>>, AllocError> {
-    match location_to_path(rt.alloc(), text.as_str(), url) {
-        Ok(path) => bytes_at(rt, path.as_str()),
+fn path_of(alloc: Global, text: &Text, url: &Url) -> Result<Option<Text>, AllocError> {
+    match location_to_path(alloc, text.as_str(), url) {
+        Ok(path) => Ok(Some(Text::from_string(path))),
         Err(FileError::Refused(_)) => Ok(None),
         Err(FileError::OutOfMemory) => Err(AllocError),
-    }
-}
-
-fn bytes_at<R: AllocGlobal + Files>(rt: &R, path: &str) -> Result<Option<Vec<u8>>, AllocError> {
-    match fs::read(rt, path) {
-        Ok(bytes) => Ok(Some(bytes)),
-        Err(error) if error.kind() == io::ErrorKind::OutOfMemory => Err(AllocError),
-        Err(_) => Ok(None),
     }
 }

@@ -1,16 +1,19 @@
 //! Commands as a shell would take them.
-ghost use Rattle.std.specs.Prelude.{◌≡◌, true, ◌<◌, ◌+◌, ◌==◌, if◌then◌else◌, ◌∷◌, [], ◌++◌, codes, IfOk, OnOk, string_bytes};
+ghost use Rattle.std.specs.Prelude.{◌≡◌, ◌<◌, ◌+◌, ◌==◌, if◌then◌else◌, ◌∷◌, [], ◌++◌, codes, IfOk, OnOk, string_bytes};
 ghost use Rattle.std.specs.Char.{encode_utf8};
 ghost use Rattle.std.specs.List.{list_any, list_all};
 ghost use Rattle.std.specs.Str.{chars};
 ghost use Rattle.cwl_program.specs.ShellWords as spec;
+ghost use Rattle.cwl_program.specs.Visible.{is_hidden};
 
+use crate::visible::is_hidden;
 use command_line::Launch;
 use plain_data::Text;
 use std::alloc::{AllocError, Global};
 
 /// Returns the words of a launch in one line, with the files of its streams. A word with another character than letters, digits and
-/// `%+,-./:=@_` is in single quotes; one with a control character is in `$'..'`, so that the line stays one.
+/// `%+,-./:=@_` is in single quotes; one with a control character, or one that turns the direction of writing, is in `$'..'`, so that the
+/// line stays one.
 pub fn line_of(alloc: Global, launch: &Launch) -> Result<String, AllocError>
     ensures read { IfOk result (λ line. spec.IsLineOf launch.now (string_bytes line)) }
     ensures shown { IfOk result (λ line. spec.IsShown (string_bytes line)) }
@@ -50,11 +53,12 @@ fn add_stream(line: &mut String, arrow: &str, name: &Option<Text>) -> Result<(),
     }
 }
 
-fn add_word(line: &mut String, word: &str) -> Result<(), AllocError>
+/// Adds a word as a shell takes it.
+pub fn add_word(line: &mut String, word: &str) -> Result<(), AllocError>
     ensures { OnOk result (spec.Adds (spec.IsTextOf word.now) (string_bytes line.old)
         (string_bytes line.new)) }
 {
-    if has_control(word) {
+    if has_hidden(word) {
         return add_escaped(line, word);
     }
     if !word.is_empty() && is_bare(word) {
@@ -63,10 +67,10 @@ fn add_word(line: &mut String, word: &str) -> Result<(), AllocError>
     add_quoted(line, word)
 }
 
-fn has_control(word: &str) -> bool
-    ensures { result ≡ list_any spec.is_control (chars word.now) }
+fn has_hidden(word: &str) -> bool
+    ensures { result ≡ list_any is_hidden (chars word.now) }
 {
-    word.chars().any(is_control)
+    word.chars().any(is_hidden)
 }
 
 fn is_bare(word: &str) -> bool
@@ -79,12 +83,6 @@ fn is_plain(byte: u8) -> bool
     ensures { result ≡ spec.is_bare byte }
 {
     byte.is_ascii_alphanumeric() || matches!(byte, b'%' | b'+'..=b'/' | b':' | b'=' | b'@' | b'_')
-}
-
-fn is_control(c: char) -> bool
-    ensures { result ≡ spec.is_control c }
-{
-    c < ' ' || ('\u{7f}' <= c && c <= '\u{9f}')
 }
 
 // Adds a word in single quotes.
@@ -124,7 +122,7 @@ fn add_escaped(line: &mut String, word: &str) -> Result<(), AllocError>
     line.push('\'')
 }
 
-// Adds a character inside `$'..'`, a control character by its bytes.
+// Adds a character inside `$'..'`, by its bytes where it would move, hide or turn others.
 fn add_in_dollar_quotes(line: &mut String, c: char) -> Result<(), AllocError>
     ensures { OnOk result (spec.Adds (spec.IsWritten (encode_utf8 c)) (string_bytes line.old)
         (string_bytes line.new)) }
@@ -135,24 +133,22 @@ fn add_in_dollar_quotes(line: &mut String, c: char) -> Result<(), AllocError>
     if c == '\\' {
         return line.push_str("\\\\");
     }
-    if is_control(c) {
-        return add_control(line, c);
+    if is_hidden(c) {
+        return add_bytes(line, c);
     }
     line.push(c)
 }
 
-// Adds a control character by the one or two bytes that it has.
-fn add_control(line: &mut String, c: char) -> Result<(), AllocError>
-    requires { spec.is_control c ≡ true }
+// Adds a character by its bytes.
+fn add_bytes(line: &mut String, c: char) -> Result<(), AllocError>
     ensures { OnOk result (spec.Adds (spec.IsWritten (encode_utf8 c)) (string_bytes line.old)
         (string_bytes line.new)) }
 {
-    let code = c as u8;
-    if c < '\u{80}' {
-        return add_byte(line, code);
+    let mut room = [0; 4];
+    for byte in c.encode_utf8(&mut room).as_bytes() {
+        add_byte(line, *byte)?;
     }
-    add_byte(line, 0o302)?;
-    add_byte(line, code)
+    Ok(())
 }
 
 // Adds a byte by three octal digits.

@@ -1,12 +1,13 @@
 //! What ends the program before anything is run.
-ghost use Rattle.std.specs.Prelude.{◌≡◌, IfOk, OnErr};
-ghost use Rattle.cwl_program.specs.Stops.{IsStop, IsUnread};
+ghost use Rattle.std.specs.Prelude.{◌≡◌, None, IfOk, OnErr};
+ghost use Rattle.cwl_program.specs.Stops.{IsTrouble, IsCause, IsStop, IsUnread};
 ghost use Rattle.cwl_program.specs.declared.stop.Stop.TheVariants.{OutOfMemory};
 
 use crate::exit::{Exit, Fault, Unreadable};
+use crate::reading::NoBytes;
+use crate::run_end::RunEnd;
 use plain_data::Text;
 use std::alloc::{AllocError, Global};
-use std::io;
 
 /// Why there is nothing to run.
 #[derive(Drop)]
@@ -35,30 +36,32 @@ pub fn stopped(stop: Stop) -> Result<Exit, AllocError>
     }
 }
 
+/// The same end, as that of a run which left nothing.
+pub fn stopped_run(alloc: Global, stop: Stop) -> Result<RunEnd, AllocError>
+    ensures exit { IfOk result (λ end. stop ≡ Stop.Early end.exit) }
+    ensures left { IfOk result (λ end. end.left ≡ None) }
+{
+    match stop {
+        Stop::Early(exit) => Ok(RunEnd::bare(alloc, exit)),
+        Stop::OutOfMemory => Err(AllocError),
+    }
+}
+
 /// The end of a program that can't read the file of this name, unless the read was out of memory.
-#[tactic(auto, using(crate::specs::Stops::unread))]
-pub fn unread(alloc: Global, error: &io::Error, name: &str) -> Stop
+pub fn unread(alloc: Global, trouble: NoBytes, name: &str) -> Stop
+    requires { IsTrouble trouble }
     ensures { IsStop (IsUnread name.now) result }
 {
-    let why = match error.kind() {
-        io::ErrorKind::OutOfMemory => return Stop::OutOfMemory,
-        io::ErrorKind::NotFound => Unreadable::Absent,
-        io::ErrorKind::PermissionDenied => Unreadable::Forbidden,
-        io::ErrorKind::IsADirectory => Unreadable::IsFolder,
-        _ => Unreadable::Other,
-    };
-    unread_for(alloc, name, why)
+    match trouble {
+        NoBytes::Unreadable(why) => unread_for(alloc, name, why),
+        NoBytes::OutOfMemory => Stop::OutOfMemory,
+    }
 }
 
-/// The end of a program that lacks the file of this name, where nothing tells why.
-pub fn not_there(alloc: Global, name: &str) -> Stop
-    ensures { IsStop (IsUnread name.now) result }
-{
-    unread_for(alloc, name, Unreadable::Other)
-}
-
+/// The end of a program that lacks the file of this name, and why.
 #[tactic(auto, using(crate::specs::Stops::unread))]
-fn unread_for(alloc: Global, name: &str, why: Unreadable) -> Stop
+pub fn unread_for(alloc: Global, name: &str, why: Unreadable) -> Stop
+    requires { IsCause why }
     ensures { IsStop (IsUnread name.now) result }
 {
     match Text::from_text(alloc, name) {

@@ -201,8 +201,8 @@ fn end_line(
     format!(in alloc; "end {place} [{done}/{known}] {how}, {millis} ms")
 }
 
-// How a command ended: by a code, or by a signal.
-fn ending(alloc: Global, code: Option<i32>) -> Result<String, AllocError>
+/// How a command ended: by a code, or by a signal.
+pub fn ending(alloc: Global, code: Option<i32>) -> Result<String, AllocError>
     ensures { IfOk result (λ text. string_bytes text ≡ spec.ending code) }
 {
     match code {

@@ -1,9 +1,7 @@
 -- The rows that the query for all rows shows ascend by the bytes of their keys.
-use Rattle.std.proofs.Common.{◌≡◌, inl, inr, ℕ, zero, suc, ◌+◌, ◌<◌, ◌≤◌, Bool, true, false, List, [], ◌∷◌, length, map, get_or, refl, sym, ap, subst, ◌∙◌, Ordering, Less, Equal, Greater, arith}
-use Rattle.std.specs.Ordering.{nat_cmp, is_lt, ordering_then}
-use Rattle.std.specs.Cmp.Lexicographic.{slice_cmp}
+use Rattle.std.proofs.Common.{◌≡◌, inl, inr, ℕ, zero, suc, ◌+◌, ◌<◌, List, [], ◌∷◌, length, map, get_or, refl, sym, ap, subst, ◌∙◌, Ordering, Less, Equal, Greater, arith}
+use Rattle.std.specs.Ordering.{is_lt, ordering_then}
 use Rattle.std.specs.List.Sorted.{IsSorted}
-use Rattle.sqlite.specs.declared.types.Value.{Value}
 use Rattle.sqlite.specs.declared.types.Value.TheVariants.{Null, Text}
 use Rattle.sqlite.specs.Order.{Row as Columns, column}
 use Rattle.sqlite.specs.Tree.{Trees}
@@ -15,7 +13,7 @@ use Rattle.sqlite_rules.proofs.ProbeLemmas.{has_mapped}
 use Rattle.job_rows.specs.declared.row.Row.{Row}
 use Rattle.job_record.specs.Columns.{IsRowOf, AreRowsOf}
 use Rattle.job_record.specs.Map.{by_key}
-use Rattle.job_record.proofs.Compiled.{columns, list_query}
+use Rattle.job_record.proofs.Compiled.{list_query}
 use Rattle.job_record.proofs.Shapes.{Laid}
 use Rattle.job_record.proofs.Shown.{permuted, passes, from_chosen}
 

@@ -1,28 +1,18 @@
 -- The rows that an edit of one key leaves.
-use Rattle.std.proofs.Common.{◌≡◌, ◌≢◌, ◌⊎◌, inl, inr, ℕ, ℤ, Bool, true, false, not, ◌&&◌, List, [], ◌∷◌, length, map, drop, subst, refl, sym, ap, ◌∙◌, Ordering, Less, Equal, Greater, true≢false}
+use Rattle.std.proofs.Common.{◌≡◌, ◌≢◌, inl, inr, ℕ, ℤ, true, List, [], ◌∷◌, subst, refl, sym, ap, ◌∙◌, Ordering, Less, Equal, Greater, true≢false}
 use Rattle.std.proofs.lemmas.Bool.{and_parts, not-true, both_ways, false_from_ne_true}
 use Rattle.std.proofs.lemmas.Cmp.{tied_itself, tied_back}
 use Rattle.std.specs.Ordering.{is_eq}
-use Rattle.sqlite.specs.declared.types.Value.{Value}
-use Rattle.sqlite.specs.declared.types.Value.TheVariants.{Null, Int, Text}
+use Rattle.sqlite.specs.declared.types.Value.TheVariants.{Int, Text}
 use Rattle.sqlite.specs.Order.{Row, column, value_cmp}
 use Rattle.sqlite_value.proofs.OrderLemmas.{value_cmp_total}
-use Rattle.sqlite.specs.Tree.{Trees, rowid, has_rowid}
-use Rattle.sqlite.specs.Cast.{cast_row}
-use Rattle.sqlite.specs.Edit.{Edit, edit_of, edited, left_by, id_in, numbered, without_all, put_all, are_fresh, is_taken, Applies}
-use Rattle.sqlite.specs.Rowids.TheVariants.{Given}
-use Rattle.sqlite.specs.Term.{Term, eval_all}
-use Rattle.sqlite_schema.specs.declared.schema.Keys.{Keys}
+use Rattle.sqlite.specs.Tree.{rowid, has_rowid}
+use Rattle.sqlite.specs.Edit.{without_all, put_all, are_fresh}
 use Rattle.sqlite_rules.specs.Lists.{Has}
-use Rattle.sqlite_rules.specs.Calls.{ids_of}
 use Rattle.sqlite_rules.proofs.ListLemmas.{some_from}
-use Rattle.sqlite_rules.proofs.ProbeLemmas.{has_mapped, mapped_has}
-use Rattle.sqlite_rules.proofs.PlaceLemmas.{given}
 use Rattle.sqlite_rules.proofs.TableLemmas.{put_all_has, put_all_keeps, put_all_adds}
-use Rattle.job_record.specs.Tables.{job_at, record_schema}
-use Rattle.job_record.specs.Map.{IsKeyed, AreKeysApart}
+use Rattle.job_record.specs.Map.{IsKeyed}
 use Rattle.job_record.proofs.RowMap.{SetsRow, ClearsRow, set_apart, clear_apart}
-use Rattle.job_record.proofs.Shown.{AreShown, passes}
 use Rattle.job_record.proofs.Edits.{left_has, has_left}
 
 equal_is : (o : Ordering) → is_eq o ≡ true → o ≡ Equal

@@ -1,15 +1,19 @@
 mod After
+mod Answered
 mod Compiled
 mod Edits
 mod Files
 mod FoundAgain
+mod HeldRow
 mod KeyOrder
 mod KeyTest
+mod KeptRows
 mod KeyedRows
 mod Looked
 mod Made
 mod MapSteps
 mod OneKey
+mod OneRow
 mod OpenSafe
 mod OpenedMap
 mod Opens
@@ -22,5 +26,7 @@ mod Safe
 mod SafeCalls
 mod Shapes
 mod Shown
+mod SomeRows
 mod Unmade
 mod Writing
+mod WrittenRow

@@ -1,5 +1,5 @@
 -- What is made of a store that has no table.
-use Rattle.std.proofs.Common.{◌≡◌, ◌≢◌, ◌⊎◌, inl, inr, ℕ, pos, Bool, true, false, not, ◌&&◌, List, [], ◌∷◌, MatchBool, Option, Some, None, Ok, Err, Result, refl, sym, ap, subst, ◌∙◌, arith}
+use Rattle.std.proofs.Common.{◌≡◌, ◌≢◌, ℕ, false, List, [], MatchBool, None, Ok, refl, sym, ap, subst, ◌∙◌, arith}
 use Rattle.sqlite.specs.Store.{Ghosts}
 use Rattle.sqlite.specs.Schema.{Schema}
 use Rattle.sqlite.specs.Table.{Table}
@@ -15,13 +15,13 @@ use Rattle.sqlite.specs.Effect.{Database, IsDatabase}
 use Rattle.sqlite.specs.Does.{Tally, Does, lacks_sequence, sequence_text, MakesTable, MakesSequence}
 use Rattle.sqlite.specs.Rows.{Written, Gives}
 use Rattle.sqlite.specs.Listing.{understood}
-use Rattle.sqlite.specs.State.{State, mode_of, Shows, Executes}
+use Rattle.sqlite.specs.State.{State, mode_of, Executes}
 use Rattle.sqlite.specs.Held.{Held, state}
 use Rattle.sqlite.proofs.Callers.{IsPlain, command_of, statement_of, runs_as, one_step}
 use Rattle.job_record.specs.Tables.{meta_at, job_at, no_schema, record_schema}
 use Rattle.job_record.specs.Statements.{make_meta, make_job, note_version}
 use Rattle.job_record.specs.Opening.{MakesTables}
-use Rattle.job_record.proofs.Compiled.{meta_schema, note_command, version_row, schema_is, make_meta_is, make_meta_plain, make_meta_defines, make_job_is, make_job_plain, make_job_defines, note_is, note_plain}
+use Rattle.job_record.proofs.Compiled.{meta_schema, note_command, schema_is, make_meta_is, make_meta_plain, make_meta_defines, make_job_is, make_job_plain, make_job_defines, note_is, note_plain}
 use Rattle.job_record.proofs.Writing.{went, same_value}
 
 -- ---- CREATE TABLE, where no table counts its rowids

@@ -1,9 +1,8 @@
 -- What each command makes of the map.
-use Rattle.std.proofs.Common.{◌≡◌, ◌⊎◌, inl, inr, ℕ, zero, suc, pos, min, ◌-◌, ◌^◌, if◌then◌else◌, false, List, [], ◌∷◌, Option, Some, None, Ok, Err, Result, IsTrue, refl, sym, ap, subst, ◌∙◌}
+use Rattle.std.proofs.Common.{◌≡◌, ◌⊎◌, inl, inr, ℕ, zero, suc, pos, min, ◌-◌, ◌^◌, if◌then◌else◌, false, List, [], Option, Some, None, Ok, Err, Result, refl, sym, ap, subst, ◌∙◌}
 use Rattle.sqlite.specs.Store.{Ghosts}
 use Rattle.sqlite.specs.Order.{Row as Columns}
 use Rattle.sqlite.specs.declared.error.Error.{Error}
-use Rattle.sqlite.specs.declared.error.Error.TheVariants.{QueryReturnedNoRows}
 use Rattle.sqlite.specs.Effect.{Database, IsDatabase}
 use Rattle.sqlite.specs.State.{State, IsUnchanged, IsRolledBack, Executes, Shown}
 use Rattle.sqlite.specs.Held.{Held, state}
@@ -13,7 +12,7 @@ use Rattle.job_record.specs.declared.fault.RecordFault.{RecordFault}
 use Rattle.job_record.specs.declared.fault.RecordFault.TheVariants.{NotARecord, WrongVersion, NoRow, Store, OutOfMemory}
 use Rattle.job_record.specs.Statements.{find_text, list_text, put_text, drop_archive_text, forget_text, key_params, put_params}
 use Rattle.job_record.specs.RecordMap.{Finds, Puts, Changes, Lists, changed}
-use Rattle.job_record.specs.Map.{held_in, held, IsKeyed, IsRecord, IsSame, Stands, FindsIn, PutsIn, DropsIn, ForgetsIn, ListsIn}
+use Rattle.job_record.specs.Map.{held_in, IsKeyed, IsRecord, IsSame, Stands, FindsIn, PutsIn, DropsIn, ForgetsIn, ListsIn}
 use Rattle.job_record.proofs.OneKey.{drops, forgets}
 use Rattle.job_record.specs.Texts.{texts_of}
 use Rattle.job_record.proofs.Putting.{puts}

@@ -1,23 +1,20 @@
 -- What the statements on one key make of a record.
-use Rattle.std.proofs.Common.{◌≡◌, ◌≢◌, ◌⊎◌, inl, inr, ℕ, zero, suc, ℤ, pos, Bool, true, false, cond, if◌then◌else◌, List, [], ◌∷◌, ◌++◌, length, map, take, drop, Option, Some, None, Ok, Err, Result, refl, sym, ap, subst, ◌∙◌}
+use Rattle.std.proofs.Common.{◌≡◌, ◌⊎◌, inl, inr, ℕ, suc, ℤ, pos, true, cond, if◌then◌else◌, List, [], ◌∷◌, length, map, drop, Some, None, Ok, refl, sym, ap, subst, ◌∙◌}
 use Rattle.std.specs.Str.{bytes_eq}
-use Rattle.std.specs.List.{list_all}
 use Rattle.sqlite.specs.declared.types.Value.{Value}
-use Rattle.sqlite.specs.declared.types.Value.TheVariants.{Null, Int, Text}
+use Rattle.sqlite.specs.declared.types.Value.TheVariants.{Int, Text}
 use Rattle.sqlite.specs.Order.{Row, column}
 use Rattle.sqlite.specs.Tree.{Trees, rowid}
 use Rattle.sqlite.specs.Term.{Term, col, eval_all}
 use Rattle.sqlite.specs.Cast.{cast_row}
 use Rattle.sqlite.specs.Command.{Command}
-use Rattle.sqlite.specs.Command.TheVariants.{Update, Delete}
-use Rattle.sqlite.specs.Edit.{id_in, taken_by, row_at, edit_of, left_by, edited, without_all, put_all, Applies}
+use Rattle.sqlite.specs.Edit.{id_in, taken_by, row_at, edit_of, without_all, Applies}
 use Rattle.sqlite_schema.specs.declared.schema.Keys.TheVariants.{Enforced}
 use Rattle.sqlite_rules.specs.Lists.{Has}
 use Rattle.sqlite_rules.specs.Calls.{ids_of}
 use Rattle.sqlite_rules.proofs.ProbeLemmas.{has_mapped}
 use Rattle.sqlite_rules.proofs.PlaceLemmas.{given as given_numbers}
 use Rattle.sqlite.specs.Rowids.TheVariants.{Given}
-use Rattle.sqlite.specs.Effect.{Database, IsDatabase}
 use Rattle.sqlite.specs.Listing.{understood}
 use Rattle.sqlite.specs.State.{State, Writes, Executes}
 use Rattle.sqlite.proofs.Callers.{runs_as, statement_of}
@@ -26,7 +23,7 @@ use Rattle.job_record.specs.Statements.{drop_archive_text, forget_text}
 use Rattle.job_record.proofs.Compiled.{has_key, drop_project, forget_project, drop_is, drop_plain, forget_is, forget_plain}
 use Rattle.job_record.proofs.Shapes.{Laid, laid_in}
 use Rattle.job_record.proofs.KeyTest.{same_text, text_itself, key_passes}
-use Rattle.job_record.specs.Map.{held_in, IsRecord, held, unarchived, IsKeyed}
+use Rattle.job_record.specs.Map.{IsRecord, held, unarchived, IsKeyed}
 use Rattle.job_record.proofs.RowMap.{held_row, held_none, SetsRow, ClearsRow, set_is, clear_is}
 use Rattle.job_record.proofs.Shown.{AreShown, passes}
 use Rattle.job_record.proofs.Edits.{cast_int}

@@ -1,5 +1,5 @@
 -- What a crash leaves after a record is opened, or refused.
-use Rattle.std.proofs.Common.{◌≡◌, inl, inr, ℕ, List, [], Option, Some, None, Ok, Err, Result, IsTrue, refl, sym, true≢false}
+use Rattle.std.proofs.Common.{◌≡◌, inl, inr, ℕ, List, [], Option, Some, None, Ok, IsTrue, refl}
 use Rattle.sqlite.specs.Store.{Ghosts}
 use Rattle.sqlite.specs.Order.{Row as Columns}
 use Rattle.sqlite.specs.Tree.{Trees}
@@ -7,7 +7,6 @@ use Rattle.sqlite_schema.specs.declared.command.Returning.{Returning}
 use Rattle.sqlite_resolve.specs.declared.compiled.Compiled.{Compiled}
 use Rattle.sqlite.specs.State.{State, HasCleanDisk, ShowsRows, Shown, QueriesRow}
 use Rattle.sqlite.specs.Held.{Held, state}
-use Rattle.job_record.specs.declared.fault.RecordFault.{RecordFault}
 use Rattle.job_record.specs.Statements.{version_text}
 use Rattle.job_record.specs.Map.{held}
 use Rattle.job_record.specs.Opening.{ReadsVersion, Opens}

@@ -1,5 +1,5 @@
 -- What opening a record makes of the map.
-use Rattle.std.proofs.Common.{◌≡◌, ◌⊎◌, inl, inr, ℕ, false, true, List, [], Some, None, Ok, Err, Result, IsTrue, refl, sym, ap, subst, ◌∙◌, true≢false}
+use Rattle.std.proofs.Common.{◌≡◌, ◌⊎◌, inl, inr, ℕ, false, true, List, [], Ok, Err, Result, IsTrue, sym, ap, subst, ◌∙◌, true≢false}
 use Rattle.std.specs.Prelude.{IsOk}
 use Rattle.sqlite.specs.Store.{Ghosts}
 use Rattle.sqlite.specs.Order.{Row as Columns}
@@ -8,21 +8,20 @@ use Rattle.sqlite.specs.Tree.{Trees}
 use Rattle.sqlite.specs.declared.error.Error.{Error}
 use Rattle.sqlite.specs.Effect.{Database, IsDatabase}
 use Rattle.sqlite.specs.Listing.{understood}
-use Rattle.sqlite.specs.State.{State, HasCleanDisk, Survives, IsUnchanged, IsRolledBack, IsNotRun, QueriesRow, CommitsShowing}
+use Rattle.sqlite.specs.State.{State, HasCleanDisk, Survives, IsUnchanged, IsRolledBack, IsNotRun, CommitsShowing}
 use Rattle.sqlite.specs.Held.{Held, state}
 use Rattle.sqlite.proofs.Callers.{IsPlain, unchanged_then, never_commits}
 use Rattle.sqlite.proofs.StateLemmas.{survives_then, survives_weaker}
-use Rattle.sqlite_resolve.specs.declared.error.CompileError.TheVariants.{NoSuchTable}
 use Rattle.job_record.specs.declared.fault.RecordFault.{RecordFault}
 use Rattle.job_record.specs.declared.fault.RecordFault.TheVariants.{NotARecord, WrongVersion, NoRow, Store, OutOfMemory}
 use Rattle.job_record.specs.Tables.{no_schema, record_schema}
 use Rattle.job_record.specs.Statements.{version_text, list_text}
-use Rattle.job_record.specs.Map.{held_in, held, IsKeyed, IsRecord, IsSame, Stands}
-use Rattle.job_record.specs.Opening.{HasTables, ReadsVersion, MakesTables, Makes, IsReady, GoesBack, IsUnready, Opens}
+use Rattle.job_record.specs.Map.{held_in, IsKeyed, IsRecord, IsSame, Stands}
+use Rattle.job_record.specs.Opening.{HasTables, ReadsVersion, Makes, IsReady, IsUnready, Opens}
 use Rattle.job_record.specs.OpenMap.{IsBlank, IsEmptyRecord, OpensAs, RefusesAs, AreEmptyRecord, CrashesAs}
-use Rattle.job_record.specs.inner.Crash.{CommitsTables, CommitsReady, OpensMap}
-use Rattle.job_record.proofs.Compiled.{list_plain, version_plain, version_absent}
-use Rattle.job_record.proofs.Made.{AreMade, tables_made}
+use Rattle.job_record.specs.inner.Crash.{CommitsReady, OpensMap}
+use Rattle.job_record.proofs.Compiled.{version_plain, version_absent}
+use Rattle.job_record.proofs.Made.{tables_made}
 use Rattle.job_record.proofs.MapSteps.{same_shows, undone_stands}
 use Rattle.job_record.proofs.Reading.{row_same, error_same, list_is_plain}
 

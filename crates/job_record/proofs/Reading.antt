@@ -1,8 +1,7 @@
 -- What the query for a key shows of a record.
-use Rattle.std.proofs.Common.{◌≡◌, ◌⊎◌, inl, inr, ℕ, List, [], ◌∷◌, ◌++◌, drop, Option, Some, None, Ok, Err, Result, refl, sym, ap, subst, ◌∙◌}
+use Rattle.std.proofs.Common.{◌≡◌, ◌⊎◌, inl, inr, ℕ, List, [], ◌∷◌, drop, Option, Some, None, Ok, Err, refl, sym, ap, subst, ◌∙◌}
 use Rattle.sqlite.specs.declared.types.Value.TheVariants.{Text}
 use Rattle.sqlite.specs.Order.{Row, column}
-use Rattle.sqlite.specs.Command.{Command}
 use Rattle.sqlite.specs.Command.TheVariants.{Select}
 use Rattle.sqlite.specs.Term.{col, eval_all}
 use Rattle.sqlite.specs.declared.error.Error.{Error}
@@ -15,7 +14,6 @@ use Rattle.sqlite.proofs.Callers.{IsPlain, command_of, first_as, reads_as}
 use Rattle.sqlite_trees.specs.declared.error.StoreError.{StoreError}
 use Rattle.sqlite_trees.specs.declared.error.StoreError.TheVariants.{OutOfMemory, Io, Corrupt, Full, Broken, Unstorable}
 use Rattle.sqlite_schema.specs.declared.program.Program.{Program}
-use Rattle.sqlite_resolve.specs.declared.compiled.Compiled.{Compiled}
 use Rattle.sqlite.specs.Collation.TheVariants.{Binary}
 use Rattle.sqlite_value.specs.Keys.{ascending}
 use Rattle.sqlite_rules.specs.Lists.{Has}
@@ -59,7 +57,7 @@ module _ (sql : List ℕ) (params : Row) (old new : State) (plain : IsPlain (und
   error_same e (inl h) = failed_same e h
   error_same e (inr h) = inl (shown_same [] h.1)
 
-no_cause : (cause : StoreError) → QueryReturnedNoRows ≡ store_error cause → ⊥
+pub no_cause : (cause : StoreError) → QueryReturnedNoRows ≡ store_error cause → ⊥
 no_cause OutOfMemory h = cc
 no_cause Io h = cc
 no_cause Corrupt h = cc

@@ -1,11 +1,10 @@
 -- Rows that are read one after another, and the one row that columns read as.
-use Rattle.std.proofs.Common.{inl, inr, ◌≡◌, ℕ, ◌+◌, ◌<◌, suc, List, [], ◌∷◌, ◌++◌, take, drop, drop-cons, length, get_or, refl, sym, ap, subst, ◌∙◌}
+use Rattle.std.proofs.Common.{inl, inr, ◌≡◌, ℕ, ◌+◌, ◌<◌, List, [], ◌∷◌, ◌++◌, take, length, get_or, sym, ap, subst, ◌∙◌}
 use Rattle.std.proofs.lemmas.List as lists
 use Rattle.sqlite.specs.Order.{Row as Columns}
 use Rattle.job_rows.specs.declared.row.Row.{Row}
-use Rattle.job_record.specs.declared.texts.Stored.{Stored}
 use Rattle.job_record.specs.declared.fault.RecordFault.{RecordFault}
-use Rattle.job_record.specs.Columns.{AreColumnsOf, IsRowOf, IsUnread, AreRowsOf, Misreads}
+use Rattle.job_record.specs.Columns.{IsRowOf, AreRowsOf, Misreads}
 
 pub rows_more : (cs : List Columns) (rows : List Row) (c : Columns) (row : Row) → AreRowsOf cs rows → IsRowOf c row → AreRowsOf (cs ++ c ∷ []) (rows ++ row ∷ [])
 rows_more [] [] c row before now = (now, tt)

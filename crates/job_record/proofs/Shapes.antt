@@ -1,13 +1,12 @@
 -- Each row of the table `job` has a rowid, three texts and two numbers.
-use Rattle.std.proofs.Common.{◌≡◌, ℕ, ℤ, Bool, true, false, not, ◌&&◌, List, [], ◌∷◌, drop, refl, sym, ap, ◌∙◌, true≢false}
+use Rattle.std.proofs.Common.{◌≡◌, ℕ, ℤ, Bool, true, false, not, ◌&&◌, List, [], ◌∷◌, drop, refl, sym, true≢false}
 use Rattle.std.proofs.lemmas.Bool.{and_parts, not-true}
 use Rattle.sqlite.specs.declared.types.Value.{Value}
 use Rattle.sqlite.specs.declared.types.Value.TheVariants.{Null, Int, Real, Text, Blob}
 use Rattle.sqlite.specs.Order.{Row}
 use Rattle.sqlite_sql.specs.Ops.{is_null}
 use Rattle.sqlite.specs.Kind.TheVariants as kind
-use Rattle.sqlite.specs.Table.{Table}
-use Rattle.sqlite_schema.specs.Rules.{is_of, are_typed, are_present, passes}
+use Rattle.sqlite_schema.specs.Rules.{is_of, are_typed, are_present}
 use Rattle.sqlite_schema.specs.declared.schema.Constraint.TheVariants.{Datatype, NotNull}
 use Rattle.sqlite.specs.Effect.{Database, IsDatabase}
 use Rattle.sqlite_rules.specs.Lists.{Has}

@@ -8,4 +8,5 @@ pub mod Log
 pub mod Opening
 pub mod OpenMap
 pub mod Crash
+pub mod Rows
 pub mod inner

@@ -1,5 +1,5 @@
 -- What each command makes of the store: the meaning of its statement, by the words of `sqlite`.
-use Rattle.std.specs.Prelude.{◌≡◌, ◌≢◌, ◌⊎◌, ℕ, zero, suc, List, [], Option, Some, None, Result, Ok, Err, Any}
+use Rattle.std.specs.Prelude.{◌≡◌, ◌≢◌, ◌⊎◌, ℕ, zero, suc, List, [], Option, Some, None, Result, Ok, Err, Any, IsTrue}
 use Rattle.sqlite.specs.Order.{Row as Columns}
 use Rattle.sqlite.specs.Store.{Ghosts}
 use Rattle.sqlite.specs.declared.error.Error.{Error}
@@ -22,6 +22,15 @@ abbrev pub changed : Result ℕ Error → Result (Unit {0}) RecordFault
 changed (Ok zero) = Err NoRow
 changed (Ok (suc n)) = Ok tt
 changed (Err e) = Err (Store e)
+
+-- only where the connection is open is a command done, or told that there is no such row, or that it does not read
+abbrev pub AnswersOpen : {T : Type 0} → State → Result T RecordFault → Type 0
+AnswersOpen old (Ok value) = IsTrue old.is_open
+AnswersOpen old (Err NotARecord) = IsTrue old.is_open
+AnswersOpen old (Err WrongVersion) = Unit {0}
+AnswersOpen old (Err NoRow) = IsTrue old.is_open
+AnswersOpen old (Err (Store e)) = Unit {0}
+AnswersOpen old (Err OutOfMemory) = Unit {0}
 
 module _ {S : Type 0} (g : Ghosts S) (old new : Held S) where
   -- ---- find

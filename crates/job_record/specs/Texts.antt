@@ -1,6 +1,6 @@
 -- The texts in which a row is kept: the outputs as the canonical text of the object that they are, the files as a list of
 -- `[name, is_dir, size, sum]`.
-use Rattle.std.specs.Prelude.{◌≡◌, ℕ, Bool, List, [], ◌∷◌, map, Option, Some, None, option_map, option_and_then, Ok}
+use Rattle.std.specs.Prelude.{◌≡◌, ℕ, Bool, List, [], ◌∷◌, map, Option, Some, None, option_map, option_and_then, Ok, IsUtf8}
 use Rattle.serde_json.specs.Data.{Data, boolean, number, string, array, unsigned, Items, no_items, item}
 use Rattle.serde_json.specs.View.{items_of}
 use Rattle.serde_json.specs.Find.{at, as_str, as_bool, as_number, as_u64}
@@ -67,3 +67,14 @@ pub record ReadsAsRow (s : Stored) (row : Row) : Type 0 where
   pub files : ReadsAsFiles s.files row.files
   pub cost : row.cost ≡ s.cost
   pub archived : row.archived ≡ s.archived
+
+-- the texts of the row are UTF-8, and read as the row
+pub record ReadsBack (row : Row) : Type 0 where
+  pub key : IsUtf8 row.key
+  pub outputs : IsUtf8 (texts_of row).outputs
+  pub files : IsUtf8 (texts_of row).files
+  pub whole : ReadsAsRow (texts_of row) row
+
+-- the texts that a row is given are UTF-8
+abbrev pub AreUtf8 : Stored → Type 0
+AreUtf8 s = IsUtf8 s.key × IsUtf8 s.outputs × IsUtf8 s.files

@@ -6,6 +6,8 @@ ghost use Rattle.sqlite.specs.State.{HasCleanDisk, Survives, CommitsBy, CommitsS
 ghost use Rattle.sqlite.specs.Held.{state};
 ghost use Rattle.job_rows.specs.Log.{entries_of};
 ghost use Rattle.job_record.specs.Statements.{find_text, list_text, put_text, key_params, put_params};
+ghost use Rattle.job_rows.specs.Storable.{IsKept};
+ghost use Rattle.job_record.specs.Texts.{ReadsBack};
 ghost use Rattle.job_record.specs.Columns.{IsRowOf, IsUnread, AreRowsOf, Misreads};
 ghost use Rattle.job_record.specs.RecordMap.{Finds, Puts, Lists, changed};
 ghost use Rattle.job_record.specs.inner.Crash.{RunsOpen, ChangesOpen};
@@ -78,6 +80,7 @@ pub fn set<S: Alter>(alloc: Global, conn: &mut Connection<S>, row: &Row) -> Resu
         (CommitsBy put_text (put_params row.now) (state S.Store conn.old)) }
     ensures open { HasCleanDisk (state S.Store conn.new)
         → ChangesOpen (state S.Store conn.old) (state S.Store conn.new) result }
+    ensures reads_back { OnOk result (IsKept row.now.outputs → ReadsBack row.now) }
 {
     let Ok(stored) = stored_of(alloc, row) else {
         return Err(RecordFault::OutOfMemory);

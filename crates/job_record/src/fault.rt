@@ -1,7 +1,8 @@
 ghost use Rattle.std.specs.Prelude.{◌≡◌};
 ghost use Rattle.job_record.specs.Log.{told_of};
+ghost use Rattle.job_record.specs.Rows.{error_of};
 
-use job_rows::RecordRefusal;
+use job_rows::{RecordError, RecordRefusal};
 use sqlite::Error as StoreError;
 use std::alloc::{AllocError, AllocFailed};
 use std::fmt;
@@ -96,5 +97,18 @@ pub fn told_of<T>(answer: &Result<T, RecordFault>) -> Option<Result<(), RecordRe
         Err(RecordFault::NoRow) => Some(Err(RecordRefusal::NoRow)),
         Err(RecordFault::Store(_)) => Some(Err(RecordRefusal::Store)),
         Err(RecordFault::OutOfMemory) => None,
+    }
+}
+
+/// The fault without the store's own cause.
+pub fn error_of(fault: RecordFault) -> RecordError
+    ensures { result ≡ error_of fault }
+{
+    match fault {
+        RecordFault::NotARecord => RecordError::Refused(RecordRefusal::NotARecord),
+        RecordFault::WrongVersion => RecordError::Refused(RecordRefusal::WrongVersion),
+        RecordFault::NoRow => RecordError::Refused(RecordRefusal::NoRow),
+        RecordFault::Store(_) => RecordError::Refused(RecordRefusal::Store),
+        RecordFault::OutOfMemory => RecordError::OutOfMemory,
     }
 }

@@ -5,7 +5,8 @@
 //! `drop_archive` says that its archive is gone, `forget` takes the row out, and `list` gives all rows by key.
 //! Each command is one SQL statement (`specs/Statements.antt`), and its contract is that statement's meaning with the
 //! command's arguments. A refused command changes nothing, and one that was answered done outlives a crash
-//! (`specs/Crash.antt`). The record keeps a log: each command adds one entry.
+//! (`specs/Crash.antt`). The record keeps a log: each command adds one entry. A run asks it as a `Record` of `job_rows`
+//! (`specs/Rows.antt`).
 #![tactic(auto)]
 
 mod commands;
@@ -13,9 +14,10 @@ mod fault;
 mod laws;
 mod making;
 mod record;
+mod rows;
 mod tables;
 mod texts;
 
 pub use fault::RecordFault;
-pub use laws::see_record;
+pub use laws::{see_record, see_rows};
 pub use record::JobRecord;

@@ -1,11 +1,14 @@
-ghost use Rattle.std.specs.Prelude.{◌≡◌, ◌≢◌, [], false, Ok, Err, IfOk, IfErr};
+ghost use Rattle.std.specs.Prelude.{◌≡◌, ◌≢◌, [], false, Ok, Err, IfOk, IfErr, OnOk};
 ghost use Rattle.sqlite.specs.State.{HasCleanDisk, KeepsCommit, Survives, CommitsBy, CommitsShowing};
 ghost use Rattle.sqlite.specs.Held.{state};
 ghost use Rattle.job_record.specs.Statements.{find_text, list_text, put_text, drop_archive_text, forget_text, key_params, put_params};
 ghost use Rattle.job_record.specs.declared.fault.RecordFault.TheVariants.{NoRow};
-ghost use Rattle.job_record.specs.RecordMap.{Finds, Puts, Changes, Lists};
+ghost use Rattle.job_record.specs.RecordMap.{Finds, Puts, Changes, Lists, AnswersOpen};
 ghost use Rattle.job_record.specs.Map.{IsRecord, FindsIn, PutsIn, DropsIn, ForgetsIn, ListsIn};
 ghost use Rattle.job_record.specs.Log.{Logs};
+ghost use Rattle.job_record.specs.Rows.{OpensWithRows};
+ghost use Rattle.job_record.specs.Texts.{ReadsBack};
+ghost use Rattle.job_rows.specs.Storable.{IsKept};
 ghost use Rattle.job_record.specs.Opening.{Opens};
 ghost use Rattle.job_record.specs.OpenMap.{OpensAs, RefusesAs, CrashesAs};
 ghost use Rattle.job_record.specs.Crash.{sets, unarchives, forgets, ChangesSafely, ReadsSafely, OpensSafely, RefusesSafely};
@@ -66,6 +69,8 @@ impl<S: Alter + Drop> JobRecord<S> {
             → OpensSafely (state S.Store conn) (state S.Store opened.conn)) }
         ensures safe_refused { IfErr result (λ left. HasCleanDisk (state S.Store left.1)
             → RefusesSafely (state S.Store conn) (state S.Store left.1)) }
+        ensures rows { IfOk result (λ opened. HasCleanDisk (state S.Store opened.conn)
+            → OpensWithRows (state S.Store conn) (state S.Store opened.conn)) }
         ensures log { IfOk result (λ opened. opened.log.items ≡ []) }
     {
         match open_tables(&mut conn) {
@@ -115,6 +120,8 @@ impl<S: Alter> JobRecord<S> {
             (CommitsShowing find_text (key_params key.now) (state S.Store self.old.conn)) }
         ensures safe { HasCleanDisk (state S.Store self.new.conn)
             → ReadsSafely (state S.Store self.old.conn) (state S.Store self.new.conn) }
+        ensures open { HasCleanDisk (state S.Store self.new.conn)
+            → AnswersOpen (state S.Store self.old.conn) result }
         ensures log { Logs Command.Find key.now result self.old.log.items self.new.log.items }
     {
         let noted = room(self.alloc, &mut self.log, key)?;
@@ -143,6 +150,9 @@ impl<S: Alter> JobRecord<S> {
         ensures safe { HasCleanDisk (state S.Store self.new.conn)
             → ChangesSafely (state S.Store self.old.conn) (state S.Store self.new.conn)
             (sets row.now.key (put_params row.now)) result }
+        ensures open { HasCleanDisk (state S.Store self.new.conn)
+            → AnswersOpen (state S.Store self.old.conn) result }
+        ensures reads_back { OnOk result (IsKept row.now.outputs → ReadsBack row.now) }
         ensures log { Logs Command.Put row.now.key result self.old.log.items self.new.log.items }
     {
         let noted = room(self.alloc, &mut self.log, row.key.as_str())?;
@@ -171,6 +181,8 @@ impl<S: Alter> JobRecord<S> {
         ensures safe { HasCleanDisk (state S.Store self.new.conn)
             → ChangesSafely (state S.Store self.old.conn) (state S.Store self.new.conn)
             (unarchives key.now) result }
+        ensures open { HasCleanDisk (state S.Store self.new.conn)
+            → AnswersOpen (state S.Store self.old.conn) result }
         ensures log { Logs Command.DropArchive key.now result self.old.log.items
             self.new.log.items }
     {

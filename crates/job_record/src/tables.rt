@@ -9,6 +9,7 @@ ghost use Rattle.sqlite.specs.State.{HasCleanDisk, Survives, Executes, QueriesRo
 ghost use Rattle.sqlite.specs.Held.{state};
 ghost use Rattle.sqlite.specs.Values.{bound};
 ghost use Rattle.job_record.specs.Statements.{version_text, find_text, list_text, put_text, drop_archive_text, forget_text, key_params};
+ghost use Rattle.job_record.specs.Texts.{AreUtf8};
 ghost use Rattle.job_record.specs.Columns.{columns_of, IsText, AreColumnsOf, Misreads, misread_as};
 ghost use Rattle.job_record.specs.inner.Crash.{RunsOpen, ChangesOpen};
 
@@ -83,6 +84,7 @@ pub fn put<S: Alter>(conn: &mut Connection<S>, row: &Stored) -> Result<usize, Er
         (CommitsBy put_text (columns_of row.now) (state S.Store conn.old)) }
     ensures open { HasCleanDisk (state S.Store conn.new)
         → ChangesOpen (state S.Store conn.old) (state S.Store conn.new) result }
+    ensures utf8 { AreUtf8 row.now }
 {
     let cost = held_cost(row.cost);
     run(

@@ -7,10 +7,11 @@ ghost use Rattle.cwl_value.specs.Json.{json_of};
 ghost use Rattle.cwl_value.specs.Texts.{ReadsAs};
 ghost use Rattle.cwl_value.specs.declared.value.Value.{Fields};
 ghost use Rattle.job_record.specs.Texts.{found_json, files_json, found_in, list_in, text_at, flag_at, number_at, ReadsAsFiles, texts_of, ReadsAsRow};
+ghost use Rattle.job_rows.specs.Storable.{IsKept};
 ghost use Rattle.job_record.specs.Columns.{Misreads};
 
 use crate::fault::RecordFault;
-use cwl_value::{Value, ValueRefusal, canonical_text, copy_fields, read_value};
+use cwl_value::{Value, ValueRefusal, copy_fields, read_value, to_json};
 use job_rows::Row;
 use plain_data::{Items, Keyed, Text};
 use serde_json::Value as Json;
@@ -30,7 +31,8 @@ pub struct Stored {
 
 /// The row's texts.
 pub fn stored_of(alloc: Global, row: &Row) -> Result<Stored, AllocError>
-    ensures { IfOk result (λ s. s ≡ texts_of row.now) }
+    ensures texts { IfOk result (λ s. s ≡ texts_of row.now) }
+    ensures reads { IfOk result (λ s. IsKept row.now.outputs → ReadsAsRow s row.now) }
 {
     Ok(Stored {
         key: row.key.copied(alloc)?,
@@ -59,13 +61,17 @@ pub fn row_of(alloc: Global, stored: Stored) -> Result<Row, RecordFault>
     }
 }
 
+// The canonical text of the object that the outputs are.
+#[tactic(auto, using(cwl_value::proofs::NoFloat::exact))]
 fn outputs_text(alloc: Global, outputs: &Keyed<Value>) -> Result<Text, AllocError>
-    ensures { IfOk result (λ text. text ≡ compact_text (json_of (Fields outputs.now))) }
+    ensures text { IfOk result (λ text. text ≡ compact_text (json_of (Fields outputs.now))) }
+    ensures reads { IfOk result (λ text. IsKept outputs.now
+        → ReadsAs text (Ok (Fields outputs.now))) }
 {
     let object = Value::Fields(copy_fields(alloc, outputs)?);
-    let text = canonical_text(alloc, &object);
+    let json = to_json(alloc, &object);
     mem::drop(object);
-    text
+    Ok(Text::from_string(json?.to_string(alloc)?))
 }
 
 // Named outputs: any other value, a File among them, is R1.
@@ -86,9 +92,10 @@ fn read_outputs(alloc: Global, text: &Text) -> Result<Keyed<Value>, RecordFault>
 }
 
 /// A compact list of `[name, is_dir, size, sum]`.
-#[tactic(auto, using(crate::proofs::Files::exact))]
+#[tactic(auto, using(crate::proofs::Files::exact, crate::proofs::WrittenRow::files_read, crate::proofs::WrittenRow::files_depth))]
 fn files_text(alloc: Global, files: &Items<Found>) -> Result<Text, AllocError>
-    ensures { IfOk result (λ text. text ≡ compact_text (files_json files.now)) }
+    ensures text { IfOk result (λ text. text ≡ compact_text (files_json files.now)) }
+    ensures reads { IfOk result (λ text. ReadsAsFiles text files.now) }
 {
     Ok(Text::from_string(json_of_files(alloc, files)?.to_string(alloc)?))
 }

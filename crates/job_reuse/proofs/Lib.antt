@@ -2,6 +2,7 @@ pub mod Agreeing
 pub mod Among
 pub mod Bound
 pub mod Collected
+pub mod Deciding
 pub mod Declared
 pub mod Entries
 pub mod Folder

@@ -19,13 +19,13 @@ use Rattle.job_reuse.specs.inner.Index.{Index, listing_by}
 use Rattle.job_reuse.specs.inner.Stands.{all_stand_by}
 use Rattle.job_reuse.proofs.Indexed.{entry, stands_same}
 
-every_value : (test : Value → Bool) (es : Named) → every (map (λ (e : Name × Bool). e.1) (map_values test es)) ≡ true → All (λ v. test v ≡ true) (values_of es)
+pub every_value : (test : Value → Bool) (es : Named) → every (map (λ (e : Name × Bool). e.1) (map_values test es)) ≡ true → All (λ v. test v ≡ true) (values_of es)
 every_value test [] h = All-nil (λ v. test v ≡ true)
 every_value test (e ∷ es) h =
     let rest : Bool = every (map (λ (e : Name × Bool). e.1) (map_values test es)) in
     All-cons (λ v. test v ≡ true) e.1 (values_of es) (both_first (test e.1) rest h) (every_value test es (both_second (test e.1) rest h))
 
-value_every : (test : Value → Bool) (es : Named) → All (λ v. test v ≡ true) (values_of es) → every (map (λ (e : Name × Bool). e.1) (map_values test es)) ≡ true
+pub value_every : (test : Value → Bool) (es : Named) → All (λ v. test v ≡ true) (values_of es) → every (map (λ (e : Name × Bool). e.1) (map_values test es)) ≡ true
 value_every test [] h = refl
 value_every test (e ∷ es) h =
     both (test e.1) (every (map (λ (e : Name × Bool). e.1) (map_values test es))) (All-head (λ v. test v ≡ true) e.1 (values_of es) h) (value_every test es (All-tail (λ v. test v ≡ true) e.1 (values_of es) h))

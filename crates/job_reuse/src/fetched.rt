@@ -10,7 +10,9 @@ pub fn files_agree(row: &Row, fetched: &[Found]) -> bool
     ensures { IsTrue result ↔ AreTheSame row.now.files fetched.now }
 {
     let files = row.files.as_slice();
-    all_among(fetched, files) && all_among(files, fetched)
+    // The row's files come first. Where one was not fetched, those before it are found at their places, and it ends the look. The other
+    // way round each file behind it would be looked for from the front, in square time.
+    all_among(files, fetched) && all_among(fetched, files)
 }
 
 fn all_among(these: &[Found], those: &[Found]) -> bool

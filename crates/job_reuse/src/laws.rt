@@ -1,5 +1,5 @@
 //! Laws of rows and of what was collected: each is the contract of a function that does nothing.
-ghost use Rattle.job_reuse.specs.Laws.{CollectedOutputsAreKept, CollectedOutputsReadBack, RowsOfJobsAreSound, SameWhereErasedAndNamedAlike, FetchedFilesStandIn};
+ghost use Rattle.job_reuse.specs.Laws.{CollectedOutputsAreKept, CollectedOutputsReadBack, RowsOfJobsAreSound, RowsAreSoundOrNot, SameWhereErasedAndNamedAlike, FetchedFilesStandIn};
 
 /// Says that the outputs of a job are such as a record keeps and gives back as they were, by whatever way they were collected:
 /// where what was found has paths below the job's folder, the job's inputs stand elsewhere, and no output is named `class` with
@@ -12,6 +12,12 @@ pub fn collected_outputs_are_kept()
 /// Says that the row that is put of a job is one of the job's tool, so that it isn't refused when it is found.
 pub fn rows_of_jobs_are_sound()
     ensures { RowsOfJobsAreSound }
+{}
+
+/// Says that of each row it can be told whether it is one of a tool: a run goes on by its answer also where there is no memory to
+/// look.
+pub fn rows_are_sound_or_not()
+    ensures { RowsAreSoundOrNot }
 {}
 
 /// Says what a difference of outputs is: one in their values without places, or in the names that their Files and Directories have

@@ -1,1 +1,2 @@
+mod InMemory
 pub mod ReadBack

@@ -1,6 +1,6 @@
 -- The JSON of storable values reads as these values.
-use Rattle.std.proofs.Common.{◌≡◌, ◌≢◌, ℕ, ℤ, pos, negsuc, ◌^◌, ◌<◌, Bool, true, false, true≢false, cond, IsTrue, List, [], ◌∷◌, ◌++◌, Option, Some, None, option_map, Result, Ok, Err, bytes_eq, codes, refl, sym, ap, ap₂, subst, ◌∙◌, append_assoc, append-nil, rules, arith, Ordering, Less, Equal, Greater}
-use Rattle.std.specs.Prelude.{option_and_then, if◌then◌else◌, unwrap_or, nat_lt}
+use Rattle.std.proofs.Common.{◌≡◌, ◌≢◌, ℕ, ℤ, pos, negsuc, ◌^◌, Bool, true, false, true≢false, cond, IsTrue, List, [], ◌∷◌, ◌++◌, Option, Some, None, option_map, Ok, Err, bytes_eq, codes, refl, sym, ap, subst, ◌∙◌, append_assoc, append-nil, rules, Ordering, Less, Equal, Greater}
+use Rattle.std.specs.Prelude.{option_and_then, unwrap_or, nat_lt}
 use Rattle.std.specs.Ordering.{is_eq, match_ordering, ordering_reverse, nat_cmp}
 use Rattle.std.specs.Cmp.Lexicographic.{slice_cmp, bytes_decides, nat_list_cmp_total}
 use Rattle.std.specs.List.{AllByRecursion, fold}
@@ -9,16 +9,15 @@ use Rattle.std.specs.Map.{keys_of}
 use Rattle.std.proofs.lemmas.Map.Text.{is_eq-slice_cmp}
 use Rattle.plain_data.specs.ByName.{IsByName, name_cmp, value_at, map_values}
 use Rattle.plain_data.proofs.ByName.{by_name_mapped}
-use Rattle.serde_json.specs.Data.{Data, string, object, array, Items, Members, no_members, member, put, number, unsigned}
-use Rattle.serde_json.specs.Find.{get_member, as_str, as_i64, of_integer}
+use Rattle.serde_json.specs.Data.{Data, string, object, array, Members, no_members, member, put}
+use Rattle.serde_json.specs.Find.{get_member, as_str, of_integer}
 use Rattle.serde_json.specs.View.{items_of}
 use Rattle.serde_json.proofs.Views.{get_member-put, get_member-put_other}
-use Rattle.cwl_value.specs.Json.{json_of, items_json, fields_json, file_members, dir_members, members_of, object_of, with_member, text_json, size_json, unless_empty}
+use Rattle.cwl_value.specs.Json.{json_of, items_json, fields_json, file_members, dir_members, members_of, with_member, text_json, size_json, unless_empty}
 use Rattle.cwl_value.specs.Plain.{FitsWhole}
-use Rattle.cwl_value.specs.Reading.{Reads, and_map, and_then, all_read, value_read, items_read, members_read, fields_read, object_read, file_read, dir_read, placed_read, summed_read, list_read, secondary_read, listing_read, place_read, basename_read, text_read, size_read, whole_read, class_in, is_name}
+use Rattle.cwl_value.specs.Reading.{Reads, and_map, and_then, all_read, value_read, items_read, members_read, fields_read, object_read, placed_read, summed_read, list_read, secondary_read, listing_read, basename_read, text_read, size_read, whole_read, class_in}
 use Rattle.cwl_value.specs.Secondary.{fit_beside, fit_inside}
 use Rattle.cwl_value.specs.declared.refusal.FileField.TheVariants.{Checksum, SecondaryFiles, Listing}
-use Rattle.cwl_value.specs.declared.place.Place.{Place}
 use Rattle.cwl_value.specs.declared.place.Place.TheVariants.{Url}
 use Rattle.cwl_value.specs.declared.value.Value.{Value, out-Value, the_lemmas}
 use Rattle.cwl_value.specs.declared.value.Value as value

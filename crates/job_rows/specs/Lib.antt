@@ -1,3 +1,4 @@
 pub mod Log
 pub mod Storable
 pub mod Map
+pub mod Memory

@@ -14,7 +14,9 @@ use crate::measuring::measure_of;
 use crate::noting::{add, make_room, note, refused, told};
 use crate::spawning::{Flying, spawned};
 use crate::storing::store_all;
+use crate::tree::Others;
 use crate::trouble::Trouble;
+use crate::unlisted::{NoListing, Unlisted};
 use crate::world::World;
 use command_line::Launch;
 use plain_data::{Items, Text};
@@ -139,11 +141,15 @@ pub(crate) fn collect<R: World>(
 }
 
 /// Lists a folder. Where it is the folder `out` of a job in a work folder that is named, the job's `in` and `tmp` are removed.
+///
+/// What is neither a file nor a folder is left out. Where there is no listing, it is told what was in the way, as far as there is room
+/// to tell it.
 pub(crate) fn scan<R: World>(
     rt: &R,
     log: &mut Vec<Entry>,
     work: Option<&str>,
     folder: &Text,
+    unlisted: &mut Option<Unlisted>,
 ) -> Result<Items<Found>, HostError>
     ensures logged { log.new.items ≡ log.old.items
         ++ entries_of (HostRequest.Scan folder.now)
@@ -152,7 +158,7 @@ pub(crate) fn scan<R: World>(
 {
     make_room(log)?;
     let request = HostRequest::Scan(folder.copied(rt.alloc())?);
-    match listed_twice(rt, work, folder) {
+    match listed_twice(rt, work, folder, unlisted) {
         Ok((listed, noted)) => {
             note(log, request, HostAnswer::Listed(noted));
             Ok(listed)
@@ -271,16 +277,32 @@ fn listed_twice<R: World>(
     rt: &R,
     work: Option<&str>,
     folder: &Text,
+    unlisted: &mut Option<Unlisted>,
 ) -> Result<(Items<Found>, Items<Found>), Trouble>
     ensures { IfOk result (λ pair. pair.0 ≡ pair.1) }
 {
-    let listed = listing_of(rt, folder.as_str())?;
+    let listed = listed_or_why(rt, folder, unlisted)?;
     let noted = listing_in(rt.alloc(), &listed)?;
     if let Some(work) = work {
         // What can't be removed is in nobody's way.
         let _cleared = clear_job(rt, work, folder.as_str(), noted.as_slice());
     }
     Ok((listed, noted))
+}
+
+// Lists a folder, or tells what was in the way.
+fn listed_or_why<R: World>(
+    rt: &R,
+    folder: &Text,
+    unlisted: &mut Option<Unlisted>,
+) -> Result<Items<Found>, Trouble> {
+    let (outcome, met) = match listing_of(rt, folder.as_str(), Others::LeftOut) {
+        Ok(found) => (Ok(found), None),
+        Err(NoListing::Met(met)) => (Err(Trouble::Failed), Some(met)),
+        Err(NoListing::OutOfMemory) => (Err(Trouble::OutOfMemory), None),
+    };
+    mem::drop(mem::replace(unlisted, met));
+    outcome
 }
 
 // What was fetched for the caller, and a copy for the log.

@@ -1,6 +1,7 @@
 //! What is removed of a job's folder once its outputs are listed.
 
 use crate::layout::joined;
+use crate::removing::remove_folder;
 use crate::trouble::Trouble;
 use crate::world::World;
 use staging::Found;
@@ -58,6 +59,6 @@ fn remove_parts<R: World>(rt: &R, job: &str) -> Result<(), Trouble> {
 
 fn remove_part<R: World>(rt: &R, job: &str, name: &str) -> Result<(), Trouble> {
     let part = joined(rt.alloc(), job, name)?;
-    let _removed = fs::remove_dir_all(rt, part.as_str());
+    let _removed = remove_folder(rt, part.as_str());
     Ok(())
 }

@@ -2,7 +2,7 @@
 
 use crate::identity::names;
 use crate::layout::{joined, make_parent};
-use crate::tree::{Below, is_folder, tree_below};
+use crate::tree::{Below, Others, is_folder, tree_below};
 use crate::trouble::Trouble;
 use crate::world::World;
 use std::alloc::Global;
@@ -14,8 +14,8 @@ use std::{fs, io, mem};
 /// The bytes that one read asks for.
 const BLOCK: usize = 65_536;
 
-/// What the owner of a copied folder may do: read, write and search it. So it can be removed again.
-const OWNERS_RIGHTS: u32 = 0o700;
+/// What the owner of a folder may do: read, write and search it. So it can be removed again.
+pub(crate) const OWNERS_RIGHTS: u32 = 0o700;
 
 /// Copies a file, or a folder with all that is below it, to a path. A link is taken as what it points to.
 ///
@@ -32,7 +32,7 @@ pub(crate) fn copy<R: World>(rt: &R, source: &str, target: &str) -> Result<(), T
 
 // All names are read before the first copy, so a folder can be copied to a place inside of it.
 fn copy_folder<R: World>(rt: &R, source: &str, target: &str) -> Result<(), Trouble> {
-    let tree = tree_below(rt, source)?;
+    let tree = tree_below(rt, source, Others::Refused)?;
     let copied = copy_tree(rt, source, tree.as_slice(), target);
     mem::drop(tree);
     copied

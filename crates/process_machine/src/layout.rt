@@ -1,11 +1,13 @@
 //! The folders of a run.
+ghost use Rattle.std.specs.Prelude.{◌≡◌, ℕ, List, IfSome, IsSome};
+ghost use Rattle.process_machine.specs.Targets as spec;
 
 use crate::copying::copy;
 use crate::trouble::Trouble;
 use crate::world::World;
 use staging::{Move, StagePlan};
 use std::alloc::{AllocError, Global};
-use std::fs;
+use std::{fs, io};
 
 /// Makes the folder of a job with `out`, `tmp` and `in` in it, and copies the files and folders of its plan into `in`.
 ///
@@ -46,8 +48,9 @@ pub(crate) fn joined(alloc: Global, folder: &str, name: &str) -> Result<String, 
     format!(in alloc; "{folder}/{name}")
 }
 
-/// Copies files and folders to their targets, each of which has to be below this folder. The folders above a target are
-/// made where they are absent. Where one fails, `at` is its index.
+/// Copies files and folders to their targets, each of which has to be below this folder. The folders between it and a target are
+/// made where they are absent, and none of them may be a link, since what is put there would be elsewhere. Where one fails, `at` is
+/// its index.
 pub(crate) fn copy_all<R: World>(
     rt: &R,
     moves: &[Move],
@@ -57,10 +60,10 @@ pub(crate) fn copy_all<R: World>(
     for (index, planned) in moves.iter().enumerate() {
         *at = index;
         let target = planned.target.as_str();
-        if !is_below(target, below) {
+        let Some(name) = name_below(target, below) else {
             return Err(Trouble::Failed);
-        }
-        make_parent(rt, target)?;
+        };
+        make_way(rt, below, name)?;
         copy(rt, planned.source.as_str(), target)?;
     }
     Ok(())
@@ -74,15 +77,57 @@ pub(crate) fn make_parent<R: World>(rt: &R, path: &str) -> Result<(), Trouble> {
     }
 }
 
-// Whether a path goes on from a folder, by names alone.
-fn is_below(path: &str, folder: &str) -> bool {
-    match path.strip_prefix(folder) {
-        Some(rest) => rest.starts_with('/') && rest.len() > 1 && !climbs(rest),
-        None => false,
+// Makes a folder, and the folders in it that lead to this name, where they are absent.
+fn make_way<R: World>(rt: &R, folder: &str, name: &str) -> Result<(), Trouble> {
+    fs::create_dir_all(rt, folder)?;
+    match name.rsplit_once('/') {
+        Some((way, _)) => make_along(rt, folder, way),
+        None => Ok(()),
+    }
+}
+
+fn make_along<R: World>(rt: &R, folder: &str, way: &str) -> Result<(), Trouble> {
+    let mut path = String::from_str(rt.alloc(), folder)?;
+    for part in way.split('/') {
+        path.push('/')?;
+        path.push_str(part)?;
+        make_own(rt, path.as_str())?;
+    }
+    Ok(())
+}
+
+fn make_own<R: World>(rt: &R, path: &str) -> Result<(), Trouble> {
+    match fs::create_dir(rt, path) {
+        Ok(()) => Ok(()),
+        Err(error) => found_own(rt, path, &error),
+    }
+}
+
+// Where a folder can't be made, one that is there is as good; a link to one is not.
+fn found_own<R: World>(rt: &R, path: &str, error: &io::Error) -> Result<(), Trouble> {
+    match fs::symlink_metadata(rt, path) {
+        Ok(metadata) if metadata.is_dir() => Ok(()),
+        _ => Err(Trouble::of(error)),
+    }
+}
+
+// The name by which a path goes on from a folder, by names alone.
+fn name_below<'a>(path: &'a str, folder: &str) -> Option<&'a str>
+    ensures there { IfSome result (λ name. spec.IsBelow folder.now path.now name.now) }
+    ensures every { (name : List ℕ) → spec.IsBelow folder.now path.now name → IsSome result }
+{
+    let rest = path.strip_prefix(folder)?;
+    let name = rest.strip_prefix('/')?;
+    if name.is_empty() || climbs(name) {
+        None
+    } else {
+        Some(name)
     }
 }
 
 // Whether a path goes up at one of its components.
-fn climbs(path: &str) -> bool {
+fn climbs(path: &str) -> bool
+    ensures { result ≡ spec.climbs path.now }
+{
     path.split('/').any(|component| component == "..")
 }

@@ -1,8 +1,11 @@
 //! Listings of folders.
+ghost use Rattle.std.specs.Prelude.{IfErr};
+ghost use Rattle.process_machine.specs.Listing.{IsOn};
 
 use crate::layout::joined;
-use crate::tree::{Below, tree_below};
+use crate::tree::{Below, Others, tree_below};
 use crate::trouble::Trouble;
+use crate::unlisted::NoListing;
 use crate::world::World;
 use file_values::{FileSum, Watched, sum_of};
 use plain_data::{Items, Text};
@@ -10,14 +13,18 @@ use staging::Found;
 use std::{fs, mem};
 
 /// Lists all that is below a folder, by name, each file with its sum. A link is taken as what it points to.
-pub(crate) fn listing_of<R: World>(rt: &R, folder: &str) -> Result<Items<Found>, Trouble> {
-    let tree = tree_below(rt, folder)?;
+pub(crate) fn listing_of<R: World>(
+    rt: &R,
+    folder: &str,
+    others: Others,
+) -> Result<Items<Found>, NoListing> {
+    let tree = tree_below(rt, folder, others)?;
     let found = found_in(rt, folder, tree.as_slice());
     mem::drop(tree);
     found
 }
 
-fn found_in<R: World>(rt: &R, folder: &str, tree: &[Below]) -> Result<Items<Found>, Trouble> {
+fn found_in<R: World>(rt: &R, folder: &str, tree: &[Below]) -> Result<Items<Found>, NoListing> {
     let mut found = Items::new(rt.alloc());
     for below in tree {
         found.push(found_at(rt, folder, below)?)?;
@@ -25,7 +32,7 @@ fn found_in<R: World>(rt: &R, folder: &str, tree: &[Below]) -> Result<Items<Foun
     Ok(found)
 }
 
-fn found_at<R: World>(rt: &R, folder: &str, below: &Below) -> Result<Found, Trouble> {
+fn found_at<R: World>(rt: &R, folder: &str, below: &Below) -> Result<Found, NoListing> {
     let FileSum { sum, size } = sum_below(rt, folder, below)?;
     Ok(Found {
         name: below.name.copied(rt.alloc())?,
@@ -36,13 +43,22 @@ fn found_at<R: World>(rt: &R, folder: &str, below: &Below) -> Result<Found, Trou
 }
 
 // The sum of a file; of a folder the empty one.
-fn sum_below<R: World>(rt: &R, folder: &str, below: &Below) -> Result<FileSum, Trouble> {
+fn sum_below<R: World>(rt: &R, folder: &str, below: &Below) -> Result<FileSum, NoListing> {
     if below.is_dir {
         let sum = Text::from_text(rt.alloc(), "")?;
         return Ok(FileSum { sum, size: 0 });
     }
     let path = joined(rt.alloc(), folder, below.name.as_str())?;
-    sum_at(rt, path.as_str())
+    listed_sum(rt, path.as_str())
+}
+
+fn listed_sum<R: World>(rt: &R, path: &str) -> Result<FileSum, NoListing>
+    ensures { IfErr result (IsOn path.now) }
+{
+    match sum_at(rt, path) {
+        Ok(sum) => Ok(sum),
+        Err(trouble) => Err(NoListing::unread(rt.alloc(), path, trouble)),
+    }
 }
 
 /// Reads the file at a path, once, and sums it.

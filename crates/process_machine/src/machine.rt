@@ -5,6 +5,7 @@ ghost use Rattle.proc_host.specs.Tickets.{without};
 use crate::calls;
 use crate::delivering::Undelivered;
 use crate::spawning::Flying;
+use crate::unlisted::Unlisted;
 use crate::world::World;
 use command_line::Launch;
 use plain_data::{Items, Text};
@@ -35,6 +36,8 @@ pub struct Machine<R: World> {
     keeps: bool,
     // of the last delivery
     hindered: Option<Undelivered>,
+    // of the last scan
+    unlisted: Option<Unlisted>,
 }
 
 impl<R: World> Model for Machine<R> {
@@ -71,6 +74,7 @@ impl<R: World> Machine<R> {
             shows: false,
             keeps: false,
             hindered: None,
+            unlisted: None,
         }
     }
 
@@ -92,6 +96,11 @@ impl<R: World> Machine<R> {
     /// Which result of the last delivery could not be copied, and why, where that is known.
     pub fn undelivered(&self) -> Option<&Undelivered> {
         self.hindered.as_ref()
+    }
+
+    /// What kept the last scan from a listing, and why, where that is known.
+    pub fn unlisted(&self) -> Option<&Unlisted> {
+        self.unlisted.as_ref()
     }
 
     /// What was asked and answered so far, oldest first.
@@ -146,7 +155,7 @@ where
 
     fn scan(&mut self, folder: &Text) -> Result<Items<Found>, HostError> {
         let work = cleared_below(&self.work, self.keeps);
-        calls::scan(&self.rt, &mut self.log, work, folder)
+        calls::scan(&self.rt, &mut self.log, work, folder, &mut self.unlisted)
     }
 
     fn head(&mut self, path: &Text, limit: u64) -> Result<Items<u8>, HostError> {

@@ -1,6 +1,7 @@
 //! What is at a path.
 
 use crate::listing::{listing_of, sum_at};
+use crate::tree::Others;
 use crate::trouble::Trouble;
 use crate::world::World;
 use file_values::FileSum;
@@ -21,7 +22,7 @@ pub(crate) fn measure_of<R: World>(rt: &R, path: &str) -> Result<Measure, Troubl
 
 fn measure_as<R: World>(rt: &R, path: &str, kind: FileType) -> Result<Measure, Trouble> {
     if kind.is_dir() {
-        Ok(Measure::Folder(listing_of(rt, path)?))
+        Ok(Measure::Folder(listing_of(rt, path, Others::Refused)?))
     } else if kind.is_file() {
         let FileSum { sum, size } = sum_at(rt, path)?;
         Ok(Measure::File { size, sum })

@@ -1,11 +1,14 @@
 //! What is below a folder, by names and kinds.
+ghost use Rattle.std.specs.Prelude.{◌≡◌, Ok, None, IfErr, IsErr};
+ghost use Rattle.process_machine.specs.Listing as spec;
 
 use crate::layout::joined;
 use crate::trouble::Trouble;
+use crate::unlisted::{NoListing, Obstacle};
 use crate::world::World;
 use plain_data::Text;
 use std::alloc::{AllocError, Global};
-use std::fs::DirEntry;
+use std::fs::{DirEntry, FileType, ReadDir};
 use std::{fs, io};
 
 const MOST_LEVELS: usize = 32;
@@ -20,26 +23,49 @@ pub(crate) struct Below {
     pub is_dir: bool,
 }
 
+/// How a pipe, a socket, a device and a link that leads nowhere are taken: they are neither files nor folders.
+#[derive(Clone, Copy, Debug, PartialEq, Eq)]
+pub(crate) enum Others {
+    LeftOut,
+    Refused,
+}
+
+// A folder that is met: where it is, and its name below the first folder, whose own name is empty.
+#[derive(Clone, Copy, Drop)]
+struct Branch<'a> {
+    path: &'a str,
+    name: &'a str,
+}
+
 /// Returns all that is below a folder, by name, so that each folder comes before what is in it. A link is taken as what it
 /// points to.
 ///
-/// A name that is no UTF-8, a link that leads nowhere, a pipe or a device, more than 32 levels or 65,536 entries, and a
-/// folder that can't be read are trouble.
-pub(crate) fn tree_below<R: World>(rt: &R, folder: &str) -> Result<Vec<Below>, Trouble> {
+/// A name that is no UTF-8, more than 32 levels or 65,536 entries, and a folder that can't be read are refused, and so is what is
+/// neither a file nor a folder, where that is not left out.
+pub(crate) fn tree_below<R: World>(
+    rt: &R,
+    folder: &str,
+    others: Others,
+) -> Result<Vec<Below>, NoListing> {
     let mut tree = Vec::new(rt.alloc());
-    add_all(rt, folder, &mut tree)?;
+    add_all(rt, folder, others, &mut tree)?;
     tree.sort_unstable_by(|one, other| one.name.cmp(&other.name));
     Ok(tree)
 }
 
 // Adds the entries of a folder, and of each folder below it.
-fn add_all<R: World>(rt: &R, folder: &str, tree: &mut Vec<Below>) -> Result<(), Trouble> {
-    add_entries(rt, folder, "", tree)?;
+fn add_all<R: World>(
+    rt: &R,
+    folder: &str,
+    others: Others,
+    tree: &mut Vec<Below>,
+) -> Result<(), NoListing> {
+    add_entries(rt, folder, "", others, tree)?;
     for index in 0..MOST_ENTRIES {
         if index >= tree.len() {
             return Ok(());
         }
-        add_entries_of(rt, folder, index, tree)?;
+        add_entries_of(rt, folder, index, others, tree)?;
     }
     Ok(())
 }
@@ -49,10 +75,11 @@ fn add_entries_of<R: World>(
     rt: &R,
     folder: &str,
     index: usize,
+    others: Others,
     tree: &mut Vec<Below>,
-) -> Result<(), Trouble> {
+) -> Result<(), NoListing> {
     match subfolder_at(rt.alloc(), tree, index)? {
-        Some(name) => add_entries(rt, folder, name.as_str(), tree),
+        Some(name) => add_entries(rt, folder, name.as_str(), others, tree),
         None => Ok(()),
     }
 }
@@ -65,53 +92,147 @@ fn subfolder_at(alloc: Global, tree: &[Below], index: usize) -> Result<Option<Te
     }
 }
 
-// Adds the entries of the folder that has this name below the first folder; the empty name is the first folder's.
+// Adds the entries of the folder that has this name below the first folder.
 fn add_entries<R: World>(
     rt: &R,
     folder: &str,
     name: &str,
+    others: Others,
     tree: &mut Vec<Below>,
-) -> Result<(), Trouble> {
-    let path = joined(rt.alloc(), folder, name)?;
-    add_entries_at(rt, path.as_str(), name, tree)
+) -> Result<(), NoListing> {
+    let path = path_below(rt.alloc(), folder, name)?;
+    let branch = Branch {
+        path: path.as_str(),
+        name,
+    };
+    add_entries_at(rt, branch, others, tree)
+}
+
+fn path_below(alloc: Global, folder: &str, name: &str) -> Result<String, AllocError> {
+    if name.is_empty() {
+        return String::from_str(alloc, folder);
+    }
+    joined(alloc, folder, name)
 }
 
 fn add_entries_at<R: World>(
     rt: &R,
-    path: &str,
-    name: &str,
+    branch: Branch<'_>,
+    others: Others,
     tree: &mut Vec<Below>,
-) -> Result<(), Trouble> {
-    for entry in fs::read_dir(rt, path)? {
-        add_next(rt, name, entry, tree)?;
+) -> Result<(), NoListing> {
+    for entry in opened(rt, branch.path)? {
+        add_next(rt, branch, entry, others, tree)?;
     }
     Ok(())
 }
 
-fn add_next<R: World>(
-    rt: &R,
-    folder: &str,
-    entry: io::Result<DirEntry<R>>,
-    tree: &mut Vec<Below>,
-) -> Result<(), Trouble> {
-    let entry = entry?;
-    let below = entry_in(rt, folder, &entry, tree.len())?;
-    Ok(tree.push(below)?)
+fn opened<R: World>(rt: &R, folder: &str) -> Result<ReadDir<R>, NoListing>
+    ensures { IfErr result (spec.IsOn folder.now) }
+{
+    match fs::read_dir(rt, folder) {
+        Ok(entries) => Ok(entries),
+        Err(error) => Err(NoListing::of(rt.alloc(), folder, &error)),
+    }
 }
 
-// An entry of the folder of this name, before which so many were met.
-fn entry_in<R: World>(
+fn add_next<R: World>(
+    rt: &R,
+    branch: Branch<'_>,
+    entry: io::Result<DirEntry<R>>,
+    others: Others,
+    tree: &mut Vec<Below>,
+) -> Result<(), NoListing> {
+    match entry {
+        Ok(entry) => add_entry(rt, branch.name, &entry, others, tree),
+        Err(error) => Err(without_entry(rt.alloc(), branch.path, &error)),
+    }
+}
+
+// The next entry of this folder could not be read, or its name can't be told.
+fn without_entry(alloc: Global, folder: &str, error: &io::Error) -> NoListing
+    ensures { spec.IsOn folder.now result }
+{
+    match error.kind() {
+        io::ErrorKind::InvalidFilename => NoListing::at(alloc, folder, Obstacle::NotUtf8),
+        _ => NoListing::of(alloc, folder, error),
+    }
+}
+
+// Adds an entry of the folder of this name.
+fn add_entry<R: World>(
     rt: &R,
     folder: &str,
     entry: &DirEntry<R>,
-    before: usize,
-) -> Result<Below, Trouble> {
-    let is_dir = is_folder(rt, entry.path().as_str())?;
-    let name = name_below(rt.alloc(), folder, entry.file_name())?;
-    if before >= MOST_ENTRIES || levels_of(name.as_str()) > MOST_LEVELS {
-        return Err(Trouble::Failed);
+    others: Others,
+    tree: &mut Vec<Below>,
+) -> Result<(), NoListing> {
+    if let Some(is_dir) = kind_at(rt, entry.path().as_str(), others)? {
+        let name = name_below(rt.alloc(), folder, entry.file_name())?;
+        if let Some(why) = limit_passed(name.as_str(), tree.len()) {
+            return Err(NoListing::at(rt.alloc(), entry.path().as_str(), why));
+        }
+        tree.push(Below { name, is_dir })?;
     }
-    Ok(Below { name, is_dir })
+    Ok(())
+}
+
+// Whether there is a folder at a path, or a file; nothing where it is left out.
+fn kind_at<R: World>(rt: &R, path: &str, others: Others) -> Result<Option<bool>, NoListing>
+    ensures { IfErr result (spec.IsOn path.now) }
+{
+    match fs::metadata(rt, path) {
+        Ok(metadata) => kind_of(rt.alloc(), path, metadata.file_type(), others),
+        Err(error) if leads_nowhere(error.kind()) => of_no_kind(rt.alloc(), path, others),
+        Err(error) => Err(NoListing::of(rt.alloc(), path, &error)),
+    }
+}
+
+fn kind_of(
+    alloc: Global,
+    path: &str,
+    kind: FileType,
+    others: Others,
+) -> Result<Option<bool>, NoListing>
+    ensures { IfErr result (spec.IsOn path.now) }
+{
+    if kind.is_dir() || kind.is_file() {
+        Ok(Some(kind.is_dir()))
+    } else {
+        of_no_kind(alloc, path, others)
+    }
+}
+
+fn of_no_kind(alloc: Global, path: &str, others: Others) -> Result<Option<bool>, NoListing>
+    ensures left { others ≡ Others.LeftOut → result ≡ Ok None }
+    ensures refused { others ≡ Others.Refused → IsErr result }
+    ensures on { IfErr result (spec.IsOn path.now) }
+{
+    match others {
+        Others::LeftOut => Ok(None),
+        Others::Refused => Err(NoListing::at(alloc, path, Obstacle::OfNoKind)),
+    }
+}
+
+// Whether a link leads to nothing. That a path is too long says nothing of what is there.
+fn leads_nowhere(error: io::ErrorKind) -> bool {
+    matches!(
+        error,
+        io::ErrorKind::NotFound | io::ErrorKind::NotADirectory | io::ErrorKind::FilesystemLoop
+    )
+}
+
+// The limit that an entry of this name passes, before which so many were met.
+fn limit_passed(name: &str, before: usize) -> Option<Obstacle>
+    ensures { result ≡ spec.limit_passed name.now before }
+{
+    if before >= MOST_ENTRIES {
+        Some(Obstacle::TooMany)
+    } else if levels_of(name) > MOST_LEVELS {
+        Some(Obstacle::TooDeep)
+    } else {
+        None
+    }
 }
 
 /// Whether there is a folder at a path; what is neither a folder nor a file is trouble.
@@ -132,6 +253,8 @@ fn name_below(alloc: Global, folder: &str, name: &str) -> Result<Text, AllocErro
 }
 
 // How many components a name has.
-fn levels_of(name: &str) -> usize {
+fn levels_of(name: &str) -> usize
+    ensures { result ≡ spec.levels name.now }
+{
     name.split('/').count()
 }

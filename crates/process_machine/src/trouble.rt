@@ -16,7 +16,7 @@ pub(crate) enum Trouble {
 pub enum Hindrance {
     /// A file that the run was given is there.
     Given,
-    /// A folder is in the way, or a file where a folder is needed.
+    /// A folder is in the way, or a file or a link where a folder is needed.
     Taken,
     /// The system does not allow it.
     Forbidden,
@@ -39,10 +39,7 @@ impl<T: Drop> From<AllocFailed<T>> for Trouble {
 
 impl From<io::Error> for Trouble {
     fn from(error: io::Error) -> Trouble {
-        match error.kind() {
-            io::ErrorKind::OutOfMemory => Trouble::OutOfMemory,
-            kind => Trouble::Hindered(hindrance_of(kind)),
-        }
+        Trouble::of(&error)
     }
 }
 
@@ -59,6 +56,14 @@ fn hindrance_of(kind: io::ErrorKind) -> Hindrance {
 }
 
 impl Trouble {
+    /// What the system says.
+    pub(crate) fn of(error: &io::Error) -> Trouble {
+        match error.kind() {
+            io::ErrorKind::OutOfMemory => Trouble::OutOfMemory,
+            kind => Trouble::Hindered(hindrance_of(kind)),
+        }
+    }
+
     /// Why a copy was not made.
     pub(crate) fn hindrance(self) -> Hindrance {
         match self {

@@ -66,7 +66,8 @@ fn put_listed(alloc: Global, out: &mut AnswerText, listed: Result<Items<RecordRo
     mem::drop(listed);
 }
 
-fn put_log(out: &mut AnswerText, entries: &[Entry]) {
+/// Writes the lines of a log.
+pub(crate) fn put_log(out: &mut AnswerText, entries: &[Entry]) {
     out.put("[");
     for (at, entry) in entries.iter().enumerate() {
         put_comma(out, at);

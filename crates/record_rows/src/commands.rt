@@ -84,8 +84,8 @@ pub(crate) fn put_held(alloc: Global, disks: Disks, out: &mut AnswerText) {
     }
 }
 
-// The command that an object or a word stands for, but `put`.
-fn ask_in(command: &Json) -> Option<Ask<'_>> {
+/// The command that an object or a word stands for, but `put`.
+pub(crate) fn ask_in(command: &Json) -> Option<Ask<'_>> {
     match command.as_str() {
         Some("list") => Some(Ask::List),
         Some("log") => Some(Ask::Log),

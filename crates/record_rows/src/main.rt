@@ -9,6 +9,7 @@ mod commands;
 mod file;
 mod fill;
 mod keys;
+mod memory;
 mod opening;
 mod rows;
 mod stops;
@@ -27,6 +28,7 @@ impl Answers for Calls<'_> {
         match row.call() {
             "key_text" => keys::key(alloc, row),
             "commands" => commands::answers(alloc, row),
+            "in_memory" => memory::answers(alloc, row),
             "open" => opening::opened(alloc, row),
             "open_bytes" => opening::opened_bytes(alloc, row),
             "stops" => stops::stops(alloc, row),

@@ -7,14 +7,18 @@ use Rattle.proc_host.specs.declared.call.HostFault.{HostFault}
 use Rattle.proc_host.specs.declared.call.HostRequest.{HostRequest}
 use Rattle.proc_host.specs.declared.child.ChildEnd.{ChildEnd}
 use Rattle.staging.specs.declared.measure.Measure.{Measure}
-use Rattle.run_rules.specs.Answers.{MayAnswer, by_host}
+use Rattle.run_rules.specs.Answers.{MayAnswer, by_host, by_record, is_found, is_refused}
 use Rattle.run_rules.specs.declared.request.Answer.{Answer}
 use Rattle.run_rules.specs.declared.request.Request.{Request}
+use Rattle.run_rules.specs.declared.request.RecordAnswer.{RecordAnswer}
+use Rattle.run_rules.specs.declared.request.RecordRequest.{RecordRequest}
+use Rattle.cwl_value.specs.declared.value.Value.{Value}
+use Rattle.run_core.specs.declared.state.Measuring.{Measuring}
 use Rattle.run_core.specs.declared.state.Course.{Course}
 use Rattle.run_core.specs.declared.state.JobPhase.{JobPhase}
 use Rattle.run_core.specs.declared.state.Phase.{Phase}
-use Rattle.run_core.specs.inner.Follows.{AnswersWork, AsksOf, CanStage, IsStaging}
-use Rattle.run_core.proofs.standing.Answered.{asks_none}
+use Rattle.run_core.specs.inner.Follows.{AnswersWork, AsksOf, CanStage, IsStaging, IsFinding, IsOfAFind, IsReady, IsReadyFor}
+use Rattle.run_core.proofs.standing.Answered.{asks_none, asks_no_call, stages_no_row}
 
 -- the job of a number may be staged, which was asked
 pub record AtStaging (course : Course) (number : ℕ) (asks : Request) : Type 0 where
@@ -29,6 +33,7 @@ pub record AtWork (course : Course) (job : ℕ) (work : JobPhase) (answer : Host
 module _ (flying : List ℕ) (course : Course) where
   pub at_staging : (asks : Request) (number : ℕ) → AsksOf course asks (Phase.Staging number) → AtStaging course number asks
   at_staging (Request.Host place (HostRequest.Stage plan folder)) number fits = record { stages = fits; asked = tt }
+  at_staging (Request.Record place request) number fits = absurd (stages_no_row course place request number fits)
   at_staging asks number fits = absurd fits
 
   pub at_work : (asks : Request) (number : ℕ) (work : JobPhase) (answer : HostAnswer) → MayAnswer flying asks (Answer.Host answer) → AsksOf course asks (Phase.Working number work) →
@@ -43,6 +48,7 @@ module _ (flying : List ℕ) (course : Course) where
   -- the kind of answer that a phase waits for
   abbrev Awaits : Phase → HostAnswer → Type 0
   Awaits (Phase.Measuring measuring) answer = (measure : Measure) × (answer ≡ HostAnswer.Measured measure)
+  Awaits (Phase.Finding number) answer = ⊥
   Awaits (Phase.Staging number) answer = answer ≡ HostAnswer.Done
   Awaits (Phase.Working number work) answer = Unit {0}
   Awaits Phase.Collecting answer = (ending : ChildEnd) × (answer ≡ HostAnswer.Ended ending)
@@ -53,6 +59,7 @@ module _ (flying : List ℕ) (course : Course) where
   pub awaits : (asks : Request) (phase : Phase) (answer : HostAnswer) → MayAnswer flying asks (Answer.Host answer) → AsksOf course asks phase →
       ((fault : HostFault) → answer ≡ HostAnswer.Failed fault → ⊥) → Awaits phase answer
   awaits asks (Phase.Measuring measuring) answer (by_host place request its (is_measured path measure)) fits well = (measure, refl)
+  awaits asks (Phase.Finding number) answer (by_host place request its can) fits well = absurd (asks_no_call course place request number fits)
   awaits asks (Phase.Staging number) answer (by_host place request its (is_staged plan folder)) fits well = refl
   awaits asks (Phase.Working number work) answer may fits well = tt
   awaits asks Phase.Collecting answer (by_host place request its (has_ended ending flies)) fits well = (ending, refl)
@@ -61,6 +68,35 @@ module _ (flying : List ℕ) (course : Course) where
   awaits asks (Phase.Ended outcome) answer (by_host place request its can) fits well = absurd (asks_none course place request outcome fits)
   awaits asks phase answer (by_host place request its (has_failed call)) fits well = absurd (well (fault_of call) refl)
   awaits asks phase answer (by_host place request its can) fits well = absurd fits
+
+  -- any other phase waits for none
+  pub awaits_none : (phase : Phase) (answer : HostAnswer) → Awaits phase answer → ((measuring : Measuring) → phase ≡ Phase.Measuring measuring → ⊥) →
+      ((number : ℕ) → phase ≡ Phase.Staging number → ⊥) → ((number : ℕ) (work : JobPhase) → phase ≡ Phase.Working number work → ⊥) → (phase ≡ Phase.Collecting → ⊥) →
+      ((outputs : Value) → phase ≡ Phase.Delivering outputs → ⊥) → (phase ≡ Phase.Draining → ⊥) → ⊥
+  awaits_none (Phase.Measuring measuring) answer waits no_measuring no_staging no_working no_collecting no_delivering no_draining = no_measuring measuring refl
+  awaits_none (Phase.Finding number) answer waits no_measuring no_staging no_working no_collecting no_delivering no_draining = waits
+  awaits_none (Phase.Staging number) answer waits no_measuring no_staging no_working no_collecting no_delivering no_draining = no_staging number refl
+  awaits_none (Phase.Working number work) answer waits no_measuring no_staging no_working no_collecting no_delivering no_draining = no_working number work refl
+  awaits_none Phase.Collecting answer waits no_measuring no_staging no_working no_collecting no_delivering no_draining = no_collecting refl
+  awaits_none (Phase.Delivering outputs) answer waits no_measuring no_staging no_working no_collecting no_delivering no_draining = no_delivering outputs refl
+  awaits_none Phase.Draining answer waits no_measuring no_staging no_working no_collecting no_delivering no_draining = no_draining refl
+  awaits_none (Phase.Ended outcome) answer waits no_measuring no_staging no_working no_collecting no_delivering no_draining = waits
+
+  -- the record's answer is one to a find, which was asked for a known job
+  pub record AtFinding (phase : Phase) (answer : RecordAnswer) : Type 0 where
+    pub ready : IsReady course
+    pub finds : IsFinding course phase
+    pub answers : IsOfAFind answer
+
+  pub at_finding : (asks : Request) (phase : Phase) (answer : RecordAnswer) → MayAnswer flying asks (Answer.Record answer) → AsksOf course asks phase → IsReadyFor course phase →
+      AtFinding phase answer
+  at_finding asks (Phase.Finding number) answer (by_record place request its (is_found key row)) fits ready = record { ready = ready; finds = fits; answers = tt }
+  at_finding asks (Phase.Finding number) answer (by_record place request its (is_refused (RecordRequest.Find key) refusal)) fits ready =
+      record { ready = ready; finds = fits; answers = tt }
+  at_finding asks phase answer (by_record place request its (is_refused (RecordRequest.Find key) refusal)) fits ready = absurd fits
+  at_finding asks phase answer (by_record place request its (is_refused (RecordRequest.Put row) refusal)) fits ready = absurd fits
+  at_finding asks phase answer (by_record place request its (is_refused (RecordRequest.DropArchive key) refusal)) fits ready = absurd fits
+  at_finding asks phase answer (by_record place request its can) fits ready = absurd fits
 
   pub it_flies : (asks : Request) (ending : ChildEnd) → MayAnswer flying asks (Answer.Host (HostAnswer.Ended ending)) → Contains flying ending.ticket
   it_flies asks ending (by_host place request answer (has_ended ended flies)) = flies

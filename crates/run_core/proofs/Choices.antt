@@ -12,18 +12,21 @@ use Rattle.run_core.specs.declared.state.Phase.{Phase}
 use Rattle.run_core.specs.declared.state.Turn.{Turn}
 use Rattle.run_core.specs.inner.Course.{known_in, place_at}
 use Rattle.run_core.specs.inner.Follows.{AfterFailure}
-use Rattle.run_core.specs.inner.Picks.{AfterFault, Delivers, MayBeNext, NoneToStage, Picks, Stages, Turns, asks, has_result, stages, waits_for_one}
+use Rattle.run_core.specs.inner.Picks.{AfterFault, Delivers, MayBeNext, NoneToStage, Picks, Stages, Turns, asks, has_result, stages, waits_for_one, Finds, IsNextToFind, NoneToFind, finds}
 use Rattle.run_core.specs.inner.Turn.{collects, works}
 
 module _ (given : Given) (course : Course) (going : course.end ≡ None) where
-  pub picks_stage : (number : ℕ) (turn : Turn) → MayBeNext given course number → Stages given course number turn → Picks given course turn course
-  picks_stage number turn may st = stages number turn course going may.slot may.lowest st refl refl
+  pub picks_find : (number : ℕ) (turn : Turn) → IsNextToFind course number → Finds course number turn → Picks given course turn course
+  picks_find number turn next f = finds number turn course going next f refl refl
 
-  pub picks_result : (turn : Turn) → NoneToStage given course → course.tickets.items ≡ [] → Delivers given course turn → Picks given course turn course
-  picks_result turn none nobody d = has_result turn course going nobody none d refl refl
+  pub picks_stage : NoneToFind course → (number : ℕ) (turn : Turn) → MayBeNext given course number → Stages given course number turn → Picks given course turn course
+  picks_stage looked number turn may st = stages number turn course going looked may.slot may.lowest st refl refl
 
-  pub picks_wait : NoneToStage given course → course.tickets.items ≢ [] → Picks given course collects course
-  picks_wait none some = waits_for_one course going some none refl refl
+  pub picks_result : NoneToFind course → (turn : Turn) → NoneToStage given course → course.tickets.items ≡ [] → Delivers given course turn → Picks given course turn course
+  picks_result looked turn none nobody d = has_result turn course going looked nobody none d refl refl
+
+  pub picks_wait : NoneToFind course → NoneToStage given course → course.tickets.items ≢ [] → Picks given course collects course
+  picks_wait looked none some = waits_for_one course going looked some none refl refl
 
 -- where memory ran out
 pub if_lost : {X E : Type 0} (result : Result X E) {A B : Type 0} → (A → B) → OnErr result A → OnErr result B

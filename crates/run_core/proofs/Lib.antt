@@ -8,6 +8,7 @@ pub mod Lost
 pub mod Noted
 pub mod Numbers
 pub mod Once
+pub mod Reusable
 pub mod Rooms
 pub mod Same
 pub mod Seen

@@ -9,4 +9,5 @@ pub mod Listed
 pub mod Read
 pub mod Started
 pub mod Failed
+pub mod Found
 pub mod Ended

@@ -2,7 +2,7 @@
 ghost use Rattle.std.specs.Prelude.{◌≡◌, ◌<◌, ◌≤◌, ◌+◌, ◌^◌, ◌∷◌, [], None, Some, Contains, IsSome, IfOk, OnErr, OnOk, length, map, slice_get, vec_len, vec_capacity};
 ghost use Rattle.job_graph.specs.declared.unfolding.Unfolding.{Unfolding as Held};
 ghost use Rattle.job_graph.specs.KnownJobs.{job_of as job_seen};
-ghost use Rattle.run_core.specs.inner.Course.{GivesUp, TakesOut, known_in, nothing_past, past_of, place_at, with_end, with_staging, with_start};
+ghost use Rattle.run_core.specs.inner.Course.{GivesUp, TakesOut, known_in, nothing_past, past_of, place_at, with_answer, with_end, with_staging, with_start};
 ghost use Rattle.run_core.specs.inner.Knows.{IsTold, Learns, end_by};
 ghost use Rattle.run_core.specs.inner.Turn.{permanent};
 
@@ -12,6 +12,7 @@ use crate::turn::permanent;
 use crate::{Cause, Outcome, RunFault};
 use cwl_value::{Value, copy_job};
 use job_graph::{Job, KnownJob, UnfoldError, UnfoldFault, Unfolding};
+use job_rows::RecordRefusal;
 use plain_data::Keyed;
 use std::alloc::{AllocError, Global};
 use std::mem;
@@ -26,6 +27,7 @@ pub(crate) fn at_first<'a>(alloc: Global) -> Course<'a>
         flights: Vec::new(alloc),
         jobs: JobStates::new(alloc),
         folders: 0,
+        looked_up: 0,
         known: None,
         end: None,
     }
@@ -197,6 +199,19 @@ pub(crate) fn note_success(
             Ok(())
         }
         Err(UnfoldError::OutOfMemory) => Err(AllocError),
+    }
+}
+
+/// The record has told what it has of the job of this number, or why the run ends.
+pub(crate) fn note_answer(course: &mut Course<'_>, number: usize, refusal: Option<RecordRefusal>)
+    requires { number < length (known_in course.old.known) }
+    ensures past { past_of course.new ≡ with_answer number refusal (past_of course.old) }
+    ensures known { course.new.known ≡ course.old.known }
+{
+    let _number_has_a_next = known_in(&course.known).len();
+    match refusal {
+        None => course.looked_up = number + 1,
+        Some(refusal) => settle(course, Err(RunFault::Record(refusal))),
     }
 }
 

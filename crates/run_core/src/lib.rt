@@ -14,10 +14,12 @@ mod course;
 mod delivery;
 mod fields;
 mod files;
+mod finding;
 mod folders;
 mod job_states;
 mod measuring;
 mod places;
+mod rows;
 mod runner;
 mod site;
 mod starts;
@@ -27,7 +29,7 @@ mod turn;
 mod turns;
 
 pub use run_rules::{
-    Answer, Cause, CollectCause, Note, Options, Outcome, Pair, PlanNote, Report, Request, RunFault,
-    Setting,
+    Answer, Cause, CollectCause, Note, Options, Outcome, Pair, PlanNote, RecordAnswer,
+    RecordRequest, Report, Request, RunFault, Setting,
 };
 pub use runner::RunCore;

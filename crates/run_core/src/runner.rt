@@ -1,7 +1,6 @@
 ghost use Rattle.std.specs.Prelude.{◌≡◌, ◌≢◌, ◌↔◌, ◌+◌, ◌<◌, ◌≤◌, ◌∷◌, ◌++◌, [], None, Err, IfOk, IfErr, OnOk, length, vec_len, vec_capacity};
 ghost use Rattle.proc_host.specs.declared.call.HostRequest.{HostRequest};
 ghost use Rattle.run_rules.specs.declared.outcome.RunFault.{RunFault};
-ghost use Rattle.run_rules.specs.declared.request.Answer.{Answer as Told};
 ghost use Rattle.run_rules.specs.declared.request.Request.{Request};
 ghost use Rattle.run_rules.specs.Answers.{MayAnswer, flying_after};
 ghost use Rattle.run_rules.specs.Blame.{BlamesRightly, Rise, given_tickets};
@@ -21,14 +20,13 @@ use crate::anyway::can_go_on;
 use crate::course::{at_first, reserve_one};
 use crate::measuring::begun;
 use crate::state::{Course, Given, Phase, Turn};
-use crate::steps::follows;
+use crate::steps::answered;
 use crate::turn::{ended, given_up, lost};
 use crate::{Answer, Options, Outcome, Pair, Report, Request, RunFault};
 use cwl_value::Value;
 use document_links::Process;
 use job_graph::see_ids;
 use plain_data::{Items, Keyed};
-use proc_host::HostAnswer;
 use run_rules::an_honest_run_is_reported_rightly;
 use std::alloc::{AllocError, Global};
 use std::marker::Model;
@@ -154,7 +152,7 @@ impl<'a> RunCore<'a> {
         requires { MayAnswer self.old.flying self.old.asks answer }
         ensures { Took self.old answer result self.new }
     {
-        can_go_on(&self.course, &self.turn.phase);
+        can_go_on(&self.course, &self.turn.phase, &answer);
         let request = step(
             self.alloc,
             &self.given,
@@ -241,7 +239,6 @@ fn step<'a>(
     ensures moved { Moves given.now course.old turn.old answer.now turn.new course.new }
 {
     let Turn { asks, phase } = mem::replace(turn, ended(Err(RunFault::OutOfMemory)));
-    let Answer::Host(answer) = answer;
     let next = next_turn(alloc, given, course, &asks, phase, answer);
     mem::drop(mem::replace(turn, next));
     asks
@@ -254,16 +251,16 @@ fn next_turn<'a>(
     course: &mut Course<'a>,
     asks: &Request,
     phase: Phase,
-    answer: &HostAnswer,
+    answer: &Answer,
 ) -> Turn
-    requires answers { MayAnswer course.old.tickets.items asks.now (Told.Host answer.now) }
+    requires answers { MayAnswer course.old.tickets.items asks.now answer.now }
     requires asks { AsksOf course.old asks.now phase }
     requires room { HasRoom course.old phase }
     requires ready { IsReadyFor course.old phase }
     ensures moved { Moves given.now course.old (record { asks = asks.now; phase = phase })
-        (Told.Host answer.now) result course.new }
+        answer.now result course.new }
 {
-    match follows(alloc, given, course, asks, phase, answer) {
+    match answered(alloc, given, course, asks, phase, answer) {
         Ok(next) => next,
         Err(AllocError) => lost(alloc, course),
     }

@@ -89,6 +89,8 @@ pub(crate) enum JobNext {
 pub(crate) enum Phase {
     /// What is at the path of an input file.
     Measuring(Measuring),
+    /// The row of the job of this number.
+    Finding(usize),
     /// The folders of the job of this number.
     Staging(usize),
     /// The open work on the job of this number.
@@ -130,6 +132,8 @@ pub(crate) struct Course<'a> {
     pub jobs: JobStates,
     /// How many folders were made.
     pub folders: u64,
+    /// The row of each known job below this number was looked for, where it may have one; of no other it was.
+    pub looked_up: usize,
     /// The jobs that are known, once all input files are measured.
     pub known: Option<Unfolding<'a>>,
     /// The failure that settled the end.

@@ -2,7 +2,7 @@
 ghost use Rattle.std.specs.Prelude.{◌≡◌, ◌<◌, ◌+◌, ◌^◌, ◌∷◌, ◌++◌, [], Contains, IfOk, OnErr, length, vec_len, vec_capacity};
 ghost use Rattle.run_core.specs.declared.state.Phase.{Phase as Waits};
 ghost use Rattle.run_core.specs.inner.Course.{known_in};
-ghost use Rattle.run_core.specs.inner.Follows.{AfterFailure, AnswersWork, AsksOf, CanStage, Drains, FollowsIn, FollowsWork, IsLeftAfter, IsOneLess, IsReady, IsReadyFor, IsStaging};
+ghost use Rattle.run_core.specs.inner.Follows.{AfterFailure, AnswersWork, AsksOf, CanStage, Drains, FollowsFrom, FollowsIn, FollowsWork, IsLeftAfter, IsOneLess, IsReady, IsReadyFor, IsStaging};
 ghost use Rattle.run_core.specs.inner.Picks.{AfterChild, AfterInputHead, AfterListing, AfterOutputHead, AfterStaging, AfterStart, AfterTemporary, IsScanned, IsSite, Turns};
 ghost use Rattle.run_core.specs.inner.Standing.{HasRoom};
 ghost use Rattle.proc_host.specs.declared.call.HostAnswer.{HostAnswer as HostSays};
@@ -15,11 +15,12 @@ use crate::course::{
     job_of, note_end, note_failure, note_giving_up, note_staging, note_start, note_success, settle,
 };
 use crate::measuring::measured;
+use crate::rows::told;
 use crate::site::Site;
 use crate::starts::{filled, filled_first};
 use crate::state::{Course, Filling, Flight, Given, JobNext, JobPhase, Kept, Phase, Reading, Turn};
 use crate::turn::{ended, failing, lost, succeeded, working};
-use crate::{Cause, Request, RunFault};
+use crate::{Answer, Cause, Request, RunFault};
 use cwl_value::Value;
 use plain_data::{Items, Keyed};
 use proc_host::{ChildEnd, ExitClass, HostAnswer, HostFault, HostRequest, classify};
@@ -27,8 +28,33 @@ use staging::Found;
 use std::alloc::{AllocError, Global};
 use std::mem;
 
-/// What the machine waits for after this answer to what it asked, by where it was.
-pub(crate) fn follows<'a>(
+/// What the machine waits for after this answer, the host's or the record's.
+pub(crate) fn answered<'a>(
+    alloc: Global,
+    given: &Given<'a>,
+    course: &mut Course<'a>,
+    asks: &Request,
+    phase: Phase,
+    answer: &Answer,
+) -> Result<Turn, AllocError>
+    requires answers { MayAnswer course.old.tickets.items asks.now answer.now }
+    requires asks { AsksOf course.old asks.now phase }
+    requires room { HasRoom course.old phase }
+    requires ready { IsReadyFor course.old phase }
+    ensures next { IfOk result (λ next. FollowsFrom given.now course.old
+        (record { asks = asks.now; phase = phase }) answer.now next course.new) }
+    ensures memory { OnErr result (IsLeftAfter course.old.tickets.items answer.now
+        course.new.tickets.items) }
+    ensures going { OnErr result (phase ≡ Waits.Draining → ⊥) }
+{
+    match answer {
+        Answer::Host(answer) => follows(alloc, given, course, asks, phase, answer),
+        Answer::Record(answer) => told(alloc, given, course, phase, answer),
+    }
+}
+
+/// What the machine waits for after this answer of the host's to what it asked, by where it was.
+fn follows<'a>(
     alloc: Global,
     given: &Given<'a>,
     course: &mut Course<'a>,

@@ -1,7 +1,7 @@
 -- The mark of a work folder, and what it tells of the run that made it. A process is told from all others by its number, the time of its start,
 -- the boot of its computer, and the space in which such numbers count (proc(5), pid_namespaces(7)).
 use Rattle.std.specs.Prelude.{ℕ, zero, suc, ◌++◌, ◌∷◌, [], List, Bool, true, false, not, ◌&&◌, ◌==◌, nat_le, Option, Some, None, codes, bytes_eq, length, if◌then◌else◌}
-use Rattle.std.specs.List.{list_all, before_first, after_first}
+use Rattle.std.specs.List.{list_all, list_any, before_first, after_first, after_last}
 use Rattle.run_facts.specs.declared.made_by.TheConstants.{KEPT, START_AFTER_NAME}
 use Rattle.run_facts.specs.declared.made_by.WorkTrouble.{WorkTrouble}
 use Rattle.run_facts.specs.declared.made_by.WorkTrouble.TheVariants as trouble
@@ -20,9 +20,13 @@ abbrev pub rest_after : ℕ → List ℕ → List ℕ
 rest_after zero text = text
 rest_after (suc n) text = rest_after n (rest text)
 
--- what is behind the name of a process in its `stat`, the second word, which is in parentheses
+abbrev pub is_closing : ℕ → Bool
+is_closing b = b == 41
+
+-- what is behind the name of a process in its `stat`, the second word. It is in parentheses, and may itself have some in it, so the last one ends
+-- it: the words behind it have none.
 abbrev pub after_name : List ℕ → List ℕ
-after_name stat = after_first (λ b. b == 41) stat
+after_name stat = if list_any is_closing stat then after_last is_closing stat else []
 
 -- the 22nd word of a process's `stat`
 abbrev pub start_in : List ℕ → List ℕ

@@ -123,12 +123,12 @@ fn start_in(stat: &str) -> &str
     before_space(rest)
 }
 
-// What is behind the first parenthesis that closes; nothing where there is none.
+// What is behind the last parenthesis that closes; nothing where there is none. A name may have others in it.
 fn after_name(stat: &str) -> &str
     ensures { result.now ≡ spec.after_name stat.now }
 {
-    match stat.split_once(')') {
-        Some((_, rest)) => rest,
+    match stat.rfind(')') {
+        Some(at) => &stat[at + 1..],
         None => "",
     }
 }

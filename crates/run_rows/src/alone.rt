@@ -1,19 +1,20 @@
-//! The machine alone: its requests are answered here, with no host and no children.
+//! The machine alone: its requests are answered here, with no host, no record and no children.
 //!
-//! Each input file is there and has one byte. Each job leaves one file `o` behind, whose size and sum its place decides alone.
-ghost use Rattle.std.specs.Prelude.{◌≡◌, true, IfOk, OnOk};
+//! Each input file is there and has one byte. No job has a row. Each job leaves one file `o` behind, whose size and sum its
+//! place decides alone.
+ghost use Rattle.std.specs.Prelude.{◌≡◌, ◌≢◌, true, IfOk, OnOk};
 ghost use Rattle.proc_host.specs.Answers.{CanAnswer};
 ghost use Rattle.proc_host.specs.declared.call.HostRequest.{HostRequest as Call};
 ghost use Rattle.proc_host.specs.Tickets.{IsFresh};
 ghost use Rattle.run_core.specs.Core.{Took};
-ghost use Rattle.run_rules.specs.Answers.{MayAnswer};
+ghost use Rattle.run_rules.specs.Answers.{CanTell, MayAnswer};
 ghost use Rattle.run_rules.specs.declared.request.Request.{Request as Asks};
 
 use cwl_value::{JobPlace, place_text};
 use plain_data::{Items, Text};
 use proc_host::{ChildEnd, HostAnswer, HostFault, HostRequest};
 use row_io::RowFault;
-use run_core::{Answer, Request, RunCore, RunFault};
+use run_core::{Answer, RecordAnswer, RecordRequest, Request, RunCore, RunFault};
 use staging::{Found, Measure};
 use std::alloc::{AllocError, Global};
 
@@ -48,32 +49,66 @@ const INCREMENT: u64 = 1_442_695_040_888_963_407;
 pub fn drive(alloc: Global, core: &mut RunCore<'_>, chance: &mut Chance) -> Result<(), RowFault>
     ensures { OnOk result (core.new.asks ≡ Asks.Finished) }
 {
-    while let Request::Host(place, request) = core.next() {
-        let answer = answer_to(alloc, place, request, core.in_flight(), chance)?;
-        if take_answer(core, Answer::Host(answer)).is_err() {
+    while !matches!(core.next(), Request::Finished) {
+        let answer = answer_next(alloc, core.next(), core.in_flight(), chance)?;
+        if take_answer(core, answer).is_err() {
             return Err(RowFault::OutOfMemory);
         }
     }
     Ok(())
 }
 
-/// Answers what a machine asks, so often at most.
+/// Answers what a machine asks, and so many questions to its host at most.
 pub fn drive_for(
     alloc: Global,
     core: &mut RunCore<'_>,
     chance: &mut Chance,
     most: u64,
 ) -> Result<(), RowFault> {
-    for _ in 0..most {
-        let Request::Host(place, request) = core.next() else {
-            return Ok(());
-        };
-        let answer = answer_to(alloc, place, request, core.in_flight(), chance)?;
-        if take_answer(core, Answer::Host(answer)).is_err() {
+    let mut left = most;
+    while !matches!(core.next(), Request::Finished) {
+        if matches!(core.next(), Request::Host(_, _)) {
+            if left == 0 {
+                return Ok(());
+            }
+            left -= 1;
+        }
+        let answer = answer_next(alloc, core.next(), core.in_flight(), chance)?;
+        if take_answer(core, answer).is_err() {
             return Err(RowFault::OutOfMemory);
         }
     }
     Ok(())
+}
+
+/// An answer to what a machine asks next.
+fn answer_next(
+    alloc: Global,
+    asks: &Request,
+    flying: &[u64],
+    chance: &mut Chance,
+) -> Result<Answer, AllocError>
+    requires { asks.now ≢ Asks.Finished }
+    ensures { IfOk result (MayAnswer flying.now asks.now) }
+{
+    match asks {
+        Request::Host(place, request) => {
+            Ok(Answer::Host(answer_to(alloc, place, request, flying, chance)?))
+        }
+        Request::Record(_, request) => Ok(Answer::Record(told(request))),
+        Request::Finished => unreachable!(),
+    }
+}
+
+/// What a record without a row tells.
+fn told(request: &RecordRequest) -> RecordAnswer
+    ensures { CanTell request.now result }
+{
+    match request {
+        RecordRequest::Find(_) => RecordAnswer::Found(None),
+        RecordRequest::Put(_) => RecordAnswer::Done,
+        RecordRequest::DropArchive(_) => RecordAnswer::Done,
+    }
 }
 
 /// Takes an answer that the call can give.

@@ -95,6 +95,9 @@ fn fault_json(alloc: Global, fault: &RunFault) -> Result<String, RowFault> {
             let running = numbers(alloc, running.as_slice())?;
             Ok(format!(in alloc; "{{\"fault\":\"{}\",\"running\":{running}}}", fault.code())?)
         }
+        RunFault::Record(refusal) => {
+            Ok(format!(in alloc; "{{\"fault\":\"{}\"}}", refusal.code())?)
+        }
         RunFault::TooManyJobs => Ok(String::from_str(alloc, "{\"fault\":\"TooManyJobs\"}")?),
         RunFault::OutOfMemory => Err(RowFault::OutOfMemory),
     }

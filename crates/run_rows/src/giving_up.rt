@@ -1,12 +1,14 @@
 //! Runs that give up, since memory ran out outside of the machine.
-ghost use Rattle.std.specs.Prelude.{◌≡◌, ◌≢◌, OnOk};
+ghost use Rattle.std.specs.Prelude.{◌≡◌, ◌≢◌, IfOk, OnOk};
+ghost use Rattle.proc_host.specs.Answers.{CanAnswer};
 ghost use Rattle.run_core.specs.Limits.{IsWithinLimits};
+ghost use Rattle.run_rules.specs.Answers.{MayAnswer};
 ghost use Rattle.run_rules.specs.declared.request.Request.{Request as Asks};
 
 use crate::alone::{Chance, drive_for, ended, take_answer};
 use crate::end::end_json;
 use crate::run::{Case, case_of, options_of};
-use proc_host::HostRequest;
+use proc_host::{HostAnswer, HostRequest};
 use row_io::{Row, RowFault};
 use run_core::{Answer, Options, Report, Request, RunCore, RunFault};
 use std::alloc::Global;
@@ -85,13 +87,34 @@ fn waits(core: &mut RunCore<'_>, chance: &mut Chance) -> Result<u64, RowFault>
     ensures { OnOk result (core.new.asks ≡ Asks.Finished) }
 {
     let mut count: u64 = 0;
-    while let Request::Host(_, request) = core.next() {
-        let HostRequest::Collect = request else {
-            return Err(RowFault::BadArgument);
-        };
-        let answer = ended(core.in_flight(), chance);
-        let _told = take_answer(core, Answer::Host(answer));
+    while !matches!(core.next(), Request::Finished) {
+        let answer = end_asked_for(core.next(), core.in_flight(), chance)?;
+        let _told = take_answer(core, answer);
         count = count.saturating_add(1);
     }
     Ok(count)
+}
+
+/// The end of a child, where that is what is asked for.
+fn end_asked_for(asks: &Request, flying: &[u64], chance: &mut Chance) -> Result<Answer, RowFault>
+    ensures { IfOk result (MayAnswer flying.now asks.now) }
+{
+    match asks {
+        Request::Host(_, request) => Ok(Answer::Host(end_of_one(request, flying, chance)?)),
+        _ => Err(RowFault::BadArgument),
+    }
+}
+
+/// The end of a child, where the host is asked for one.
+fn end_of_one(
+    request: &HostRequest,
+    flying: &[u64],
+    chance: &mut Chance,
+) -> Result<HostAnswer, RowFault>
+    ensures { IfOk result (CanAnswer flying.now request.now) }
+{
+    match request {
+        HostRequest::Collect => Ok(ended(flying, chance)),
+        _ => Err(RowFault::BadArgument),
+    }
 }

@@ -26,6 +26,7 @@ fn told_in(rt: &HostRuntime, row: &Row, place: &str) -> Result<String, RowFault>
         "children" => children::told_of(rt, row, place),
         "stage" | "deliver" => copies::told_of(rt, row, place),
         "measure" | "scan" | "head" => paths::told_of(rt, row, place),
+        "remove" => paths::removed_of(rt, row, place),
         "main_run_on_files" => program::told_of(rt, row, place),
         _ => Err(RowFault::UnknownCall),
     }

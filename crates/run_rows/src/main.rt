@@ -46,7 +46,7 @@ impl Answers for Calls<'_> {
             "main_run_out_of_room" => words::program_out_of_room(self.0, row),
             "child" | "children" | "stage" | "deliver" => machine::told_of(self.0, row),
             "archive" => machine::told_of(self.0, row),
-            "measure" | "scan" | "head" => machine::told_of(self.0, row),
+            "measure" | "scan" | "head" | "remove" => machine::told_of(self.0, row),
             "main_run_on_files" => machine::told_of(self.0, row),
             _ => Err(RowFault::UnknownCall),
         }

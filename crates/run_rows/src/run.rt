@@ -8,6 +8,7 @@ use crate::script::script_of;
 use cwl_value::{Value, from_json};
 use document_links::{Process, read_process};
 use file_values::resolve;
+use job_rows::MemoryRecord;
 use plain_data::{Keyed, Text};
 use proc_host::Scripted;
 use row_io::{Row, RowFault, json_text};
@@ -48,9 +49,11 @@ fn end_of(alloc: Global, row: &Row, host: &mut Scripted, case: &Case) -> Result<
     requires { host.old.running ≡ [] }
 {
     let options = options_of(alloc, row)?;
+    let mut rows = MemoryRecord::new(alloc);
     let end = run(
         alloc,
         host,
+        &mut rows,
         case.process.as_process(),
         &case.inputs,
         options,
@@ -58,6 +61,7 @@ fn end_of(alloc: Global, row: &Row, host: &mut Scripted, case: &Case) -> Result<
     );
     let text = end_json(alloc, &end);
     mem::drop(end);
+    mem::drop(rows);
     text
 }
 

@@ -9,7 +9,7 @@ use Rattle.job_graph.specs.Unfold.{Resolved, Unfolded, is_at, outputs_at, unfold
 use Rattle.job_graph.specs.Words.{Fields, JobPlace, is_same_place}
 use Rattle.job_key.specs.Key.{key}
 use Rattle.run_rules.specs.Scene.{Scene}
-use Rattle.run_rules.specs.Events.{Event, file_measured, job_staged, job_started, child_exited, job_succeeded, job_failed, job_failed_for_now, result_delivered, host_failed, collect_failed, measures, are_measured, resolved, resolves, job_at}
+use Rattle.run_rules.specs.Events.{Event, file_measured, job_staged, job_started, child_exited, job_succeeded, job_failed, job_failed_for_now, result_delivered, host_failed, collect_failed, row_found, no_row, find_failed, measures, are_measured, resolved, resolves, job_at}
 use Rattle.run_rules.specs.Honest.{AgreesAt, AgreesFrom}
 use Rattle.run_rules.proofs.Measuring.{FitsAt, Fits, resolved_more, resolved_success}
 use Rattle.run_rules.proofs.Places.{same_place}
@@ -74,6 +74,9 @@ module _ (s : Scene) (world : World) where
   given_one es (result_delivered plan) fits agrees given = quietly es (result_delivered plan) fits refl given
   given_one es (host_failed at fault) fits agrees given = quietly es (host_failed at fault) fits refl given
   given_one es collect_failed fits agrees given = quietly es collect_failed fits refl given
+  given_one es (row_found at row) fits agrees given = quietly es (row_found at row) fits refl given
+  given_one es (no_row at) fits agrees given = quietly es (no_row at) fits refl given
+  given_one es (find_failed at refusal) fits agrees given = quietly es (find_failed at refusal) fits refl given
 
   pub given_first : AreGiven []
   given_first place outputs is = absurd cc

@@ -13,10 +13,10 @@ use Rattle.job_graph.specs.Jobs.{Job}
 use Rattle.job_graph.specs.Unfold.{Resolved, Unfolded, is_at, nothing_known, unfolded}
 use Rattle.job_graph.specs.Words.{Name, Fields, JobPlace}
 use Rattle.run_rules.specs.Scene.{Scene}
-use Rattle.run_rules.specs.Events.{Event, file_measured, job_staged, job_started, child_exited, job_succeeded, job_failed, job_failed_for_now, result_delivered, host_failed, collect_failed, Work, Progress, Started, measures, measures_after, measures_path, is_measured, are_measured, resolves, resolved, unfolding_at, job_at}
+use Rattle.run_rules.specs.Events.{Event, file_measured, job_staged, job_started, child_exited, job_succeeded, job_failed, job_failed_for_now, result_delivered, host_failed, collect_failed, row_found, no_row, find_failed, Work, Progress, Started, measures, measures_after, measures_path, is_measured, are_measured, resolves, resolved, unfolding_at, job_at}
 use Rattle.run_rules.specs.StartsOn.{StartsOn, reads_on as starts_reading, has_launch, has_no_launch, has_no_contents}
 use Rattle.run_rules.specs.CollectsOn.{CollectsOn, reads_on as collects_reading, collects, collects_none}
-use Rattle.run_rules.specs.Steps.{Steps, measures_file, stages, reads_input, starts, exits_well, exits_for_now, exits_badly, scans, reads_output, delivers, loses_collect, call_fails}
+use Rattle.run_rules.specs.Steps.{Steps, measures_file, stages, reads_input, starts, exits_well, exits_for_now, exits_badly, scans, reads_output, delivers, loses_collect, call_fails, finds_none, finds, finds_wrong, find_fails}
 use Rattle.plan_checker.specs.declared.plan.Mark.{Mark}
 use Rattle.run_rules.specs.Allowed.{Allowed}
 use Rattle.run_rules.specs.Run.{Goes, begins, asks}
@@ -119,6 +119,9 @@ module _ (s : Scene) where
   same_measures es (result_delivered plan) fits all = refl
   same_measures es (host_failed place fault) fits all = refl
   same_measures es collect_failed fits all = refl
+  same_measures es (row_found place row) fits all = refl
+  same_measures es (no_row place) fits all = refl
+  same_measures es (find_failed place refusal) fits all = refl
 
   -- so what is measured by then is measured at the end
   pub measures_stay : (es later : List Event) → Fits es later → are_measured s es ≡ true → fold measures_after (measures es) later ≡ measures es
@@ -181,6 +184,10 @@ module _ (s : Scene) where
   step_fits f marks may (delivers place plan) = (tt, tt)
   step_fits f marks may loses_collect = (tt, tt)
   step_fits f marks may (call_fails place request other) = (tt, tt)
+  step_fits f marks may (finds_none place its_key) = (tt, tt)
+  step_fits f marks may (finds place its_key row job known sound) = (tt, tt)
+  step_fits f marks may (finds_wrong place its_key row job known unsound) = (tt, tt)
+  step_fits f marks may (find_fails place its_key refusal) = (tt, tt)
 
   module _ (Plans : Progress → List Mark → Type 0) where
     pub goes_fitting : {t : List Pair} {f : Progress} {marks : List Mark} → Goes s Plans t f marks → Fits [] f.events

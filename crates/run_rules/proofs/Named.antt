@@ -35,10 +35,10 @@ use Rattle.job_graph.proofs.laws_of_walks.Passed.{Each, EachField}
 use Rattle.run_rules.specs.declared.request.Pair.{Pair}
 use Rattle.run_rules.specs.declared.setting.Options.{Options}
 use Rattle.run_rules.specs.Scene.{Scene}
-use Rattle.run_rules.specs.Events.{Event, file_measured, job_staged, job_started, child_exited, job_succeeded, job_failed, job_failed_for_now, result_delivered, host_failed, collect_failed, Work, Progress, Started, is_at_hand, resolved}
+use Rattle.run_rules.specs.Events.{Event, file_measured, job_staged, job_started, child_exited, job_succeeded, job_failed, job_failed_for_now, result_delivered, host_failed, collect_failed, row_found, no_row, find_failed, Work, Progress, Started, is_at_hand, resolved}
 use Rattle.run_rules.specs.StartsOn.{StartsOn, reads_on as starts_reading, has_launch, has_no_launch, has_no_contents}
 use Rattle.run_rules.specs.CollectsOn.{CollectsOn, left_of, reads_on as collects_reading, collects, collects_none}
-use Rattle.run_rules.specs.Steps.{Steps, measures_file, stages, reads_input, starts, exits_well, exits_for_now, exits_badly, scans, reads_output, delivers, loses_collect, call_fails}
+use Rattle.run_rules.specs.Steps.{Steps, measures_file, stages, reads_input, starts, exits_well, exits_for_now, exits_badly, scans, reads_output, delivers, loses_collect, call_fails, finds_none, finds, finds_wrong, find_fails}
 use Rattle.run_rules.specs.Run.{Goes, begins, asks}
 
 -- ---- a value whose places are names holds nothing that a job made
@@ -177,6 +177,10 @@ module _ (s : Scene) where
   steps_named (delivers place plan) = (tt, tt)
   steps_named loses_collect = (tt, tt)
   steps_named (call_fails place request other) = (tt, tt)
+  steps_named (finds_none place its_key) = (tt, tt)
+  steps_named (finds place its_key row job known sound) = (tt, tt)
+  steps_named (finds_wrong place its_key row job known unsound) = (tt, tt)
+  steps_named (find_fails place its_key refusal) = (tt, tt)
 
   module _ {Plans : Progress → List Mark → Type 0} where
     goes_named : {t : List Pair} {f : Progress} {marks : List Mark} → Goes s Plans t f marks → AllByRecursion NamedAt f.events
@@ -195,6 +199,9 @@ named_resolved (job_failed_for_now place ∷ es) all = named_resolved es all.1
 named_resolved (result_delivered plan ∷ es) all = named_resolved es all.1
 named_resolved (host_failed place fault ∷ es) all = named_resolved es all.1
 named_resolved (collect_failed ∷ es) all = named_resolved es all.1
+named_resolved (row_found place row ∷ es) all = named_resolved es all.1
+named_resolved (no_row place ∷ es) all = named_resolved es all.1
+named_resolved (find_failed place refusal ∷ es) all = named_resolved es all.1
 
 -- the outputs that a run has learned are named
 pub learned_are_named : (s : Scene) {Plans : Progress → List Mark → Type 0} {t : List Pair} {f : Progress} {marks : List Mark} → Goes s Plans t f marks → AreNamed (resolved f.events)
@@ -224,3 +231,6 @@ learned_is_at_hand (job_failed_for_now at ∷ es) place is = learned_is_at_hand 
 learned_is_at_hand (result_delivered plan ∷ es) place is = learned_is_at_hand es place is
 learned_is_at_hand (host_failed at fault ∷ es) place is = learned_is_at_hand es place is
 learned_is_at_hand (collect_failed ∷ es) place is = learned_is_at_hand es place is
+learned_is_at_hand (row_found at row ∷ es) place is = learned_is_at_hand es place is
+learned_is_at_hand (no_row at ∷ es) place is = learned_is_at_hand es place is
+learned_is_at_hand (find_failed at refusal ∷ es) place is = learned_is_at_hand es place is

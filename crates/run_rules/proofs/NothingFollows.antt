@@ -1,20 +1,26 @@
 -- Of any scene: a run has one end, and where it has come to it no request is allowed.
-use Rattle.std.specs.Prelude.{Contains}
+use Rattle.std.specs.Prelude.{◌||◌, Contains, not}
 use Rattle.std.specs.List.{list_all, list_any}
 use Rattle.std.proofs.lemmas.List.Elements.{All-contains}
 use Rattle.std.proofs.lemmas.List.Sums.{AllPass-from_list_all}
 use Rattle.std.proofs.Common.{◌≡◌, ◌∙◌, ℕ, ◌<◌, Bool, true, false, List, [], ◌∷◌, Option, Some, None, refl, sym, ap, subst, arith}
 use Rattle.proc_host.specs.declared.call.HostRequest.{HostRequest}
+use Rattle.job_graph.specs.Unfold.{is_at}
+use Rattle.job_key.specs.Key.{Key}
+use Rattle.run_rules.specs.declared.request.RecordRequest.{RecordRequest}
 use Rattle.run_rules.specs.declared.request.Request.{Request}
 use Rattle.staging.specs.declared.plan.StagePlan.{StagePlan}
 use Rattle.job_graph.specs.Words.{Fields, JobPlace}
 use Rattle.run_rules.specs.Scene.{Scene}
 use Rattle.run_rules.specs.Delivered.{any_file}
-use Rattle.run_rules.specs.Events.{nothing_due, Progress, in_flight, is_measured, delivered_at, unfolding_at}
+use Rattle.run_rules.specs.Events.{nothing_due, Progress, in_flight, has_no_find, is_looked_up, is_measured, delivered_at, unfolding_at}
 use Rattle.run_rules.specs.End.{End, succeeds_with, is_lost_collect, settled}
 use Rattle.run_rules.specs.EndsSo.{EndsSo, IsDelivered, no_file, copied, lost, fails, succeeds}
 use Rattle.plan_checker.specs.declared.plan.Mark.{Mark}
-use Rattle.run_rules.specs.Allowed.{Allowed, MayDeliver, due, due_in}
+use Rattle.run_rules.specs.Allowed.{Allowed, IsFree, MayDeliver, MayFind, due, due_in}
+use Rattle.run_rules.proofs.Finding.{found_in}
+use Rattle.run_rules.proofs.Places.{same_place}
+use Rattle.run_rules.proofs.events.Places.{IsFound, found_is}
 
 yes_and_no : (b : Bool) → b ≡ true → b ≡ false → ⊥
 yes_and_no b is is_not = let never : true ≡ false = sym is ∙ is_not in cc
@@ -51,6 +57,9 @@ module _ (s : Scene) (f : Progress) (marks : List Mark) where
   after_lost (Request.Host place (HostRequest.Fetch key number files)) idle is may = not_due s f (Request.Host place (HostRequest.Fetch key number files)) idle may
   after_lost (Request.Host place (HostRequest.Store key folder files)) idle is may = not_due s f (Request.Host place (HostRequest.Store key folder files)) idle may
   after_lost (Request.Host place (HostRequest.Deliver plan)) idle is may = yes_and_no lost_one is may.busy.free.still.collects
+  after_lost (Request.Record place (RecordRequest.Find its_key)) idle is may = yes_and_no lost_one is may.still.collects
+  after_lost (Request.Record place (RecordRequest.Put row)) idle is may = not_due s f (Request.Record place (RecordRequest.Put row)) idle may
+  after_lost (Request.Record place (RecordRequest.DropArchive its_key)) idle is may = not_due s f (Request.Record place (RecordRequest.DropArchive its_key)) idle may
   after_lost Request.Finished idle is may = not_due s f Request.Finished idle may
 
   after_failure : (end : End) (request : Request) → f.work ≡ nothing_due → in_flight f.events ≡ [] → settled s f.events ≡ Some end →
@@ -64,6 +73,10 @@ module _ (s : Scene) (f : Progress) (marks : List Mark) where
   after_failure end (Request.Host place (HostRequest.Fetch key number files)) idle landed is may = not_due s f (Request.Host place (HostRequest.Fetch key number files)) idle may
   after_failure end (Request.Host place (HostRequest.Store key folder files)) idle landed is may = not_due s f (Request.Host place (HostRequest.Store key folder files)) idle may
   after_failure end (Request.Host place (HostRequest.Deliver plan)) idle landed is may = some_and_none (settled s f.events) end is may.busy.free.still.unsettled
+  after_failure end (Request.Record place (RecordRequest.Find its_key)) idle landed is may = some_and_none (settled s f.events) end is may.still.unsettled
+  after_failure end (Request.Record place (RecordRequest.Put row)) idle landed is may = not_due s f (Request.Record place (RecordRequest.Put row)) idle may
+  after_failure end (Request.Record place (RecordRequest.DropArchive its_key)) idle landed is may =
+      not_due s f (Request.Record place (RecordRequest.DropArchive its_key)) idle may
   after_failure end Request.Finished idle landed is may = not_due s f Request.Finished idle may
 
   after_delivery : (outputs delivered : Fields) (place : JobPlace) (plan : StagePlan) → (unfolding_at s f.events).result ≡ Some outputs →
@@ -72,6 +85,14 @@ module _ (s : Scene) (f : Progress) (marks : List Mark) where
       let same : may.outputs ≡ outputs = same_some (unfolding_at s f.events).result may.outputs outputs may.result result in
       yes_and_no (any_file outputs) (subst (λ (fields : Fields). any_file fields ≡ true) same may.files) none
   after_delivery outputs delivered place plan result (copied its_plan is delivery) may = some_and_none (delivered_at f.events) its_plan is may.only
+
+  -- where the row of no job is looked for any more, none may be
+  no_find : (place : JobPlace) (its_key : Key) → IsFree s f → MayFind s f place its_key → ⊥
+  no_find place its_key free may =
+      let it : IsFound (unfolding_at s f.events).jobs place may.job = found_is (unfolding_at s f.events).jobs place may.job may.known in
+      let here : may.job.place ≡ place = same_place may.job.place place it.same in
+      yes_if_none (unfolding_at s f.events).jobs (has_no_find f.events) may.job free.looked_up (found_in (is_at place) (unfolding_at s f.events).jobs may.job may.known)
+      (ap (λ b. not b || is_looked_up f.events may.job.place) may.reusable ∙ ap (is_looked_up f.events) here ∙ may.unasked)
 
   pub over : {end : End} (request : Request) → EndsSo s f marks end → Allowed s f marks request → ⊥
   over request (lost idle is) may = after_lost request idle is may
@@ -88,6 +109,10 @@ module _ (s : Scene) (f : Progress) (marks : List Mark) where
   over (Request.Host place (HostRequest.Head path limit)) (succeeds outputs delivered busy landed result is) may = not_due s f (Request.Host place (HostRequest.Head path limit)) busy.free.still.idle may
   over (Request.Host place (HostRequest.Deliver plan)) (succeeds outputs delivered busy landed result is) may =
       after_delivery outputs delivered place plan result is may
+  over (Request.Record place (RecordRequest.Find its_key)) (succeeds outputs delivered busy landed result is) may = no_find place its_key busy.free may
+  over (Request.Record place (RecordRequest.Put row)) (succeeds outputs delivered busy landed result is) may = not_due s f (Request.Record place (RecordRequest.Put row)) busy.free.still.idle may
+  over (Request.Record place (RecordRequest.DropArchive its_key)) (succeeds outputs delivered busy landed result is) may =
+      not_due s f (Request.Record place (RecordRequest.DropArchive its_key)) busy.free.still.idle may
   over Request.Finished (succeeds outputs delivered busy landed result is) may = not_due s f Request.Finished busy.free.still.idle may
 
   -- a result is delivered in one way

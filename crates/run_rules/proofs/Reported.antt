@@ -5,7 +5,7 @@ use Rattle.job_graph.specs.Equations.{walker}
 use Rattle.run_rules.specs.declared.request.Pair.{Pair}
 use Rattle.run_rules.specs.declared.setting.Setting.{Setting}
 use Rattle.run_rules.specs.Delivered.{object_of}
-use Rattle.run_rules.specs.End.{End, succeeds_with, fails_permanently, fails_temporarily, beyond_limits, ended_by_host}
+use Rattle.run_rules.specs.End.{End, succeeds_with, fails_permanently, fails_temporarily, beyond_limits, ended_by_host, ended_by_record}
 use Rattle.job_graph.specs.Eval.{World}
 use Rattle.run_rules.specs.Honest.{IsHonest, Means}
 use Rattle.run_rules.specs.Reports.{IsRight, report_of}
@@ -26,6 +26,7 @@ rightly_reported setting f marks world (fails_permanently place cause) ends mean
 rightly_reported setting f marks world (fails_temporarily place) ends means = tt
 rightly_reported setting f marks world beyond_limits ends means = tt
 rightly_reported setting f marks world (ended_by_host fault running) ends means = tt
+rightly_reported setting f marks world (ended_by_record refusal) ends means = tt
 
 pub reports_rightly : (setting : Setting) (world : World) → ((all : Measures) → Evaluates world (walker setting.process setting.inputs all)) →
     (t : List Pair) (end : End) (run : IsRun setting t end) → IsHonest setting world run.happened.events →

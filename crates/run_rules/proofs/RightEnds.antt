@@ -14,8 +14,8 @@ use Rattle.run_rules.specs.declared.request.Pair.{Pair}
 use Rattle.run_rules.specs.declared.setting.Setting.{Setting}
 use Rattle.job_key.specs.Key.{key}
 use Rattle.run_rules.specs.Scene.{Scene, scene_of}
-use Rattle.run_rules.specs.Events.{Event, file_measured, job_staged, job_started, child_exited, job_succeeded, job_failed, job_failed_for_now, result_delivered, host_failed, collect_failed, measures, measures_after, are_measured, resolved, unfolding_at, job_at}
-use Rattle.run_rules.specs.End.{End, succeeds_with, fails_permanently, fails_temporarily, beyond_limits, ended_by_host, fault_end, gives_up, settled_by, unfold_end, settled_from, settled}
+use Rattle.run_rules.specs.Events.{Event, file_measured, job_staged, job_started, child_exited, job_succeeded, job_failed, job_failed_for_now, result_delivered, host_failed, collect_failed, row_found, no_row, find_failed, measures, measures_after, are_measured, resolved, unfolding_at, job_at}
+use Rattle.run_rules.specs.End.{End, succeeds_with, fails_permanently, fails_temporarily, beyond_limits, ended_by_host, ended_by_record, fault_end, gives_up, settled_by, unfold_end, settled_from, settled}
 use Rattle.run_rules.specs.Plans.{InForce}
 use Rattle.run_rules.specs.Honest.{AgreesAt, AgreesFrom, IsHonest, Means}
 use Rattle.run_rules.specs.Run.{IsRun}
@@ -102,6 +102,9 @@ module _ (s : Scene) (world : World) (all : Measures) (evaluates : Evaluates wor
   breaks_rightly es later (result_delivered plan) place cause fits leads agrees_so given is = absurd cc
   breaks_rightly es later (host_failed at fault) place cause fits leads agrees_so given is = absurd cc
   breaks_rightly es later collect_failed place cause fits leads agrees_so given is = absurd cc
+  breaks_rightly es later (row_found at row) place cause fits leads agrees_so given is = absurd cc
+  breaks_rightly es later (no_row at) place cause fits leads agrees_so given is = absurd cc
+  breaks_rightly es later (find_failed at refusal) place cause fits leads agrees_so given is = absurd cc
 
   lacks_rightly : (es later : List Event) (place : JobPlace) (cause : Cause) → Fits s es later → Leads_to es later → AreGiven s world es →
       unfold_end s es ≡ Some (fails_permanently place cause) → Fails
@@ -158,3 +161,4 @@ ends_rightly setting world evaluates t (fails_permanently place cause) run hones
 ends_rightly setting world evaluates t (fails_temporarily place) run honest = tt
 ends_rightly setting world evaluates t beyond_limits run honest = tt
 ends_rightly setting world evaluates t (ended_by_host fault running) run honest = tt
+ends_rightly setting world evaluates t (ended_by_record refusal) run honest = tt

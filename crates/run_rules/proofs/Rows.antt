@@ -60,11 +60,13 @@ use Rattle.job_graph.specs.Jobs.{Job}
 use Rattle.job_graph.specs.Made.{value_moved, file_moved, dir_moved, made_place}
 use Rattle.job_graph.specs.Words.{Name, Fields, JobPlace}
 use Rattle.run_rules.specs.Delivered.{any_file, has_file_at, location_place, source_place, sources}
-use Rattle.run_rules.specs.Events.{Event, Progress, job_staged, job_started, child_exited, job_succeeded, job_failed, job_failed_for_now, result_delivered, host_failed, collect_failed, nothing_due, start_due, Started, at_first, folder_at, unfolding_at}
+use Rattle.run_rules.specs.Events.{Event, Progress, job_staged, job_started, child_exited, job_succeeded, job_failed, job_failed_for_now, result_delivered, host_failed, collect_failed, no_row, nothing_due, start_due, Started, at_first, folder_at, unfolding_at}
 use Rattle.run_rules.specs.Folders.{runtime_of}
 use Rattle.run_rules.specs.StartsOn.{has_launch}
 use Rattle.run_rules.specs.CollectsOn.{collects, left_of}
-use Rattle.run_rules.specs.Steps.{Steps, call, stages, starts, exits_well, exits_for_now, exits_badly, scans, delivers}
+use Rattle.run_rules.specs.declared.request.RecordAnswer.{RecordAnswer}
+use Rattle.run_rules.specs.declared.request.RecordRequest.{RecordRequest}
+use Rattle.run_rules.specs.Steps.{Steps, call, command, stages, starts, exits_well, exits_for_now, exits_badly, scans, delivers, finds_none}
 use Rattle.run_rules.specs.End.{End, succeeds_with, fails_permanently, fails_temporarily, ended_by_host, IsDelivery}
 use Rattle.run_rules.specs.EndsSo.{EndsSo, IsDelivered, no_file, copied as was_copied, lost, fails, succeeds}
 use Rattle.plan_checker.specs.declared.plan.Mark.{Mark}
@@ -246,7 +248,7 @@ its_plan = record { moves = its_move ∷ []; value = put_out }
 -- What happened in its whole run, and before its file was delivered
 
 abbrev before : List Event
-before = job_staged [] 1 ∷ job_started [] abc its_launch 1 ∷ child_exited 1 ∷ job_succeeded [] found_out ∷ []
+before = no_row [] ∷ job_staged [] 1 ∷ job_started [] abc its_launch 1 ∷ child_exited 1 ∷ job_succeeded [] found_out ∷ []
 
 abbrev whole : List Event
 whole = before ++ result_delivered its_plan ∷ []
@@ -310,7 +312,7 @@ nothing_to_stage (segment ∷ place) plan number may = let none : None ≡ Some 
 it_succeeds : EndsSo s (after_events whole) (Load ∷ []) (succeeds_with made_out put_out)
 it_succeeds =
     succeeds made_out put_out
-    (record { free = record { still = record { idle = refl; collects = refl; unsettled = refl }; measured = refl }; no_stage = nothing_to_stage }) refl its_result
+    (record { free = record { still = record { idle = refl; collects = refl; unsettled = refl }; measured = refl; looked_up = refl }; no_stage = nothing_to_stage }) refl its_result
     (was_copied its_plan refl it_is_delivered)
 
 a_file_is_there : any_file made_out ≡ true
@@ -384,21 +386,23 @@ its_start = record { inputs = abc; launch = its_launch }
 module _ (is : IsLaunch hello abc (runtime_of options 1) its_launch) (collected : IsCollected (left_of its_start (out ∷ []) []) hello.outputs (Ok found_out))
     (unread : AreHeadsWanted (listing_of (out ∷ [])) abc hello.outputs []) where
   it_goes :
-      Leads s at_first (call [] (HostRequest.Stage staged 1) HostAnswer.Done
+      Leads s at_first (command [] (RecordRequest.Find (key hello abc)) (RecordAnswer.Found None)
+      ∷ call [] (HostRequest.Stage staged 1) HostAnswer.Done
       ∷ call [] (HostRequest.Start its_launch) (HostAnswer.Started 1)
       ∷ call [] HostRequest.Collect (HostAnswer.Ended (one_ended (Some (pos 0))))
       ∷ call [] (HostRequest.Scan (codes "w/j1/out")) (HostAnswer.Listed (out ∷ []))
       ∷ call [] (HostRequest.Deliver its_plan) HostAnswer.Done
       ∷ []) (after_events whole)
   it_goes =
-      follows (stages [] staged 1 job (start_due [] abc its_launch) [] refl (has_launch abc its_launch refl is))
+      follows (finds_none [] (key hello abc))
+      (follows (stages [] staged 1 job (start_due [] abc its_launch) [] refl (has_launch abc its_launch refl is))
       (follows (starts [] abc its_launch 1 refl)
       (follows (exits_well [] (one_ended (Some (pos 0))) job (0, lit< tt, refl) refl refl)
       (follows (scans [] (codes "w/j1/out") (one_ended (Some (pos 0))).millis (out ∷ []) job its_start [] nothing_due (job_succeeded [] found_out ∷ []) refl refl refl unread (collects found_out collected))
-      (follows (delivers [] its_plan) stays))))
+      (follows (delivers [] its_plan) stays)))))
 
 abbrev started : List Event
-started = job_staged [] 1 ∷ job_started [] abc its_launch 1 ∷ []
+started = no_row [] ∷ job_staged [] 1 ∷ job_started [] abc its_launch 1 ∷ []
 
 not_while_its_child_runs : {marks : List Mark} {end : End} → EndsSo s (after_events started) marks end → ⊥
 not_while_its_child_runs ends = flies_on ends refl refl

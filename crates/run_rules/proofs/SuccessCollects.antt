@@ -11,7 +11,7 @@ use Rattle.job_graph.specs.Jobs.{Job, Walker}
 use Rattle.job_graph.specs.Unfold.{Fault, fault_at, too_many_jobs, Resolved, Unfolded, is_at, or_else, outputs_at, unfolded}
 use Rattle.job_graph.specs.Words.{Fields, JobPlace, is_same_place}
 use Rattle.run_rules.specs.Scene.{Scene, scene_of}
-use Rattle.run_rules.specs.Events.{Event, file_measured, job_staged, job_started, child_exited, job_succeeded, job_failed, job_failed_for_now, result_delivered, host_failed, collect_failed, Progress, measures, are_measured, resolved, unfolding_at, job_at}
+use Rattle.run_rules.specs.Events.{Event, file_measured, job_staged, job_started, child_exited, job_succeeded, job_failed, job_failed_for_now, result_delivered, host_failed, collect_failed, row_found, no_row, find_failed, Progress, measures, are_measured, resolved, unfolding_at, job_at}
 use Rattle.run_rules.specs.End.{End, succeeds_with, fails_permanently, fails_temporarily, fault_end, gives_up, settled_by, unfold_end, settled_from, settled}
 use Rattle.run_rules.specs.EndsSo.{EndsSo, IsDelivered, fails, succeeds}
 use Rattle.plan_checker.specs.declared.plan.Mark.{Mark}
@@ -54,6 +54,9 @@ module _ (s : Scene) where
   settled_by_failure es (result_delivered plan) = tt
   settled_by_failure es (host_failed place fault) = tt
   settled_by_failure es collect_failed = tt
+  settled_by_failure es (row_found place row) = tt
+  settled_by_failure es (no_row place) = tt
+  settled_by_failure es (find_failed place refusal) = tt
 
   settled_later : (es later : List Event) → IsNoSuccess (settled_from s es later)
   settled_later es [] = tt
@@ -112,6 +115,9 @@ where_collected (job_failed_for_now at ∷ es) place is = further _ es place (wh
 where_collected (result_delivered plan ∷ es) place is = further _ es place (where_collected es place is)
 where_collected (host_failed at fault ∷ es) place is = further _ es place (where_collected es place is)
 where_collected (collect_failed ∷ es) place is = further _ es place (where_collected es place is)
+where_collected (row_found at row ∷ es) place is = further _ es place (where_collected es place is)
+where_collected (no_row at ∷ es) place is = further _ es place (where_collected es place is)
+where_collected (find_failed at refusal ∷ es) place is = further _ es place (where_collected es place is)
 
 -- What is known of a walk with a result: each known job is at a place of its own, and its outputs are known
 

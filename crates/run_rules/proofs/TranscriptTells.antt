@@ -12,6 +12,7 @@ use Rattle.proc_host.specs.declared.child.ChildEnd.{ChildEnd}
 use Rattle.proc_host.specs.declared.child.ExitClass.{ExitClass}
 use Rattle.proc_host.specs.ExitClass.{class_of}
 use Rattle.run_rules.specs.declared.outcome.Cause.{Cause}
+use Rattle.job_rows.specs.declared.refusal.RecordRefusal.TheVariants.{NotARecord}
 use Rattle.run_rules.specs.declared.request.Request.{Request}
 use Rattle.run_rules.specs.declared.request.Pair.{Pair}
 use Rattle.cwl_process.specs.declared.tool.ExitCodes.{ExitCodes}
@@ -20,10 +21,10 @@ use Rattle.collected_outputs.specs.Contents.{Heads}
 use Rattle.job_graph.specs.Jobs.{Job}
 use Rattle.job_graph.specs.Words.{Name, Fields, JobPlace}
 use Rattle.run_rules.specs.Scene.{Scene}
-use Rattle.run_rules.specs.Events.{Event, file_measured, job_staged, job_started, child_exited, job_succeeded, job_failed, job_failed_for_now, result_delivered, host_failed, collect_failed, Work, nothing_due, input_heads_due, start_due, scan_due, output_heads_due, Progress, Started, flight_after, in_flight, job_at}
+use Rattle.run_rules.specs.Events.{Event, file_measured, job_staged, job_started, child_exited, job_succeeded, job_failed, job_failed_for_now, result_delivered, host_failed, collect_failed, row_found, no_row, find_failed, Work, nothing_due, input_heads_due, start_due, scan_due, output_heads_due, Progress, Started, flight_after, in_flight, job_at}
 use Rattle.run_rules.specs.StartsOn.{StartsOn, reads_on as starts_reading, has_launch, has_no_launch, has_no_contents}
 use Rattle.run_rules.specs.CollectsOn.{CollectsOn, reads_on as collects_reading, collects, collects_none}
-use Rattle.run_rules.specs.Steps.{Steps, measures_file, stages, reads_input, starts, exits_well, exits_for_now, exits_badly, scans, reads_output, delivers, loses_collect, call_fails, call, progress_with}
+use Rattle.run_rules.specs.Steps.{Steps, measures_file, stages, reads_input, starts, exits_well, exits_for_now, exits_badly, scans, reads_output, delivers, loses_collect, call_fails, call, progress_with, finds_none, finds, finds_wrong, find_fails}
 use Rattle.plan_checker.specs.declared.plan.Mark.{Mark}
 use Rattle.run_rules.specs.Allowed.{Allowed, due_in}
 use Rattle.run_rules.specs.Run.{Goes, begins, asks}
@@ -225,6 +226,10 @@ module _ (codes : JobPlace → ExitCodes) where
     step_told now may (delivers place plan) = quiet_one (result_delivered plan) refl (λ at outputs is. cc)
     step_told now may loses_collect = quiet_one collect_failed refl (λ at outputs is. cc)
     step_told now may (call_fails place request other) = quiet_one (host_failed place (fault_of request)) refl (λ at outputs is. cc)
+    step_told now may (finds_none place its_key) = quiet_one (no_row place) refl (λ at outputs is. cc)
+    step_told now may (finds place its_key row job known sound) = quiet_one (row_found place row) refl (λ at outputs is. cc)
+    step_told now may (finds_wrong place its_key row job known unsound) = quiet_one (find_failed place NotARecord) refl (λ at outputs is. cc)
+    step_told now may (find_fails place its_key refusal) = quiet_one (find_failed place refusal) refl (λ at outputs is. cc)
 
   -- of a run whose events are the first of these, where the jobs that are known after any first events have these codes
   module _ (s : Scene) (all : List Event) (its_codes : (es rest : List Event) → es ++ rest ≡ all → (place : JobPlace) (job : Job) →

@@ -24,19 +24,23 @@ use Rattle.run_rules.specs.declared.setting.Options.{Options}
 use Rattle.collected_outputs.specs.Contents.{Heads}
 use Rattle.job_graph.specs.Jobs.{Job, met_job, Made, Walk}
 use Rattle.job_graph.specs.Words.{Name, JobPlace, is_same_place}
-use Rattle.run_rules.specs.Events.{Event, job_staged, job_started, child_exited, job_succeeded, job_failed, job_failed_for_now, host_failed, collect_failed, nothing_due, input_heads_due, start_due, output_heads_due, Progress, Started, at_first, in_flight, unfolding_at}
+use Rattle.run_rules.specs.Events.{Event, job_staged, job_started, child_exited, job_succeeded, job_failed, job_failed_for_now, host_failed, collect_failed, no_row, find_failed, nothing_due, input_heads_due, start_due, output_heads_due, Progress, Started, at_first, in_flight, unfolding_at}
 use Rattle.run_rules.specs.Folders.{runtime_of, in_folder}
 use Rattle.run_rules.specs.StartsOn.{has_launch, reads_on}
 use Rattle.run_rules.specs.CollectsOn.{collects, left_of}
 use Rattle.run_rules.specs.Plans.{is_planning}
-use Rattle.run_rules.specs.Steps.{call, stages, reads_input, reads_output, starts, exits_well, exits_badly, scans}
+use Rattle.run_rules.specs.Steps.{call, command, stages, reads_input, reads_output, starts, exits_well, exits_badly, scans, finds_none}
 use Rattle.run_rules.proofs.Leads.{Leads, stays, follows}
-use Rattle.run_rules.specs.End.{End, succeeds_with, fails_permanently, fails_temporarily, ended_by_host, settled}
+use Rattle.run_rules.specs.End.{End, succeeds_with, fails_permanently, fails_temporarily, ended_by_host, ended_by_record, settled}
 use Rattle.run_rules.specs.EndsSo.{EndsSo, no_file, lost, fails, succeeds}
 use Rattle.plan_checker.specs.declared.plan.Mark.{Mark}
 use Rattle.plan_checker.specs.declared.plan.Mark.TheVariants.{Load, Compute}
 use Rattle.plan_checker.specs.Plan.{mark}
-use Rattle.run_rules.specs.Allowed.{MayStage, MayCollect, due}
+use Rattle.job_key.specs.Key.{Key, key}
+use Rattle.job_rows.specs.declared.refusal.RecordRefusal.TheVariants.{Store}
+use Rattle.run_rules.specs.declared.request.RecordAnswer.{RecordAnswer}
+use Rattle.run_rules.specs.declared.request.RecordRequest.{RecordRequest}
+use Rattle.run_rules.specs.Allowed.{MayFind, MayStage, MayCollect, due}
 use Rattle.run_rules.specs.Scene.{Scene}
 use Rattle.run_rules.proofs.NothingFollows.{flies_on}
 use Rattle.run_rules.proofs.TranscriptTells.{none_in}
@@ -137,9 +141,9 @@ badly = Some (pos 1)
 abbrev at : List Event → Progress
 at events = record { work = nothing_due; events = events }
 
--- the first child runs; both run
+-- the record has no row of either, and the first child runs; both run
 abbrev one : List Event
-one = job_staged a 1 ∷ job_started a [] (launch 1) 1 ∷ []
+one = no_row a ∷ no_row b ∷ job_staged a 1 ∷ job_started a [] (launch 1) 1 ∷ []
 
 abbrev both : List Event
 both = one ++ job_staged b 2 ∷ job_started b [] (launch 2) 2 ∷ []
@@ -158,7 +162,7 @@ came_badly ticket place = child_exited ticket ∷ job_failed place (Cause.Exit b
 
 may_stage : MayStage s (at one) (Load ∷ Compute ∷ []) b plan 2
 may_stage = record {
-  free = record { still = record { idle = refl; collects = refl; unsettled = refl }; measured = refl };
+  free = record { still = record { idle = refl; collects = refl; unsettled = refl }; measured = refl; looked_up = refl };
   job = job b;
   known = refl;
   computed = refl;
@@ -169,18 +173,50 @@ may_stage = record {
   next_number = refl;
 }
 
+-- The row of each is looked for first, under the key of both, and nothing is planned before
+
+abbrev its_key : Key
+its_key = key tool []
+
+abbrev not_there : JobPlace → Pair
+not_there place = command place (RecordRequest.Find its_key) (RecordAnswer.Found None)
+
+a_is_looked_for : MayFind s at_first a its_key
+a_is_looked_for = record {
+  still = record { idle = refl; collects = refl; unsettled = refl };
+  job = job a;
+  known = refl;
+  reusable = refl;
+  unasked = refl;
+  keyed = refl;
+}
+
+not_looked_for_again : MayFind s (at (no_row a ∷ [])) a its_key → ⊥
+not_looked_for_again may = let never : true ≡ false = may.unasked in cc
+
+nothing_is_staged_before : {marks : List Mark} {place : JobPlace} {its_plan : StagePlan} {number : ℕ} → MayStage s (at (no_row a ∷ [])) marks place its_plan number → ⊥
+nothing_is_staged_before may = let never : false ≡ true = may.free.looked_up in cc
+
+no_plan_before : is_planning s (at (no_row a ∷ [])) ≡ false
+no_plan_before = refl
+
+a_find_that_is_refused : EndsSo s (at (no_row a ∷ find_failed b Store ∷ [])) [] (ended_by_record Store)
+a_find_that_is_refused = fails _ refl refl refl refl
+
 -- What is asked and answered brings these events about
 
 module _ (is : (n : ℕ) → IsLaunch tool [] (runtime_of options n) (launch n)) where
   abbrev started : JobPlace → ℕ → List Pair
   started place n = call place (HostRequest.Stage plan n) HostAnswer.Done ∷ call place (HostRequest.Start (launch n)) (HostAnswer.Started n) ∷ []
 
-  they_start : Leads s at_first (started a 1 ++ started b 2) (at both)
+  they_start : Leads s at_first (not_there a ∷ not_there b ∷ started a 1 ++ started b 2) (at both)
   they_start =
-      follows (stages a plan 1 (job a) (start_due a [] (launch 1)) [] refl (has_launch [] (launch 1) refl (is 1)))
+      follows (finds_none a its_key)
+      (follows (finds_none b its_key)
+      (follows (stages a plan 1 (job a) (start_due a [] (launch 1)) [] refl (has_launch [] (launch 1) refl (is 1)))
       (follows (starts a [] (launch 1) 1 refl)
       (follows (stages b plan 2 (job b) (start_due b [] (launch 2)) [] refl (has_launch [] (launch 2) refl (is 2)))
-      (follows (starts b [] (launch 2) 2 refl) stays)))
+      (follows (starts b [] (launch 2) 2 refl) stays)))))
 
 either_ends : Leads s (at both) (ended 2 well ∷ scanned b ∷ ended 1 badly ∷ []) (at (both ++ came_well 2 b ++ came_badly 1 a))
 either_ends =
@@ -194,7 +230,7 @@ abbrev read_of : Name → Pair
 read_of path = call a (HostRequest.Head path 65536) (HostAnswer.FirstBytes (codes "abc"))
 
 module _ (is : (n : ℕ) → IsLaunch tool [] (runtime_of options n) (launch n)) where
-  it_starts_once_all_is_read : Leads s (record { work = input_heads_due a [] (codes "/f" ∷ codes "/g" ∷ []) []; events = job_staged a 1 ∷ [] })
+  it_starts_once_all_is_read : Leads s (record { work = input_heads_due a [] (codes "/f" ∷ codes "/g" ∷ []) []; events = no_row a ∷ no_row b ∷ job_staged a 1 ∷ [] })
       (read_of (codes "/f") ∷ read_of (codes "/g") ∷ call a (HostRequest.Start (launch 1)) (HostAnswer.Started 1) ∷ []) (at one)
   it_starts_once_all_is_read =
       follows (reads_input a (codes "/f") 65536 (codes "abc") [] (codes "/g" ∷ []) [] (job a) _ [] refl refl (reads_on (codes "/g") []))
@@ -236,14 +272,14 @@ both_loaded false false computed = cc
 ends_by_b : EndsSo s (at (both ++ came_well 1 a ++ came_well 2 b)) (Load ∷ Load ∷ []) (succeeds_with [] [])
 ends_by_b =
     succeeds [] [] (record {
-      free = record { still = record { idle = refl; collects = refl; unsettled = refl }; measured = refl };
+      free = record { still = record { idle = refl; collects = refl; unsettled = refl }; measured = refl; looked_up = refl };
       no_stage = λ place plan number may. both_loaded (is_same_place a place) (is_same_place b place) may.computed;
     }) refl refl (no_file refl refl)
 
 ends_by_a : EndsSo s (at (both ++ came_well 2 b ++ came_well 1 a)) (Load ∷ Load ∷ []) (succeeds_with [] [])
 ends_by_a =
     succeeds [] [] (record {
-      free = record { still = record { idle = refl; collects = refl; unsettled = refl }; measured = refl };
+      free = record { still = record { idle = refl; collects = refl; unsettled = refl }; measured = refl; looked_up = refl };
       no_stage = λ place plan number may. both_loaded (is_same_place a place) (is_same_place b place) may.computed;
     }) refl refl (no_file refl refl)
 

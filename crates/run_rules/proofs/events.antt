@@ -10,6 +10,7 @@ pub mod Places
 pub mod ByNumber
 pub mod Tally
 pub mod Course
+pub mod Lookups
 -- ---- what may be asked, and how a run grows
 pub mod Planned
 pub mod Asks

@@ -7,13 +7,15 @@ use Rattle.staging.specs.Groups.{path_in}
 use Rattle.staging.specs.Plan.{IsPlan}
 use Rattle.staging.specs.declared.plan.StagePlan.{StagePlan}
 use Rattle.input_files.specs.declared.contents.TheConstants.{MOST_CONTENTS}
+use Rattle.job_key.specs.Key.{Key, key}
+use Rattle.run_rules.specs.declared.request.RecordRequest.{RecordRequest}
 use Rattle.run_rules.specs.declared.request.Request.{Request}
 use Rattle.job_graph.specs.Jobs.{Job}
 use Rattle.job_graph.specs.Made.{any_made, fields_moved}
 use Rattle.job_graph.specs.Words.{Name, Fields, JobPlace}
 use Rattle.run_rules.specs.Folders.{in_folder}
 use Rattle.run_rules.specs.Delivered.{any_file, source_place}
-use Rattle.run_rules.specs.Events.{Event, Work, nothing_due, input_heads_due, start_due, scan_due, output_heads_due, Progress, in_flight, is_at_hand, is_held, is_measured, is_staging, are_measured, delivered_at, folder_at, unfolding_at, job_at}
+use Rattle.run_rules.specs.Events.{Event, Work, nothing_due, input_heads_due, start_due, scan_due, output_heads_due, Progress, in_flight, is_at_hand, is_held, is_measured, is_looked_up, is_reusable, is_staging, are_looked_up, are_measured, delivered_at, folder_at, unfolding_at, job_at}
 use Rattle.run_rules.specs.End.{settled, IsDelivery, is_lost_collect}
 use Rattle.plan_checker.specs.declared.plan.Mark.{Mark}
 use Rattle.plan_checker.specs.declared.plan.Mark.TheVariants.{Compute}
@@ -34,10 +36,20 @@ module _ (s : Scene) where
     pub known : Contains s.paths path
     pub unmeasured : is_measured f.events path ≡ false
 
-  -- and each input file is measured
+  -- the record is asked once for the row of each known job that may have one, under the job's key, before anything but a measure is asked
+  pub record MayFind (f : Progress) (place : JobPlace) (its_key : Key) : Type 0 where
+    pub still : IsOpen f
+    pub job : Job
+    pub known : job_at s f.events place ≡ Some job
+    pub reusable : is_reusable job ≡ true
+    pub unasked : is_looked_up f.events place ≡ false
+    pub keyed : its_key ≡ key job.tool job.inputs
+
+  -- and each input file is measured, and the row of each known job was looked for
   pub record IsFree (f : Progress) : Type 0 where
     pub still : IsOpen f
     pub measured : are_measured s f.events ≡ true
+    pub looked_up : are_looked_up s f.events ≡ true
 
   -- a job is staged that the plan computes and that is not held, where a slot is free and the outputs of its parents are at hand, that is, of
   -- each job that made a file in its inputs: its input files are copied to its own folder, those that its parents made from where these left
@@ -98,4 +110,5 @@ module _ (s : Scene) where
   Allowed f marks (Request.Host place (HostRequest.Stage plan number)) = MayStage f marks place plan number
   Allowed f marks (Request.Host place HostRequest.Collect) = MayCollect f marks place
   Allowed f marks (Request.Host place (HostRequest.Deliver plan)) = MayDeliver f marks place plan
+  Allowed f marks (Request.Record place (RecordRequest.Find its_key)) = MayFind f place its_key
   Allowed f marks request = due f ≡ Some request

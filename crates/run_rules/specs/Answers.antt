@@ -1,17 +1,31 @@
 -- Which answers a request can have.
-use Rattle.std.specs.Prelude.{ℕ, List}
+use Rattle.std.specs.Prelude.{ℕ, List, Option}
+use Rattle.job_rows.specs.declared.refusal.RecordRefusal.{RecordRefusal}
+use Rattle.job_rows.specs.declared.row.Row.{Row}
 use Rattle.proc_host.specs.Answers.{CanAnswer, flying_with}
 use Rattle.proc_host.specs.declared.call.HostAnswer.{HostAnswer}
 use Rattle.proc_host.specs.declared.call.HostRequest.{HostRequest}
 use Rattle.run_rules.specs.declared.request.Answer.{Answer}
+use Rattle.run_rules.specs.declared.request.RecordAnswer.{RecordAnswer}
+use Rattle.run_rules.specs.declared.request.RecordRequest.{RecordRequest}
 use Rattle.run_rules.specs.declared.request.Request.{Request}
 use Rattle.job_graph.specs.Words.{JobPlace}
+
+-- an answer that a record can give to a command
+pub data CanTell : RecordRequest → RecordAnswer → Type 0 where
+  is_found : (key : List ℕ) (row : Option Row) → CanTell (RecordRequest.Find key) (RecordAnswer.Found row)
+  is_put : (row : Row) → CanTell (RecordRequest.Put row) RecordAnswer.Done
+  is_dropped : (key : List ℕ) → CanTell (RecordRequest.DropArchive key) RecordAnswer.Done
+  is_refused : (request : RecordRequest) (refusal : RecordRefusal) → CanTell request (RecordAnswer.Refused refusal)
 
 -- an answer that the request's call can give, where these children are in flight
 pub data MayAnswer (flying : List ℕ) : Request → Answer → Type 0 where
   by_host : (place : JobPlace) (request : HostRequest) (answer : HostAnswer) → CanAnswer flying request answer →
       MayAnswer flying (Request.Host place request) (Answer.Host answer)
+  by_record : (place : JobPlace) (request : RecordRequest) (answer : RecordAnswer) → CanTell request answer →
+      MayAnswer flying (Request.Record place request) (Answer.Record answer)
 
 -- the tickets in flight after an answer
 abbrev pub flying_after : List ℕ → Answer → List ℕ
 flying_after flying (Answer.Host answer) = flying_with flying answer
+flying_after flying (Answer.Record answer) = flying

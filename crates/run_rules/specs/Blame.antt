@@ -34,5 +34,6 @@ pub record IsToBlame (entries : List Entry) (fault : HostFault) (running : List 
 -- a fault is the host's only where the host is to blame
 abbrev pub BlamesRightly : List Entry → RunFault → Type 0
 BlamesRightly entries (RunFault.Host fault running) = IsToBlame entries fault running
+BlamesRightly entries (RunFault.Record refusal) = Unit {0}
 BlamesRightly entries RunFault.TooManyJobs = Unit {0}
 BlamesRightly entries RunFault.OutOfMemory = Unit {0}

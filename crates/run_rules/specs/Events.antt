@@ -2,7 +2,10 @@
 use Rattle.std.specs.Prelude.{ℕ, ◌==◌, ◌||◌, not, Bool, true, false, cond, List, [], ◌∷◌, ◌++◌, Option, Some, None, filter, filter_map, find, fold, map, bytes_eq}
 use Rattle.std.specs.List.{list_all, list_any}
 use Rattle.command_line.specs.declared.launch.Launch.{Launch}
+use Rattle.cwl_process.specs.Acting.{reuse_of}
 use Rattle.input_files.specs.Measured.{Measures}
+use Rattle.job_rows.specs.declared.refusal.RecordRefusal.{RecordRefusal}
+use Rattle.job_rows.specs.declared.row.Row.{Row}
 use Rattle.plain_data.specs.ByName.{with_value}
 use Rattle.proc_host.specs.declared.call.HostFault.{HostFault}
 use Rattle.staging.specs.declared.found.Found.{Found}
@@ -37,6 +40,12 @@ pub data Event : Type 0 where
   host_failed : (place : JobPlace) (fault : HostFault) → Event
   -- a collect failed
   collect_failed : Event
+  -- the record has this row of the job at a place: of its key, and one that its tool may have
+  row_found : (place : JobPlace) (row : Row) → Event
+  -- the record has no row of it
+  no_row : (place : JobPlace) → Event
+  -- the question for it was refused, or the row contradicts itself or the tool
+  find_failed : (place : JobPlace) (refusal : RecordRefusal) → Event
 
 -- the work that is due next
 pub data Work : Type 0 where
@@ -144,6 +153,23 @@ delivered_if last _ = last
 abbrev pub delivered_at : List Event → Option StagePlan
 delivered_at es = fold delivered_if None es
 
+-- whether an event tells what the record has of the job at a place
+abbrev pub looks_up : JobPlace → Event → Bool
+looks_up place (row_found p row) = is_same_place p place
+looks_up place (no_row p) = is_same_place p place
+looks_up place _ = false
+
+abbrev pub is_looked_up : List Event → JobPlace → Bool
+is_looked_up es place = list_any (looks_up place) es
+
+-- whether an earlier result of a job may be used (CWL v1.2, "WorkReuse")
+abbrev pub is_reusable : Job → Bool
+is_reusable job = reuse_of job.tool.asked
+
+-- whether the row of a job is not looked for any more: it was, or its tool lets no earlier result be used
+abbrev pub has_no_find : List Event → Job → Bool
+has_no_find es job = not (is_reusable job) || is_looked_up es job.place
+
 -- whether folders were made
 abbrev pub is_staging : Event → Bool
 is_staging (job_staged place number) = true
@@ -161,6 +187,10 @@ module _ (s : Scene) where
   -- the known job at a place
   abbrev pub job_at : List Event → JobPlace → Option Job
   job_at es place = find (is_at place) (unfolding_at es).jobs
+
+  -- whether the row of no known job is looked for any more
+  abbrev pub are_looked_up : List Event → Bool
+  are_looked_up es = list_all (has_no_find es) (unfolding_at es).jobs
 
   -- the folder that has the outputs of the job at a place
   abbrev pub folder_at : List Event → JobPlace → Name

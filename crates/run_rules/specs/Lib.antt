@@ -11,6 +11,7 @@ pub mod Plans
 pub mod Allowed
 pub mod Run
 pub mod Honest
+pub mod Recorded
 pub mod Reports
 pub mod RanWell
 pub mod Answers

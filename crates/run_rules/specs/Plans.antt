@@ -7,7 +7,7 @@ use Rattle.plan_checker.specs.declared.plan.Mark.TheVariants.{Load, Compute}
 use Rattle.job_graph.specs.Jobs.{Job}
 use Rattle.job_graph.specs.Unfold.{is_at}
 use Rattle.job_graph.specs.Words.{JobPlace}
-use Rattle.run_rules.specs.Events.{Event, Work, nothing_due, Progress, is_at_hand, is_held, unfolding_at}
+use Rattle.run_rules.specs.Events.{Event, Work, nothing_due, Progress, are_looked_up, is_at_hand, is_held, unfolding_at}
 use Rattle.run_rules.specs.End.{is_lost_collect, settled}
 use Rattle.run_rules.specs.Scene.{Scene}
 
@@ -27,10 +27,10 @@ abbrev pub mark_if_held : Bool → Mark
 mark_if_held held = cond held Load Compute
 
 module _ (s : Scene) where
-  -- nothing is due, no collect has failed, the end isn't settled, and some known job is not at hand
+  -- nothing is due, no collect has failed, the end isn't settled, no row is looked for any more, and some known job is not at hand
   abbrev pub is_planning : Progress → Bool
   is_planning f = is_idle f.work && not (list_any is_lost_collect f.events) && is_none (settled s f.events)
-      && list_any (λ job. not (is_at_hand f.events job.place)) (unfolding_at s f.events).jobs
+      && are_looked_up s f.events && list_any (λ job. not (is_at_hand f.events job.place)) (unfolding_at s f.events).jobs
 
   abbrev pub mark_at : List Mark → List Event → JobPlace → Mark
   mark_at marks es place = mark marks (number_of place (unfolding_at s es).jobs)

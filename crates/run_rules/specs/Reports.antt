@@ -1,4 +1,4 @@
--- What a run gains on its host, and what it reports.
+-- What the logs of a host and of a record gain by a run, and what it reports.
 use Rattle.std.specs.Prelude.{◌≡◌, List, [], ◌∷◌, ◌++◌, Option, Some, None, Result, Ok, Err, filter_map, option_map}
 use Rattle.document_links.specs.declared.process.Process.{Process}
 use Rattle.proc_host.specs.declared.call.Entry.{Entry}
@@ -17,8 +17,9 @@ use Rattle.cwl_value.specs.Erased.{erased}
 use Rattle.input_files.specs.Measured.{Measures}
 use Rattle.run_rules.specs.Delivered.{located, object_of}
 use Rattle.run_rules.specs.Events.{Progress, measures}
-use Rattle.run_rules.specs.End.{End, succeeds_with, fails_permanently, fails_temporarily, beyond_limits, ended_by_host}
+use Rattle.run_rules.specs.End.{End, succeeds_with, fails_permanently, fails_temporarily, beyond_limits, ended_by_host, ended_by_record}
 use Rattle.plan_checker.specs.declared.plan.Mark.{Mark}
+use Rattle.run_rules.specs.Recorded.{Line, lines_of}
 use Rattle.run_rules.specs.Run.{IsRunSoFar, IsRun}
 use Rattle.run_rules.specs.Honest.{IsHonest}
 use Rattle.job_key.specs.Key.{key}
@@ -26,7 +27,7 @@ use Rattle.job_key.specs.Key.{key}
 -- a call as the host's log has it, without the place of its job
 abbrev pub call_entry : Request → Answer → Option Entry
 call_entry (Request.Host place request) (Answer.Host answer) = Some (record { request = request; answer = answer })
-call_entry Request.Finished answer = None
+call_entry request answer = None
 
 abbrev pub entry_of : Pair → Option Entry
 entry_of pair = call_entry pair.request pair.answer
@@ -42,6 +43,7 @@ outcome_of (fails_permanently place cause) = Ok (Outcome.PermanentFail place cau
 outcome_of (fails_temporarily place) = Ok (Outcome.TemporaryFail place)
 outcome_of beyond_limits = Err RunFault.TooManyJobs
 outcome_of (ended_by_host fault running) = Err (RunFault.Host fault running)
+outcome_of (ended_by_record refusal) = Err (RunFault.Record refusal)
 
 -- the report of what came of it
 abbrev pub reported : Result Outcome RunFault → Result Report RunFault
@@ -82,8 +84,9 @@ pub data Concludes (setting : Setting) (t : List Pair) : Result Report RunFault 
       ((world : World) → IsHonest setting world run.happened.events → IsRight setting (measures run.happened.events) world (report_of end)) →
       Concludes setting t (report_of end)
 
--- a host's log gained these entries by a run of this process, which is reported so
-pub record GainsRun (process : Process) (inputs : Fields) (options : Options) (gained : List Entry) (result : Result Report RunFault) : Type 0 where
+-- the logs of a host and of a record gained these entries by a run of this process, which is reported so
+pub record GainsRun (process : Process) (inputs : Fields) (options : Options) (gained : List Entry) (lines : List Line) (result : Result Report RunFault) : Type 0 where
   pub transcript : List Pair
   pub entries : entries_of transcript ≡ gained
+  pub commands : lines_of transcript ≡ lines
   pub concluded : Concludes (record { process = process; inputs = inputs; options = options }) transcript result

@@ -1,5 +1,5 @@
 -- What an answer brings about: the events that it adds, and the work that is due after it. A rule for each kind of answer.
-use Rattle.std.specs.Prelude.{◌≡◌, ℕ, List, [], ◌∷◌, ◌++◌, Some, Contains}
+use Rattle.std.specs.Prelude.{◌≡◌, ℕ, List, [], ◌∷◌, ◌++◌, Option, Some, None, Contains}
 use Rattle.collected_outputs.specs.HeadsWanted.{AreHeadsWanted}
 use Rattle.collected_outputs.specs.Listing.{listing_of}
 use Rattle.input_files.specs.Contents.{heads_wanted}
@@ -15,14 +15,21 @@ use Rattle.command_line.specs.declared.launch.Launch.{Launch}
 use Rattle.staging.specs.declared.found.Found.{Found}
 use Rattle.staging.specs.declared.measure.Measure.{Measure}
 use Rattle.staging.specs.declared.plan.StagePlan.{StagePlan}
+use Rattle.job_key.specs.Key.{Key}
+use Rattle.job_reuse.specs.Sound.{IsSound}
+use Rattle.job_rows.specs.declared.refusal.RecordRefusal.{RecordRefusal}
+use Rattle.job_rows.specs.declared.refusal.RecordRefusal.TheVariants.{NotARecord}
+use Rattle.job_rows.specs.declared.row.Row.{Row}
 use Rattle.run_rules.specs.declared.outcome.Cause.{Cause}
 use Rattle.run_rules.specs.declared.request.Answer.{Answer}
 use Rattle.run_rules.specs.declared.request.Pair.{Pair}
+use Rattle.run_rules.specs.declared.request.RecordAnswer.{RecordAnswer}
+use Rattle.run_rules.specs.declared.request.RecordRequest.{RecordRequest}
 use Rattle.run_rules.specs.declared.request.Request.{Request}
 use Rattle.collected_outputs.specs.Contents.{Heads}
 use Rattle.job_graph.specs.Jobs.{Job}
 use Rattle.job_graph.specs.Words.{Name, Fields, JobPlace}
-use Rattle.run_rules.specs.Events.{Event, file_measured, job_staged, job_started, child_exited, job_failed, job_failed_for_now, result_delivered, host_failed, collect_failed, Work, nothing_due, input_heads_due, start_due, scan_due, output_heads_due, Progress, Started, in_flight, number_at, started_at, job_at}
+use Rattle.run_rules.specs.Events.{Event, file_measured, job_staged, job_started, child_exited, job_failed, job_failed_for_now, result_delivered, host_failed, collect_failed, row_found, no_row, find_failed, Work, nothing_due, input_heads_due, start_due, scan_due, output_heads_due, Progress, Started, in_flight, number_at, started_at, job_at}
 use Rattle.run_rules.specs.StartsOn.{StartsOn}
 use Rattle.run_rules.specs.CollectsOn.{CollectsOn}
 use Rattle.run_rules.specs.Scene.{Scene}
@@ -30,6 +37,10 @@ use Rattle.run_rules.specs.Scene.{Scene}
 -- a call of the host's, for the job at this place, and its answer
 abbrev pub call : JobPlace → HostRequest → HostAnswer → Pair
 call place request answer = record { request = Request.Host place request; answer = Answer.Host answer }
+
+-- a command to the record, for the job at this place, and its answer
+abbrev pub command : JobPlace → RecordRequest → RecordAnswer → Pair
+command place request answer = record { request = Request.Record place request; answer = Answer.Record answer }
 
 -- with these events more, and this work due
 abbrev pub progress_with : Progress → Work → List Event → Progress
@@ -70,6 +81,15 @@ module _ (s : Scene) where
         (job : Job) (started : Started) (work : Work) (more : List Event) → f.work ≡ output_heads_due place millis found (name ∷ todo) read → job_at s f.events place ≡ Some job →
         started_at f.events place ≡ Some started → CollectsOn place job started millis found (with_value name bytes read) todo work more →
         Steps f (call place (HostRequest.Head path limit) (HostAnswer.FirstBytes bytes)) work more
+    -- the record has no row of a job, or one of its tool; one that contradicts itself or the tool is refused, as what does not read is
+    finds_none : (place : JobPlace) (its_key : Key) →
+        Steps f (command place (RecordRequest.Find its_key) (RecordAnswer.Found None)) nothing_due (no_row place ∷ [])
+    finds : (place : JobPlace) (its_key : Key) (row : Row) (job : Job) → job_at s f.events place ≡ Some job → IsSound job.tool row →
+        Steps f (command place (RecordRequest.Find its_key) (RecordAnswer.Found (Some row))) nothing_due (row_found place row ∷ [])
+    finds_wrong : (place : JobPlace) (its_key : Key) (row : Row) (job : Job) → job_at s f.events place ≡ Some job → (IsSound job.tool row → ⊥) →
+        Steps f (command place (RecordRequest.Find its_key) (RecordAnswer.Found (Some row))) nothing_due (find_failed place NotARecord ∷ [])
+    find_fails : (place : JobPlace) (its_key : Key) (refusal : RecordRefusal) →
+        Steps f (command place (RecordRequest.Find its_key) (RecordAnswer.Refused refusal)) nothing_due (find_failed place refusal ∷ [])
     delivers : (place : JobPlace) (plan : StagePlan) →
         Steps f (call place (HostRequest.Deliver plan) HostAnswer.Done) nothing_due (result_delivered plan ∷ [])
     -- a call fails, by its own fault

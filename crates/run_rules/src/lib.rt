@@ -17,5 +17,5 @@ pub use laws::{
     success_ran_each_job,
 };
 pub use outcome::{Cause, CollectCause, Note, Outcome, PlanNote, Report, RunFault};
-pub use request::{Answer, Pair, Request};
+pub use request::{Answer, Pair, RecordAnswer, RecordRequest, Request};
 pub use setting::{Options, Setting};

@@ -2,6 +2,7 @@ use collected_outputs::OutputFault;
 use command_line::BuildFault;
 use cwl_value::{JobPlace, Value};
 use input_files::ContentsFault;
+use job_rows::RecordRefusal;
 use plain_data::Items;
 use proc_host::HostFault;
 
@@ -63,6 +64,8 @@ pub struct Report {
 pub enum RunFault {
     /// The host's call failed; the tickets of the children that nobody waits for any more.
     Host(HostFault, Items<u64>),
+    /// The record refused to give a row, or gave one that contradicts itself or its job's tool.
+    Record(RecordRefusal),
     /// There are more jobs, or more parents of jobs, than a graph may have.
     TooManyJobs,
     /// Out of memory.

@@ -28,6 +28,7 @@ some_failed (entry ∷ gained) fault (suc k, within, is) =
 pub hosts_fault : (before after gained : List Entry) (result : Result Report RunFault) → after ≡ before ++ gained →
     IfErr result (BlamesRightly gained) → IfErr result (IsHostsFault before after)
 hosts_fault before after gained (Ok report) logged blames = tt
+hosts_fault before after gained (Err (RunFault.Record refusal)) logged blames = tt
 hosts_fault before after gained (Err RunFault.TooManyJobs) logged blames = tt
 hosts_fault before after gained (Err RunFault.OutOfMemory) logged blames = tt
 hosts_fault before after gained (Err (RunFault.Host fault running)) logged blames = record {

@@ -1,5 +1,5 @@
 -- What a host answers to a call, the call can be answered.
-use Rattle.std.proofs.Common.{◌≡◌, ◌≢◌, ◌≤◌, ◌∙◌, ℕ, List, length, Result, Ok, Err, IfOk, IsTrue, sym, subst}
+use Rattle.std.proofs.Common.{◌≡◌, ◌≤◌, ℕ, List, length, Result, Ok, Err, IfOk, IsTrue, sym, subst}
 use Rattle.std.specs.declared.alloc.AllocError.{AllocError}
 use Rattle.proc_host.specs.Answers.{CanAnswer, are_among, has_failed, is_fetched, is_read, fault_of}
 use Rattle.proc_host.specs.Log.{answer_behind, answer_behind_error, FailsOnlyBy, IsOnly}
@@ -8,11 +8,7 @@ use Rattle.proc_host.specs.declared.call.HostError.{HostError}
 use Rattle.proc_host.specs.declared.call.HostFault.{HostFault}
 use Rattle.proc_host.specs.declared.call.HostRequest.{HostRequest}
 use Rattle.staging.specs.declared.found.Found.{Found}
-use Rattle.run_core.specs.Machine.{Machine}
-use Rattle.run_rules.specs.declared.request.Request.{Request}
-use Rattle.job_graph.specs.Words.{JobPlace}
 use Rattle.workflow_engine.specs.Gains.{answered}
-use Rattle.workflow_engine.specs.inner.Told.{MayBeTold}
 
 module _ (running : List ℕ) (request : HostRequest) where
   by_error : (error : HostError) → IsOnly (fault_of request) error → IfOk (answered (answer_behind_error error)) (CanAnswer running request)
@@ -52,15 +48,3 @@ pub fetch_told : (running : List ℕ) (key : List ℕ) (number : ℕ) (files : L
 fetch_told running key number files (Ok found) result is among own =
     subst (Told running (HostRequest.Fetch key number files)) (sym is) (is_fetched key number files found among)
 fetch_told running key number files (Err error) result is among own = fault_told running (HostRequest.Fetch key number files) error result is own
-
--- and what it answers to what a run asks may be told
-pub may_be_told : (core : Machine) (running : List ℕ) (place : JobPlace) (request : HostRequest) (told : Result HostAnswer AllocError) → core.asks ≡ Request.Host place request →
-    (core.asks ≢ Request.Finished → core.flying ≡ running) → IfOk told (CanAnswer running request) → MayBeTold core told
-may_be_told core running place request told is flies can =
-    let same : core.flying ≡ running = flies (λ finished. let never : Request.Host place request ≡ Request.Finished = sym is ∙ finished in cc) in
-    record {
-      place = place;
-      request = request;
-      asks = is;
-      answers = subst (λ (tickets : List ℕ). IfOk told (CanAnswer tickets request)) (sym same) can;
-    }

@@ -1,5 +1,6 @@
 pub mod Blamed
 pub mod Calls
+pub mod Commands
 pub mod Covers
 pub mod Nothing
 pub mod Numbered

@@ -14,13 +14,14 @@ use Rattle.run_rules.specs.Scene.{scene_of}
 use Rattle.run_rules.specs.Reports.{GainsRun, lost}
 
 pub nothing_asked : (process : Process) (inputs : Fields) (options : Options) →
-    GainsRun process inputs options [] (Err RunFault.OutOfMemory)
+    GainsRun process inputs options [] [] (Err RunFault.OutOfMemory)
 nothing_asked process inputs options =
     let setting : Setting = record { process = process; inputs = inputs; options = options } in
     let s = scene_of setting in
     record {
       transcript = [];
       entries = refl;
+      commands = refl;
       concluded = lost [] [] at_first (marks_after s at_first []) (first_goes s) tt refl;
     }
 

@@ -1,7 +1,8 @@
-//! A whole run on a host.
+//! A whole run on a host and a record.
 ghost use Rattle.std.specs.Prelude.{◌≡◌, ◌++◌, [], None, IfErr};
 ghost use Rattle.proc_host.specs.Log.{starts};
 ghost use Rattle.run_core.specs.Limits.{IsWithinLimits};
+ghost use Rattle.run_rules.specs.Recorded.{lines_of};
 ghost use Rattle.run_rules.specs.Reports.{entries_of};
 ghost use Rattle.workflow_check.specs.Checked.{fault_in};
 ghost use Rattle.workflow_engine.specs.Blame.{HasRisingTickets, IsHostsFault};
@@ -10,28 +11,33 @@ ghost use Rattle.workflow_engine.specs.inner.Numbered.{AreNumbered};
 ghost use Rattle.workflow_engine.specs.inner.Told.{IsTold, MayBeTold};
 ghost use Rattle.workflow_engine.specs.Gains.{RunsOn};
 
-use crate::ask::ask;
+use crate::ask_next::ask_next;
 use crate::tickets::close_all;
 use crate::watch::Watch;
 use cwl_value::Value;
 use document_links::Process;
+use job_rows::Record;
 use plain_data::Keyed;
-use proc_host::{Host, HostAnswer, Ticket};
+use proc_host::{Host, Ticket};
 use run_core::{Answer, Options, Report, Request, RunCore, RunFault};
 use std::alloc::{AllocError, Global};
 use std::mem;
 
 /// Runs an accepted process on an input object.
 ///
-/// What the host's log gains is a run of the process, and the report is what that run comes to: the delivered output
-/// object, a permanent failure with its place and cause, a temporary failure, or the host's fault with the tickets that
-/// nobody waits for any more. `Err(OutOfMemory)` says only that an allocation failed; what was asked is a valid prefix
-/// of a run, after which only the ends of children were waited for.
+/// What the logs of the host and of the record gain is a run of the process, and the report is what that run comes to: the
+/// delivered output object, a permanent failure with its place and cause, a temporary failure, the host's fault with the
+/// tickets that nobody waits for any more, or the record's refusal. `Err(OutOfMemory)` says only that an allocation failed;
+/// what was asked is a valid prefix of a run, after which only the ends of children were waited for.
 ///
-/// The watcher is told of each question and of each answer as they come.
-pub fn run<H: Host, W: Watch>(
+/// The record is asked for the row of each job whose tool lets an earlier result be used; what it answers is checked, and not
+/// used yet.
+///
+/// The watcher is told of each question to the host and of each answer as they come.
+pub fn run<H: Host, R: Record, W: Watch>(
     alloc: Global,
     host: &mut H,
+    rows: &mut R,
     process: &Process,
     inputs: &Keyed<Value>,
     options: Options,
@@ -40,7 +46,8 @@ pub fn run<H: Host, W: Watch>(
     requires idle { H.running host.old ≡ [] }
     requires accepted { fault_in process.now ≡ None }
     requires limits { IsWithinLimits options }
-    ensures run { RunsOn (H.log host.old) (H.log host.new) process.now inputs.now options result }
+    ensures run { RunsOn (H.log host.old) (H.log host.new) (R.log rows.old) (R.log rows.new)
+        process.now inputs.now options result }
     // A fault is the host's only where its failures rose, by this very fault.
     ensures fault { IfErr result (IsHostsFault (H.log host.old) (H.log host.new)) }
     ensures rising { IfErr result HasRisingTickets }
@@ -48,15 +55,16 @@ pub fn run<H: Host, W: Watch>(
 {
     let mut core = RunCore::new(alloc, process, inputs, options)?;
     let mut held = Vec::new(alloc);
-    drive(host, &mut core, &mut held, watcher);
+    drive(host, rows, &mut core, &mut held, watcher);
     close_all(host, held);
     core.finish()
 }
 
-/// Asks the host what the machine asks, until it asks nothing more. Where the host runs out of memory, the machine is told
-/// so, and asks for the ends of the children in flight alone.
-fn drive<H: Host, W: Watch>(
+/// Asks what the machine asks, until it asks nothing more. Where the host or the record runs out of memory, the machine is
+/// told so, and asks for the ends of the children in flight alone.
+fn drive<H: Host, R: Record, W: Watch>(
     host: &mut H,
+    rows: &mut R,
     core: &mut RunCore<'_>,
     held: &mut Vec<Ticket>,
     watcher: &mut W,
@@ -66,28 +74,25 @@ fn drive<H: Host, W: Watch>(
     requires covered { Covers held.old.items (H.running host.old) }
     ensures setting { core.new.setting ≡ core.old.setting }
     ensures logged { H.log host.new ≡ H.log host.old ++ entries_of core.new.transcript }
+    ensures recorded { R.log rows.new ≡ R.log rows.old ++ lines_of core.new.transcript }
     ensures numbered { AreNumbered (starts (H.log host.old)) (entries_of core.new.transcript) }
     ensures finished { core.new.asks ≡ Request.Finished }
     ensures covered { Covers held.new.items (H.running host.new) }
 {
-    while let Request::Host(place, request) = core.next() {
-        watcher.asks(place, request, core.known());
-        let answer = ask(host, request, held);
-        if let Ok(answer) = &answer {
-            watcher.answers(place, answer);
-        }
-        tell(core, answer);
+    while !matches!(core.next(), Request::Finished) {
+        let told = ask_next(host, rows, core.next(), core.known(), held, watcher);
+        tell(core, told);
     }
 }
 
-/// Tells the machine what the host answered, or that it ran out of memory.
-fn tell(core: &mut RunCore<'_>, told: Result<HostAnswer, AllocError>)
+/// Tells the machine what was answered, or that the one who was asked ran out of memory.
+fn tell(core: &mut RunCore<'_>, told: Result<Answer, AllocError>)
     requires { MayBeTold core.old told }
     ensures { IsTold core.old told core.new }
 {
     // An error is that the machine asks nothing more: `finish` says so too.
     match told {
-        Ok(answer) => mem::drop(core.take(Answer::Host(answer))),
+        Ok(answer) => mem::drop(core.take(answer)),
         Err(AllocError) => mem::drop(core.give_up()),
     }
 }

@@ -8,6 +8,8 @@
 #![tactic(auto)]
 
 mod ask;
+mod ask_next;
+mod ask_record;
 mod drive;
 mod tickets;
 mod watch;

@@ -23,7 +23,7 @@ use Rattle.run_core.specs.declared.state.Turn.{Turn}
 use Rattle.run_core.specs.inner.Inside.{Goes, Stands, off_run, on_run, setting_in}
 use Rattle.run_core.specs.inner.Course.{Past, past_of}
 use Rattle.run_core.specs.inner.Turn.{IsEnded}
-use Rattle.run_core.specs.inner.Standing.{IsAt, IsLostAt, Runs, collecting, delivering, draining, ended, lost, measuring, staging, working}
+use Rattle.run_core.specs.inner.Standing.{IsAt, IsLostAt, Runs, collecting, delivering, draining, ended, lost, measuring, staging, working, finding}
 
 -- the law that what is reported of a run is right in each world where it is honest
 abbrev pub ReportsRightly : Type 0
@@ -42,6 +42,7 @@ record HasEnded (s : Scene) (f : Progress) (marks : List Mark) (result : Result 
 module _ (s : Scene) (f : Progress) (marks : List Mark) (course : Course) where
   ended_at : {turn : Turn} (result : Result Outcome RunFault) → IsAt s f marks course turn → turn.phase ≡ Phase.Ended result → HasEnded s f marks result
   ended_at result (measuring found m rest path is left happened none nothing) phase = absurd cc
+  ended_at result (finding n job r next) phase = absurd cc
   ended_at result (staging n job plan r st) phase = absurd cc
   ended_at result (working n job call phase r w) is = absurd cc
   ended_at result (collecting r may) phase = absurd cc
@@ -50,6 +51,7 @@ module _ (s : Scene) (f : Progress) (marks : List Mark) (course : Course) where
 
   asks_no_more : {turn : Turn} → IsAt s f marks course turn → turn.asks ≡ Request.Finished → IsEnded turn.phase
   asks_no_more (measuring found m rest path is left happened none nothing) asks = absurd cc
+  asks_no_more (finding n job r next) asks = absurd cc
   asks_no_more (staging n job plan r st) asks = absurd cc
   asks_no_more (working n job call phase r w) asks = absurd cc
   asks_no_more (collecting r may) asks = absurd cc

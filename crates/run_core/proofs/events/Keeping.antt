@@ -30,7 +30,7 @@ use Rattle.run_rules.proofs.events.Turns.{so_many}
 use Rattle.run_core.specs.declared.state.Flight.{Flight}
 use Rattle.run_core.specs.declared.job_states.JobState.{JobState}
 use Rattle.run_core.specs.declared.state.Kept.{Kept}
-use Rattle.run_core.specs.inner.Course.{Past, TakesOut, nothing_past, with_end, with_giving_up, with_staging, with_start}
+use Rattle.run_core.specs.inner.Course.{Past, TakesOut, nothing_past, with_end, with_giving_up, with_staging, with_start, with_answer}
 use Rattle.run_core.specs.inner.Due.{IsKept}
 use Rattle.run_core.specs.inner.Keeps.{Keeps, KeepsFlight, course_of, worked}
 use Rattle.run_core.specs.inner.Standing.{HasStarted}
@@ -311,6 +311,20 @@ module _ (s : Scene) (es : List Event) (jobs : List Job) where
     flights = flights_still es (es ++ e ∷ []) jobs jobs past.flights same (front_itself jobs) k.flights;
     front = front_still e none k.front;
     end = k.end ∙ ap (option_map outcome_of) (sym still);
+  }
+
+  -- the row of a job was looked for
+  pub looked_keeps : (past : Past) (n : ℕ) → Keeps s es jobs past None → Keeps s es jobs (with_answer n None past) None
+  looked_keeps past n k = record {
+    gave_up = k.gave_up;
+    books = k.books;
+    few = k.few;
+    counts = k.counts;
+    retries = k.retries;
+    slots = k.slots;
+    flights = k.flights;
+    front = k.front;
+    end = k.end;
   }
 
   -- a job's outputs were collected

@@ -1,5 +1,5 @@
 -- What a course reflects goes on with each event: a lemma for each.
-use Rattle.std.specs.Prelude.{Ok, ◌<◌, ◌||◌, Contains, IsSome, is_some, Result, Err, option_map}
+use Rattle.std.specs.Prelude.{Ok, ◌<◌, ◌||◌, Contains, IsSome, is_some, Result, Err, option_map, ◌&&◌, ◌≤◌}
 use Rattle.std.specs.List.{list_any}
 use Rattle.std.proofs.Common.{◌≡◌, ◌∙◌, ◌+◌, ℕ, Bool, true, false, List, [], ◌∷◌, ◌++◌, length, Option, Some, None, refl, sym, ap, subst}
 use Rattle.std.proofs.lemmas.Bool.{or_from}
@@ -14,30 +14,33 @@ use Rattle.job_graph.specs.Jobs.{Job, Walker}
 use Rattle.job_graph.specs.Made.{any_made}
 use Rattle.job_graph.specs.Makers.{AreNamed, IsLearned}
 use Rattle.job_graph.specs.Unfold.{Fault, Resolved, Unfolded, outputs_at, unfolded}
-use Rattle.job_graph.specs.Words.{Fields, JobPlace}
+use Rattle.job_graph.specs.Words.{Fields, JobPlace, is_same_place}
 use Rattle.run_rules.specs.declared.outcome.Cause.{Cause}
 use Rattle.run_rules.specs.declared.outcome.Outcome.{Outcome}
 use Rattle.run_rules.specs.declared.outcome.RunFault.{RunFault}
-use Rattle.run_rules.specs.End.{End, beyond_limits, ended_by_host, fails_permanently, fault_end, is_lost_collect, settled, settled_by}
-use Rattle.run_rules.specs.Events.{Event, child_exited, delivered_at, delivered_if, in_flight, job_at, job_failed, job_failed_for_now, job_staged, job_started, job_succeeded, host_failed, measures, number_at, resolved, started_at, unfolding_at}
+use Rattle.run_rules.specs.End.{End, beyond_limits, ended_by_host, fails_permanently, fault_end, is_lost_collect, settled, settled_by, ended_by_record}
+use Rattle.run_rules.specs.Events.{Event, child_exited, delivered_at, delivered_if, in_flight, job_at, job_failed, job_failed_for_now, job_staged, job_started, job_succeeded, host_failed, measures, number_at, resolved, started_at, unfolding_at, find_failed, is_reusable, looks_up, no_row, row_found, started_if, Started}
 use Rattle.run_rules.specs.Reports.{outcome_of}
 use Rattle.run_rules.specs.Scene.{Scene, NothingWasMadeBefore}
 use Rattle.run_rules.proofs.events.Known.{IsFront, found_still, front_itself, is_measure, measured_still, measures_stay, resolved_stay, teaches, unfolding_learns}
 use Rattle.run_rules.proofs.events.Places.{AreApart, IsJob, found_at}
 use Rattle.run_rules.proofs.events.Readings.{delivered_after, lost_after, resolved_after, started_after}
-use Rattle.run_rules.proofs.events.Settled.{settled_more, settled_stays}
+use Rattle.run_rules.proofs.events.Settled.{settled_more, settled_stays, is_quiet, settled_quietly}
 use Rattle.run_rules.proofs.events.Tally.{is_aside, readings}
 use Rattle.run_rules.proofs.events.Turns.{FliesAt, flight_of}
+use Rattle.run_rules.proofs.events.Lookups.{LooksUp, is_no_answer, more_looked_up, one_looked_up, still_looked_up}
+use Rattle.job_rows.specs.declared.refusal.RecordRefusal.{RecordRefusal}
+use Rattle.job_rows.specs.declared.row.Row.{Row}
 use Rattle.run_core.specs.declared.state.Course.{Course}
 use Rattle.run_core.specs.declared.state.Flight.{Flight}
 use Rattle.run_core.specs.declared.state.Kept.{Kept}
-use Rattle.run_core.specs.inner.Course.{GivesUp, Past, TakesOut, again, known_in, past_of, place_at, too_often, with_end, with_giving_up, with_staging, with_start}
+use Rattle.run_core.specs.inner.Course.{GivesUp, Past, TakesOut, again, known_in, past_of, place_at, too_often, with_end, with_giving_up, with_staging, with_start, with_answer}
 use Rattle.run_core.specs.inner.Due.{IsKept}
 use Rattle.run_core.specs.inner.Keeps.{Keeps, Reflects, course_of, numbers_of}
 use Rattle.run_core.specs.inner.Knows.{IsKnown, IsUnfolded, Knows, Learns, end_by, fails, fault_of, knows}
 use Rattle.run_core.specs.inner.Standing.{HasStarted}
 use Rattle.run_core.specs.inner.Turn.{permanent}
-use Rattle.run_core.proofs.events.Keeping.{HasLanded, failed_keeps, front_late, gave_up_keeps, landed_keeps, never_none, none_settled, staged_keeps, started_keeps, succeeded_keeps, success_fails_keeps, too_often_keeps}
+use Rattle.run_core.proofs.events.Keeping.{HasLanded, failed_keeps, front_late, gave_up_keeps, landed_keeps, never_none, none_settled, staged_keeps, started_keeps, succeeded_keeps, success_fails_keeps, too_often_keeps, aside_keeps, looked_keeps}
 use Rattle.run_core.proofs.events.Numbers.{place_there}
 use Rattle.run_core.specs.inner.JobStates.{state_at, waits_in}
 
@@ -49,6 +52,7 @@ is_plain (child_exited ticket) = true
 is_plain (job_failed place cause) = true
 is_plain (job_failed_for_now place) = true
 is_plain (host_failed place fault) = true
+is_plain (find_failed place refusal) = true
 is_plain _ = false
 
 plain_teaches_nothing : (e : Event) → is_plain e ≡ true → teaches e ≡ false
@@ -58,6 +62,7 @@ plain_teaches_nothing (child_exited ticket) plain = refl
 plain_teaches_nothing (job_failed place cause) plain = refl
 plain_teaches_nothing (job_failed_for_now place) plain = refl
 plain_teaches_nothing (host_failed place fault) plain = refl
+plain_teaches_nothing (find_failed place refusal) plain = refl
 plain_teaches_nothing _ plain = absurd cc
 
 plain_measures_nothing : (e : Event) → is_plain e ≡ true → is_measure e ≡ false
@@ -67,6 +72,7 @@ plain_measures_nothing (child_exited ticket) plain = refl
 plain_measures_nothing (job_failed place cause) plain = refl
 plain_measures_nothing (job_failed_for_now place) plain = refl
 plain_measures_nothing (host_failed place fault) plain = refl
+plain_measures_nothing (find_failed place refusal) plain = refl
 plain_measures_nothing _ plain = absurd cc
 
 plain_loses_nothing : (e : Event) → is_plain e ≡ true → is_lost_collect e ≡ false
@@ -76,6 +82,7 @@ plain_loses_nothing (child_exited ticket) plain = refl
 plain_loses_nothing (job_failed place cause) plain = refl
 plain_loses_nothing (job_failed_for_now place) plain = refl
 plain_loses_nothing (host_failed place fault) plain = refl
+plain_loses_nothing (find_failed place refusal) plain = refl
 plain_loses_nothing _ plain = absurd cc
 
 plain_delivers_nothing : (e : Event) → is_plain e ≡ true → delivered_if None e ≡ None
@@ -85,7 +92,18 @@ plain_delivers_nothing (child_exited ticket) plain = refl
 plain_delivers_nothing (job_failed place cause) plain = refl
 plain_delivers_nothing (job_failed_for_now place) plain = refl
 plain_delivers_nothing (host_failed place fault) plain = refl
+plain_delivers_nothing (find_failed place refusal) plain = refl
 plain_delivers_nothing _ plain = absurd cc
+
+plain_tells_nothing : (e : Event) → is_plain e ≡ true → is_no_answer e ≡ true
+plain_tells_nothing (job_staged place number) plain = refl
+plain_tells_nothing (job_started place inputs launch ticket) plain = refl
+plain_tells_nothing (child_exited ticket) plain = refl
+plain_tells_nothing (job_failed place cause) plain = refl
+plain_tells_nothing (job_failed_for_now place) plain = refl
+plain_tells_nothing (host_failed place fault) plain = refl
+plain_tells_nothing (find_failed place refusal) plain = refl
+plain_tells_nothing _ plain = absurd cc
 
 one_test : (b : Bool) → b ≡ false → (b || false) ≡ false
 one_test b is = ap (λ c. c || false) is
@@ -129,12 +147,35 @@ pub record Laws (s : Scene) : Type 0 where
   pub makers : NothingWasMadeBefore s → (measures : Measures) (learned : List Resolved) → AreNamed learned → (job : Job) →
       Contains (unfolded (s.walker measures) learned).jobs job → (maker : JobPlace) → any_made maker job.inputs ≡ true → IsLearned learned maker
 
+-- the record's answer on the job at a place is an event that nothing else is read of
+pub record IsTold (place : JobPlace) (e : Event) : Type 0 where
+  pub aside : is_aside e ≡ true
+  pub quiet : is_quiet e ≡ true
+  pub teaches : teaches e ≡ false
+  pub measures : is_measure e ≡ false
+  pub collects : is_lost_collect e ≡ false
+  pub delivers : delivered_if None e ≡ None
+  pub started : (last : Option Started) (at : JobPlace) → started_if at last e ≡ last
+  pub tells : (at : JobPlace) → looks_up at e ≡ is_same_place place at
+
+pub row_is_told : (place : JobPlace) (row : Row) → IsTold place (row_found place row)
+row_is_told place row = record { aside = refl; quiet = refl; teaches = refl; measures = refl; collects = refl; delivers = refl; started = λ last at. refl; tells = λ at. refl }
+
+pub none_is_told : (place : JobPlace) → IsTold place (no_row place)
+none_is_told place = record { aside = refl; quiet = refl; teaches = refl; measures = refl; collects = refl; delivers = refl; started = λ last at. refl; tells = λ at. refl }
+
 module _ (s : Scene) where
   -- the same course
   pub moved : (es : List Event) (jobs : List Job) (past : Past) (at_work : Option ℕ) (new : Course) → known_in new.known ≡ jobs → past_of new ≡ past →
       Keeps s es jobs past at_work → Keeps s es (known_in new.known) (past_of new) at_work
   moved es jobs past at_work new known same keeps =
       subst (λ (js : List Job). Keeps s es js (past_of new) at_work) (sym known) (subst (λ (p : Past). Keeps s es jobs p at_work) (sym same) keeps)
+
+  -- the same rows were looked for
+  pub looks_moved : (es : List Event) (old new : Course) → known_in new.known ≡ known_in old.known → new.looked_up ≡ old.looked_up →
+      LooksUp (known_in old.known) es old.looked_up → LooksUp (known_in new.known) es new.looked_up
+  looks_moved es old new known count looks =
+      subst (λ (jobs : List Job). LooksUp jobs es new.looked_up) (sym known) (subst (λ n. LooksUp (known_in old.known) es n) (sym count) looks)
 
   pub reflects_same : (es : List Event) (old new : Course) (at_work : Option ℕ) → past_of new ≡ past_of old → new.known ≡ old.known → Reflects s es old at_work →
       Reflects s es new at_work
@@ -144,6 +185,7 @@ module _ (s : Scene) where
     knows = λ still. subst (λ (k : Option Unfolding). IsKnown (s.walker (measures es)) (resolved es) k) (sym known) (r.knows (ap (λ (p : Past). p.end) (sym past) ∙ still));
     collects = r.collects;
     undelivered = r.undelivered;
+    looks = looks_moved es old new (ap known_in known) (ap (λ (p : Past). p.looked_up) past) r.looks;
   }
 
   known_after : (es : List Event) (e : Event) (known : Option Unfolding) → is_measure e ≡ false → teaches e ≡ false →
@@ -160,28 +202,30 @@ module _ (s : Scene) where
 
   -- a plain event leaves what is known
   reflects_on : (es : List Event) (e : Event) (old new : Course) (past : Past) (before after : Option ℕ) → is_plain e ≡ true → past_of new ≡ past → new.known ≡ old.known →
-      (past.end ≡ None → old.end ≡ None) → Reflects s es old before → Keeps s (es ++ e ∷ []) (known_in old.known) past after → Reflects s (es ++ e ∷ []) new after
-  reflects_on es e old new past before after plain same known opens r keeps = record {
+      past.looked_up ≡ old.looked_up → (past.end ≡ None → old.end ≡ None) → Reflects s es old before → Keeps s (es ++ e ∷ []) (known_in old.known) past after → Reflects s (es ++ e ∷ []) new after
+  reflects_on es e old new past before after plain same known count opens r keeps = record {
     keeps = moved (es ++ e ∷ []) (known_in old.known) past after new (ap known_in known) same keeps;
     measured = λ still. measured_still s es (e ∷ []) (r.measured (opens (ap (λ (p : Past). p.end) (sym same) ∙ still)));
     knows = λ still. subst (λ (k : Option Unfolding). IsKnown (s.walker (measures (es ++ e ∷ []))) (resolved (es ++ e ∷ [])) k) (sym known)
         (known_after es e old.known (plain_measures_nothing e plain) (plain_teaches_nothing e plain) (r.knows (opens (ap (λ (p : Past). p.end) (sym same) ∙ still))));
     collects = collects_after es e r.collects (plain_loses_nothing e plain);
     undelivered = undelivered_after es e r.undelivered (plain_delivers_nothing e plain);
+    looks = looks_moved (es ++ e ∷ []) old new (ap known_in known) (ap (λ (p : Past). p.looked_up) same ∙ count)
+        (still_looked_up (known_in old.known) es (e ∷ []) old.looked_up (ap (λ b. b && true) (plain_tells_nothing e plain)) r.looks);
   }
 
   pub staged_reflects : (es : List Event) (old new : Course) (n : ℕ) (job : Job) → IsJob (known_in old.known) n job → waits_in old.jobs n ≡ true →
       length (in_flight es) < s.options.slots → past_of new ≡ with_staging n (past_of old) → new.known ≡ old.known →
       Reflects s es old None → Reflects s (es ++ job_staged job.place (old.folders + 1) ∷ []) new (Some n)
   staged_reflects es old new n job it free slot past known r =
-      reflects_on es (job_staged job.place (old.folders + 1)) old new (with_staging n (past_of old)) None (Some n) refl past known (λ still. still) r
+      reflects_on es (job_staged job.place (old.folders + 1)) old new (with_staging n (past_of old)) None (Some n) refl past known refl (λ still. still) r
       (staged_keeps s es (known_in old.known) (past_of old) n job it free slot r.keeps)
 
   pub started_reflects : (es : List Event) (old new : Course) (n : ℕ) (job : Job) (inputs : Fields) (launch : Launch) (kept : Kept) (ticket : ℕ) → IsJob (known_in old.known) n job →
       IsKept kept (record { inputs = inputs; launch = launch }) → IsFresh ticket old.tickets.items → past_of new ≡ with_start n kept ticket (past_of old) → new.known ≡ old.known →
       Reflects s es old (Some n) → Reflects s (es ++ job_started job.place inputs launch ticket ∷ []) new None
   started_reflects es old new n job inputs launch kept ticket it same fresh past known r =
-      reflects_on es (job_started job.place inputs launch ticket) old new (with_start n kept ticket (past_of old)) (Some n) None refl past known (λ still. still) r
+      reflects_on es (job_started job.place inputs launch ticket) old new (with_start n kept ticket (past_of old)) (Some n) None refl past known refl (λ still. still) r
       (started_keeps s es (known_in old.known) (past_of old) n job inputs launch kept ticket it same fresh r.keeps)
 
   -- a child has ended
@@ -204,7 +248,7 @@ module _ (s : Scene) where
         there = lands.there;
         left = lands.left;
         begun = lands.begun;
-        reflects = reflects_on es (child_exited ticket) old new (past_of new) None (Some flight.job) refl refl known
+        reflects = reflects_on es (child_exited ticket) old new (past_of new) None (Some flight.job) refl refl known (ap (λ (p : Past). p.looked_up) taken.is)
             (λ still. ap (λ (p : Past). p.end) (sym taken.is) ∙ still) r lands.keeps;
       }
 
@@ -213,7 +257,7 @@ module _ (s : Scene) where
       ((place : JobPlace) → started_at (es ++ e ∷ []) place ≡ started_at es place) → settled_by s es e ≡ Some end →
       past_of new ≡ with_end (outcome_of end) (past_of old) → new.known ≡ old.known → Reflects s es old at_work → Reflects s (es ++ e ∷ []) new None
   failure_reflects es old new at_work e end plain aside same is past known r =
-      reflects_on es e old new (with_end (outcome_of end) (past_of old)) at_work None plain past known (λ still. absurd (never_none old.end (outcome_of end) still)) r
+      reflects_on es e old new (with_end (outcome_of end) (past_of old)) at_work None plain past known refl (λ still. absurd (never_none old.end (outcome_of end) still)) r
       (failed_keeps s es (known_in old.known) (past_of old) at_work e end aside (plain_teaches_nothing e plain) same is r.keeps)
 
   pub job_failed_reflects : (es : List Event) (old new : Course) (at_work : Option ℕ) (place : JobPlace) (cause : Cause) →
@@ -226,17 +270,41 @@ module _ (s : Scene) where
   host_failed_reflects es old new at_work place fault past known r =
       failure_reflects es old new at_work (host_failed place fault) (ended_by_host fault []) refl refl (λ p. started_after es (host_failed place fault ∷ []) p) refl past known r
 
+  pub find_failed_reflects : (es : List Event) (old new : Course) (at_work : Option ℕ) (place : JobPlace) (refusal : RecordRefusal) →
+      past_of new ≡ with_end (Err (RunFault.Record refusal)) (past_of old) → new.known ≡ old.known → Reflects s es old at_work → Reflects s (es ++ find_failed place refusal ∷ []) new None
+  find_failed_reflects es old new at_work place refusal past known r =
+      failure_reflects es old new at_work (find_failed place refusal) (ended_by_record refusal) refl refl (λ p. started_after es (find_failed place refusal ∷ []) p) refl past known r
+
+  -- the row of the first job that is left was looked for
+  pub answer_reflects : (es : List Event) (old new : Course) (n : ℕ) (job : Job) (e : Event) → IsTold job.place e → IsJob (known_in old.known) n job → old.looked_up ≤ n →
+      ((other : ℕ) (its : Job) → IsJob (known_in old.known) other its → old.looked_up ≤ other → other < n → is_reusable its ≡ false) →
+      past_of new ≡ with_answer n None (past_of old) → new.known ≡ old.known → Reflects s es old None → Reflects s (es ++ e ∷ []) new None
+  answer_reflects es old new n job e told it left first past known r = record {
+    keeps = moved (es ++ e ∷ []) (known_in old.known) (with_answer n None (past_of old)) None new (ap known_in known) past
+        (looked_keeps s (es ++ e ∷ []) (known_in old.known) (past_of old) n
+        (aside_keeps s es (known_in old.known) (past_of old) None e told.aside told.quiet told.teaches (λ place. started_after es (e ∷ []) place ∙ told.started (started_at es place) place)
+        (settled_quietly s es (e ∷ []) (ap (λ b. b && true) told.quiet)) r.keeps));
+    measured = λ still. measured_still s es (e ∷ []) (r.measured (ap (λ (p : Past). p.end) (sym past) ∙ still));
+    knows = λ still. subst (λ (k : Option Unfolding). IsKnown (s.walker (measures (es ++ e ∷ []))) (resolved (es ++ e ∷ [])) k) (sym known)
+        (known_after es e old.known told.measures told.teaches (r.knows (ap (λ (p : Past). p.end) (sym past) ∙ still)));
+    collects = collects_after es e r.collects told.collects;
+    undelivered = undelivered_after es e r.undelivered told.delivers;
+    looks = subst (λ (jobs : List Job). LooksUp jobs (es ++ e ∷ []) new.looked_up) (sym (ap known_in known))
+        (subst (λ count. LooksUp (known_in old.known) (es ++ e ∷ []) count) (sym (ap (λ (p : Past). p.looked_up) past))
+        (one_looked_up (known_in old.known) es e old.looked_up n job r.keeps.books.apart it told.tells left first r.looks));
+  }
+
   -- a job failed for now: it waits again, or was started often enough
   pub gave_up_reflects : (es : List Event) (old new : Course) (n : ℕ) (job : Job) (past : Past) → IsJob (known_in old.known) n job →
       GivesUp (known_in old.known) n s.options.retries (past_of old) past → past_of new ≡ past → new.known ≡ old.known →
       Reflects s es old (Some n) → Reflects s (es ++ job_failed_for_now job.place ∷ []) new None
   gave_up_reflects es old new n job past it (again state is below) same known r =
-      reflects_on es (job_failed_for_now job.place) old new (with_giving_up n (past_of old)) (Some n) None refl same known (λ still. still) r
+      reflects_on es (job_failed_for_now job.place) old new (with_giving_up n (past_of old)) (Some n) None refl same known refl (λ still. still) r
       (gave_up_keeps s es (known_in old.known) (past_of old) n job state it is below r.keeps)
   gave_up_reflects es old new n job past it (too_often state is often) same known r =
       let place : place_at (known_in old.known) n ≡ job.place = place_there (known_in old.known) n job it in
       reflects_on es (job_failed_for_now job.place) old new (with_end (Ok (Outcome.TemporaryFail job.place)) (past_of old)) (Some n) None refl
-      (same ∙ ap (λ (p : JobPlace). with_end (Ok (Outcome.TemporaryFail p)) (past_of old)) place) known
+      (same ∙ ap (λ (p : JobPlace). with_end (Ok (Outcome.TemporaryFail p)) (past_of old)) place) known refl
       (λ still. absurd (never_none old.end (Ok (Outcome.TemporaryFail job.place)) still)) r
       (too_often_keeps s es (known_in old.known) (past_of old) n job state it is often r.keeps)
 
@@ -256,6 +324,8 @@ module _ (s : Scene) where
         knows = λ none. absurd (not_open old.end over (ap (λ (p : Past). p.end) (sym past) ∙ none));
         collects = collects_after es (job_succeeded job.place outputs) r.collects refl;
         undelivered = undelivered_after es (job_succeeded job.place outputs) r.undelivered refl;
+        looks = looks_moved (es ++ job_succeeded job.place outputs ∷ []) old new (ap known_in known) (ap (λ (p : Past). p.looked_up) past)
+            (still_looked_up (known_in old.known) es (job_succeeded job.place outputs ∷ []) old.looked_up refl r.looks);
       }
 
   -- outputs by which more is known, or an equation fails
@@ -300,6 +370,10 @@ module _ (s : Scene) where
               (subst (λ (learned : List Resolved). Knows walks learned kept) (sym (resolved_after es (e ∷ []))) k));
           collects = collects_after es e r.collects refl;
           undelivered = undelivered_after es e r.undelivered refl;
+          looks = subst (λ n. LooksUp (known_in new.known) (es ++ e ∷ []) n) (sym (ap (λ (p : Past). p.looked_up) past))
+              (more_looked_up (known_in old.known) (known_in new.known) (es ++ e ∷ []) old.looked_up (subst AreApart (sym jobs) (laws.differ walks (resolved es ++ one ∷ [])))
+              (subst (λ (js : List Job). IsFront (known_in old.known) js) whole leads)
+              (still_looked_up (known_in old.known) es (e ∷ []) old.looked_up refl r.looks));
         }
 
     learns_fault : (fault : UnfoldFault) (new : Course) → (unfolded walks (resolved es ++ one ∷ [])).fault ≡ Some (fault_of fault) → known_in new.known ≡ known_in old.known →
@@ -313,6 +387,8 @@ module _ (s : Scene) where
       knows = λ still. absurd (never_none old.end (end_by fault) (ap (λ (p : Past). p.end) (sym past) ∙ still));
       collects = collects_after es e r.collects refl;
       undelivered = undelivered_after es e r.undelivered refl;
+      looks = looks_moved (es ++ e ∷ []) old new known (ap (λ (p : Past). p.looked_up) past)
+          (still_looked_up (known_in old.known) es (e ∷ []) old.looked_up refl r.looks);
     }
 
     learned_by : {new : Course} → IsUnfolded walks (resolved es ++ one ∷ []) old new → Reflects s (es ++ e ∷ []) new None

@@ -26,6 +26,8 @@ use Rattle.run_rules.proofs.events.Tally.{Readings, readings}
 use Rattle.run_rules.proofs.events.Places.{IsJob, number_is}
 use Rattle.run_rules.proofs.events.Planned.{jobs_in}
 use Rattle.run_rules.proofs.events.Turns.{lowest_first, so_many}
+use Rattle.job_key.specs.Key.{key}
+use Rattle.run_rules.specs.declared.request.RecordRequest.{RecordRequest}
 use Rattle.run_core.specs.declared.state.Course.{Course}
 use Rattle.run_core.specs.declared.state.Flight.{Flight}
 use Rattle.run_core.specs.declared.state.Given.{Given}
@@ -38,7 +40,7 @@ use Rattle.run_core.specs.inner.Due.{FitsCall, call_for, work_of}
 use Rattle.run_core.specs.inner.Follows.{AsksIn, AsksOf}
 use Rattle.run_core.specs.inner.Keeps.{Reflects, course_of}
 use Rattle.run_core.specs.Core.{IsFirst}
-use Rattle.run_core.specs.inner.Standing.{IsAt, IsStaging, Runs, collecting, delivering, ended, measuring, staging, working}
+use Rattle.run_core.specs.inner.Standing.{IsAt, IsStaging, Runs, collecting, delivering, ended, measuring, staging, working, finding}
 use Rattle.run_core.proofs.events.Numbers.{Flies, flight_flies, flights_as_many}
 use Rattle.run_core.proofs.events.Reflecting.{Laws, folder_there}
 use Rattle.run_core.proofs.going.Measured.{IsOf, may_measure}
@@ -126,6 +128,7 @@ module _ (s : Scene) (es : List Event) (course : Course) (at_work : Option ℕ) 
 module _ (s : Scene) (f : Progress) (marks : List Mark) (course : Course) where
   fits_at : {turn : Turn} → turn.asks ≢ Request.Finished → IsAt s f marks course turn → AreFitting course
   fits_at asks (measuring found m rest path is left happened none nothing) = nothing_fits course (past_of course) refl nothing
+  fits_at asks (finding n job r next) = lists_fit s f.events course None r
   fits_at asks (staging n job plan r st) = lists_fit s f.events course None r
   fits_at asks (working n job call phase r w) = lists_fit s f.events course (Some n) r
   fits_at asks (collecting r may) = lists_fit s f.events course None r
@@ -134,6 +137,7 @@ module _ (s : Scene) (f : Progress) (marks : List Mark) (course : Course) where
 
   asks_at : {turn : Turn} → IsAt s f marks course turn → AsksIn course turn
   asks_at (measuring found m rest path is left happened none nothing) = tt
+  asks_at (finding n job r next) = next.it.within
   asks_at (staging n job plan r st) = record { known = st.it.within }
   asks_at (working n job call phase r w) =
       work_asks s.options course job.place n (state_at course.jobs n).folder call phase w.calls.due w.calls.fits (taken_within course.jobs n (r.keeps.books.worked_on n refl))
@@ -154,6 +158,8 @@ module _ (s : Scene) (f : Progress) (marks : List Mark) (course : Course) where
 
   collects_at : (place : JobPlace) {turn : Turn} → IsAt s f marks course turn → turn.asks ≡ Request.Host place HostRequest.Collect → course.tickets.items ≢ []
   collects_at place (measuring found m rest path is left happened none nothing) asks = absurd (not_waiting (HostRequest.Measure path) place [] (λ same. cc) asks)
+  collects_at place (finding n job r next) asks =
+      let never : Request.Record job.place (RecordRequest.Find (key job.tool job.inputs)) ≡ Request.Host place HostRequest.Collect = asks in absurd cc
   collects_at place (staging n job plan r st) asks = absurd (not_waiting (HostRequest.Stage plan (course.folders + 1)) place job.place (λ same. cc) asks)
   collects_at place (working n job call phase r w) asks =
       absurd (not_waiting call place job.place
@@ -166,6 +172,7 @@ module _ (s : Scene) (given : Given) (its : IsOf s given) (laws : Laws s) (picks
   allows_at : (t : List Pair) (f : Progress) (marks : List Mark) (course : Course) {turn : Turn} → turn.asks ≢ Request.Finished → IsAt s f marks course turn → Allowed s f marks turn.asks
   allows_at t f marks course asks (measuring found m rest path is left happened none nothing) =
       subst (λ (g : Progress). MayMeasure s g [] path) (sym happened) (may_measure s given its laws picks t found marks m rest path is left)
+  allows_at t f marks course asks (finding n job r next) = next.may
   allows_at t f marks course asks (staging n job plan r st) = st.may
   allows_at t f marks course asks (working n job call phase r w) =
       working_allowed s f marks course n job call phase (folder_there s f.events course (Some n) n job w.it r) w
@@ -192,6 +199,7 @@ module _ (s : Scene) (given : Given) (its : IsOf s given) (laws : Laws s) (picks
 
   first_at : (f : Progress) (marks : List Mark) (course : Course) {turn : Turn} → turn.asks ≢ Request.Finished → IsAt s f marks course turn → IsFirst s f marks turn.asks
   first_at f marks course asks (measuring found m rest path is left happened none nothing) = tt
+  first_at f marks course asks (finding n job r next) = tt
   first_at f marks course asks (staging n job plan r st) = first_staged f marks course n job plan r st
   first_at f marks course asks (working n job call phase r w) =
       first_call f marks job.place call (for_job s.options (state_at course.jobs n).folder [] call phase w.calls.due)

@@ -1,5 +1,5 @@
 -- The result's files are copied to their targets: the run has ended.
-use Rattle.std.specs.Prelude.{is_some}
+use Rattle.std.specs.Prelude.{is_some, ◌||◌, not}
 use Rattle.std.proofs.Common.{◌≡◌, ◌∙◌, ℕ, true, List, [], ◌∷◌, ◌++◌, length, None, refl, sym, ap, subst}
 use Rattle.plan_checker.specs.declared.plan.Mark.{Mark}
 use Rattle.proc_host.specs.declared.call.HostAnswer.{HostAnswer}
@@ -15,7 +15,7 @@ use Rattle.run_rules.specs.Delivered.{located, sources}
 use Rattle.run_rules.specs.End.{succeeds_with}
 use Rattle.run_rules.specs.EndsSo.{copied, succeeds}
 use Rattle.run_rules.specs.Folders.{out_folder}
-use Rattle.run_rules.specs.Events.{Event, Progress, nothing_due, number_at, result_delivered}
+use Rattle.run_rules.specs.Events.{Event, Progress, nothing_due, number_at, result_delivered, are_looked_up, has_no_find, is_reusable, unfolding_at}
 use Rattle.run_rules.specs.Plans.{InForce}
 use Rattle.run_rules.specs.Run.{Goes}
 use Rattle.run_rules.specs.Scene.{Scene}
@@ -28,6 +28,8 @@ use Rattle.run_rules.proofs.events.Readings.{delivered_after, in_flight_after, n
 use Rattle.run_rules.proofs.events.Settled.{settled_quietly}
 use Rattle.run_rules.proofs.events.Tally.{readings}
 use Rattle.run_rules.proofs.events.Turns.{busy_when_none_waits}
+use Rattle.run_rules.proofs.events.Lookups.{looked_up_as_before}
+use Rattle.std.specs.List.{list_all}
 use Rattle.run_core.specs.declared.state.Course.{Course}
 use Rattle.run_core.specs.declared.state.Turn.{Turn}
 use Rattle.run_core.specs.inner.Course.{known_in, past_of}
@@ -58,6 +60,13 @@ module _ (s : Scene) (t : List Pair) (f : Progress) (marks : List Mark) (goes : 
   whole_then : known_in old.known ≡ jobs_in s later
   whole_then = all_known s f.events old None r going ∙ ap (λ (u : Unfolded). u.jobs) (sym (unfolding_stays s f.events (e ∷ []) refl))
 
+  -- no row is looked for any more
+  looked_then : are_looked_up s (f.events ++ e ∷ []) ≡ true
+  looked_then =
+      ap (λ (u : Unfolded). list_all (has_no_find (f.events ++ e ∷ [])) u.jobs) (unfolding_stays s f.events (e ∷ []) refl)
+      ∙ (λ i. list_all (λ (job : Job). not (is_reusable job) || looked_up_as_before f.events (e ∷ []) job.place refl i) (unfolding_at s f.events).jobs)
+      ∙ may.busy.free.looked_up
+
   free_then : IsFree s later
   free_then = record {
     still = record {
@@ -66,6 +75,7 @@ module _ (s : Scene) (t : List Pair) (f : Progress) (marks : List Mark) (goes : 
       unsettled = settled_quietly s f.events (e ∷ []) refl ∙ unsettled s f.events old None r going;
     };
     measured = measured_still s f.events (e ∷ []) (r.measured going);
+    looked_up = looked_then;
   }
 
   busy_then : IsBusy s later marks_then

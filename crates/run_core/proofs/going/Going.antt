@@ -13,12 +13,13 @@ use Rattle.run_rules.specs.declared.request.Answer.{Answer}
 use Rattle.run_rules.specs.declared.request.Pair.{Pair}
 use Rattle.run_rules.specs.declared.request.Request.{Request}
 use Rattle.run_rules.specs.Allowed.{MayCollect, MayDeliver}
-use Rattle.run_rules.specs.Answers.{MayAnswer, by_host}
+use Rattle.run_rules.specs.Answers.{MayAnswer, by_host, by_record}
 use Rattle.run_rules.specs.Delivered.{located}
 use Rattle.run_rules.specs.Events.{Progress}
 use Rattle.run_rules.specs.Plans.{InForce}
 use Rattle.run_rules.specs.Run.{Goes}
 use Rattle.run_rules.specs.Scene.{Scene}
+use Rattle.run_core.proofs.job_steps.Found.{answer_goes_on}
 use Rattle.run_core.specs.declared.state.Course.{Course}
 use Rattle.run_core.specs.declared.state.Given.{Given}
 use Rattle.run_core.specs.declared.state.JobPhase.{JobPhase}
@@ -30,7 +31,7 @@ use Rattle.run_core.specs.inner.Follows.{FollowsFrom}
 use Rattle.run_core.specs.inner.Keeps.{Reflects}
 use Rattle.run_core.specs.inner.Measured.{IsMeasuring}
 use Rattle.run_core.specs.inner.Measures.{Begins}
-use Rattle.run_core.specs.inner.Standing.{IsAt, IsStaging, IsWorking, Runs, collecting, delivering, ended, measuring, staging, working}
+use Rattle.run_core.specs.inner.Standing.{IsAt, IsStaging, IsWorking, Runs, collecting, delivering, ended, measuring, staging, working, finding}
 use Rattle.run_core.specs.inner.Turn.{collects, waits, works}
 use Rattle.run_core.proofs.events.Reflecting.{Laws, folder_there}
 use Rattle.run_core.proofs.going.Delivered.{delivery_goes_on}
@@ -120,6 +121,7 @@ module _ (s : Scene) (given : Given) (same : given.options ≡ s.options) (its :
         Runs s (t ++ record { request = before.asks; answer = answer } ∷ []) new turn
     answered (measuring found m rest path is left happened none nothing) (by_host place request answer can) follows =
         measure_by found m rest path is left happened none nothing can follows
+    answered (finding n job r next) (by_record place request answer can) follows = answer_goes_on s given picks t f marks goes old n job r next answer turn new follows
     answered (staging n job plan r st) (by_host place request answer can) follows = stage_by n job plan r st can follows
     answered (working n job call phase r w) (by_host place request answer can) follows = work_by n job phase can r w follows
     answered (collecting r may) (by_host place request answer can) follows = collect_by r may can follows

@@ -41,6 +41,7 @@ use Rattle.run_rules.proofs.events.Planned.{marks_after}
 use Rattle.run_rules.proofs.events.Readings.{started_after}
 use Rattle.run_rules.proofs.events.Settled.{or_none, settled_more}
 use Rattle.run_rules.proofs.events.Tally.{Readings, readings, readings_after, reads_after}
+use Rattle.run_rules.proofs.events.Lookups.{LooksUp, is_no_answer, none_looked_up, still_looked_up}
 use Rattle.run_core.specs.declared.state.Course.{Course}
 use Rattle.run_core.specs.declared.state.Given.{Given}
 use Rattle.run_core.specs.declared.state.Measuring.{Measuring}
@@ -82,6 +83,14 @@ nothing_reads r (m ∷ found) = nothing_reads r found
 
 nothing_happened : (found : List (Name × Measure)) → readings (measured_by found) ≡ readings []
 nothing_happened found = readings_after [] (measured_by found) ∙ nothing_reads (readings []) found
+
+no_answers : (found : List (Name × Measure)) → list_all is_no_answer (measured_by found) ≡ true
+no_answers [] = refl
+no_answers (m ∷ found) = no_answers found
+
+-- no row was looked for
+nothing_looked_up : (jobs : List Job) (found : List (Name × Measure)) → LooksUp jobs (measured_by found) 0
+nothing_looked_up jobs found = still_looked_up jobs [] (measured_by found) 0 (no_answers found) (none_looked_up jobs)
 
 none_alike : {K : Type 0} (eq : K → K → Bool) → IsDistinct eq []
 unfolding IsDistinct
@@ -190,6 +199,8 @@ module _ (s : Scene) (once : Once s.paths) where
                 (subst (λ (learned : List Resolved). Knows walks learned kept) (sym (none_resolved found)) k);
             collects = none_lost found;
             undelivered = none_delivered found;
+            looks = subst (λ n. LooksUp (known_in new.known) (measured_by found) n) (sym (ap (λ (p : Past). p.looked_up) (past ∙ nothing)))
+                (nothing_looked_up (known_in new.known) found);
           }
 
       first_fault : (fault : UnfoldFault) (new : Course) → (unfolded walks []).fault ≡ Some (fault_of fault) → known_in new.known ≡ known_in old.known →
@@ -206,6 +217,8 @@ module _ (s : Scene) (once : Once s.paths) where
             knows = λ still. absurd (is_open still);
             collects = none_lost found;
             undelivered = none_delivered found;
+            looks = subst (λ n. LooksUp (known_in new.known) (measured_by found) n) (sym (ap (λ (p : Past). p.looked_up) after))
+                (nothing_looked_up (known_in new.known) found);
           }
 
       first_by : {new : Course} → IsUnfolded walks [] old new → Reflects s (measured_by found) new None
@@ -302,4 +315,6 @@ module _ (s : Scene) (given : Given) (its : IsOf s given) (laws : Laws s) (picks
           knows = λ still. absurd (is_open still);
           collects = collects_after s (measured_by found) (host_failed [] HostFault.Measure) (none_lost found) refl;
           undelivered = undelivered_after s (measured_by found) (host_failed [] HostFault.Measure) (none_delivered found) refl;
+          looks = subst (λ n. LooksUp (known_in new.known) (measured_by found ++ host_failed [] HostFault.Measure ∷ []) n) (sym (ap (λ (p : Past). p.looked_up) after))
+              (still_looked_up (known_in new.known) (measured_by found) (host_failed [] HostFault.Measure ∷ []) 0 refl (nothing_looked_up (known_in new.known) found));
         }

@@ -1,5 +1,5 @@
 -- Where nothing is due, what the machine turns to is what its run may ask then, or how it ends.
-use Rattle.std.specs.Prelude.{Ok, ◌<◌, ◌≤◌, ◌≢◌, ◌||◌, Contains, IsSome, is_some, Result, option_map, unwrap_or}
+use Rattle.std.specs.Prelude.{Ok, ◌<◌, ◌≤◌, ◌≢◌, ◌||◌, Contains, IsSome, is_some, Result, option_map, unwrap_or, slice_get}
 use Rattle.std.proofs.Common.{◌≡◌, ◌∙◌, ◌+◌, ℕ, Bool, true, false, cond, List, [], ◌∷◌, length, find, Option, Some, None, refl, sym, ap, subst, arith}
 use Rattle.plan_checker.specs.declared.plan.Mark.{Mark}
 use Rattle.staging.specs.Plan.{IsPlan}
@@ -12,11 +12,11 @@ use Rattle.run_rules.specs.declared.outcome.Outcome.{Outcome}
 use Rattle.run_rules.specs.declared.outcome.RunFault.{RunFault}
 use Rattle.run_rules.specs.declared.request.Pair.{Pair}
 use Rattle.run_rules.specs.declared.setting.Options.{Options}
-use Rattle.run_rules.specs.Allowed.{IsBusy, IsFree}
+use Rattle.run_rules.specs.Allowed.{IsBusy, IsFree, IsOpen}
 use Rattle.run_rules.specs.Delivered.{any_file, located, source_place, sources}
 use Rattle.run_rules.specs.End.{End, settled, succeeds_with}
 use Rattle.run_rules.specs.EndsSo.{fails, no_file, succeeds}
-use Rattle.run_rules.specs.Events.{Event, Progress, in_flight, is_at_hand, job_succeeded, folder_at, measures, nothing_due, number_at, resolved, unfolding_at}
+use Rattle.run_rules.specs.Events.{Event, Progress, in_flight, is_at_hand, job_succeeded, folder_at, measures, nothing_due, number_at, resolved, unfolding_at, are_looked_up, has_no_find, is_reusable}
 use Rattle.run_rules.specs.Folders.{in_folder, out_folder}
 use Rattle.run_rules.specs.Plans.{InForce}
 use Rattle.run_rules.specs.Reports.{outcome_of}
@@ -24,14 +24,17 @@ use Rattle.run_rules.specs.Run.{Goes}
 use Rattle.run_rules.specs.Scene.{Scene}
 use Rattle.run_rules.proofs.PlacesErased.{map_by_name}
 use Rattle.run_rules.proofs.Named.{learned_are_named, learned_is_at_hand}
-use Rattle.run_rules.proofs.events.Asks.{AreParentsAtHand, may_collect, may_collect_settled, may_deliver}
+use Rattle.run_rules.proofs.events.Asks.{AreParentsAtHand, may_collect, may_collect_settled, may_deliver, may_find}
 use Rattle.run_rules.proofs.events.Course.{Keeps as AreKept}
 use Rattle.run_rules.proofs.events.Flights.{Flight as Flying, is_flying}
 use Rattle.run_rules.proofs.events.Known.{unfolding_when}
-use Rattle.run_rules.proofs.events.Places.{IsJob}
+use Rattle.run_rules.proofs.events.Places.{IsJob, AreApart}
 use Rattle.run_rules.proofs.events.Planned.{jobs_in}
 use Rattle.run_rules.proofs.events.Tally.{readings}
 use Rattle.run_rules.proofs.events.Turns.{busy_when_none_waits, busy_when_taken, none_flies, waiting_may_stage}
+use Rattle.run_rules.proofs.events.Lookups.{all_looked_up}
+use Rattle.std.proofs.lemmas.Option.{slice_get-get_or}
+use Rattle.std.specs.List.{list_all}
 use Rattle.run_core.specs.declared.state.Course.{Course}
 use Rattle.run_core.specs.declared.state.Given.{Given}
 use Rattle.run_core.specs.declared.state.Turn.{Turn}
@@ -39,8 +42,8 @@ use Rattle.run_core.specs.inner.Course.{known_in, number_in, past_of}
 use Rattle.run_core.specs.inner.JobStates.{IsLowest, NoneWaits}
 use Rattle.run_core.specs.inner.Keeps.{Reflects, course_of}
 use Rattle.run_core.specs.inner.Knows.{IsKnown, outputs_in}
-use Rattle.run_core.specs.inner.Picks.{Delivers, DeliversFiles, NoneToStage, Picks, Stages, delivers, drains, ends_so, has_result, none_waits, slots_full, sources_in, stages, succeeds_at_once, waits_for_one}
-use Rattle.run_core.specs.inner.Standing.{IsAt, collecting, delivering, ended, staging}
+use Rattle.run_core.specs.inner.Picks.{Delivers, DeliversFiles, NoneToStage, Picks, Stages, delivers, drains, ends_so, has_result, none_waits, slots_full, sources_in, stages, succeeds_at_once, waits_for_one, Finds, IsNextToFind, NoneToFind, finds}
+use Rattle.run_core.specs.inner.Standing.{IsAt, collecting, delivering, ended, staging, finding}
 use Rattle.run_core.specs.inner.Turn.{collects, ends}
 use Rattle.run_core.proofs.events.Keeping.{none_settled}
 use Rattle.run_core.proofs.events.Numbers.{job_there, number_is_kept}
@@ -129,11 +132,25 @@ module _ (s : Scene) (es : List Event) (course : Course) (at_work : Option ℕ) 
   pub none_in_flight : course.tickets.items ≡ [] → in_flight es ≡ []
   none_in_flight none = none_flies (known_in course.known) (readings es) (course_of (past_of course) at_work r.keeps.gave_up) r.keeps.books none
 
+some_there : (jobs : List Job) (number : ℕ) (job : Job) → IsJob jobs number job → slice_get jobs number ≡ Some job
+some_there jobs number job it = slice_get-get_or jobs number job it.within ∙ ap Some it.is
+
 module _ (s : Scene) (f : Progress) (course : Course) (at_work : Option ℕ) (r : Reflects s f.events course at_work) (idle : f.work ≡ nothing_due) (going : course.end ≡ None) where
-  pub is_free : IsFree s f
-  is_free = record {
-    still = record { idle = idle; collects = r.collects; unsettled = unsettled s f.events course at_work r going };
+  pub is_open : IsOpen s f
+  is_open = record { idle = idle; collects = r.collects; unsettled = unsettled s f.events course at_work r going }
+
+  -- the row of no known job is looked for any more
+  looked_up : NoneToFind course → are_looked_up s f.events ≡ true
+  looked_up none =
+      subst (λ (jobs : List Job). list_all (has_no_find f.events) jobs ≡ true) (all_known s f.events course at_work r going)
+      (all_looked_up (known_in course.known) f.events course.looked_up r.looks
+      (λ n job it past. none n job (some_there (known_in course.known) n job it) past))
+
+  pub is_free : NoneToFind course → IsFree s f
+  is_free none = record {
+    still = is_open;
     measured = r.measured going;
+    looked_up = looked_up none;
   }
 
 module _ (s : Scene) (given : Given) (same : given.options ≡ s.options) where
@@ -168,19 +185,38 @@ module _ (s : Scene) (given : Given) (same : given.options ≡ s.options) where
         learned_is_at_hand f.events parent (laws.makers nothing (measures f.events) (resolved f.events) (learned_are_named s goes) job there parent made)
 
     -- the lowest job that waits is staged
-    staged_next : Laws s → (course : Course) (n : ℕ) (turn : Turn) → Reflects s f.events course None → course.end ≡ None → length course.tickets.items < s.options.slots →
+    staged_next : Laws s → (course : Course) (n : ℕ) (turn : Turn) → Reflects s f.events course None → course.end ≡ None → NoneToFind course → length course.tickets.items < s.options.slots →
         IsLowest course.jobs (length (known_in course.known)) n → Stages given course n turn → IsAt s f marks course turn
-    staged_next laws course n turn r going slot lowest st =
+    staged_next laws course n turn r going looked slot lowest st =
         let it : IsJob (known_in course.known) n st.job = job_there (known_in course.known) n st.job st.known in
         let whole : known_in course.known ≡ jobs_in s f = all_known s f.events course None r going in
         subst (IsAt s f marks course) (sym st.is)
         (staging n st.job st.plan r (record {
           it = it;
           may = waiting_may_stage s f marks (course_of (past_of course) None r.keeps.gave_up) (all_kept s f.events course None r going)
-              (is_free s f course None r idle going) n st.job st.plan goes (subst (λ (jobs : List Job). IsJob jobs n st.job) whole it) lowest.waits
+              (is_free s f course None r idle going looked) n st.job st.plan goes (subst (λ (jobs : List Job). IsJob jobs n st.job) whole it) lowest.waits
               (parents_there laws course r going n st.job it) slot
               (plan_same f.events course None r n st);
           lowest = lowest;
+          going = going;
+        }))
+
+    -- the row of the first job that is left is looked for
+    found_next : (course : Course) (n : ℕ) (turn : Turn) → Reflects s f.events course None → course.end ≡ None → IsNextToFind course n → Finds course n turn →
+        IsAt s f marks course turn
+    found_next course n turn r going next f_is =
+        let it : IsJob (known_in course.known) n f_is.job = job_there (known_in course.known) n f_is.job f_is.known in
+        let whole : known_in course.known ≡ jobs_in s f = all_known s f.events course None r going in
+        let same_job : Some next.job ≡ Some f_is.job = sym next.known ∙ f_is.known in
+        let one : next.job ≡ f_is.job = cc in
+        subst (IsAt s f marks course) (sym f_is.is)
+        (finding n f_is.job r (record {
+          it = it;
+          may = may_find s f marks n f_is.job (is_open s f course None r idle going)
+              (subst AreApart whole r.keeps.books.apart) (subst (λ (jobs : List Job). IsJob jobs n f_is.job) whole it)
+              (subst (λ (j : Job). is_reusable j ≡ true) one next.reusable) (r.looks.unasked n f_is.job it next.left);
+          left = next.left;
+          first = λ other its there below within. next.first other its (some_there (known_in course.known) other its there) below within;
           going = going;
         }))
 
@@ -201,14 +237,14 @@ module _ (s : Scene) (given : Given) (same : given.options ≡ s.options) where
           subst (λ (end : Result Outcome RunFault). IsAt s f marks new (ends end)) so.tells
           (ended so.end (fails so.end idle r.collects (none_in_flight s f.events course None r none) so.is))
 
-      module _ (going : course.end ≡ None) where
+      module _ (going : course.end ≡ None) (looked : NoneToFind course) where
         busy_if_full : s.options.slots ≤ length course.tickets.items → IsBusy s f marks
         busy_if_full full =
-            busy_when_taken s f marks (course_of (past_of course) None r.keeps.gave_up) (all_kept s f.events course None r going) (is_free s f course None r idle going) full
+            busy_when_taken s f marks (course_of (past_of course) None r.keeps.gave_up) (all_kept s f.events course None r going) (is_free s f course None r idle going looked) full
 
         pub busy_if_none_waits : NoneWaits course.jobs (length (known_in course.known)) → IsBusy s f marks
         busy_if_none_waits none =
-            busy_when_none_waits s f marks (course_of (past_of course) None r.keeps.gave_up) (all_kept s f.events course None r going) (is_free s f course None r idle going)
+            busy_when_none_waits s f marks (course_of (past_of course) None r.keeps.gave_up) (all_kept s f.events course None r going) (is_free s f course None r idle going looked)
             (ap is_some going) refl (subst (λ (jobs : List Job). NoneWaits course.jobs (length jobs)) (all_known s f.events course None r going) none)
 
         busy_if : NoneToStage given course → IsBusy s f marks
@@ -290,7 +326,8 @@ module _ (s : Scene) (given : Given) (same : given.options ≡ s.options) where
       pub picked : {turn : Turn} {new : Course} → Picks given old turn new → IsAt s f marks new turn
       picked (drains new over flying past known) = at_same s f marks old new past known (drained old r over flying)
       picked (ends_so told new is none left known) = ended_so old r told is none new
-      picked (stages number turn new going slot lowest st past known) =
-          at_same s f marks old new past known (staged_next laws old number turn r going (subst (λ (o : Options). length old.tickets.items < o.slots) same slot) lowest st)
-      picked (waits_for_one new going flying none past known) = at_same s f marks old new past known (waited_for old r going flying none)
-      picked (has_result turn new going none nothing d past known) = at_same s f marks old new past known (result_there old r going laws some none nothing d)
+      picked (finds number turn new going next f_is past known) = at_same s f marks old new past known (found_next old number turn r going next f_is)
+      picked (stages number turn new going looked slot lowest st past known) =
+          at_same s f marks old new past known (staged_next laws old number turn r going looked (subst (λ (o : Options). length old.tickets.items < o.slots) same slot) lowest st)
+      picked (waits_for_one new going looked flying none past known) = at_same s f marks old new past known (waited_for old r going looked flying none)
+      picked (has_result turn new going looked none nothing d past known) = at_same s f marks old new past known (result_there old r going looked laws some none nothing d)

@@ -1,5 +1,5 @@
 -- Where the machine is depends on what its course has come to, and not on the room that its lists have.
-use Rattle.std.proofs.Common.{◌≡◌, ◌∙◌, ◌+◌, ℕ, List, length, Some, None, sym, ap, subst}
+use Rattle.std.proofs.Common.{◌≡◌, ◌∙◌, ◌+◌, ℕ, List, length, Some, None, sym, ap, subst, ◌≤◌}
 use Rattle.plan_checker.specs.declared.plan.Mark.{Mark}
 use Rattle.proc_host.specs.declared.call.HostRequest.{HostRequest}
 use Rattle.staging.specs.declared.plan.StagePlan.{StagePlan}
@@ -17,7 +17,7 @@ use Rattle.run_core.specs.declared.state.Phase.{Phase}
 use Rattle.run_core.specs.declared.state.Turn.{Turn}
 use Rattle.run_core.specs.inner.Course.{Past, known_in, past_of}
 use Rattle.run_core.specs.inner.Due.{Calls}
-use Rattle.run_core.specs.inner.Standing.{IsAt, IsStaging, IsWorking, Runs, collecting, delivering, ended, measuring, staging, working}
+use Rattle.run_core.specs.inner.Standing.{IsAt, IsStaging, IsWorking, Runs, collecting, delivering, ended, measuring, staging, working, FindsNext, finding}
 use Rattle.run_core.proofs.events.Reflecting.{reflects_same}
 use Rattle.run_core.specs.inner.JobStates.{IsLowest, NoneWaits, state_at}
 
@@ -47,6 +47,19 @@ module _ (s : Scene) (f : Progress) (marks : List Mark) (old new : Course) (past
     going = same_end ∙ st.going;
   }
 
+  same_looks : old.looked_up ≡ new.looked_up
+  same_looks = ap (λ (p : Past). p.looked_up) (sym past)
+
+  finds_same : (n : ℕ) (job : Job) → FindsNext s f old n job → FindsNext s f new n job
+  finds_same n job next = record {
+    it = subst (λ (jobs : List Job). IsJob jobs n job) same_jobs next.it;
+    may = next.may;
+    left = subst (λ count. count ≤ n) same_looks next.left;
+    first = λ other its there below within.
+        next.first other its (subst (λ (jobs : List Job). IsJob jobs other its) (sym same_jobs) there) (subst (λ count. count ≤ other) (sym same_looks) below) within;
+    going = same_end ∙ next.going;
+  }
+
   pub working_same : (n : ℕ) (job : Job) (call : HostRequest) (phase : JobPhase) → IsWorking s f old n job call phase → IsWorking s f new n job call phase
   working_same n job call phase w = record {
     it = subst (λ (jobs : List Job). IsJob jobs n job) same_jobs w.it;
@@ -57,6 +70,7 @@ module _ (s : Scene) (f : Progress) (marks : List Mark) (old new : Course) (past
 
   pub at_same : {turn : Turn} → IsAt s f marks old turn → IsAt s f marks new turn
   at_same (measuring found m rest path is left happened none nothing) = measuring found m rest path is left happened (known ∙ none) (past ∙ nothing)
+  at_same (finding n job r next) = finding n job (reflects_same s f.events old new None past known r) (finds_same n job next)
   at_same (staging n job plan r st) =
       subst (λ folders. IsAt s f marks new (record { asks = Request.Host job.place (HostRequest.Stage plan (folders + 1)); phase = Phase.Staging n })) (sym same_folders)
       (staging n job plan (reflects_same s f.events old new None past known r) (staging_same n job plan st))

@@ -1,6 +1,6 @@
 -- What each answer leaves.
 use Rattle.std.specs.Prelude.{Contains}
-use Rattle.std.proofs.Common.{◌≡◌, ◌∙◌, List, [], Option, None, Result, Err, refl, sym, ap, subst}
+use Rattle.std.proofs.Common.{◌≡◌, ◌∙◌, List, [], Option, None, Result, Err, refl, sym, ap, subst, ℕ}
 use Rattle.proc_host.specs.Answers.{fault_of, is_measured, is_staged, is_started, has_ended, is_listed, is_read, is_delivered, has_failed}
 use Rattle.proc_host.specs.declared.call.Entry.{Entry}
 use Rattle.proc_host.specs.declared.call.HostAnswer.{HostAnswer}
@@ -9,7 +9,7 @@ use Rattle.proc_host.specs.declared.call.HostRequest.{HostRequest}
 use Rattle.proc_host.specs.declared.child.ChildEnd.{ChildEnd}
 use Rattle.cwl_process.specs.declared.tool.Tool.{Tool}
 use Rattle.job_graph.specs.declared.unfolding.Unfolding.{Unfolding}
-use Rattle.run_rules.specs.Answers.{MayAnswer, by_host}
+use Rattle.run_rules.specs.Answers.{MayAnswer, by_host, by_record}
 use Rattle.run_rules.specs.Blame.{IsToBlame, WereStarted, logged_answers}
 use Rattle.run_rules.proofs.Rising.{none_started}
 use Rattle.run_rules.specs.declared.outcome.Outcome.{Outcome}
@@ -17,6 +17,7 @@ use Rattle.run_rules.specs.declared.outcome.RunFault.{RunFault}
 use Rattle.run_rules.specs.declared.request.Answer.{Answer}
 use Rattle.run_rules.specs.declared.request.Request.{Request}
 use Rattle.job_graph.specs.Words.{JobPlace}
+use Rattle.run_rules.specs.declared.request.RecordRequest.{RecordRequest}
 use Rattle.run_core.specs.declared.state.Course.{Course}
 use Rattle.run_core.specs.declared.state.Flight.{Flight}
 use Rattle.run_core.specs.declared.state.Given.{Given}
@@ -32,10 +33,12 @@ use Rattle.run_core.specs.inner.Measures.{MeasuresOn, all_measured, measures}
 use Rattle.run_core.specs.inner.Picks.{AfterEnd, AfterFault, badly, for_now, well}
 use Rattle.run_core.specs.inner.Standing.{Blames}
 use Rattle.run_core.proofs.standing.Books.{Books, books_end, books_landed, books_staged, books_start, books_unstaged}
-use Rattle.run_core.proofs.standing.Leaving.{FewKnown, KnowsSome, Leaves, MayKnow, books_course, books_unfolded, leaves_end, leaves_temporary, picks_leave, turns_leave}
+use Rattle.run_core.proofs.standing.Leaving.{FewKnown, KnowsSome, Leaves, MayKnow, books_course, books_unfolded, leaves_end, leaves_temporary, picks_leave, turns_leave, leaves_find}
 
-abbrev pub host_answer : Answer → HostAnswer
-host_answer (Answer.Host answer) = answer
+-- an answer of the host's is in its log
+abbrev pub IsLogged : List Entry → Answer → Type 0
+IsLogged entries (Answer.Host answer) = Contains (logged_answers entries) answer
+IsLogged entries (Answer.Record answer) = Unit {0}
 
 -- nothing is asked at the end
 pub asks_none : (course : Course) (place : JobPlace) (call : HostRequest) (outcome : Result Outcome RunFault) → AsksOf course (Request.Host place call) (Phase.Ended outcome) → ⊥
@@ -48,6 +51,31 @@ asks_none course place (HostRequest.Head path limit) outcome fits = fits
 asks_none course place (HostRequest.Fetch key number files) outcome fits = fits
 asks_none course place (HostRequest.Store key folder files) outcome fits = fits
 asks_none course place (HostRequest.Deliver plan) outcome fits = fits
+
+-- while a row is looked for nothing is asked of the host
+pub asks_no_call : (course : Course) (place : JobPlace) (call : HostRequest) (number : ℕ) → AsksOf course (Request.Host place call) (Phase.Finding number) → ⊥
+asks_no_call course place (HostRequest.Measure path) number fits = fits
+asks_no_call course place (HostRequest.Stage plan folder) number fits = fits
+asks_no_call course place (HostRequest.Start launch) number fits = fits
+asks_no_call course place HostRequest.Collect number fits = fits
+asks_no_call course place (HostRequest.Scan folder) number fits = fits
+asks_no_call course place (HostRequest.Head path limit) number fits = fits
+asks_no_call course place (HostRequest.Fetch key folder files) number fits = fits
+asks_no_call course place (HostRequest.Store key folder files) number fits = fits
+asks_no_call course place (HostRequest.Deliver plan) number fits = fits
+
+-- where a job is to be staged, nothing of the record
+pub stages_no_row : (course : Course) (place : JobPlace) (request : RecordRequest) (number : ℕ) → AsksOf course (Request.Record place request) (Phase.Staging number) → ⊥
+stages_no_row course place (RecordRequest.Find key) number fits = fits
+stages_no_row course place (RecordRequest.Put row) number fits = fits
+stages_no_row course place (RecordRequest.DropArchive key) number fits = fits
+
+-- nor is the record
+pub asks_no_row : (course : Course) (place : JobPlace) (request : RecordRequest) (outcome : Result Outcome RunFault) →
+    AsksOf course (Request.Record place request) (Phase.Ended outcome) → ⊥
+asks_no_row course place (RecordRequest.Find key) outcome fits = fits
+asks_no_row course place (RecordRequest.Put row) outcome fits = fits
+asks_no_row course place (RecordRequest.DropArchive key) outcome fits = fits
 
 -- what was known is known still
 pub known_still : (old new : Course) → new.end ≡ old.end → new.known ≡ old.known → (old.end ≡ None → KnowsSome old) → new.end ≡ None → KnowsSome new
@@ -85,12 +113,15 @@ module _ (given : Given) (old : Course) (entries : List Entry) (turn : Turn) (ne
       leaves_temporary given.options entries given refl landed flight.job turn new few books temporary
 
   pub step_leaves : (asks : Request) (phase : Phase) (answer : Answer) → MayAnswer old.tickets.items asks answer → AsksOf old asks phase → (phase ≡ Phase.Draining → ⊥) → MayKnow old phase →
-      Contains (logged_answers entries) (host_answer answer) → StaysBounded given.options (past_of old) phase → Blames entries (past_of old) phase →
+      IsLogged entries answer → StaysBounded given.options (past_of old) phase → Blames entries (past_of old) phase →
       FollowsFrom given old (record { asks = asks; phase = phase }) answer turn new → Left
   step_leaves asks (Phase.Measuring measuring) answer (by_host place request its (is_measured path measure)) fits goes knows told bounded blames follows =
       after_measure given old entries turn new few follows.next (record { bounded = bounded; blames = blames }) follows.on
   step_leaves asks (Phase.Measuring measuring) answer (by_host place request its (has_failed call)) fits goes knows told bounded blames follows =
       after_fault (fault_of call) told (record { bounded = bounded; blames = blames }) follows
+  step_leaves asks (Phase.Finding number) answer (by_host place request its can) fits goes knows told bounded blames follows = absurd (asks_no_call old place request number fits)
+  step_leaves asks (Phase.Finding number) answer (by_record place request its can) fits goes knows told bounded blames follows =
+      leaves_find given.options entries given refl old number its turn new few (record { bounded = bounded; blames = blames }) follows
   step_leaves asks (Phase.Staging number) answer (by_host place request its (is_staged plan folder)) fits goes knows told bounded blames follows =
       turns_leave given.options entries given refl follows.staged number follows.next turn new few
       (known_still old follows.staged (ap (λ (p : Past). p.end) follows.past) follows.known knows)
@@ -131,3 +162,4 @@ module _ (given : Given) (old : Course) (entries : List Entry) (turn : Turn) (ne
   step_leaves asks Phase.Draining answer may fits goes knows told bounded blames follows = absurd (goes refl)
   step_leaves asks (Phase.Ended outcome) answer (by_host place request its can) fits goes knows told bounded blames follows = absurd (asks_none old place request outcome fits)
   step_leaves asks phase answer (by_host place request its can) fits goes knows told bounded blames follows = absurd fits
+  step_leaves asks phase answer (by_record place request its can) fits goes knows told bounded blames follows = absurd follows

@@ -33,9 +33,9 @@ use Rattle.run_rules.specs.declared.request.Pair.{Pair}
 use Rattle.run_rules.specs.declared.request.Request.{Request}
 use Rattle.run_rules.specs.declared.setting.Options.{Options}
 use Rattle.run_rules.specs.Allowed.{Allowed}
-use Rattle.run_rules.specs.Answers.{MayAnswer, by_host}
+use Rattle.run_rules.specs.Answers.{MayAnswer, by_host, by_record, is_found, is_refused}
 use Rattle.run_rules.specs.CollectsOn.{CollectsOn, reads_on as reads_more, collects, collects_none, left_of}
-use Rattle.run_rules.specs.Events.{Event, Work, Started, Progress, file_measured, job_staged, job_started, child_exited, job_succeeded, job_failed, job_failed_for_now, result_delivered, host_failed, collect_failed, job_at, nothing_due, input_heads_due, number_at, scan_due, output_heads_due, start_due}
+use Rattle.run_rules.specs.Events.{Event, Work, Started, Progress, file_measured, job_staged, job_started, child_exited, job_succeeded, job_failed, job_failed_for_now, result_delivered, host_failed, collect_failed, job_at, nothing_due, input_heads_due, number_at, scan_due, output_heads_due, start_due, row_found, no_row, find_failed}
 use Rattle.run_rules.specs.Folders.{runtime_of}
 use Rattle.run_rules.specs.Plans.{InForce}
 use Rattle.run_rules.specs.Run.{Goes}
@@ -43,8 +43,14 @@ use Rattle.run_rules.proofs.events.Grows.{goes_on as grows_by}
 use Rattle.run_rules.proofs.events.Planned.{marks_after}
 use Rattle.run_rules.specs.Scene.{Scene}
 use Rattle.run_rules.specs.StartsOn.{StartsOn, reads_on, has_launch, has_no_launch, has_no_contents}
-use Rattle.run_rules.specs.Steps.{Steps, progress_with, measures_file, stages, reads_input, starts, exits_well, exits_for_now, exits_badly, scans, reads_output, delivers, loses_collect, call_fails}
+use Rattle.run_rules.specs.Steps.{Steps, progress_with, measures_file, stages, reads_input, starts, exits_well, exits_for_now, exits_badly, scans, reads_output, delivers, loses_collect, call_fails, finds_none, finds, finds_wrong, find_fails}
 use Rattle.run_rules.proofs.events.Places.{IsJob}
+use Rattle.job_key.specs.Key.{Key}
+use Rattle.job_reuse.specs.Sound.{IsSound}
+use Rattle.job_rows.specs.declared.refusal.RecordRefusal.TheVariants.{NotARecord}
+use Rattle.job_rows.specs.declared.row.Row.{Row}
+use Rattle.run_rules.specs.declared.request.RecordAnswer.{RecordAnswer}
+use Rattle.run_rules.specs.declared.request.RecordRequest.{RecordRequest}
 use Rattle.run_core.specs.declared.state.Course.{Course}
 use Rattle.run_core.specs.declared.state.Filling.{Filling}
 use Rattle.run_core.specs.declared.state.JobPhase.{JobPhase}
@@ -57,7 +63,7 @@ use Rattle.run_core.specs.inner.Course.{known_in}
 use Rattle.run_core.specs.inner.Due.{call_for, work_of}
 use Rattle.run_core.specs.inner.Follows.{AsksOf}
 use Rattle.run_core.specs.inner.Keeps.{Reflects}
-use Rattle.run_core.specs.inner.Standing.{HasStarted, IsAt, IsWorking, Runs, collecting, delivering, ended, measuring, staging, working}
+use Rattle.run_core.specs.inner.Standing.{HasStarted, IsAt, IsWorking, Runs, collecting, delivering, ended, measuring, staging, working, finding}
 use Rattle.run_core.proofs.events.Reflecting.{FliesThere, flies_there, known_there}
 use Rattle.run_core.specs.inner.JobStates.{state_at}
 
@@ -146,7 +152,7 @@ module _ (s : Scene) (t : List Pair) (f : Progress) (marks : List Mark) (course 
 
   -- The work on a job
 
-  module _ (number : ℕ) (job : Job) (at_work : Option ℕ) (reflects : Reflects s f.events course at_work) (can : CanGoOn course number)
+  module _ (number : ℕ) (job : Job) (at_work : Option ℕ) (reflects : Reflects s f.events course at_work) {its_answer : Answer} (can : CanGoOn course number its_answer)
       (it : IsJob (known_in course.known) number job) where
     at_place : job_at s f.events job.place ≡ Some job
     at_place = known_there s f.events course at_work number job it reflects
@@ -222,12 +228,27 @@ module _ (s : Scene) (t : List Pair) (f : Progress) (marks : List Mark) (course 
         let there : FliesThere s f.events course ending.ticket = flies_there s f.events course None ending.ticket flies reflects in
         end_by ending (class_of there.job.tool.exit_codes ending.code) there refl
 
-  pub at_goes_on : {turn : Turn} {answer : Answer} → CanGoOn course (job_in turn.phase) → IsAt s f marks course turn → AsksOf course turn.asks turn.phase →
+  -- a row was found, which is one of the job's tool or is none
+  row_anyway : (job : Job) (its_key : Key) (row : Row) → job_at s f.events job.place ≡ Some job → IsSound job.tool row ⊎ (IsSound job.tool row → ⊥) →
+      Allowed s f marks (Request.Record job.place (RecordRequest.Find its_key)) →
+      GoesOn s (t ++ noted (Request.Record job.place (RecordRequest.Find its_key)) (Answer.Record (RecordAnswer.Found (Some row))) ∷ [])
+  row_anyway job its_key row known (inl sound) allowed =
+      goes_with _ nothing_due (row_found job.place row ∷ []) allowed (finds job.place its_key row job known sound)
+  row_anyway job its_key row known (inr unsound) allowed =
+      goes_with _ nothing_due (find_failed job.place NotARecord ∷ []) allowed (finds_wrong job.place its_key row job known unsound)
+
+  pub at_goes_on : {turn : Turn} {answer : Answer} → CanGoOn course (job_in turn.phase) answer → IsAt s f marks course turn → AsksOf course turn.asks turn.phase →
       MayAnswer course.tickets.items turn.asks answer → Allowed s f marks turn.asks → GoesOn s (t ++ noted turn.asks answer ∷ [])
   at_goes_on can (measuring found which rest path m is f_is none past) fits (by_host place request answer (is_measured its measure)) allowed =
       goes_with _ nothing_due (file_measured path measure ∷ []) allowed (measures_file path measure)
   at_goes_on can (measuring found which rest path m is f_is none past) fits (by_host place request answer (has_failed call)) allowed =
       fails_anyway [] (HostRequest.Measure path) (λ other. cc) allowed
+  at_goes_on can (finding number job reflects next) fits (by_record place request answer (is_found its None)) allowed =
+      goes_with _ nothing_due (no_row job.place ∷ []) allowed (finds_none job.place its)
+  at_goes_on can (finding number job reflects next) fits (by_record place request answer (is_found its (Some row))) allowed =
+      row_anyway job its row (known_there s f.events course None number job next.it reflects) (can.rows job.tool row can.row) allowed
+  at_goes_on can (finding number job reflects next) fits (by_record place request answer (is_refused its refusal)) allowed =
+      goes_with _ nothing_due (find_failed job.place refusal ∷ []) allowed (find_fails job.place _ refusal)
   at_goes_on can (staging number job plan reflects is_staging) fits (by_host place request answer (is_staged its folder)) allowed =
       let start : SomeStart s.options job.place job folder plan.value [] (heads_wanted job.tool.inputs plan.value) =
       a_start s.options job.place job folder can.launches (can.ids job (some_there (known_in course.known) number job is_staging.it)) plan.value []
@@ -247,7 +268,7 @@ module _ (s : Scene) (t : List Pair) (f : Progress) (marks : List Mark) (course 
   at_goes_on can (ended end so) fits may allowed = elim may [ ]
 
 -- the transcript goes on by the answer
-pub goes_anyway : (s : Scene) (t : List Pair) (course : Course) (turn : Turn) (answer : Answer) → CanGoOn course (job_in turn.phase) → (r : Runs s t course turn) →
+pub goes_anyway : (s : Scene) (t : List Pair) (course : Course) (turn : Turn) (answer : Answer) → CanGoOn course (job_in turn.phase) answer → (r : Runs s t course turn) →
     AsksOf course turn.asks turn.phase → MayAnswer course.tickets.items turn.asks answer → Allowed s r.happened r.marks turn.asks →
     GoesOn s (t ++ record { request = turn.asks; answer = answer } ∷ [])
 goes_anyway s t course turn answer can r fits may allowed = at_goes_on s t r.happened r.marks course r.goes can r.at fits may allowed

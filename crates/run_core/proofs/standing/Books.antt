@@ -11,7 +11,7 @@ use Rattle.run_core.specs.declared.state.Flight.{Flight}
 use Rattle.run_core.specs.declared.job_states.JobState.{JobState}
 use Rattle.run_core.specs.declared.state.Kept.{Kept}
 use Rattle.run_core.specs.inner.Attempts.{IsBounded}
-use Rattle.run_core.specs.inner.Course.{Past, TakesOut, with_end, with_giving_up, with_staging, with_start}
+use Rattle.run_core.specs.inner.Course.{Past, TakesOut, with_answer, with_end, with_giving_up, with_staging, with_start}
 use Rattle.run_core.specs.inner.Standing.{BlamesSoFar, SettlesRightly}
 use Rattle.run_core.proofs.standing.Tries.{gave_up_before, gave_up_once_more, gave_up_staged, length_before, tries_before, tries_given_up, tries_staged}
 use Rattle.run_core.specs.inner.JobStates.{waits_in}
@@ -51,6 +51,13 @@ module _ (options : Options) (entries : List Entry) (past : Past) where
         bounded = record { jobs = books.bounded.jobs; retries = books.bounded.retries; folders = books.bounded.folders };
         blames = record { settled = books.blames.settled };
       })
+
+  -- the row of a job was looked for
+  pub books_looked : (number : ℕ) → Books options entries past → Books options entries (with_answer number None past)
+  books_looked number books = record {
+    bounded = record { jobs = books.bounded.jobs; retries = books.bounded.retries; folders = books.bounded.folders };
+    blames = record { settled = books.blames.settled };
+  }
 
   -- A job is staged
 

@@ -2,7 +2,7 @@
 use Rattle.std.specs.Prelude.{nat_eq}
 use Rattle.std.specs.List.{IsDistinct}
 use Rattle.std.specs.Map.{keys_of}
-use Rattle.std.proofs.Common.{◌≡◌, ◌≢◌, ◌∙◌, ℕ, ◌≤◌, List, [], ◌∷◌, length, reverse, Option, Some, None, refl, sym, ap, subst}
+use Rattle.std.proofs.Common.{◌≡◌, ◌≢◌, ◌∙◌, ℕ, ◌≤◌, List, [], ◌∷◌, length, reverse, Option, Some, None, refl, sym, ap, subst, arith}
 use Rattle.std.proofs.lemmas.List.{reverse-append, reverse-reverse}
 use Rattle.plan_checker.specs.declared.plan.Mark.{Mark}
 use Rattle.plan_checker.specs.declared.graph.TheConstants.{MOST_VERTICES}
@@ -25,7 +25,7 @@ use Rattle.run_core.specs.inner.Course.{Past, known_in, past_of}
 use Rattle.run_core.specs.inner.Due.{call_for, work_of}
 use Rattle.run_core.specs.inner.Keeps.{Reflects}
 use Rattle.run_core.specs.inner.Knows.{IsKnown}
-use Rattle.run_core.specs.inner.Standing.{IsAt, Runs, collecting, delivering, ended, measuring, staging, working}
+use Rattle.run_core.specs.inner.Standing.{IsAt, Runs, collecting, delivering, ended, measuring, staging, working, finding}
 use Rattle.run_core.proofs.standing.Anyway.{IsNext, input_next, output_next}
 use Rattle.run_core.proofs.standing.Few.{few_unfolded}
 use Rattle.run_core.proofs.standing.Fewer.{HasLast, LooksAtSome}
@@ -66,6 +66,10 @@ module _ (s : Scene) where
   module _ (f : Progress) (course : Course) where
     looks_at : {marks : List Mark} {turn : Turn} → IsAt s f marks course turn → LooksAtSome (past_of course) turn.phase
     looks_at (measuring found which rest path m is f_is none past) = record { rest = rest; name = path; is = is }
+    looks_at (finding number job reflects next) =
+        let few : length (known_in course.known) ≤ MOST_VERTICES =
+        known_few (s.walker (measures f.events)) (resolved f.events) course.known (reflects.knows next.going) in
+        (next.left, omega (arith, next.it.within, few))
     looks_at (staging number job plan reflects is_staging) = tt
     looks_at (working number job call phase reflects w) = works_on_some s.options _ (past_of course) number call phase w.calls.due
     looks_at (collecting reflects may) = tt
@@ -75,6 +79,7 @@ module _ (s : Scene) where
 
     knows_at : {marks : List Mark} {turn : Turn} → IsAt s f marks course turn → turn.asks ≢ Request.Finished → MayKnow course turn.phase
     knows_at (measuring found which rest path m is f_is none past) asks = tt
+    knows_at (finding number job reflects next) asks = knows_by f.events course None reflects
     knows_at (staging number job plan reflects is_staging) asks = knows_by f.events course None reflects
     knows_at (working number job call phase reflects w) asks = knows_by f.events course (Some number) reflects
     knows_at (collecting reflects may) asks = knows_by f.events course None reflects
@@ -84,6 +89,7 @@ module _ (s : Scene) where
     apart_at : {marks : List Mark} {turn : Turn} → IsAt s f marks course turn → turn.asks ≢ Request.Finished → IsDistinct nat_eq course.tickets.items
     apart_at (measuring found which rest path m is f_is none past) asks =
         subst (λ (p : Past). IsDistinct nat_eq p.tickets) (sym past) nothing_apart
+    apart_at (finding number job reflects next) asks = apart_by f.events course None reflects
     apart_at (staging number job plan reflects is_staging) asks = apart_by f.events course None reflects
     apart_at (working number job call phase reflects w) asks = apart_by f.events course (Some number) reflects
     apart_at (collecting reflects may) asks = apart_by f.events course None reflects
@@ -92,6 +98,7 @@ module _ (s : Scene) where
 
     going_at : {marks : List Mark} {turn : Turn} → IsAt s f marks course turn → turn.phase ≡ Phase.Draining → ⊥
     going_at (measuring found which rest path m is f_is none past) drains = cc
+    going_at (finding number job reflects next) drains = cc
     going_at (staging number job plan reflects is_staging) drains = cc
     going_at (working number job call phase reflects w) drains = cc
     going_at (collecting reflects may) drains = cc
@@ -100,6 +107,7 @@ module _ (s : Scene) where
 
     few_at : {marks : List Mark} {turn : Turn} → IsAt s f marks course turn → FewKnown turn course
     few_at (measuring found which rest path m is f_is none past) number at = absurd cc
+    few_at (finding its_number job reflects next) number at = absurd cc
     few_at (staging its_number job plan reflects is_staging) number at =
         known_few (s.walker (measures f.events)) (resolved f.events) course.known (reflects.knows is_staging.going)
     few_at (working its_number job call phase reflects w) number at = absurd cc

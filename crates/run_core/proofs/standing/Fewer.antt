@@ -9,11 +9,13 @@ use Rattle.proc_host.specs.declared.child.ChildEnd.{ChildEnd}
 use Rattle.cwl_process.specs.declared.tool.Tool.{Tool}
 use Rattle.job_graph.specs.Unfold.{or_else}
 use Rattle.job_graph.specs.Words.{Name}
-use Rattle.run_rules.specs.Answers.{MayAnswer, by_host}
+use Rattle.run_rules.specs.Answers.{MayAnswer, by_host, by_record}
 use Rattle.run_rules.specs.declared.outcome.Outcome.{Outcome}
 use Rattle.run_rules.specs.declared.outcome.RunFault.{RunFault}
 use Rattle.run_rules.specs.declared.request.Answer.{Answer}
 use Rattle.run_rules.specs.declared.request.Request.{Request}
+use Rattle.job_rows.specs.declared.refusal.RecordRefusal.{RecordRefusal}
+use Rattle.plan_checker.specs.declared.graph.TheConstants.{MOST_VERTICES}
 use Rattle.run_core.specs.declared.state.Course.{Course}
 use Rattle.run_core.specs.declared.state.Filling.{Filling}
 use Rattle.run_core.specs.declared.state.Flight.{Flight}
@@ -26,16 +28,16 @@ use Rattle.run_core.specs.declared.state.Phase.{Phase}
 use Rattle.run_core.specs.declared.state.Reading.{Reading}
 use Rattle.run_core.specs.declared.state.Turn.{Turn}
 use Rattle.run_core.specs.inner.Attempts.{StaysBounded, answers_left, many_files, weight_of, weight_of_past}
-use Rattle.run_core.specs.inner.Course.{Past, past_of, with_end}
+use Rattle.run_core.specs.inner.Course.{Past, past_of, with_end, with_answer}
 use Rattle.run_core.specs.inner.Due.{Starts}
 use Rattle.run_core.specs.inner.Follows.{AsksOf, FollowsFrom}
 use Rattle.run_core.specs.inner.Measures.{MeasuresOn, all_measured, measures}
-use Rattle.run_core.specs.inner.Picks.{AfterEnd, AfterFault, AfterInputHead, AfterOutputHead, Turns, badly, for_now, well}
+use Rattle.run_core.specs.inner.Picks.{AfterEnd, AfterFault, AfterInputHead, AfterOutputHead, Turns, badly, for_now, well, Picks}
 use Rattle.run_core.specs.inner.Turns.{PutsNext, its_turn, no_turn}
-use Rattle.run_core.proofs.standing.Answered.{asks_none, known_still}
+use Rattle.run_core.proofs.standing.Answered.{asks_none, known_still, asks_no_call}
 use Rattle.run_core.proofs.standing.Leaving.{KnowsSome, MayKnow}
 use Rattle.run_core.proofs.standing.Looked.{calls_at_most, collects_by_lists, collects_by_names, starts_at_most, weight_next}
-use Rattle.run_core.proofs.standing.Weights.{landing_falls, picks_few, picks_last, picks_settled, staging_falls, start_rises, temporary_few, turns_few, unfolded_same}
+use Rattle.run_core.proofs.standing.Weights.{landing_falls, picks_few, picks_last, picks_settled, staging_falls, start_rises, temporary_few, turns_few, unfolded_same, answer_falls}
 
 -- a list whose last item comes next
 pub record HasLast (left : List Name) : Type 0 where
@@ -43,9 +45,11 @@ pub record HasLast (left : List Name) : Type 0 where
   pub name : Name
   pub is : left ≡ rest ++ name ∷ []
 
--- a phase looks at one file at least, and where the result is delivered no child is in flight
+-- a phase looks at one file at least, or at the row of a job that a graph may have and whose row was not looked for; and where the result is
+-- delivered no child is in flight
 abbrev pub LooksAtSome : Past → Phase → Type 0
 LooksAtSome past (Phase.Measuring measuring) = HasLast measuring.left
+LooksAtSome past (Phase.Finding number) = (past.looked_up ≤ number) × (number + 1 ≤ MOST_VERTICES)
 LooksAtSome past (Phase.Working number (JobPhase.Filling filling)) = HasLast filling.left
 LooksAtSome past (Phase.Working number (JobPhase.Reading kept reading)) = HasLast reading.left
 LooksAtSome past (Phase.Delivering outputs) = past.tickets ≡ []
@@ -119,6 +123,23 @@ module _ (given : Given) (old : Course) where
       sum_last : (a b : ℕ) → a ≤ 0 → a < b + 1
       sum_last a b none = omega (arith, none)
 
+  -- A row was looked for, or the end is settled
+
+  two_lower : (a w b : ℕ) → a ≤ w + 2 → w + 2 ≤ b → a < b + 2
+  two_lower a w b few falls = omega (arith, few, falls)
+
+  answer_fewer : (number : ℕ) (refusal : Option RecordRefusal) (noted : Course) (turn : Turn) (new : Course) → old.looked_up ≤ number → number + 1 ≤ MOST_VERTICES →
+      past_of noted ≡ with_answer number refusal (past_of old) → Picks given noted turn new → Fewer turn new 2
+  answer_fewer number None noted turn new left within past picks =
+      two_lower (answers_left given.options (past_of new) turn.phase) (weight_of_past given.options (past_of noted)) Before (picks_few given.options given noted turn new picks)
+      (subst (λ (p : Past). weight_of_past given.options p + 2 ≤ weight_of_past given.options (past_of old)) (sym past)
+      (answer_falls given.options (past_of old) number left within))
+  answer_fewer number (Some refusal) noted turn new left within past picks =
+      let over : IsSome noted.end = subst (λ (p : Past). IsSome p.end) (sym past) (settled_by old.end (Err (RunFault.Record refusal))) in
+      below (answers_left given.options (past_of new) turn.phase) Before 1 2
+      (subst (λ w. answers_left given.options (past_of new) turn.phase ≤ w + 1) (ap (weight_of_past given.options) past)
+      (picks_settled given.options given noted turn new over picks)) (omega arith)
+
   -- Measuring
 
   rest_shorter : {T : Type 0} (left : List Name) (found : List (Name × T)) (value : T) {new_left : List Name} {new_found : List (Name × T)} → HasLast left →
@@ -191,6 +212,9 @@ module _ (given : Given) (old : Course) where
         measuring_fewer (length measuring.left) follows.next turn new (rest_shorter measuring.left measuring.measures measure some follows.puts) follows.on
     step_fewer asks (Phase.Measuring measuring) answer (by_host place request its (has_failed call)) fits goes knows bounded some follows =
         fault_fewer (fault_of call) turn new (2 + length measuring.left) (omega arith) follows
+    step_fewer asks (Phase.Finding number) answer (by_host place request its can) fits goes knows bounded some follows = absurd (asks_no_call old place request number fits)
+    step_fewer asks (Phase.Finding number) answer (by_record place request its can) fits goes knows bounded some follows =
+        answer_fewer number follows.refusal follows.noted turn new some.0 some.1 follows.past follows.picks
     step_fewer asks (Phase.Staging number) answer (by_host place request its (is_staged plan folder)) fits goes knows bounded some follows =
         below_staging (answers_left given.options (past_of new) turn.phase) (weight_of_past given.options (past_of follows.staged)) Before
         (turns_few given.options given follows.staged number follows.next turn new (2 * many_files + 6) (omega arith)
@@ -232,3 +256,4 @@ module _ (given : Given) (old : Course) where
     step_fewer asks Phase.Draining answer may fits goes knows bounded some follows = absurd (goes refl)
     step_fewer asks (Phase.Ended outcome) answer (by_host place request its can) fits goes knows bounded some follows = absurd (asks_none old place request outcome fits)
     step_fewer asks phase answer (by_host place request its can) fits goes knows bounded some follows = absurd fits
+    step_fewer asks phase answer (by_record place request its can) fits goes knows bounded some follows = absurd follows

@@ -1,7 +1,7 @@
 -- The children in flight after each answer.
 use Rattle.std.specs.Prelude.{nat_eq}
 use Rattle.std.specs.List.{IsDistinct}
-use Rattle.std.proofs.Common.{◌≡◌, ◌∙◌, ℕ, List, [], None, refl, sym, ap}
+use Rattle.std.proofs.Common.{◌≡◌, ◌∙◌, ℕ, List, [], None, refl, sym, ap, Option, Some}
 use Rattle.proc_host.specs.Answers.{fault_of, is_measured, is_staged, is_started, has_ended, is_listed, is_read, is_delivered, has_failed}
 use Rattle.proc_host.specs.Tickets.{without}
 use Rattle.proc_host.specs.declared.call.HostAnswer.{HostAnswer}
@@ -12,9 +12,11 @@ use Rattle.cwl_process.specs.declared.tool.Tool.{Tool}
 use Rattle.job_graph.specs.Jobs.{Job, Walker}
 use Rattle.job_graph.specs.Unfold.{Resolved}
 use Rattle.job_graph.specs.Words.{JobPlace}
-use Rattle.run_rules.specs.Answers.{MayAnswer, by_host, flying_after}
+use Rattle.run_rules.specs.Answers.{MayAnswer, by_host, flying_after, by_record}
 use Rattle.run_rules.specs.declared.request.Answer.{Answer}
 use Rattle.run_rules.specs.declared.request.Request.{Request}
+use Rattle.run_rules.specs.declared.request.RecordAnswer.{RecordAnswer}
+use Rattle.job_rows.specs.declared.refusal.RecordRefusal.{RecordRefusal}
 use Rattle.run_core.specs.declared.state.Course.{Course}
 use Rattle.run_core.specs.declared.state.Flight.{Flight}
 use Rattle.run_core.specs.declared.state.Given.{Given}
@@ -23,12 +25,12 @@ use Rattle.run_core.specs.declared.state.JobPhase.{JobPhase}
 use Rattle.run_core.specs.declared.state.Measuring.{Measuring}
 use Rattle.run_core.specs.declared.state.Phase.{Phase}
 use Rattle.run_core.specs.declared.state.Turn.{Turn}
-use Rattle.run_core.specs.inner.Course.{GivesUp, Past, TakesOut, again, known_in, past_of, too_often}
+use Rattle.run_core.specs.inner.Course.{GivesUp, Past, TakesOut, again, known_in, past_of, too_often, with_answer}
 use Rattle.run_core.specs.inner.Follows.{AsksOf, FollowsFrom, IsLeftAfter}
 use Rattle.run_core.specs.inner.Knows.{IsUnfolded, fails as unfold_fails, knows as unfold_knows}
 use Rattle.run_core.specs.inner.Measures.{MeasuresOn, all_measured, measures}
-use Rattle.run_core.specs.inner.Picks.{AfterEnd, AfterFault, AfterTemporary, Picks, Turns, asks, badly, drains, ends_so, fails, for_now, gives, gives_late, has_result, stages, waits_for_one, well}
-use Rattle.run_core.proofs.standing.Answered.{asks_none, known_still}
+use Rattle.run_core.specs.inner.Picks.{AfterEnd, AfterFault, AfterTemporary, Picks, Turns, asks, badly, drains, ends_so, fails, for_now, gives, gives_late, has_result, stages, waits_for_one, well, AfterFind, finds}
+use Rattle.run_core.proofs.standing.Answered.{asks_none, known_still, asks_no_call}
 use Rattle.run_core.proofs.standing.Leaving.{KnowsSome, MayKnow, learns_by}
 use Rattle.run_core.proofs.standing.Tickets.{one_less}
 
@@ -49,9 +51,10 @@ module _ (given : Given) where
   picks_fly : (old : Course) (turn : Turn) (new : Course) → Picks given old turn new → new.tickets.items ≡ old.tickets.items
   picks_fly old turn new (drains its_new settled flying same known) = same_tickets (past_of new) (past_of old) same
   picks_fly old turn new (ends_so end its_new is none cleared known) = cleared ∙ sym none
-  picks_fly old turn new (stages number its_turn its_new going slot lowest staging same known) = same_tickets (past_of new) (past_of old) same
-  picks_fly old turn new (waits_for_one its_new going flying none same known) = same_tickets (past_of new) (past_of old) same
-  picks_fly old turn new (has_result its_turn its_new going none to_stage result same known) = same_tickets (past_of new) (past_of old) same
+  picks_fly old turn new (finds number its_turn its_new going is_next finding same known) = same_tickets (past_of new) (past_of old) same
+  picks_fly old turn new (stages number its_turn its_new going looked slot lowest staging same known) = same_tickets (past_of new) (past_of old) same
+  picks_fly old turn new (waits_for_one its_new going looked flying none same known) = same_tickets (past_of new) (past_of old) same
+  picks_fly old turn new (has_result its_turn its_new going looked none to_stage result same known) = same_tickets (past_of new) (past_of old) same
 
   unfolded_fly : (walks : Walker) (learned : List Resolved) (old new : Course) → IsUnfolded walks learned old new → new.tickets.items ≡ old.tickets.items
   unfolded_fly walks learned old new (unfold_knows kept its_new knows known same) = same_tickets (past_of new) (past_of old) same
@@ -79,6 +82,14 @@ module _ (given : Given) where
   fault_fly : (old : Course) (fault : HostFault) (turn : Turn) (new : Course) → AfterFault given old fault turn new → new.tickets.items ≡ old.tickets.items
   fault_fly old fault turn new after = picks_fly after.settled turn new after.picks ∙ ap (λ (p : Past). p.tickets) after.past
 
+  answer_fly : (number : ℕ) (refusal : Option RecordRefusal) (past : Past) → (with_answer number refusal past).tickets ≡ past.tickets
+  answer_fly number None past = refl
+  answer_fly number (Some refusal) past = refl
+
+  find_fly : (old : Course) (number : ℕ) (answer : RecordAnswer) (turn : Turn) (new : Course) → AfterFind given old number answer turn new → new.tickets.items ≡ old.tickets.items
+  find_fly old number answer turn new after =
+      picks_fly after.noted turn new after.picks ∙ ap (λ (p : Past). p.tickets) after.past ∙ answer_fly number after.refusal (past_of old)
+
   pub measures_fly : (old : Course) (measuring : Measuring) (turn : Turn) (new : Course) → MeasuresOn given old measuring turn new → new.tickets.items ≡ old.tickets.items
   measures_fly old measuring turn new (all_measured known its_turn its_new none unfolded picks) = picks_fly known turn new picks ∙ unfolded_fly _ [] old known unfolded
   measures_fly old measuring turn new (measures rest path its_new is same known) = same_tickets (past_of new) (past_of old) same
@@ -102,6 +113,8 @@ module _ (given : Given) where
     step_flies it (Phase.Measuring measuring) answer (by_host place request its (is_measured path measure)) fits goes knows follows =
         flies_on _ _ (measures_fly old follows.next turn new follows.on)
     step_flies it (Phase.Measuring measuring) answer (by_host place request its (has_failed call)) fits goes knows follows = flies_on _ _ (fault_fly old _ turn new follows)
+    step_flies it (Phase.Finding number) answer (by_host place request its can) fits goes knows follows = absurd (asks_no_call old place request number fits)
+    step_flies it (Phase.Finding number) answer (by_record place request its can) fits goes knows follows = flies_on _ _ (find_fly old number its turn new follows)
     step_flies it (Phase.Staging number) answer (by_host place request its (is_staged plan folder)) fits goes knows follows =
         flies_on _ _ (turns_fly follows.staged number follows.next turn new (known_still old follows.staged (ap (λ (p : Past). p.end) follows.past) follows.known knows) follows.turns
         ∙ ap (λ (p : Past). p.tickets) follows.past)
@@ -133,6 +146,7 @@ module _ (given : Given) where
     step_flies it Phase.Draining answer may fits goes knows follows = absurd (goes refl)
     step_flies it (Phase.Ended outcome) answer (by_host place request its can) fits goes knows follows = absurd (asks_none old place request outcome fits)
     step_flies it phase answer (by_host place request its can) fits goes knows follows = absurd fits
+    step_flies it phase answer (by_record place request its can) fits goes knows follows = absurd follows
 
   -- where memory ran out
   pub left_flies : (old new : List ℕ) (answer : Answer) → IsDistinct nat_eq old → IsLeftAfter old answer new → new ≡ flying_after old answer
@@ -144,3 +158,4 @@ module _ (given : Given) where
   left_flies old new (Answer.Host (HostAnswer.FirstBytes bytes)) apart left = left
   left_flies old new (Answer.Host (HostAnswer.Fetched found)) apart left = left
   left_flies old new (Answer.Host (HostAnswer.Failed fault)) apart left = left
+  left_flies old new (Answer.Record answer) apart left = left

@@ -11,6 +11,7 @@ use Rattle.run_rules.specs.declared.outcome.Outcome.{Outcome}
 use Rattle.run_rules.specs.declared.outcome.RunFault.{RunFault}
 use Rattle.run_rules.specs.declared.request.Request.{Request}
 use Rattle.run_rules.specs.declared.setting.Options.{Options}
+use Rattle.plan_checker.specs.declared.graph.TheConstants.{MOST_VERTICES}
 use Rattle.run_core.specs.declared.runner.RunCore.TheInside.{Inside}
 use Rattle.run_core.specs.declared.state.Course.{Course}
 use Rattle.run_core.specs.declared.state.Phase.{Phase}
@@ -21,7 +22,7 @@ use Rattle.run_core.specs.inner.Inside.{Goes, Stands, mode_of, off_run, on_run, 
 use Rattle.run_core.specs.inner.Attempts.{StaysBounded, answers_left, many_files, most_stagings, weight_of, weight_of_past}
 use Rattle.run_core.specs.inner.Course.{Past, past_of}
 use Rattle.run_core.specs.inner.Follows.{told_of}
-use Rattle.run_core.specs.inner.Standing.{Blames, HasRoom, IsAt, IsLostAt, RanOut, Runs, collecting, delivering, draining, ended, lost, measuring, pairs_ahead, staging, working}
+use Rattle.run_core.specs.inner.Standing.{Blames, HasRoom, IsAt, IsLostAt, RanOut, Runs, collecting, delivering, draining, ended, lost, measuring, pairs_ahead, staging, working, finding}
 use Rattle.run_core.specs.inner.Turn.{ends, given_up, lost_with, waits}
 use Rattle.run_core.proofs.standing.Facts.{never_drains}
 use Rattle.run_core.proofs.standing.Lost.{some_there}
@@ -57,6 +58,7 @@ lost_ahead_at past lost = omega arith
 module _ (s : Scene) (f : Progress) (marks : List Mark) (course : Course) where
   asks_none_at : {turn : Turn} → IsAt s f marks course turn → (outcome : Result Outcome RunFault) → turn.phase ≡ Phase.Ended outcome → turn.asks ≡ Request.Finished
   asks_none_at (measuring found m rest path is left happened none nothing) outcome phase = absurd cc
+  asks_none_at (finding n job r is_next) outcome phase = absurd cc
   asks_none_at (staging n job plan r st) outcome phase = absurd cc
   asks_none_at (working n job call phase r w) outcome is = absurd cc
   asks_none_at (collecting r may) outcome phase = absurd cc
@@ -119,7 +121,7 @@ module _ (core : Inside) (asks : core.turn.asks ≢ Request.Finished) where
   more_left (on_run runs) still =
       subst (λ n. length core.course.tickets.items < n) (sym (left_on runs))
       (lost_below (length core.course.tickets.items) (length core.course.tickets.items) (length core.course.tickets.items) 0
-      ((most_stagings core.given.options - core.course.folders) * (2 * many_files + 8)) (weight_of core.turn.phase) (at_most (length core.course.tickets.items))
+      ((MOST_VERTICES - core.course.looked_up) * 2) ((most_stagings core.given.options - core.course.folders) * (2 * many_files + 8)) (weight_of core.turn.phase) (at_most (length core.course.tickets.items))
       (none_more (length core.course.tickets.items)) (some_weight core.turn.phase))
   more_left (off_run out) still =
       let its : WaitsForSome past core.turn = lost_waits_for past out.at asks in
@@ -228,6 +230,7 @@ module _ (core : Inside) (asks : core.turn.asks ≢ Request.Finished) where
     by_phase : (phase : Phase) → core.turn.phase ≡ phase → GivesUpTo (given_up past phase)
     by_phase Phase.Draining is = ended_up (drained_before (was_draining stands.going is))
     by_phase (Phase.Measuring looks) is = by_tickets core.course.tickets.items refl (still (Phase.Measuring looks) is (λ same. cc))
+    by_phase (Phase.Finding number) is = by_tickets core.course.tickets.items refl (still (Phase.Finding number) is (λ same. cc))
     by_phase (Phase.Staging number) is = by_tickets core.course.tickets.items refl (still (Phase.Staging number) is (λ same. cc))
     by_phase (Phase.Working number work) is = by_tickets core.course.tickets.items refl (still (Phase.Working number work) is (λ same. cc))
     by_phase Phase.Collecting is = by_tickets core.course.tickets.items refl (still Phase.Collecting is (λ same. cc))

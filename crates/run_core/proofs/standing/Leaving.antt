@@ -11,17 +11,19 @@ use Rattle.run_rules.specs.declared.outcome.Outcome.{Outcome}
 use Rattle.run_rules.specs.declared.outcome.RunFault.{RunFault}
 use Rattle.run_rules.specs.declared.setting.Options.{Options}
 use Rattle.run_rules.specs.Blame.{BlamesRightly}
+use Rattle.run_rules.specs.declared.request.RecordAnswer.{RecordAnswer}
+use Rattle.job_rows.specs.declared.refusal.RecordRefusal.{RecordRefusal}
 use Rattle.run_core.specs.declared.state.Course.{Course}
 use Rattle.run_core.specs.declared.state.Given.{Given}
 use Rattle.run_core.specs.declared.state.JobNext.{JobNext}
 use Rattle.run_core.specs.declared.state.Phase.{Phase}
 use Rattle.run_core.specs.declared.state.Turn.{Turn}
 use Rattle.run_core.specs.inner.Attempts.{StaysBounded}
-use Rattle.run_core.specs.inner.Course.{GivesUp, Past, again, known_in, past_of, too_often}
+use Rattle.run_core.specs.inner.Course.{GivesUp, Past, again, known_in, past_of, too_often, with_answer}
 use Rattle.run_core.specs.inner.Knows.{IsKnown, IsUnfolded, Learns, end_by, fails as unfold_fails, knows as unfold_knows}
-use Rattle.run_core.specs.inner.Picks.{AfterTemporary, Delivers, Picks, Stages, Turns, asks, delivers, drains, ends_so, fails, gives, gives_late, has_result, stages, succeeds_at_once, waits_for_one}
+use Rattle.run_core.specs.inner.Picks.{AfterTemporary, Delivers, Picks, Stages, Turns, asks, delivers, drains, ends_so, fails, gives, gives_late, has_result, stages, succeeds_at_once, waits_for_one, AfterFind, Finds, finds}
 use Rattle.run_core.specs.inner.Standing.{Blames, SettlesRightly}
-use Rattle.run_core.proofs.standing.Books.{Books, BooksAt, books_end, books_given_up, books_waiting}
+use Rattle.run_core.proofs.standing.Books.{Books, BooksAt, books_end, books_given_up, books_waiting, books_looked}
 
 -- with this turn and this course
 pub record Leaves (options : Options) (entries : List Entry) (turn : Turn) (new : Course) : Type 0 where
@@ -48,6 +50,7 @@ MayKnow course phase = course.end ≡ None → KnowsSome course
 rightly : (entries : List Entry) (end : Result Outcome RunFault) → SettlesRightly entries end → IfErr end (BlamesRightly entries)
 rightly entries (Ok report) settles = tt
 rightly entries (Err (RunFault.Host fault running)) settles = settles
+rightly entries (Err (RunFault.Record refusal)) settles = tt
 rightly entries (Err RunFault.TooManyJobs) settles = tt
 rightly entries (Err RunFault.OutOfMemory) settles = absurd settles
 
@@ -89,6 +92,11 @@ module _ (options : Options) (entries : List Entry) where
         subst (λ (t : Turn). Leaves options entries t new) (sym staging.is)
         (record { bounded = at.bounded; blames = at.blames; not_lost = λ lost. cc; goes = λ drains. cc })
 
+    leaves_finding : (number : ℕ) (course new : Course) (turn : Turn) → Finds course number turn → Books options entries (past_of new) → Leaves options entries turn new
+    leaves_finding number course new turn finding books =
+        subst (λ (t : Turn). Leaves options entries t new) (sym finding.is)
+        (record { bounded = books.bounded; blames = books.blames; not_lost = λ lost. cc; goes = λ drains. cc })
+
     leaves_delivery : (old new : Course) (turn : Turn) → Delivers given old turn → Books options entries (past_of new) → Leaves options entries turn new
     leaves_delivery old new turn (delivers its_turn files copies) books =
         subst (λ (t : Turn). Leaves options entries t new) (sym copies.is)
@@ -100,16 +108,17 @@ module _ (options : Options) (entries : List Entry) where
         let now : Books options entries (past_of new) = books_course new old same books in
         record { bounded = now.bounded; blames = now.blames; not_lost = λ lost. cc; goes = λ drains. cc }
     picks_leave old turn new few books (ends_so end its_new is none cleared known) = leaves_end end turn new refl (books.blames.settled end is)
-    picks_leave old turn new few books (stages number its_turn its_new going slot lowest staging same known) =
+    picks_leave old turn new few books (finds number its_turn its_new going is_next finding same known) = leaves_finding number old new turn finding (books_course new old same books)
+    picks_leave old turn new few books (stages number its_turn its_new going looked slot lowest staging same known) =
         let phase : turn.phase ≡ Phase.Staging number = ap (λ (t : Turn). t.phase) staging.is in
         let most : length (known_in old.known) ≤ MOST_VERTICES =
         subst (λ (k : Option Unfolding). length (known_in k) ≤ MOST_VERTICES) known (few number phase) in
         leaves_staging number old new turn staging same
         (books_waiting options entries (past_of old) number (length (known_in old.known)) lowest.within most lowest.waits books)
-    picks_leave old turn new few books (waits_for_one its_new going flying none same known) =
+    picks_leave old turn new few books (waits_for_one its_new going looked flying none same known) =
         let now : Books options entries (past_of new) = books_course new old same books in
         record { bounded = now.bounded; blames = now.blames; not_lost = λ lost. cc; goes = λ drains. cc }
-    picks_leave old turn new few books (has_result its_turn its_new going none to_stage result same known) =
+    picks_leave old turn new few books (has_result its_turn its_new going looked none to_stage result same known) =
         leaves_delivery old new turn result (books_course new old same books)
 
     -- A job gave up
@@ -126,6 +135,17 @@ module _ (options : Options) (entries : List Entry) where
         AfterTemporary given old number turn new → Leaves options entries turn new
     leaves_temporary old number turn new few books after =
         picks_leave after.tried turn new few (books_gave_up (past_of old) (known_in old.known) number given.options.retries limit_is after.gives_up books) after.picks
+
+    -- The record has answered
+
+    books_answered : (past : Past) (number : ℕ) (refusal : Option RecordRefusal) → Books options entries past → Books options entries (with_answer number refusal past)
+    books_answered past number None books = books_looked options entries past number books
+    books_answered past number (Some refusal) books = books_end options entries past (Err (RunFault.Record refusal)) tt books
+
+    pub leaves_find : (old : Course) (number : ℕ) (answer : RecordAnswer) (turn : Turn) (new : Course) → FewKnown turn new → Books options entries (past_of old) →
+        AfterFind given old number answer turn new → Leaves options entries turn new
+    leaves_find old number answer turn new few books after =
+        picks_leave after.noted turn new few (books_at (past_of after.noted) _ after.past (books_answered (past_of old) number after.refusal books)) after.picks
 
     -- A job goes on
 

@@ -7,7 +7,7 @@ use Rattle.proc_host.specs.declared.call.HostAnswer.{HostAnswer}
 use Rattle.proc_host.specs.declared.call.HostRequest.{HostRequest}
 use Rattle.plan_checker.specs.declared.plan.Mark.{Mark}
 use Rattle.job_graph.specs.Words.{JobPlace}
-use Rattle.run_rules.specs.Answers.{MayAnswer, by_host}
+use Rattle.run_rules.specs.Answers.{MayAnswer, by_host, by_record}
 use Rattle.run_rules.specs.Events.{Progress}
 use Rattle.run_rules.specs.Plans.{InForce}
 use Rattle.run_rules.specs.Reports.{AreWaits, IsWait}
@@ -168,3 +168,4 @@ module _ (given : Given) (old : Course) (turn : Turn) (new : Course) where
   }
   step_drains asks answer (by_host place request its (has_failed call)) fits some follows = failed_collect place call fits some follows.0 follows.1
   step_drains asks answer (by_host place request its can) fits some follows = absurd fits
+  step_drains asks answer (by_record place request its can) fits some follows = absurd follows

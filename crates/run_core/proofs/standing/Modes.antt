@@ -10,6 +10,7 @@ pub draining_phase : (phase : Phase) → mode_of phase ≡ is_draining → phase
 draining_phase Phase.Draining is = refl
 draining_phase (Phase.Ended outcome) is = absurd cc
 draining_phase (Phase.Measuring measuring) is = absurd cc
+draining_phase (Phase.Finding number) is = absurd cc
 draining_phase (Phase.Staging number) is = absurd cc
 draining_phase (Phase.Working number phase) is = absurd cc
 draining_phase Phase.Collecting is = absurd cc
@@ -19,6 +20,7 @@ pub lost_phase : (phase : Phase) → mode_of phase ≡ is_over (Err RunFault.Out
 lost_phase (Phase.Ended outcome) is = cc
 lost_phase Phase.Draining is = absurd cc
 lost_phase (Phase.Measuring measuring) is = absurd cc
+lost_phase (Phase.Finding number) is = absurd cc
 lost_phase (Phase.Staging number) is = absurd cc
 lost_phase (Phase.Working number phase) is = absurd cc
 lost_phase Phase.Collecting is = absurd cc
@@ -33,8 +35,10 @@ pub tells : (phase : Phase) → Tells phase
 tells (Phase.Ended (Err RunFault.OutOfMemory)) = tells_lost refl
 tells (Phase.Ended (Err RunFault.TooManyJobs)) = tells_ok refl (λ lost. cc)
 tells (Phase.Ended (Err (RunFault.Host fault running))) = tells_ok refl (λ lost. cc)
+tells (Phase.Ended (Err (RunFault.Record refusal))) = tells_ok refl (λ lost. cc)
 tells (Phase.Ended (Ok report)) = tells_ok refl (λ lost. cc)
 tells (Phase.Measuring measuring) = tells_ok refl (λ lost. cc)
+tells (Phase.Finding number) = tells_ok refl (λ lost. cc)
 tells (Phase.Staging number) = tells_ok refl (λ lost. cc)
 tells (Phase.Working number phase) = tells_ok refl (λ lost. cc)
 tells Phase.Collecting = tells_ok refl (λ lost. cc)

@@ -1,17 +1,15 @@
 -- Where the machine is after each answer, whether memory was there or not.
-use Rattle.std.specs.Prelude.{◌-◌, ◌*◌, Contains}
+use Rattle.std.specs.Prelude.{◌-◌, ◌*◌}
 use Rattle.std.proofs.Common.{◌≡◌, ◌∙◌, ℕ, ◌+◌, ◌<◌, ◌≤◌, List, [], ◌∷◌, ◌++◌, length, refl, sym, ap, subst, arith}
-use Rattle.std.proofs.lemmas.List.Elements.{Contains-push}
-use Rattle.proc_host.specs.declared.call.HostAnswer.{HostAnswer}
 use Rattle.proc_host.specs.declared.call.HostRequest.{HostRequest}
 use Rattle.run_rules.specs.Answers.{MayAnswer}
-use Rattle.run_rules.specs.Blame.{WereStarted, logged_answers}
-use Rattle.run_rules.proofs.Rising.{started_still}
+use Rattle.run_rules.specs.Blame.{WereStarted}
 use Rattle.run_rules.specs.Reports.{entries_of}
 use Rattle.run_rules.specs.Scene.{Scene, scene_of}
 use Rattle.run_rules.specs.declared.request.Answer.{Answer}
 use Rattle.run_rules.specs.declared.request.Pair.{Pair}
 use Rattle.run_rules.specs.declared.request.Request.{Request}
+use Rattle.plan_checker.specs.declared.graph.TheConstants.{MOST_VERTICES}
 use Rattle.run_core.specs.declared.state.Course.{Course}
 use Rattle.run_core.specs.declared.state.Given.{Given}
 use Rattle.run_core.specs.declared.state.Phase.{Phase}
@@ -23,14 +21,14 @@ use Rattle.run_core.specs.inner.Course.{Past, past_of}
 use Rattle.run_core.specs.inner.Follows.{AsksIn, FollowsFrom, IsLeftAfter, MakesRoom, Moves, gives_up, has_room, moves, no_room}
 use Rattle.run_core.specs.inner.Standing.{Blames, IsLostAt, RanOut, Runs, draining, lost, pairs_ahead}
 use Rattle.run_core.specs.inner.Turn.{lost_after}
-use Rattle.run_core.proofs.standing.Answered.{host_answer, step_leaves}
+use Rattle.run_core.proofs.standing.Answered.{step_leaves, IsLogged}
 use Rattle.run_core.proofs.standing.Anyway.{GoesOn, goes_anyway}
 use Rattle.run_core.proofs.standing.Facts.{few_known, knows_some, looks_at_some, never_drains, tickets_apart}
 use Rattle.run_core.proofs.standing.Fewer.{step_fewer}
 use Rattle.run_core.proofs.standing.Flown.{FliesAfter, flies_on, left_flies, step_flies}
 use Rattle.run_core.proofs.standing.Leaving.{FewKnown, Leaves, MayKnow}
 use Rattle.run_core.proofs.standing.Lost.{Drained, flies_lost, landed_when_none, lost_at, lost_blames, lost_bounded, lost_drains, lost_few, lost_more, lost_now, none_when_lost, step_drains}
-use Rattle.run_core.proofs.standing.Taken.{IsGoing, RunsOn, Taken, ahead_now, answers_more, asks_some, blames_more, flies_if, flown_few, left_now, lost_below, lost_ends, not_ended, off, on, rise, rise_at_most, rise_below}
+use Rattle.run_core.proofs.standing.Taken.{IsGoing, RunsOn, Taken, ahead_now, asks_some, flies_if, flown_few, left_now, lost_below, lost_ends, not_ended, off, on, rise, rise_at_most, rise_below, began_still, blames_after, is_logged}
 
 -- what each step leaves of room for the pairs that come next
 abbrev pub LeavesRoom : Past → Phase → Course → Type 0
@@ -55,8 +53,8 @@ module _ (given : Given) (runs_on : RunsOn given) (t : List Pair) (old : Course)
   knows : MayKnow old before.phase
   knows = knows_some s t old before r (asks_some may)
 
-  told : Contains (logged_answers (entries_of longer)) (host_answer answer)
-  told = subst (λ (all : List HostAnswer). Contains all (host_answer answer)) (sym (answers_more t may)) (Contains-push (logged_answers (entries_of t)) (host_answer answer))
+  told : IsLogged (entries_of longer) answer
+  told = is_logged t may
 
   now_left : answers_left given.options (past_of old) before.phase ≡ weight_of_past given.options (past_of old) + weight_of before.phase
   now_left = left_now given.options (past_of old) before.phase goes (not_ended old before.phase may fits)
@@ -81,8 +79,7 @@ module _ (given : Given) (runs_on : RunsOn given) (t : List Pair) (old : Course)
           let few : FewKnown turn new = few_known s longer new turn runs in
           let leaves : Leaves given.options (entries_of longer) turn new =
           step_leaves given old (entries_of longer) turn new few
-          (started_still (entries_of t) (entries_of longer) (host_answer answer) (answers_more t may) old.tickets.items began) before.asks before.phase answer may fits goes knows told bounded
-          (blames_more (entries_of t) (entries_of longer) (host_answer answer) (answers_more t may) (past_of old) before.phase blames) follows in
+          (began_still t may old.tickets.items began) before.asks before.phase answer may fits goes knows told bounded (blames_after t may (past_of old) before.phase blames) follows in
           record {
             going = on runs;
             bounded = leaves.bounded;
@@ -104,7 +101,7 @@ module _ (given : Given) (runs_on : RunsOn given) (t : List Pair) (old : Course)
       blames = lost_blames (entries_of longer) (past_of new);
       fewer = subst (λ w. answers_left given.options (past_of new) (lost_after (past_of new)).phase < w) (sym now_left)
           (lost_below (answers_left given.options (past_of new) (lost_after (past_of new)).phase) (length new.tickets.items) (length old.tickets.items) (rise answer)
-          ((most_stagings given.options - old.folders) * (2 * many_files + 8)) (weight_of before.phase) (lost_few given.options (past_of new))
+          ((MOST_VERTICES - old.looked_up) * 2) ((most_stagings given.options - old.folders) * (2 * many_files + 8)) (weight_of before.phase) (lost_few given.options (past_of new))
           (flown_few old.tickets.items next answer new.tickets.items flies) (rise_below old old.tickets.items before.asks before.phase answer may fits));
       landed = λ ended. landed_when_none old.tickets.items next answer new.tickets.items (none_when_lost (past_of new) ended) flies;
       finished = lost_ends (past_of new);
@@ -121,12 +118,12 @@ module _ (given : Given) (runs_on : RunsOn given) (t : List Pair) (old : Course)
   left_after new left =
       flies_on answer new.tickets.items (left_flies given old.tickets.items new.tickets.items answer (tickets_apart s t old before r (asks_some may)) left)
 
-  goes_so : CanGoOn old (job_in before.phase) → GoesOn s longer
+  goes_so : CanGoOn old (job_in before.phase) answer → GoesOn s longer
   goes_so can = goes_anyway s t old before answer can r fits may (runs_on.allows t old before r (asks_some may))
 
 -- the turn that comes next, and room for what comes after it
 on_taken : (given : Given) → RunsOn given → (t : List Pair) (old : Course) (before : Turn) (answer : Answer) (next turn : Turn) (new : Course) (pairs room : ℕ) →
-    Runs (scene_of (setting_in given)) t old before → MayAnswer old.tickets.items before.asks answer → CanGoOn old (job_in before.phase) →
+    Runs (scene_of (setting_in given)) t old before → MayAnswer old.tickets.items before.asks answer → CanGoOn old (job_in before.phase) answer →
     StaysBounded given.options (past_of old) before.phase → Blames (entries_of t) (past_of old) before.phase → WereStarted (entries_of t) old.tickets.items →
     Moves given old before answer next new → MakesRoom pairs room (past_of new) next turn → Taken given t old before answer turn new
 on_taken given runs_on t old before answer next turn new pairs room r may can bounded blames began (moves its its_new follows) (has_room enough) =
@@ -198,7 +195,7 @@ off_room given old before answer next new (draining some) may (gives_up its_new 
 -- Either way
 
 pub taken : (given : Given) → RunsOn given → (t : List Pair) (old : Course) (before : Turn) (answer : Answer) (next turn : Turn) (new : Course) (pairs room : ℕ) →
-    IsGoing (scene_of (setting_in given)) t old before → MayAnswer old.tickets.items before.asks answer → CanGoOn old (job_in before.phase) →
+    IsGoing (scene_of (setting_in given)) t old before → MayAnswer old.tickets.items before.asks answer → CanGoOn old (job_in before.phase) answer →
     StaysBounded given.options (past_of old) before.phase → Blames (entries_of t) (past_of old) before.phase → WereStarted (entries_of t) old.tickets.items →
     Moves given old before answer next new → MakesRoom pairs room (past_of new) next turn → Taken given t old before answer turn new
 taken given runs_on t old before answer next turn new pairs room (on r) may can bounded blames began moved made =

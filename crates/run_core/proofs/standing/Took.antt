@@ -116,7 +116,7 @@ module _ (core : Inside) (answer : Answer) (pairs : Vec Pair Global) (course : C
   took_told result is = (stands_then, subst (λ (r : Result (Unit {0}) RunFault). Took (seen core) answer r new) (sym is) (took_by (tells turn.phase)))
 
 module _ (core : Inside) (answer : Answer) (runs_on : RunsOn core.given) (stands : Stands core) (may : MayAnswer core.course.tickets.items core.turn.asks answer) where
-  pub took : (pairs : Vec Pair Global) (new course : Course) (next turn : Turn) (result : Result (Unit {0}) RunFault) → CanGoOn core.course (job_in core.turn.phase) →
+  pub took : (pairs : Vec Pair Global) (new course : Course) (next turn : Turn) (result : Result (Unit {0}) RunFault) → CanGoOn core.course (job_in core.turn.phase) answer →
       pairs.items ≡ core.pairs.items ++ noted core.turn.asks answer ∷ [] → Moves core.given core.course core.turn answer next new →
       MakesRoom (vec_len pairs) (vec_capacity pairs) (past_of new) next turn → past_of course ≡ past_of new → course.known ≡ new.known → HasRoom course turn.phase →
       result ≡ told_of turn.phase → Stands (core_with core pairs course turn) × Took (seen core) answer result (seen (core_with core pairs course turn))

@@ -17,9 +17,9 @@ use Rattle.run_core.specs.declared.state.Kept.{Kept}
 use Rattle.run_core.specs.declared.state.Phase.{Phase}
 use Rattle.run_core.specs.declared.state.Turn.{Turn}
 use Rattle.run_core.specs.inner.Attempts.{IsBounded, answers_left, many_files, most_stagings, tries_of, weight_of_past}
-use Rattle.run_core.specs.inner.Course.{GivesUp, Past, TakesOut, again, known_in, past_of, too_often, with_staging, with_start}
+use Rattle.run_core.specs.inner.Course.{GivesUp, Past, TakesOut, again, known_in, past_of, too_often, with_staging, with_start, with_answer}
 use Rattle.run_core.specs.inner.Knows.{IsUnfolded, fails as unfold_fails, knows as unfold_knows}
-use Rattle.run_core.specs.inner.Picks.{AfterTemporary, Delivers, Picks, Stages, Turns, asks, delivers, drains, ends_so, fails, gives, gives_late, has_result, stages, succeeds_at_once, waits_for_one}
+use Rattle.run_core.specs.inner.Picks.{AfterTemporary, Delivers, Picks, Stages, Turns, asks, delivers, drains, ends_so, fails, gives, gives_late, has_result, stages, succeeds_at_once, waits_for_one, Finds, finds}
 use Rattle.run_core.proofs.standing.Leaving.{KnowsSome, learns_by}
 use Rattle.run_core.proofs.standing.Looked.{weight_next}
 use Rattle.run_core.proofs.standing.Tries.{tries_at_most}
@@ -48,11 +48,22 @@ falls_by_one : (most folders flown : ℕ) → folders + 1 ≤ most →
     (most - (folders + 1)) * (2 * many_files + 8) + flown + (2 * many_files + 8) ≤ (most - folders) * (2 * many_files + 8) + flown
 falls_by_one most folders flown within = omega (arith, within)
 
+-- beside the rows that are still looked for
+beside_less : (rows new old more : ℕ) → new + more ≤ old → rows + new + more ≤ rows + old
+beside_less rows new old more falls = omega (arith, falls)
+
+beside_same : (rows new old more : ℕ) → new ≡ old + more → rows + new ≡ rows + old + more
+beside_same rows new old more rises = omega (arith, rises)
+
+abbrev rows_left : Past → ℕ
+rows_left past = (MOST_VERTICES - past.looked_up) * 2
+
 -- a staging is one of those
 pub staging_falls : (options : Options) (past : Past) (number : ℕ) → IsBounded options (with_staging number past) →
     weight_of_past options (with_staging number past) + (2 * many_files + 8) ≤ weight_of_past options past
 staging_falls options past number bounded =
-    falls_by_one (most_stagings options) past.folders (length past.tickets * (many_files + 3)) (folders_at_most options (with_staging number past) bounded)
+    beside_less (rows_left past) _ _ (2 * many_files + 8)
+    (falls_by_one (most_stagings options) past.folders (length past.tickets * (many_files + 3)) (folders_at_most options (with_staging number past) bounded))
 
 -- one child more
 
@@ -62,8 +73,9 @@ more_by_one stagings flown more is = omega (arith, is)
 pub start_rises : (options : Options) (past : Past) (number : ℕ) (kept : Kept) (ticket : ℕ) →
     weight_of_past options (with_start number kept ticket past) ≡ weight_of_past options past + (many_files + 3)
 start_rises options past number kept ticket =
-    more_by_one ((most_stagings options - past.folders) * (2 * many_files + 8)) (length past.tickets) (length (past.tickets ++ ticket ∷ []))
-    (length-append past.tickets (ticket ∷ []))
+    beside_same (rows_left past) _ _ (many_files + 3)
+    (more_by_one ((most_stagings options - past.folders) * (2 * many_files + 8)) (length past.tickets) (length (past.tickets ++ ticket ∷ []))
+    (length-append past.tickets (ticket ∷ [])))
 
 -- and one less
 pub landing_falls : (options : Options) (ticket : ℕ) (flight : Flight) (old new : Past) → TakesOut ticket flight old new →
@@ -72,7 +84,17 @@ landing_falls options ticket flight old new taken =
     let left : length (remove old.tickets taken.index) + 1 ≡ length old.tickets =
     length-remove old.tickets taken.index (slice_get_within old.tickets taken.index ticket taken.ticket_there) in
     subst (λ (p : Past). weight_of_past options p + (many_files + 3) ≡ weight_of_past options old) (sym taken.is)
-    (sym (more_by_one ((most_stagings options - old.folders) * (2 * many_files + 8)) (length (remove old.tickets taken.index)) (length old.tickets) (sym left)))
+    (sym (beside_same (rows_left old) _ _ (many_files + 3)
+    (more_by_one ((most_stagings options - old.folders) * (2 * many_files + 8)) (length (remove old.tickets taken.index)) (length old.tickets) (sym left))))
+
+-- the row of a job was looked for, which was not before
+one_row_less : (most before number jobs : ℕ) → before ≤ number → number + 1 ≤ most → (most - (number + 1)) * 2 + jobs + 2 ≤ (most - before) * 2 + jobs
+one_row_less most before number jobs left within = omega (arith, left, within)
+
+pub answer_falls : (options : Options) (past : Past) (number : ℕ) → past.looked_up ≤ number → number + 1 ≤ MOST_VERTICES →
+    weight_of_past options (with_answer number None past) + 2 ≤ weight_of_past options past
+answer_falls options past number left within =
+    one_row_less MOST_VERTICES past.looked_up number ((most_stagings options - past.folders) * (2 * many_files + 8) + length past.tickets * (many_files + 3)) left within
 
 -- What comes next
 
@@ -94,6 +116,12 @@ module _ (options : Options) (given : Given) where
       subst (λ (t : Turn). answers_left options (past_of new) t.phase ≤ Before course + 2) (sym staging.is)
       (subst (λ (p : Past). weight_of_past options p + 2 ≤ weight_of_past options (past_of course) + 2) (sym same) (same_at_most (weight_of_past options (past_of course) + 2)))
 
+  at_find : (number : ℕ) (course new : Course) (turn : Turn) → Finds course number turn → past_of new ≡ past_of course →
+      answers_left options (past_of new) turn.phase ≤ Before course + 2
+  at_find number course new turn finding same =
+      subst (λ (t : Turn). answers_left options (past_of new) t.phase ≤ Before course + 2) (sym finding.is)
+      (subst (λ (p : Past). weight_of_past options p + 2 ≤ weight_of_past options (past_of course) + 2) (sym same) (same_at_most (weight_of_past options (past_of course) + 2)))
+
   at_delivery : (old new : Course) (turn : Turn) → Delivers given old turn → past_of new ≡ past_of old → answers_left options (past_of new) turn.phase ≤ Before old + 2
   at_delivery old new turn (delivers its_turn files copies) same =
       subst (λ (t : Turn). answers_left options (past_of new) t.phase ≤ Before old + 2) (sym copies.is)
@@ -106,26 +134,29 @@ module _ (options : Options) (given : Given) where
   pub picks_few : (old : Course) (turn : Turn) (new : Course) → Picks given old turn new → answers_left options (past_of new) turn.phase ≤ Before old + 2
   picks_few old turn new (drains its_new settled flying same known) = raised (answers_left options (past_of new) Phase.Collecting) (Before old) (at_collect old new same)
   picks_few old turn new (ends_so end its_new is none cleared known) = least (Before old + 2)
-  picks_few old turn new (stages number its_turn its_new going slot lowest staging same known) = at_staging number old new turn staging same
-  picks_few old turn new (waits_for_one its_new going flying none same known) = raised (answers_left options (past_of new) Phase.Collecting) (Before old) (at_collect old new same)
-  picks_few old turn new (has_result its_turn its_new going none to_stage result same known) = at_delivery old new turn result same
+  picks_few old turn new (finds number its_turn its_new going is_next finding same known) = at_find number old new turn finding same
+  picks_few old turn new (stages number its_turn its_new going looked slot lowest staging same known) = at_staging number old new turn staging same
+  picks_few old turn new (waits_for_one its_new going looked flying none same known) = raised (answers_left options (past_of new) Phase.Collecting) (Before old) (at_collect old new same)
+  picks_few old turn new (has_result its_turn its_new going looked none to_stage result same known) = at_delivery old new turn result same
 
   -- once the end is settled
   pub picks_settled : (old : Course) (turn : Turn) (new : Course) → IsSome old.end → Picks given old turn new → answers_left options (past_of new) turn.phase ≤ Before old + 1
   picks_settled old turn new over (drains its_new settled flying same known) = at_collect old new same
   picks_settled old turn new over (ends_so end its_new is none cleared known) = least (Before old + 1)
-  picks_settled old turn new over (stages number its_turn its_new going slot lowest staging same known) = absurd (none_some old.end over going)
-  picks_settled old turn new over (waits_for_one its_new going flying none same known) = absurd (none_some old.end over going)
-  picks_settled old turn new over (has_result its_turn its_new going none to_stage result same known) = absurd (none_some old.end over going)
+  picks_settled old turn new over (finds number its_turn its_new going is_next finding same known) = absurd (none_some old.end over going)
+  picks_settled old turn new over (stages number its_turn its_new going looked slot lowest staging same known) = absurd (none_some old.end over going)
+  picks_settled old turn new over (waits_for_one its_new going looked flying none same known) = absurd (none_some old.end over going)
+  picks_settled old turn new over (has_result its_turn its_new going looked none to_stage result same known) = absurd (none_some old.end over going)
 
   -- and no child is in flight
   pub picks_last : (old : Course) (turn : Turn) (new : Course) → IsSome old.end → old.tickets.items ≡ [] → Picks given old turn new →
       answers_left options (past_of new) turn.phase ≤ 0
   picks_last old turn new over empty (drains its_new settled flying same known) = absurd (flying empty)
   picks_last old turn new over empty (ends_so end its_new is none cleared known) = least 0
-  picks_last old turn new over empty (stages number its_turn its_new going slot lowest staging same known) = absurd (none_some old.end over going)
-  picks_last old turn new over empty (waits_for_one its_new going flying none same known) = absurd (none_some old.end over going)
-  picks_last old turn new over empty (has_result its_turn its_new going none to_stage result same known) = absurd (none_some old.end over going)
+  picks_last old turn new over empty (finds number its_turn its_new going is_next finding same known) = absurd (none_some old.end over going)
+  picks_last old turn new over empty (stages number its_turn its_new going looked slot lowest staging same known) = absurd (none_some old.end over going)
+  picks_last old turn new over empty (waits_for_one its_new going looked flying none same known) = absurd (none_some old.end over going)
+  picks_last old turn new over empty (has_result its_turn its_new going looked none to_stage result same known) = absurd (none_some old.end over going)
 
   -- A job goes on
 

@@ -47,14 +47,15 @@ weight_of_job (JobPhase.Reading kept reading) = 2 + length reading.left
 
 abbrev pub weight_of : Phase → ℕ
 weight_of (Phase.Measuring measuring) = 2 + length measuring.left
+weight_of (Phase.Finding job) = 2
 weight_of (Phase.Staging job) = 2
 weight_of (Phase.Working job phase) = weight_of_job phase
 weight_of phase = 1
 
--- each child in flight ends, is scanned and read
+-- each row is looked for once; each child in flight ends, is scanned and read
 abbrev pub weight_of_past : Options → Past → ℕ
 weight_of_past options past =
-    (most_stagings options - past.folders) * (2 * many_files + 8) + length past.tickets * (many_files + 3)
+    (MOST_VERTICES - past.looked_up) * 2 + ((most_stagings options - past.folders) * (2 * many_files + 8) + length past.tickets * (many_files + 3))
 
 -- how many answers come at most; after memory ran out, the end of each child in flight
 abbrev pub answers_left : Options → Past → Phase → ℕ

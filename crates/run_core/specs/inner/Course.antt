@@ -1,7 +1,8 @@
 -- What a run has come to, and what each event makes of it.
-use Rattle.std.specs.Prelude.{Ok, ◌≡◌, ◌<◌, ◌≤◌, ℕ, ◌+◌, cond, List, [], ◌∷◌, ◌++◌, Option, Some, None, Result, map, option_map, slice_get, unwrap_or}
+use Rattle.std.specs.Prelude.{Ok, Err, ◌≡◌, ◌<◌, ◌≤◌, ℕ, ◌+◌, cond, List, [], ◌∷◌, ◌++◌, Option, Some, None, Result, map, option_map, slice_get, unwrap_or}
 use Rattle.std.specs.List.{remove, zip}
 use Rattle.job_graph.specs.declared.unfolding.Unfolding.{Unfolding}
+use Rattle.job_rows.specs.declared.refusal.RecordRefusal.{RecordRefusal}
 use Rattle.run_rules.specs.declared.outcome.Outcome.{Outcome}
 use Rattle.run_rules.specs.declared.outcome.RunFault.{RunFault}
 use Rattle.job_graph.specs.Jobs.{Job}
@@ -24,6 +25,7 @@ pub record Past : Type 0 where
   pub flights : List Flight
   pub jobs : List JobState
   pub folders : ℕ
+  pub looked_up : ℕ
   pub end : Option (Result Outcome RunFault)
 
 abbrev pub past_of : Course → Past
@@ -32,11 +34,12 @@ past_of course = record {
   flights = course.flights.items;
   jobs = course.jobs;
   folders = course.folders;
+  looked_up = course.looked_up;
   end = course.end;
 }
 
 abbrev pub nothing_past : Past
-nothing_past = record { tickets = []; flights = []; jobs = []; folders = 0; end = None }
+nothing_past = record { tickets = []; flights = []; jobs = []; folders = 0; looked_up = 0; end = None }
 
 -- the place of the job of a number
 abbrev pub place_at : List Job → ℕ → JobPlace
@@ -55,6 +58,11 @@ number_in (job ∷ jobs) (state ∷ states) place = cond (is_same_place job.plac
 -- the first failure settles the end
 abbrev pub with_end : Result Outcome RunFault → Past → Past
 with_end end past = record past { end = or_else past.end (Some end) }
+
+-- the row of the job of a number was looked for, or there is a refusal that settles the end
+abbrev pub with_answer : ℕ → Option RecordRefusal → Past → Past
+with_answer number None past = record past { looked_up = number + 1 }
+with_answer number (Some refusal) past = with_end (Err (RunFault.Record refusal)) past
 
 abbrev pub with_staging : ℕ → Past → Past
 with_staging number past = record past { folders = past.folders + 1; jobs = staged_in number (past.folders + 1) past.jobs }

@@ -8,6 +8,8 @@ use Rattle.proc_host.specs.declared.call.HostRequest.{HostRequest}
 use Rattle.proc_host.specs.declared.child.ChildEnd.{ChildEnd}
 use Rattle.run_rules.specs.declared.outcome.RunFault.{RunFault}
 use Rattle.run_rules.specs.declared.request.Answer.{Answer}
+use Rattle.run_rules.specs.declared.request.RecordAnswer.{RecordAnswer}
+use Rattle.run_rules.specs.declared.request.RecordRequest.{RecordRequest}
 use Rattle.run_rules.specs.declared.request.Request.{Request}
 use Rattle.run_rules.specs.Answers.{flying_after}
 use Rattle.run_core.specs.declared.state.Course.{Course}
@@ -18,7 +20,7 @@ use Rattle.run_core.specs.declared.state.Phase.{Phase}
 use Rattle.run_core.specs.declared.state.Turn.{Turn}
 use Rattle.run_core.specs.inner.Course.{Past, known_in, past_of}
 use Rattle.run_core.specs.inner.Measures.{TakesMeasure}
-use Rattle.run_core.specs.inner.Picks.{AfterChild, AfterFault, AfterInputHead, AfterListing, AfterOutputHead, AfterStaging, AfterStart}
+use Rattle.run_core.specs.inner.Picks.{AfterChild, AfterFault, AfterFind, AfterInputHead, AfterListing, AfterOutputHead, AfterStaging, AfterStart}
 use Rattle.run_core.specs.inner.Standing.{pairs_ahead}
 use Rattle.run_core.specs.inner.Turn.{ends, lost_after, succeeds}
 
@@ -41,6 +43,7 @@ pub record CanStage (course : Course) (job : ℕ) : Type 0 where
 -- the phase fits what is asked
 abbrev pub AsksOf : Course → Request → Phase → Type 0
 AsksOf course (Request.Host place (HostRequest.Measure path)) (Phase.Measuring measuring) = Unit {0}
+AsksOf course (Request.Record place (RecordRequest.Find key)) (Phase.Finding job) = job < length (known_in course.known)
 AsksOf course (Request.Host place (HostRequest.Stage plan folder)) (Phase.Staging job) = CanStage course job
 AsksOf course (Request.Host place (HostRequest.Head path limit)) (Phase.Working job (JobPhase.Filling filling)) = job < length course.jobs
 AsksOf course (Request.Host place (HostRequest.Start launch)) (Phase.Working job (JobPhase.Starting kept)) = job < length course.jobs
@@ -86,8 +89,14 @@ FollowsIn given old Phase.Draining (HostAnswer.Ended ending) asks turn new = Dra
 FollowsIn given old (Phase.Delivering outputs) HostAnswer.Done asks turn new = (turn ≡ succeeds outputs) × (new ≡ old)
 FollowsIn given old phase answer asks turn new = ⊥
 
+-- what follows from an answer of the record's
+abbrev pub FollowsFind : Given → Course → Phase → RecordAnswer → Turn → Course → Type 0
+FollowsFind given old (Phase.Finding number) answer turn new = AfterFind given old number answer turn new
+FollowsFind given old phase answer turn new = ⊥
+
 abbrev pub FollowsFrom : Given → Course → Turn → Answer → Turn → Course → Type 0
 FollowsFrom given old before (Answer.Host answer) turn new = FollowsIn given old before.phase answer before.asks turn new
+FollowsFrom given old before (Answer.Record answer) turn new = FollowsFind given old before.phase answer turn new
 
 -- an answer to what the open work on a job waits for
 abbrev pub AnswersWork : JobPhase → HostAnswer → Type 0
@@ -96,6 +105,17 @@ AnswersWork (JobPhase.Starting kept) (HostAnswer.Started ticket) = Unit {0}
 AnswersWork (JobPhase.Scanning kept millis) (HostAnswer.Listed found) = Unit {0}
 AnswersWork (JobPhase.Reading kept reading) (HostAnswer.FirstBytes bytes) = Unit {0}
 AnswersWork work answer = ⊥
+
+-- the row of a known job is looked for
+abbrev pub IsFinding : Course → Phase → Type 0
+IsFinding course (Phase.Finding number) = number < length (known_in course.known)
+IsFinding course phase = ⊥
+
+-- an answer that a find can have
+abbrev pub IsOfAFind : RecordAnswer → Type 0
+IsOfAFind (RecordAnswer.Found row) = Unit {0}
+IsOfAFind (RecordAnswer.Refused refusal) = Unit {0}
+IsOfAFind RecordAnswer.Done = ⊥
 
 abbrev pub IsStaging : Request → Type 0
 IsStaging (Request.Host place (HostRequest.Stage plan folder)) = Unit {0}

@@ -8,6 +8,7 @@ use Rattle.run_rules.specs.Reports.{outcome_of}
 use Rattle.run_rules.specs.Scene.{Scene}
 use Rattle.run_rules.proofs.events.Course.{Course as Books, Keeps as AreKept}
 use Rattle.run_rules.proofs.events.Known.{IsFront}
+use Rattle.run_rules.proofs.events.Lookups.{LooksUp}
 use Rattle.run_rules.proofs.events.Places.{IsJob}
 use Rattle.run_rules.proofs.events.Tally.{readings}
 use Rattle.run_core.specs.declared.state.Course.{Course}
@@ -67,3 +68,4 @@ pub record Reflects (s : Scene) (es : List Event) (course : Course) (at_work : O
   pub knows : course.end ≡ None → IsKnown (s.walker (measures es)) (resolved es) course.known
   pub collects : list_any is_lost_collect es ≡ false
   pub undelivered : delivered_at es ≡ None
+  pub looks : LooksUp (known_in course.known) es course.looked_up

@@ -1,5 +1,5 @@
 -- What the machine turns to where nothing is due, and after each answer. That all this makes a run are laws above it.
-use Rattle.std.specs.Prelude.{◌≡◌, ◌≢◌, ◌≤◌, ◌<◌, ◌+◌, ℕ, true, false, List, [], Some, None, Result, Err, IsSome, length, slice_get}
+use Rattle.std.specs.Prelude.{◌≡◌, ◌≢◌, ◌≤◌, ◌<◌, ◌+◌, ℕ, true, false, List, [], Option, Some, None, Result, Err, IsSome, length, slice_get}
 use Rattle.cwl_process.specs.declared.tool.Tool.{Tool}
 use Rattle.input_files.specs.Contents.{heads_wanted}
 use Rattle.proc_host.specs.declared.call.HostFault.{HostFault}
@@ -13,9 +13,17 @@ use Rattle.staging.specs.Plan.{IsPlan}
 use Rattle.run_rules.specs.declared.outcome.Cause.{Cause}
 use Rattle.run_rules.specs.declared.outcome.Outcome.{Outcome}
 use Rattle.run_rules.specs.declared.outcome.RunFault.{RunFault}
+use Rattle.job_key.specs.Key.{key}
+use Rattle.job_reuse.specs.Sound.{IsSound}
+use Rattle.job_rows.specs.declared.refusal.RecordRefusal.{RecordRefusal}
+use Rattle.job_rows.specs.declared.refusal.RecordRefusal.TheVariants.{NotARecord}
+use Rattle.job_rows.specs.declared.row.Row.{Row}
+use Rattle.run_rules.specs.declared.request.RecordAnswer.{RecordAnswer}
+use Rattle.run_rules.specs.declared.request.RecordRequest.{RecordRequest}
 use Rattle.run_rules.specs.declared.request.Request.{Request}
 use Rattle.run_rules.specs.declared.setting.Options.{Options}
 use Rattle.run_rules.specs.Delivered.{any_file, located, source_place}
+use Rattle.run_rules.specs.Events.{is_reusable}
 use Rattle.run_rules.specs.Folders.{in_folder, out_folder}
 use Rattle.job_graph.specs.Jobs.{Job}
 use Rattle.job_graph.specs.Made.{fields_moved}
@@ -32,7 +40,7 @@ use Rattle.run_core.specs.declared.state.Kept.{Kept}
 use Rattle.run_core.specs.declared.state.Phase.{Phase}
 use Rattle.run_core.specs.declared.state.Reading.{Reading}
 use Rattle.run_core.specs.declared.state.Turn.{Turn}
-use Rattle.run_core.specs.inner.Course.{GivesUp, TakesOut, known_in, number_in, past_of, place_at, with_end, with_staging, with_start}
+use Rattle.run_core.specs.inner.Course.{GivesUp, TakesOut, known_in, number_in, past_of, place_at, with_answer, with_end, with_staging, with_start}
 use Rattle.run_core.specs.inner.Due.{CollectsFirst, CollectsPast, Scans, Starts, StartsPast}
 use Rattle.run_core.specs.inner.JobStates.{IsLowest, NoneWaits}
 use Rattle.run_core.specs.inner.Knows.{Learns, outputs_in}
@@ -46,6 +54,35 @@ folder_in options course place = out_folder options.work (number_in (known_in co
 abbrev pub sources_in : Options → Course → Fields → Fields
 sources_in options course values =
     fields_moved (source_place (folder_in options course)) values
+
+-- of none of the jobs from a number on, below another, may an earlier result be used
+abbrev pub NoneBetween : List Job → ℕ → ℕ → Type 0
+NoneBetween jobs from below = (number : ℕ) (job : Job) → slice_get jobs number ≡ Some job → from ≤ number → number < below → is_reusable job ≡ false
+
+abbrev pub NoneReusable : List Job → ℕ → Type 0
+NoneReusable jobs from = (number : ℕ) (job : Job) → slice_get jobs number ≡ Some job → from ≤ number → is_reusable job ≡ false
+
+-- the first from a number on of which it may
+pub record IsFirstReusable (jobs : List Job) (from number : ℕ) : Type 0 where
+  pub job : Job
+  pub known : slice_get jobs number ≡ Some job
+  pub reusable : is_reusable job ≡ true
+  pub left : from ≤ number
+  pub first : NoneBetween jobs from number
+
+-- no known job is left whose row is looked for
+abbrev pub NoneToFind : Course → Type 0
+NoneToFind course = NoneReusable (known_in course.known) course.looked_up
+
+-- the first known job that is left whose row is looked for
+abbrev pub IsNextToFind : Course → ℕ → Type 0
+IsNextToFind course number = IsFirstReusable (known_in course.known) course.looked_up number
+
+-- the row of the job of a number is looked for
+pub record Finds (course : Course) (number : ℕ) (turn : Turn) : Type 0 where
+  pub job : Job
+  pub known : slice_get (known_in course.known) number ≡ Some job
+  pub is : turn ≡ record { asks = Request.Record job.place (RecordRequest.Find (key job.tool job.inputs)); phase = Phase.Finding number }
 
 -- the job of a number is to be staged
 pub record Stages (given : Given) (course : Course) (number : ℕ) (turn : Turn) : Type 0 where
@@ -81,11 +118,13 @@ pub data Picks (given : Given) (old : Course) : Turn → Course → Type 0 where
   drains : (new : Course) → IsSome old.end → old.tickets.items ≢ [] → past_of new ≡ past_of old → new.known ≡ old.known → Picks given old collects new
   ends_so : (end : Result Outcome RunFault) (new : Course) → old.end ≡ Some end → old.tickets.items ≡ [] → new.tickets.items ≡ [] → new.known ≡ old.known →
       Picks given old (ends end) new
-  stages : (number : ℕ) (turn : Turn) (new : Course) → old.end ≡ None → length old.tickets.items < given.options.slots →
+  finds : (number : ℕ) (turn : Turn) (new : Course) → old.end ≡ None → IsNextToFind old number → Finds old number turn → past_of new ≡ past_of old →
+      new.known ≡ old.known → Picks given old turn new
+  stages : (number : ℕ) (turn : Turn) (new : Course) → old.end ≡ None → NoneToFind old → length old.tickets.items < given.options.slots →
       IsLowest old.jobs (length (known_in old.known)) number → Stages given old number turn → past_of new ≡ past_of old → new.known ≡ old.known → Picks given old turn new
-  waits_for_one : (new : Course) → old.end ≡ None → old.tickets.items ≢ [] → NoneToStage given old → past_of new ≡ past_of old → new.known ≡ old.known →
+  waits_for_one : (new : Course) → old.end ≡ None → NoneToFind old → old.tickets.items ≢ [] → NoneToStage given old → past_of new ≡ past_of old → new.known ≡ old.known →
       Picks given old collects new
-  has_result : (turn : Turn) (new : Course) → old.end ≡ None → old.tickets.items ≡ [] → NoneToStage given old → Delivers given old turn →
+  has_result : (turn : Turn) (new : Course) → old.end ≡ None → NoneToFind old → old.tickets.items ≡ [] → NoneToStage given old → Delivers given old turn →
       past_of new ≡ past_of old → new.known ≡ old.known → Picks given old turn new
 
 -- a job goes on, or it has failed, or its outputs are there
@@ -182,6 +221,23 @@ pub record AfterOutputHead (given : Given) (old : Course) (number : ℕ) (kept :
   pub next : JobNext
   pub collects : CollectsPast site kept reading bytes next
   pub turns : Turns given old number next turn new
+
+-- what the record's answer to a find tells of a job's tool: a row of it, that there is none, or why the run ends
+pub data Tells (tool : Tool) : RecordAnswer → Option RecordRefusal → Type 0 where
+  has_none : Tells tool (RecordAnswer.Found None) None
+  has_row : (row : Row) → IsSound tool row → Tells tool (RecordAnswer.Found (Some row)) None
+  has_wrong_row : (row : Row) → (IsSound tool row → ⊥) → Tells tool (RecordAnswer.Found (Some row)) (Some NotARecord)
+  refuses : (refusal : RecordRefusal) → Tells tool (RecordAnswer.Refused refusal) (Some refusal)
+
+pub record AfterFind (given : Given) (old : Course) (number : ℕ) (answer : RecordAnswer) (turn : Turn) (new : Course) : Type 0 where
+  pub job : Job
+  pub is_job : slice_get (known_in old.known) number ≡ Some job
+  pub refusal : Option RecordRefusal
+  pub tells : Tells job.tool answer refusal
+  pub noted : Course
+  pub past : past_of noted ≡ with_answer number refusal (past_of old)
+  pub known : noted.known ≡ old.known
+  pub picks : Picks given noted turn new
 
 -- a call other than a collect failed
 pub record AfterFault (given : Given) (old : Course) (fault : HostFault) (turn : Turn) (new : Course) : Type 0 where

@@ -1,5 +1,5 @@
 -- Where the machine is in its run.
-use Rattle.std.specs.Prelude.{◌≡◌, ◌≢◌, ◌<◌, ◌+◌, ℕ, List, [], ◌∷◌, ◌++◌, Some, None, Result, Ok, Err, IfErr, length, vec_len, vec_capacity}
+use Rattle.std.specs.Prelude.{◌≡◌, ◌≢◌, ◌<◌, ◌≤◌, ◌+◌, ℕ, false, List, [], ◌∷◌, ◌++◌, Some, None, Result, Ok, Err, IfErr, length, vec_len, vec_capacity}
 use Rattle.plan_checker.specs.declared.plan.Mark.{Mark}
 use Rattle.proc_host.specs.declared.call.Entry.{Entry}
 use Rattle.proc_host.specs.declared.call.HostRequest.{HostRequest}
@@ -10,13 +10,15 @@ use Rattle.job_graph.specs.Words.{JobPlace, Name}
 use Rattle.run_rules.specs.declared.outcome.Outcome.{Outcome}
 use Rattle.run_rules.specs.declared.outcome.RunFault.{RunFault}
 use Rattle.run_rules.specs.declared.request.Pair.{Pair}
+use Rattle.job_key.specs.Key.{key}
+use Rattle.run_rules.specs.declared.request.RecordRequest.{RecordRequest}
 use Rattle.run_rules.specs.declared.request.Request.{Request}
-use Rattle.run_rules.specs.Allowed.{MayStage, MayCollect, MayDeliver}
+use Rattle.run_rules.specs.Allowed.{MayFind, MayStage, MayCollect, MayDeliver}
 use Rattle.run_rules.specs.Blame.{BlamesRightly, IsToBlame}
 use Rattle.run_rules.specs.Delivered.{located}
 use Rattle.run_rules.specs.End.{End}
 use Rattle.run_rules.specs.EndsSo.{EndsSo}
-use Rattle.run_rules.specs.Events.{Event, Progress, Started, nothing_due, started_at}
+use Rattle.run_rules.specs.Events.{Event, Progress, Started, is_reusable, nothing_due, started_at}
 use Rattle.run_rules.specs.Plans.{InForce}
 use Rattle.run_rules.specs.Reports.{AreWaits, outcome_of}
 use Rattle.run_rules.specs.Run.{Goes}
@@ -62,11 +64,21 @@ pub record IsStaging (s : Scene) (f : Progress) (marks : List Mark) (course : Co
   pub lowest : IsLowest course.jobs (length (known_in course.known)) number
   pub going : course.end ≡ None
 
+-- a job whose row is looked for: the first one that is left
+pub record FindsNext (s : Scene) (f : Progress) (course : Course) (number : ℕ) (job : Job) : Type 0 where
+  pub it : IsJob (known_in course.known) number job
+  pub may : MayFind s f job.place (key job.tool job.inputs)
+  pub left : course.looked_up ≤ number
+  pub first : (other : ℕ) (its : Job) → IsJob (known_in course.known) other its → course.looked_up ≤ other → other < number → is_reusable its ≡ false
+  pub going : course.end ≡ None
+
 -- what it waits for is what its run has come to: a rule for each phase
 pub data IsAt (s : Scene) (f : Progress) (marks : List Mark) (course : Course) : Turn → Type 0 where
   measuring : (found : List (Name × Measure)) (measuring : Measuring) (rest : List Name) (path : Name) → IsMeasuring s found measuring →
       measuring.left ≡ rest ++ path ∷ [] → f ≡ record { work = nothing_due; events = measured_by found } → course.known ≡ None →
       past_of course ≡ nothing_past → IsAt s f marks course (waits (HostRequest.Measure path) (Phase.Measuring measuring))
+  finding : (number : ℕ) (job : Job) → Reflects s f.events course None → FindsNext s f course number job →
+      IsAt s f marks course (record { asks = Request.Record job.place (RecordRequest.Find (key job.tool job.inputs)); phase = Phase.Finding number })
   staging : (number : ℕ) (job : Job) (plan : StagePlan) → Reflects s f.events course None → IsStaging s f marks course number job plan →
       IsAt s f marks course (record { asks = Request.Host job.place (HostRequest.Stage plan (course.folders + 1)); phase = Phase.Staging number })
   working : (number : ℕ) (job : Job) (call : HostRequest) (phase : JobPhase) → Reflects s f.events course (Some number) →
@@ -105,6 +117,7 @@ pub record RanOut (s : Scene) (t : List Pair) (past : Past) (turn : Turn) : Type
 abbrev pub SettlesRightly : List Entry → Result Outcome RunFault → Type 0
 SettlesRightly entries (Ok report) = Unit {0}
 SettlesRightly entries (Err (RunFault.Host fault running)) = IsToBlame entries fault running
+SettlesRightly entries (Err (RunFault.Record refusal)) = Unit {0}
 SettlesRightly entries (Err RunFault.TooManyJobs) = Unit {0}
 SettlesRightly entries (Err RunFault.OutOfMemory) = ⊥
 

@@ -1,7 +1,9 @@
+use crate::machine::child::put_folder;
 use crate::machine::listing::{put_fault, put_listing, put_measure};
 use crate::machine::place::{below, machine, prepared};
 use plain_data::Text;
 use proc_host::Host;
+use process_machine::{Machine, Obstacle, Unlisted, World, remove_folder};
 use row_io::{AnswerText, Row, RowFault};
 use std::str;
 
@@ -11,8 +13,59 @@ pub fn told_of(rt: &HostRuntime, row: &Row, place: &str) -> Result<String, RowFa
     let path = below(rt.alloc(), place, row.text("path")?)?;
     let mut host = machine(rt, place)?;
     let mut out = AnswerText::new(rt.alloc());
-    put_told(&mut host, row, &path, &mut out)?;
+    if row.find("why").is_some() {
+        out.put("[");
+        put_told(&mut host, row, &path, &mut out)?;
+        put_why(&host, place, &mut out);
+        out.put("]");
+    } else {
+        put_told(&mut host, row, &path, &mut out)?;
+    }
     out.finish()
+}
+
+/// Whether a folder was removed, and what the row's folder holds then.
+pub fn removed_of(rt: &HostRuntime, row: &Row, place: &str) -> Result<String, RowFault> {
+    prepared(rt, row, place)?;
+    let path = below(rt.alloc(), place, row.text("path")?)?;
+    let folder = Text::from_text(rt.alloc(), place)?;
+    let mut host = machine(rt, place)?;
+    let mut out = AnswerText::new(rt.alloc());
+    out.put("{\"call\":");
+    out.put_quoted(match remove_folder(rt, path.as_str()) {
+        Ok(()) => "done",
+        Err(_) => "failed",
+    });
+    out.put(",\"found\":");
+    put_folder(&mut host, &folder, &mut out);
+    out.put("}");
+    out.finish()
+}
+
+// Adds what kept a scan from a listing, and why.
+fn put_why<R: World>(host: &Machine<R>, place: &str, out: &mut AnswerText) {
+    match host.unlisted() {
+        None => out.put(",null"),
+        Some(Unlisted { path, why }) => {
+            let name = path.as_str().strip_prefix(place).unwrap_or("");
+            out.put(",[");
+            out.put_quoted(name);
+            out.put(",");
+            out.put_quoted(obstacle_name(*why));
+            out.put("]");
+        }
+    }
+}
+
+fn obstacle_name(why: Obstacle) -> &'static str {
+    match why {
+        Obstacle::NotUtf8 => "NotUtf8",
+        Obstacle::TooDeep => "TooDeep",
+        Obstacle::TooMany => "TooMany",
+        Obstacle::OfNoKind => "OfNoKind",
+        Obstacle::Forbidden => "Forbidden",
+        Obstacle::Other => "Other",
+    }
 }
 
 fn put_told<H: Host>(

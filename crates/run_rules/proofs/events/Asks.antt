@@ -12,9 +12,10 @@ use Rattle.run_rules.specs.Folders.{in_folder}
 use Rattle.job_graph.specs.Jobs.{Job}
 use Rattle.run_rules.specs.Scene.{Scene, NothingWasMadeBefore}
 use Rattle.run_rules.specs.Delivered.{any_file, source_place}
-use Rattle.run_rules.specs.Events.{Work, nothing_due, Progress, in_flight, is_at_hand, is_held, is_staging, delivered_at, folder_at, unfolding_at}
+use Rattle.run_rules.specs.Events.{Work, nothing_due, Progress, in_flight, is_at_hand, is_held, is_looked_up, is_reusable, is_staging, delivered_at, folder_at, unfolding_at}
 use Rattle.run_rules.specs.End.{End, settled, IsDelivery, is_lost_collect}
-use Rattle.run_rules.specs.Allowed.{IsFree, MayStage, IsBusy, MayCollect, MayDeliver, due, due_in}
+use Rattle.job_key.specs.Key.{key}
+use Rattle.run_rules.specs.Allowed.{IsFree, IsOpen, MayFind, MayStage, IsBusy, MayCollect, MayDeliver, due, due_in}
 use Rattle.run_rules.specs.Plans.{mark_at}
 use Rattle.plan_checker.specs.declared.plan.Mark.TheVariants.{Compute}
 use Rattle.run_rules.proofs.events.Flights.{Flight}
@@ -30,6 +31,18 @@ module _ (s : Scene) (f : Progress) (marks : List Mark) where
   -- what is due is asked
   pub due_when : (work : Work) (request : Request) → f.work ≡ work → due_in s f.events work ≡ Some request → due s f ≡ Some request
   due_when work request is asked = ap (due_in s f.events) is ∙ asked
+
+  -- the row of a job may be looked for that may have one and was not looked for
+  pub may_find : (n : ℕ) (job : Job) → IsOpen s f → AreApart (jobs_in s f) → IsJob (jobs_in s f) n job → is_reusable job ≡ true → is_looked_up f.events job.place ≡ false →
+      MayFind s f job.place (key job.tool job.inputs)
+  may_find n job still apart it reusable unasked = record {
+    still = still;
+    job = job;
+    known = found_at (jobs_in s f) apart n job it;
+    reusable = reusable;
+    unasked = unasked;
+    keyed = refl;
+  }
 
   -- a job may be staged that the plan computes and that is not held
   pub may_stage : (n : ℕ) (job : Job) (plan : StagePlan) (number : ℕ) → IsFree s f → AreApart (jobs_in s f) →

@@ -189,7 +189,7 @@ split_job (x ∷ front) rest (suc m) job within is = elim (split_job front rest 
   | inr past ↦ inr (omega (arith, past))
 ]
 
-known_or_new : (front jobs : List Job) (m : ℕ) (job : Job) → IsFront front jobs → IsJob jobs m job → IsJob front m job ⊎ (length front ≤ m)
+pub known_or_new : (front jobs : List Job) (m : ℕ) (job : Job) → IsFront front jobs → IsJob jobs m job → IsJob front m job ⊎ (length front ≤ m)
 known_or_new front jobs m job leads it =
     let here : IsJob (front ++ leads.rest) m job = subst (λ (all : List Job). IsJob all m job) leads.is it in
     split_job front leads.rest m job here.within here.is
@@ -204,7 +204,7 @@ new_by (Some x) front jobs m job leads apart it past is =
     absurd (omega (arith, found.there.within, past, same))
 
 -- a job past the front is at a place that none of the front is at
-new_place : (front jobs : List Job) (m : ℕ) (job : Job) → IsFront front jobs → AreApart jobs → IsJob jobs m job → length front ≤ m →
+pub new_place : (front jobs : List Job) (m : ℕ) (job : Job) → IsFront front jobs → AreApart jobs → IsJob jobs m job → length front ≤ m →
     find (is_at job.place) front ≡ None
 new_place front jobs m job leads apart it past = new_by (find (is_at job.place) front) front jobs m job leads apart it past refl
 
@@ -214,7 +214,7 @@ unknown_by None front jobs place leads none is = is
 unknown_by (Some x) front jobs place leads none is =
     let never : Some x ≡ None = sym (found_still place x front jobs leads is) ∙ none in absurd cc
 
-unknown_before : (front jobs : List Job) (place : JobPlace) → IsFront front jobs → find (is_at place) jobs ≡ None → find (is_at place) front ≡ None
+pub unknown_before : (front jobs : List Job) (place : JobPlace) → IsFront front jobs → find (is_at place) jobs ≡ None → find (is_at place) front ≡ None
 unknown_before front jobs place leads none = unknown_by (find (is_at place) front) front jobs place leads none refl
 
 jobs_removed : (jobs : List Job) (flying : List Flight) (numbers : List ℕ) (index : ℕ) → index < length flying → AllZip (IsAt jobs) (values_of flying) numbers →

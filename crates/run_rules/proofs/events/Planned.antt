@@ -11,7 +11,7 @@ use Rattle.plan_checker.specs.declared.plan.Mark.TheVariants.{Compute, Prune}
 use Rattle.run_rules.specs.declared.request.Pair.{Pair}
 use Rattle.job_graph.specs.Jobs.{Job}
 use Rattle.run_rules.specs.Scene.{Scene}
-use Rattle.run_rules.specs.Events.{nothing_due, Progress, in_flight, is_at_hand, is_held, unfolding_at}
+use Rattle.run_rules.specs.Events.{nothing_due, Progress, are_looked_up, in_flight, is_at_hand, is_held, unfolding_at}
 use Rattle.run_rules.specs.End.{is_lost_collect, settled}
 use Rattle.run_rules.specs.Plans.{InForce, is_idle, is_planning, mark_at, mark_if_held}
 use Rattle.run_rules.specs.Run.{Goes, begins, asks, Replans}
@@ -46,21 +46,23 @@ module _ (s : Scene) where
   in_force (begins marks plans) = record { old = []; replanned = plans }
   in_force (asks t f old p work new marks goes allowed steps plans) = record { old = old; replanned = plans }
 
-  -- where nothing is due, no collect has failed, nothing is settled and a job is not at hand, it was made there
+  -- where nothing is due, no collect has failed, nothing is settled, no row is looked for any more and a job is not at hand, it was made there
   planning_there : (f : Progress) (n : ℕ) (job : Job) → f.work ≡ nothing_due → list_any is_lost_collect f.events ≡ false → settled s f.events ≡ None →
-      IsJob (jobs_in f) n job → is_at_hand f.events job.place ≡ false → is_planning s f ≡ true
-  planning_there f n job idle collects still it away =
-      ap (λ w. is_idle w && not (list_any is_lost_collect f.events) && is_none (settled s f.events) && list_any (λ (j : Job). not (is_at_hand f.events j.place)) (jobs_in f)) idle
-      ∙ ap (λ b. not b && is_none (settled s f.events) && list_any (λ (j : Job). not (is_at_hand f.events j.place)) (jobs_in f)) collects
-      ∙ ap (λ o. is_none o && list_any (λ (j : Job). not (is_at_hand f.events j.place)) (jobs_in f)) still
+      are_looked_up s f.events ≡ true → IsJob (jobs_in f) n job → is_at_hand f.events job.place ≡ false → is_planning s f ≡ true
+  planning_there f n job idle collects still looked_up it away =
+      ap (λ w. is_idle w && not (list_any is_lost_collect f.events) && is_none (settled s f.events) && are_looked_up s f.events && list_any (λ (j : Job). not (is_at_hand f.events j.place)) (jobs_in f)) idle
+      ∙ ap (λ b. not b && is_none (settled s f.events) && are_looked_up s f.events && list_any (λ (j : Job). not (is_at_hand f.events j.place)) (jobs_in f)) collects
+      ∙ ap (λ o. is_none o && are_looked_up s f.events && list_any (λ (j : Job). not (is_at_hand f.events j.place)) (jobs_in f)) still
+      ∙ ap (λ b. b && list_any (λ (j : Job). not (is_at_hand f.events j.place)) (jobs_in f)) looked_up
       ∙ list_any_at (λ (j : Job). not (is_at_hand f.events j.place)) (jobs_in f) n job it.within
       (ap (λ (j : Job). not (is_at_hand f.events j.place)) it.is ∙ ap not away)
 
   pub loads_held : {t : List Pair} {f : Progress} {marks : List Mark} (n : ℕ) (job : Job) → Goes s (InForce s) t f marks → f.work ≡ nothing_due →
-      list_any is_lost_collect f.events ≡ false → settled s f.events ≡ None → IsJob (jobs_in f) n job → is_at_hand f.events job.place ≡ false → InForce s f marks
-  loads_held {f = f} {marks = marks} n job goes idle collects still it away =
+      list_any is_lost_collect f.events ≡ false → settled s f.events ≡ None → are_looked_up s f.events ≡ true → IsJob (jobs_in f) n job →
+      is_at_hand f.events job.place ≡ false → InForce s f marks
+  loads_held {f = f} {marks = marks} n job goes idle collects still looked_up it away =
       let plan : FollowsPlan f marks = in_force goes in
-      subst (λ b. MatchBool b (InForce s f marks) (marks ≡ plan.old)) (planning_there f n job idle collects still it away) plan.replanned
+      subst (λ b. MatchBool b (InForce s f marks) (marks ≡ plan.old)) (planning_there f n job idle collects still looked_up it away) plan.replanned
 
   -- the mark of a job is that of its number
   pub mark_is : (f : Progress) (marks : List Mark) (n : ℕ) (job : Job) → AreApart (jobs_in f) → IsJob (jobs_in f) n job → InForce s f marks →
@@ -73,9 +75,9 @@ module _ (s : Scene) where
 
   -- a job that is not held is computed
   pub computed : {t : List Pair} {f : Progress} {marks : List Mark} (n : ℕ) (job : Job) → Goes s (InForce s) t f marks → f.work ≡ nothing_due →
-      list_any is_lost_collect f.events ≡ false → settled s f.events ≡ None → AreApart (jobs_in f) → IsJob (jobs_in f) n job → is_held f.events job.place ≡ false →
-      mark_at s marks f.events job.place ≡ Compute
-  computed {f = f} {marks = marks} n job goes idle collects still apart it free =
+      list_any is_lost_collect f.events ≡ false → settled s f.events ≡ None → are_looked_up s f.events ≡ true → AreApart (jobs_in f) → IsJob (jobs_in f) n job →
+      is_held f.events job.place ≡ false → mark_at s marks f.events job.place ≡ Compute
+  computed {f = f} {marks = marks} n job goes idle collects still looked_up apart it free =
       mark_is f marks n job apart it
-      (loads_held n job goes idle collects still it (or_parts (is_flying (in_flight f.events) job.place) (is_at_hand f.events job.place) free).1)
+      (loads_held n job goes idle collects still looked_up it (or_parts (is_flying (in_flight f.events) job.place) (is_at_hand f.events job.place) free).1)
       ∙ ap mark_if_held free

@@ -2,7 +2,7 @@
 use Rattle.std.specs.Prelude.{◌||◌}
 use Rattle.std.proofs.Common.{◌≡◌, ◌∙◌, ◌+◌, ℕ, suc, Bool, true, false, cond, List, [], ◌∷◌, ◌++◌, length, filter, fold, refl, sym, ap, arith, append_assoc, append-nil}
 use Rattle.job_graph.specs.Words.{JobPlace}
-use Rattle.run_rules.specs.Events.{Event, file_measured, job_staged, job_started, child_exited, job_succeeded, job_failed, job_failed_for_now, result_delivered, host_failed, collect_failed, brings, flight_after, in_flight, is_at_hand, is_staging, number_at, number_if}
+use Rattle.run_rules.specs.Events.{Event, file_measured, job_staged, job_started, child_exited, job_succeeded, job_failed, job_failed_for_now, result_delivered, host_failed, collect_failed, row_found, no_row, find_failed, brings, flight_after, in_flight, is_at_hand, is_staging, number_at, number_if}
 use Rattle.run_rules.specs.End.{gives_up}
 use Rattle.run_rules.proofs.events.Flights.{Flight}
 use Rattle.run_rules.proofs.events.Readings.{gave_up_after, in_flight_after, is_at_hand_after, number_after, stagings_after}
@@ -66,6 +66,9 @@ is_aside (job_failed place cause) = true
 is_aside (result_delivered plan) = true
 is_aside (host_failed place fault) = true
 is_aside collect_failed = true
+is_aside (row_found place row) = true
+is_aside (no_row place) = true
+is_aside (find_failed place refusal) = true
 is_aside _ = false
 
 pub nothing_read : (r : Readings) (e : Event) → is_aside e ≡ true → reads_after r e ≡ r
@@ -79,3 +82,6 @@ nothing_read r (job_failed_for_now place) aside = absurd cc
 nothing_read r (result_delivered plan) aside = refl
 nothing_read r (host_failed place fault) aside = refl
 nothing_read r collect_failed aside = refl
+nothing_read r (row_found place row) aside = refl
+nothing_read r (no_row place) aside = refl
+nothing_read r (find_failed place refusal) aside = refl

@@ -104,7 +104,7 @@ module _ (s : Scene) (f : Progress) (marks : List Mark) (c : Course) (k : Keeps 
       MayStage s f marks job.place plan (c.folders + 1)
   waiting_may_stage n job plan goes it waits parents slot staged =
       may_stage s f marks n job plan (c.folders + 1) free k.apart it
-      (computed s n job goes free.still.idle free.still.collects free.still.unsettled k.apart it (k.waiting n job it waits)) (k.waiting n job it waits) parents
+      (computed s n job goes free.still.idle free.still.collects free.still.unsettled free.looked_up k.apart it (k.waiting n job it waits)) (k.waiting n job it waits) parents
       (omega (arith, slot, so_many (jobs_in s f) (readings f.events) c k)) (ap (λ n. n + 1) k.folders) staged
 
   -- none before the lowest one that waits may be

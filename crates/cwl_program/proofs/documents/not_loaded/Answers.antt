@@ -11,7 +11,7 @@ pub returns-in-Ok : goal.returns-in-Ok
 returns-in-Ok c =
     stop_so _ _
     (λ exit is_unread. no_document c.args.url.now _ c.requires (omega arith) (rw c.as_str.ensures.bytes at c.in-Ok.ensures.ok) is_unread)
-    _ (rw c.as_str-in-Ok.ensures.value at c.not_there-stop.ensures)
+    _ (rw c.as_str-in-Ok.ensures.value at c.unread_for-stop.ensures)
 
 pub returns-in-Err-Refused : goal.returns-in-Err-Refused
 returns-in-Err-Refused c =

@@ -1,11 +1,9 @@
-use Rattle.std.proofs.Common.{subst, sym}
-use Rattle.std.proofs.lemmas.Result.{IfOk-weaker}
 use Rattle.cwl_program.specs.Runs.{IsRan, ran}
-use Rattle.cwl_program.specs.declared.exit.Exit.{Exit}
+use Rattle.cwl_program.proofs.Stops.{noted_so}
 use Rattle.cwl_program.proofs.run.ended.Goals as goal
 
 pub returns : goal.returns
 returns g c =
-    IfOk-weaker c.exit_of_run-exit.result _ _
-    (λ exit h. subst (λ (e : Exit). IsRan c.args.given.now.process c.args.given.now.inputs c.args.options e) (sym (rw c.log.ensures at h)) (ran _ _ _ c.run-report.ensures.run c.run-report.ensures.fault))
-    c.exit_of_run-exit.ensures
+    noted_so (IsRan c.args.given.now.process c.args.given.now.inputs c.args.options) _ c.exit_of_run-exit.result _
+    (rw c.log.ensures at c.exit_of_run-exit.ensures) c.noted-end.ensures
+    (ran _ _ _ _ (rw c.new-rows.ensures at c.run-report.ensures.run) c.run-report.ensures.fault)

@@ -1,9 +1,8 @@
-use Rattle.std.proofs.lemmas.Result.{IfOk-weaker}
-use Rattle.cwl_program.specs.Runs.{runs}
+use Rattle.cwl_program.specs.RunWords.{wish_of_run}
+use Rattle.cwl_program.proofs.Stops.{without_outdir}
 use Rattle.cwl_program.proofs.run.in_work.Goals as goal
 
-pub returns-clause-exit : goal.returns-clause-exit
-returns-clause-exit g c =
-    IfOk-weaker c.with_options.result _ _
-    (λ exit is_ran. runs c.args.call.now.here.now c.args.given.now c.in_ok-options.options c.requires.ready c.in_ok-options.ensures.asked is_ran)
-    c.with_options.ensures.exit
+pub returns-in-Err-clause-end : goal.returns-in-Err-clause-end
+returns-in-Err-clause-end g c =
+    without_outdir c.args.call.now.here.now (wish_of_run c.args.call.now.words.now) c.args.call.now.path.now c.args.given.now _ _
+    c.requires.ready c.in-Err.ensures c.requires.named.outdir c.without_outdir.ensures.exit c.without_outdir.ensures.left

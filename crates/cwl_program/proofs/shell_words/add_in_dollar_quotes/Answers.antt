@@ -13,4 +13,4 @@ returns-then-c-eq92 c =
 pub returns : goal.returns
 returns c =
     made.pushed c.push.result _ _ _ _ c.push.ensures.bytes
-    (λ e. (_, e, made.written_plain c.args.c c.if-c-eq39.false c.if-c-eq92.false (sym c.is_control.ensures ∙ c.if-is_control.false)))
+    (λ e. (_, e, made.written_plain c.args.c c.if-c-eq39.false c.if-c-eq92.false (sym c.is_hidden.ensures ∙ c.if-is_hidden.false)))

@@ -1,4 +1,3 @@
-use Rattle.std.proofs.Common.{inr, refl}
 use Rattle.sqlite.specs.Held.{state}
 use Rattle.job_record.proofs.Opens.{outlined, lacking_ok, lacking_err}
 use Rattle.job_record.proofs.making.has_table.Goals as goal

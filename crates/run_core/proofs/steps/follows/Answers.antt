@@ -1,11 +1,11 @@
-use Rattle.std.proofs.Common.{◌≡◌, subst}
+use Rattle.std.proofs.Common.{◌≡◌, refl, subst}
 use Rattle.proc_host.specs.declared.call.HostAnswer.{HostAnswer}
 use Rattle.run_rules.specs.Answers.{MayAnswer}
 use Rattle.run_rules.specs.declared.request.Answer.{Answer}
 use Rattle.run_core.specs.declared.state.Phase.{Phase}
 use Rattle.run_core.specs.inner.Follows.{AsksOf, IsReadyFor}
 use Rattle.run_core.specs.inner.Standing.{HasRoom}
-use Rattle.run_core.proofs.Asked.{at_work, awaits, it_flies}
+use Rattle.run_core.proofs.Asked.{at_work, awaits, awaits_none, it_flies}
 use Rattle.run_core.proofs.steps.follows.Goals as goal
 use Rattle.run_core.proofs.steps.follows.Goals.{in_default-2-via-in-Measuring+in_default, in_default-2-via-in-Staging+in_default, in_default-2-via-in-Collecting+in_default, in_default-2-via-in-Draining+in_default, in_default-2-via-in-Delivering+in_default, in_default-2-via-in_default}
 
@@ -38,5 +38,7 @@ unreachable-requires c =
       | in_default-2-via-in-Collecting+in_default w ↦ let it = waits _ w.in_default-2.is-0 in w.in_default-2.not-Ended-1 it.0 it.1
       | in_default-2-via-in-Draining+in_default w ↦ let it = waits _ w.in_default-2.is-0 in w.in_default-2.not-Ended-1 it.0 it.1
       | in_default-2-via-in-Delivering+in_default w ↦ w.in_default-2.not-Done-1 (waits _ w.in_default-2.is-0)
-      | in_default-2-via-in_default w ↦ waits _ w.in_default-2.is-0
+      | in_default-2-via-in_default w ↦
+          awaits_none c.args.course.now.tickets.items c.args.course.now c.args.phase c.args.answer.now (waits c.args.phase refl) w.in_default-2.not-Measuring-0
+          w.in_default-2.not-Staging-0 w.in_default-2.not-Working-0 w.in_default-2.not-Collecting-0 w.in_default-2.not-Delivering-0 w.in_default-2.not-Draining-0
     ]

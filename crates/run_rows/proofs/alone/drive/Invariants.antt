@@ -1,4 +1,4 @@
 use Rattle.run_rows.proofs.alone.drive.Given as goal
 
-abbrev pub decreases-loop-place : goal.decreases-loop-place
-decreases-loop-place l = l.core.steps_left
+abbrev pub decreases-loop-alloc : goal.decreases-loop-alloc
+decreases-loop-alloc l = l.core.steps_left

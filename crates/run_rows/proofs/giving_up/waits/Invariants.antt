@@ -1,4 +1,4 @@
 use Rattle.run_rows.proofs.giving_up.waits.Given as goal
 
-abbrev pub decreases-loop-request : goal.decreases-loop-request
-decreases-loop-request l = l.core.steps_left
+abbrev pub decreases-loop-core : goal.decreases-loop-core
+decreases-loop-core l = l.core.steps_left

@@ -1,22 +1,32 @@
-use Rattle.std.proofs.Common.{◌∙◌, sym, ap}
+use Rattle.std.proofs.Common.{◌≡◌, ◌≢◌, ◌++◌, ◌∙◌, rules, sym, ap}
 use Rattle.proc_host.specs.Log.{starts}
+use Rattle.run_rules.specs.Recorded.{lines_of}
 use Rattle.run_rules.specs.Reports.{entries_of}
+use Rattle.run_rules.specs.declared.request.Request.{Request}
+use Rattle.workflow_engine.specs.Gains.{commands_by, entries_by}
 use Rattle.workflow_engine.proofs.Numbered.{starts-append}
-use Rattle.workflow_engine.proofs.Telling.{flies_on, logged_on, numbered_on, still_host}
+use Rattle.workflow_engine.proofs.Telling.{flies_on, grown_on, numbered_on}
 use Rattle.workflow_engine.proofs.drive.drive.Goals as goal
 
-pub loop-place-preserved : goal.loop-place-preserved
-loop-place-preserved g c =
-    let asks = sym c.next.ensures.asked ∙ c.in-Host.is in
-    let entries = c.tell.ensures.entries c.in-Host.place c.in-Host.request asks in
+pub loop-host-preserved : goal.loop-host-preserved
+loop-host-preserved g c =
+    let going : c.loop-host.core.asks ≢ Request.Finished = search rules in
+    let asked = sym c.next-in-loop-host.ensures.asked in
+    let entries : entries_of c.tell.new.core.transcript ≡ entries_of c.loop-host.core.transcript ++ entries_by c.next-in-loop-host.result.now c.ask_next-told.result =
+    c.tell.ensures.entries ∙ ap (λ (asks : Request). entries_of c.loop-host.core.transcript ++ entries_by asks c.ask_next-told.result) asked in
+    let lines : lines_of c.tell.new.core.transcript ≡ lines_of c.loop-host.core.transcript ++ commands_by c.next-in-loop-host.result.now c.ask_next-told.result =
+    c.tell.ensures.lines ∙ ap (λ (asks : Request). lines_of c.loop-host.core.transcript ++ commands_by asks c.ask_next-told.result) asked in
     record {
-      setting = c.tell.ensures.setting ∙ c.loop-place.invariant.setting;
-      logged = logged_on (g.H.Host.log c.args.host.now) (g.H.Host.log c.loop-place.host) _ (entries_of c.loop-place.core.transcript) _ _
-          c.ask-answer.ensures.logged c.loop-place.invariant.logged entries;
-      flying = flies_on c.loop-place.core c.tell.new.core (g.H.Host.running c.loop-place.host) _ c.ask-answer.result c.tell.ensures.flying
-          (c.loop-place.invariant.flying (still_host c.loop-place.core c.in-Host.place c.in-Host.request asks)) c.ask-answer.ensures.running c.ask-answer.ensures.kept;
-      numbered = numbered_on (starts (g.H.Host.log c.args.host.now)) (entries_of c.loop-place.core.transcript) (entries_of c.tell.new.core.transcript) c.in-Host.request c.ask-answer.result
-          (starts (g.H.Host.log c.loop-place.host)) entries c.ask-answer.ensures.numbered
-          (ap starts c.loop-place.invariant.logged ∙ starts-append (g.H.Host.log c.args.host.now) (entries_of c.loop-place.core.transcript)) c.loop-place.invariant.numbered;
-      covered = c.ask-answer.ensures.covered;
+      setting = c.tell.ensures.setting ∙ c.loop-host.invariant.setting;
+      logged = grown_on (g.H.Host.log c.args.host.now) (g.H.Host.log c.loop-host.host) _ (entries_of c.loop-host.core.transcript) _ _
+          c.ask_next-told.ensures.logged c.loop-host.invariant.logged entries;
+      recorded = grown_on (g.R.Record.log c.args.rows.now) (g.R.Record.log c.loop-host.rows) _ (lines_of c.loop-host.core.transcript) _ _
+          c.ask_next-told.ensures.recorded c.loop-host.invariant.recorded lines;
+      flying = flies_on c.loop-host.core c.tell.new.core (g.H.Host.running c.loop-host.host) _ c.ask_next-told.result c.tell.ensures.flying
+          (c.loop-host.invariant.flying going) c.ask_next-told.ensures.running c.ask_next-told.ensures.kept;
+      numbered = numbered_on (starts (g.H.Host.log c.args.host.now)) (entries_of c.loop-host.core.transcript) (entries_of c.tell.new.core.transcript)
+          (g.H.Host.running c.loop-host.host) c.next-in-loop-host.result.now c.ask_next-told.result
+          (starts (g.H.Host.log c.loop-host.host)) entries c.ask_next-told.ensures.answers c.ask_next-told.ensures.numbered
+          (ap starts c.loop-host.invariant.logged ∙ starts-append (g.H.Host.log c.args.host.now) (entries_of c.loop-host.core.transcript)) c.loop-host.invariant.numbered;
+      covered = c.ask_next-told.ensures.covered;
     }

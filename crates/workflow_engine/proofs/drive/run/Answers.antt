@@ -10,6 +10,8 @@ returns-in_err-core-clause-run g c =
     rw none (record {
       gained = [];
       logged = sym (append-nil (g.H.Host.log c.args.host.now));
+      lines = [];
+      recorded = sym (append-nil (g.R.Record.log c.args.rows.now));
       run = nothing_asked c.args.process.now c.args.inputs.now c.args.options;
     })
 

@@ -1,0 +1,15 @@
+use Rattle.std.proofs.Common.{IfOk, subst, sym}
+use Rattle.cwl_program.proofs.Stops.{bare_so}
+use Rattle.cwl_program.specs.Tells.{IsEndOf}
+use Rattle.cwl_program.specs.declared.command.Choice.{Choice}
+use Rattle.cwl_program.proofs.entry.end_of_choice.Goals as goal
+
+pub returns-in-Demo-clause-end : goal.returns-in-Demo-clause-end
+returns-in-Demo-clause-end g c =
+    subst (λ (choice : Choice). IfOk c.bare.result (λ end. IsEndOf c.args.path.now choice end.exit end.left)) (sym c.in-Demo.is)
+    (bare_so _ c.exit_of_demo.result _ c.exit_of_demo.ensures c.bare.ensures.exit c.bare.ensures.left)
+
+pub returns-in-Check-clause-end : goal.returns-in-Check-clause-end
+returns-in-Check-clause-end g c =
+    subst (λ (choice : Choice). IfOk c.bare-in-Check.result (λ end. IsEndOf c.args.path.now choice end.exit end.left)) (sym c.in-Check.is)
+    (bare_so _ c.exit_of_check.result _ c.exit_of_check.ensures c.bare-in-Check.ensures.exit c.bare-in-Check.ensures.left)

@@ -1,0 +1,6 @@
+use Rattle.cwl_program.specs.RunWords.{wish_of_run}
+use Rattle.cwl_program.proofs.Stops.{without_folder}
+use Rattle.cwl_program.proofs.run.end_of_process.Goals as goal
+
+pub returns-in-Err-clause-end : goal.returns-in-Err-clause-end
+returns-in-Err-clause-end g c = without_folder (wish_of_run c.args.words.now) c.args.path.now _ c.without_folder.ensures.exit c.without_folder.ensures.left

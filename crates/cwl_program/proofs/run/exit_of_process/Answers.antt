@@ -1,6 +1,0 @@
-use Rattle.cwl_program.specs.RunWords.{wish_of_run}
-use Rattle.cwl_program.proofs.Stops.{without_folder}
-use Rattle.cwl_program.proofs.run.exit_of_process.Goals as goal
-
-pub returns-in-Err-clause-exit : goal.returns-in-Err-clause-exit
-returns-in-Err-clause-exit g c = without_folder (wish_of_run c.args.words.now) c.args.path.now _ c.without_folder.ensures

@@ -1,0 +1,73 @@
+//! Commands on a record that is kept in memory, as a run asks it.
+
+use crate::asks::{Ask, put_log};
+use crate::commands::ask_in;
+use crate::rows::{put_comma, put_row, row_in};
+use job_rows::{MemoryRecord, Record, RecordError, Row as RecordRow};
+use plain_data::Text;
+use row_io::{AnswerText, Row, RowFault};
+use serde_json::Value as Json;
+use std::alloc::Global;
+use std::mem;
+
+/// What each of the row's commands is answered, on a new record in memory.
+pub(crate) fn answers(alloc: Global, row: &Row) -> Result<String, RowFault> {
+    let commands = row.list("commands")?;
+    let mut record = MemoryRecord::new(alloc);
+    let mut out = AnswerText::new(alloc);
+    out.put("[");
+    for (at, command) in commands.iter().enumerate() {
+        put_comma(&mut out, at);
+        run(alloc, &mut record, command, &mut out)?;
+    }
+    out.put("]");
+    out.finish()
+}
+
+fn run(
+    alloc: Global,
+    record: &mut MemoryRecord,
+    command: &Json,
+    out: &mut AnswerText,
+) -> Result<(), RowFault> {
+    if let Some(json) = command.get("put") {
+        let row = row_in(alloc, json);
+        if let Some(row) = &row {
+            put_outcome(out, record.put(row));
+        }
+        mem::drop(row);
+        return Ok(());
+    }
+    match ask_in(command) {
+        Some(Ask::Find(key)) => put_found(alloc, out, record.find(&Text::from_text(alloc, key)?)),
+        Some(Ask::DropArchive(key)) => {
+            put_outcome(out, record.drop_archive(&Text::from_text(alloc, key)?))
+        }
+        Some(Ask::Log) => put_log(out, record.log()),
+        _ => out.put("?"),
+    }
+    Ok(())
+}
+
+fn put_outcome(out: &mut AnswerText, done: Result<(), RecordError>) {
+    match done {
+        Ok(()) => out.put("\"done\""),
+        Err(error) => put_error(out, error),
+    }
+}
+
+fn put_error(out: &mut AnswerText, error: RecordError) {
+    match error {
+        RecordError::Refused(refusal) => out.put_quoted(refusal.code()),
+        RecordError::OutOfMemory => out.put("?"),
+    }
+}
+
+fn put_found(alloc: Global, out: &mut AnswerText, found: Result<Option<RecordRow>, RecordError>) {
+    match &found {
+        Ok(Some(row)) => put_row(alloc, out, row),
+        Ok(None) => out.put("null"),
+        Err(error) => put_error(out, *error),
+    }
+    mem::drop(found);
+}

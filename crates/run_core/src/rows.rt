@@ -1,0 +1,89 @@
+//! What the record has of a job, once it has told it.
+ghost use Rattle.std.specs.Prelude.{◌≡◌, ◌<◌, ◌+◌, ◌^◌, Some, IfOk, OnErr, length};
+ghost use Rattle.run_core.specs.inner.Course.{known_in};
+ghost use Rattle.run_core.specs.inner.Follows.{FollowsFind, IsFinding, IsOfAFind, IsReady};
+ghost use Rattle.run_core.specs.inner.Picks.{AfterFind, Tells};
+ghost use Rattle.run_rules.specs.declared.request.RecordAnswer.{RecordAnswer as Told};
+
+use crate::RecordAnswer;
+use crate::choice::pick;
+use crate::course::{job_of, note_answer};
+use crate::state::{Course, Given, Phase, Turn};
+use cwl_process::Tool;
+use job_reuse::row_is_sound;
+use job_rows::{RecordRefusal, Row};
+use std::alloc::{AllocError, Global};
+
+/// What the machine waits for after the record's answer.
+pub(crate) fn told(
+    alloc: Global,
+    given: &Given<'_>,
+    course: &mut Course<'_>,
+    phase: Phase,
+    answer: &RecordAnswer,
+) -> Result<Turn, AllocError>
+    requires ready { IsReady course.old }
+    requires finds { IsFinding course.old phase }
+    requires answers { IsOfAFind answer.now }
+    ensures is { IfOk result (λ turn. FollowsFind given.now course.old phase answer.now turn
+        course.new) }
+    ensures flying { OnErr result (course.new.tickets.items ≡ course.old.tickets.items) }
+{
+    match phase {
+        Phase::Finding(number) => told_of_job(alloc, given, course, number, answer),
+        _ => unreachable!(),
+    }
+}
+
+/// The record has answered the question for the row of this job.
+fn told_of_job(
+    alloc: Global,
+    given: &Given<'_>,
+    course: &mut Course<'_>,
+    number: usize,
+    answer: &RecordAnswer,
+) -> Result<Turn, AllocError>
+    requires folders { course.old.folders + 1 < 2 ^ 64 }
+    requires number { number < length (known_in course.old.known) }
+    requires answers { IsOfAFind answer.now }
+    ensures is { IfOk result (λ turn. AfterFind given.now course.old number answer.now turn
+        course.new) }
+    ensures flying { OnErr result (course.new.tickets.items ≡ course.old.tickets.items) }
+{
+    let refusal = refusal_of(alloc, job_of(course, number).tool, answer)?;
+    note_answer(course, number, refusal);
+    pick(alloc, given, course)
+}
+
+/// Why the run ends by this answer, if it does: the record refused, or the row contradicts itself or the tool.
+fn refusal_of(
+    alloc: Global,
+    tool: &Tool,
+    answer: &RecordAnswer,
+) -> Result<Option<RecordRefusal>, AllocError>
+    requires { IsOfAFind answer.now }
+    ensures { IfOk result (Tells tool.now answer.now) }
+{
+    match answer {
+        RecordAnswer::Found(found) => match found {
+            Some(row) => contradiction_of(alloc, tool, row),
+            None => Ok(None),
+        },
+        RecordAnswer::Refused(refusal) => Ok(Some(*refusal)),
+        RecordAnswer::Done => unreachable!(),
+    }
+}
+
+/// A row that contradicts itself or the tool is refused, as one that does not read.
+fn contradiction_of(
+    alloc: Global,
+    tool: &Tool,
+    row: &Row,
+) -> Result<Option<RecordRefusal>, AllocError>
+    ensures { IfOk result (Tells tool.now (Told.Found (Some row.now))) }
+{
+    match row_is_sound(alloc, tool, row)? {
+        true => Ok(None),
+        false => Ok(Some(RecordRefusal::NotARecord)),
+    }
+}

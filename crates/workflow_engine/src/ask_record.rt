@@ -1,0 +1,50 @@
+//! One question to the record.
+ghost use Rattle.std.specs.Prelude.{◌≡◌, ◌++◌, IfOk};
+ghost use Rattle.run_rules.specs.Answers.{CanTell};
+ghost use Rattle.workflow_engine.specs.Gains.{done_by, found_by, refused_by, lines_by};
+
+use job_rows::{Record, RecordError, Row};
+use run_core::{RecordAnswer, RecordRequest};
+use std::alloc::AllocError;
+
+/// Gives the record a command, as a run asks. An `Err` leaves its log as it was.
+pub(crate) fn ask_record<R: Record>(
+    rows: &mut R,
+    request: &RecordRequest,
+) -> Result<RecordAnswer, AllocError>
+    ensures logged { R.log rows.new ≡ R.log rows.old ++ lines_by request.now result }
+    ensures answers { IfOk result (CanTell request.now) }
+{
+    match request {
+        RecordRequest::Find(key) => found(rows.find(key)),
+        RecordRequest::Put(row) => done(rows.put(row)),
+        RecordRequest::DropArchive(key) => done(rows.drop_archive(key)),
+    }
+}
+
+fn found(outcome: Result<Option<Row>, RecordError>) -> Result<RecordAnswer, AllocError>
+    ensures { result ≡ found_by outcome }
+{
+    match outcome {
+        Ok(row) => Ok(RecordAnswer::Found(row)),
+        Err(error) => refused(error),
+    }
+}
+
+fn done(outcome: Result<(), RecordError>) -> Result<RecordAnswer, AllocError>
+    ensures { result ≡ done_by outcome }
+{
+    match outcome {
+        Ok(()) => Ok(RecordAnswer::Done),
+        Err(error) => refused(error),
+    }
+}
+
+fn refused(error: RecordError) -> Result<RecordAnswer, AllocError>
+    ensures { result ≡ refused_by error }
+{
+    match error {
+        RecordError::Refused(refusal) => Ok(RecordAnswer::Refused(refusal)),
+        RecordError::OutOfMemory => Err(AllocError),
+    }
+}
