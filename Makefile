@@ -1,7 +1,7 @@
 # Needs bash, make, python3 (3.8 or later) and the Rattle toolchain, whose command is rt.
 .PHONY: build install package help demo try examples check rows since new test gate-cost wrong-bodies
 
-# Proves and builds the program, and prints its path.
+# Proves what this computer has not kept, builds the program, and prints its path.
 build:
 	@scripts/build
 
@@ -15,7 +15,7 @@ package:
 
 # The minutes are of four shared processors of two cores, beside other work.
 help:
-	@echo "make               prove and build the program, and print its path (about an hour the first time, then seconds)"
+	@echo "make               prove and build the program, and print its path (about an hour where nothing is kept, seconds where the gate was run)"
 	@echo "make install       put the proved program there as PREFIX/bin/deparohi, PREFIX=DIR names the place"
 	@echo "make package       put the proved program into a Debian package in out/, and try to install it there (as make)"
 	@echo "make demo          run the worked example, unproved, for a first look (5 minutes the first time, then a second)"

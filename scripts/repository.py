@@ -18,15 +18,22 @@ def need(*programs):
             sys.exit(2)
 
 
-def crates():
-    """Returns the crates of crates.txt by name, each with the repository's crates that it uses."""
+def lines_of_crates():
+    """Returns the lines of crates.txt, each by the crate that it is of."""
     found = {}
     with open(f"{TOP}/crates.txt", encoding="utf-8") as it:
         for line in it:
-            name, colon, used = line.partition("#")[0].partition(":")
+            name, colon, _ = line.partition("#")[0].partition(":")
             if colon:
-                found[name.split()[0]] = used.split()
-    return {name: [it for it in used if it in found] for name, used in found.items()}
+                found[name.split()[0]] = line if line.endswith("\n") else f"{line}\n"
+    return found
+
+
+def crates():
+    """Returns the crates of crates.txt by name, each with the repository's crates that it uses."""
+    found = lines_of_crates()
+    used = {name: line.partition("#")[0].partition(":")[2].split() for name, line in found.items()}
+    return {name: [it for it in those if it in found] for name, those in used.items()}
 
 
 def below(name, known):

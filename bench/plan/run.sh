@@ -15,12 +15,12 @@
 set -euo pipefail
 
 here=$(cd "$(dirname "$0")" && pwd)
-crate=$here/../../crates/plan_bench
-ours=$crate/out/plan_bench
+top=$(cd "$here/../.." && pwd)
+ours=$("$top/scripts/build" plan_bench)
+ours=$top/$ours
 work=$(mktemp -d)
 trap 'rm -rf "$work"' EXIT
 
-(cd "$crate" && rt run < stdin > "$work/built" 2>&1) || { cat "$work/built" >&2; exit 1; }
 g++ -O2 -std=c++17 "$here/dinic.cpp" -o "$work/dinic"
 g++ -O2 -std=c++17 "$here/levels.cpp" -o "$work/levels"
 peers="dinic levels"

@@ -4,9 +4,9 @@
 # medians of five, each program once in turn, in microseconds, and the ratios.
 set -euo pipefail
 here=$(cd "$(dirname "$0")" && pwd)
-cd "$here/../../crates/record_rows"
-rt run </dev/null >/dev/null 2>&1 || { rt run </dev/null; exit 1; }
-program=$PWD/out/record_rows
+top=$(cd "$here/../.." && pwd)
+program=$("$top/scripts/build" record_rows)
+program=$top/$program
 folder=$(mktemp -d -p "${BENCH_FOLDER:-$here}")
 trap 'rm -rf "$folder"' EXIT
 

@@ -5,8 +5,8 @@
 set -euo pipefail
 here=$(cd "$(dirname "$0")" && pwd)
 if [ -z "${PROGRAM-}" ]; then
-    cd "$here/../../crates/run_rows"
-    rt run </dev/null >/dev/null 2>&1 || { rt run </dev/null; exit 1; }
-    PROGRAM=$PWD/out/run_rows
+    top=$(cd "$here/../.." && pwd)
+    PROGRAM=$("$top/scripts/build" run_rows)
+    PROGRAM=$top/$PROGRAM
 fi
 python3 "$here/machine.py" "$PROGRAM"

@@ -2,10 +2,10 @@
 # How long `sum_of` takes on a file of 256 MB beside `sha1sum`, `openssl dgst -sha1` and the hasher alone, in one run:
 # medians of five, each program once in turn, and the ratios. The last line says whether 64 MB of address space are enough.
 set -euo pipefail
-cd "$(dirname "$0")/../../crates/sum_bench"
+top=$(cd "$(dirname "$0")/../.." && pwd)
 size=$((256 * 1024 * 1024))
-rt run -- digest 0 >/dev/null 2>&1 || { rt run -- digest 0; exit 1; }
-program=$PWD/out/sum_bench
+program=$("$top/scripts/build" sum_bench)
+program=$top/$program
 file=$(mktemp)
 trap 'rm -f "$file"' EXIT
 head -c "$size" /dev/urandom >"$file"
