@@ -15,7 +15,7 @@ package:
 
 # The minutes are of four shared processors of two cores, beside other work.
 help:
-	@echo "make               prove and build the program, and print its path (about an hour where nothing is kept, seconds where the gate was run)"
+	@echo "make               prove and build the program, and print its path (about an hour where nothing is kept, a minute or two after the gate)"
 	@echo "make install       put the proved program there as PREFIX/bin/deparohi, PREFIX=DIR names the place"
 	@echo "make package       put the proved program into a Debian package in out/, and try to install it there (as make)"
 	@echo "make demo          run the worked example, unproved, for a first look (5 minutes the first time, then a second)"
