@@ -20,7 +20,7 @@ _deparohi() {
         return
     fi
     case $command in
-    run) every="--work --outdir --slots --retries --verbose --progress $every" ;;
+    run) every="--work --outdir --slots --retries --verbose --progress --keep --keep-failed $every" ;;
     record) every="--forget $every" ;;
     help) every="" ;;
     esac
