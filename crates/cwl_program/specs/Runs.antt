@@ -47,16 +47,17 @@ outcome_exit (outcomes.Success outputs) = exits.Output (compact_text (json_of ou
 outcome_exit (outcomes.PermanentFail place cause) = exits.Permanent (place_json place) cause
 outcome_exit (outcomes.TemporaryFail place) = exits.Temporary (place_json place)
 
--- a run that has no outcome is a fault; of the host's one it is told what the call was about
-abbrev pub fault_of : (log : List Entry) → RunFault → Fault
-fault_of log (run_faults.Host fault running) = faults.Host fault (failed_on log fault)
-fault_of log (run_faults.Record refusal) = faults.Record refusal
-fault_of log run_faults.TooManyJobs = faults.TooManyJobs
-fault_of log run_faults.OutOfMemory = faults.OutOfMemory
+-- a run that has no outcome is a fault; of the host's one it is told what the call was about, of a mismatch which job it was
+abbrev pub fault_exit : (log : List Entry) → RunFault → Exit
+fault_exit log (run_faults.Host fault running) = exits.Fault (faults.Host fault (failed_on log fault))
+fault_exit log (run_faults.Record refusal) = exits.Fault (faults.Record refusal)
+fault_exit log (run_faults.Mismatch place) = exits.Mismatch (place_json place)
+fault_exit log run_faults.TooManyJobs = exits.Fault faults.TooManyJobs
+fault_exit log run_faults.OutOfMemory = exits.Fault faults.OutOfMemory
 
 abbrev pub run_exit : (log : List Entry) → Result Report RunFault → Exit
 run_exit log (Ok report) = outcome_exit report.outcome
-run_exit log (Err fault) = exits.Fault (fault_of log fault)
+run_exit log (Err fault) = fault_exit log fault
 
 -- the logs of a host and of a fresh record gained a run of this process on these inputs, where a fault is the host's only if a call of it
 -- failed so, and the program ends as that run

@@ -18,7 +18,7 @@ use Rattle.cwl_program.specs.Words.{name_of, word_of, refusal_code}
 use Rattle.cwl_program.specs.declared.command.Choice.{Choice}
 use Rattle.cwl_program.specs.declared.command.Choice.TheVariants.{Demo, Check, Run, Record}
 use Rattle.cwl_program.specs.declared.exit.Exit.{Exit}
-use Rattle.cwl_program.specs.declared.exit.Exit.TheVariants.{Output, Broken, Record as Shows, Permanent, Temporary, Refused, Fault}
+use Rattle.cwl_program.specs.declared.exit.Exit.TheVariants.{Output, Broken, Record as Shows, Permanent, Temporary, Mismatch, Refused, Fault}
 use Rattle.cwl_program.specs.declared.exit.Fault.TheVariants as faults
 use Rattle.cwl_program.specs.declared.telling.Telling.{Telling}
 use Rattle.cwl_program.specs.declared.telling.Telling.TheVariants.{Nothing, Lines, OneLine}
@@ -38,6 +38,7 @@ Prints (Broken rule) out out_new err err_new = IsGiven (codes "broken " ++ name_
 Prints (Shows ending) out out_new err err_new = record_program.Prints ending out out_new err err_new
 Prints (Permanent place cause) out out_new err err_new = IsGiven (codes "permanentFail " ++ place) err err_new out out_new
 Prints (Temporary place) out out_new err err_new = IsGiven (codes "temporaryFail " ++ place) err err_new out out_new
+Prints (Mismatch place) out out_new err err_new = IsGiven (codes "fault: Mismatch " ++ place) err err_new out out_new
 Prints (Refused refusal) out out_new err err_new = IsGiven (codes "refused: " ++ refusal_code refusal) err err_new out out_new
 Prints (Fault fault) out out_new err err_new = IsGiven (codes "fault: " ++ word_of fault) err err_new out out_new
 

@@ -31,6 +31,8 @@ pub enum Exit {
     Permanent(Text, Cause),
     /// A job failed temporarily; its place as JSON text.
     Temporary(Text),
+    /// The job at this place (as JSON text) did not give what its row in the record has.
+    Mismatch(Text),
     /// What the program was given is refused.
     Refused(Refusal),
     /// Anything else went wrong.
@@ -147,7 +149,7 @@ impl Exit {
             Exit::Broken(_) | Exit::Permanent(_, _) => 1,
             Exit::Temporary(_) => 2,
             Exit::Record(ending) => ending.status(),
-            Exit::Fault(_) => 3,
+            Exit::Fault(_) | Exit::Mismatch(_) => 3,
             Exit::Refused(_) => 33,
         }
     }
@@ -163,6 +165,7 @@ impl Exit {
             Exit::Record(ending) => ending.print(out, err),
             Exit::Permanent(place, _) => writeln!(err, "permanentFail {place}"),
             Exit::Temporary(place) => writeln!(err, "temporaryFail {place}"),
+            Exit::Mismatch(place) => writeln!(err, "fault: Mismatch {place}"),
             Exit::Refused(refusal) => writeln!(err, "refused: {}", refusal.code()),
             Exit::Fault(fault) => writeln!(err, "fault: {}", fault.word()),
         }

@@ -30,6 +30,7 @@ pub fn explain_exit<E: Write>(alloc: Global, exit: &Exit, err: &mut E) -> io::Re
             put_words(alloc, cause_words(alloc, place, cause)?.as_str(), err)
         }
         Exit::Temporary(place) => put_words(alloc, temporary_words(alloc, place)?.as_str(), err),
+        Exit::Mismatch(place) => put_words(alloc, mismatch_words(alloc, place)?.as_str(), err),
         Exit::Fault(fault) => put_words(alloc, fault_words(alloc, fault)?.as_str(), err),
     }
 }
@@ -204,6 +205,14 @@ fn equation_words(alloc: Global, cause: &NoValue) -> Result<String, AllocError> 
         }
         NoValue::Scatter(fault) => format!(in alloc; "{fault}"),
     }
+}
+
+fn mismatch_words(alloc: Global, place: &Text) -> Result<String, AllocError> {
+    let words =
+        "gave other outputs than the record has of the same work, or failed: its tool is not deterministic";
+    format!(in alloc;
+        "the job at {place} {words}; `WorkReuse` with `enableReuse: false` keeps it out of the record"
+    )
 }
 
 fn fault_words(alloc: Global, fault: &Fault) -> Result<String, AllocError> {

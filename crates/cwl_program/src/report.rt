@@ -1,5 +1,5 @@
 ghost use Rattle.std.specs.Prelude.{◌≡◌, IfOk};
-ghost use Rattle.cwl_program.specs.Runs.{fault_of, outcome_exit, place_json, run_exit};
+ghost use Rattle.cwl_program.specs.Runs.{fault_exit, outcome_exit, place_json, run_exit};
 
 use crate::exit::{Exit, Fault};
 use crate::failed_call::failed_on;
@@ -33,7 +33,7 @@ pub fn exit_of_run(
         Err(fault) => {
             let told = of_fault(alloc, log, &fault);
             mem::drop(fault);
-            Ok(Exit::Fault(told?))
+            told
         }
     }
 }
@@ -82,13 +82,17 @@ pub fn place_in(alloc: Global, place: &JobPlace) -> Result<Text, AllocError>
     visible_text(alloc, &text)
 }
 
-fn of_fault(alloc: Global, log: &[Entry], fault: &RunFault) -> Result<Fault, AllocError>
-    ensures { IfOk result (λ told. told ≡ fault_of log.now fault.now) }
+fn of_fault(alloc: Global, log: &[Entry], fault: &RunFault) -> Result<Exit, AllocError>
+    ensures { IfOk result (λ told. told ≡ fault_exit log.now fault.now) }
 {
     match fault {
-        RunFault::Host(fault, _) => Ok(Fault::Host(*fault, failed_on(alloc, log, *fault)?)),
-        RunFault::Record(refusal) => Ok(Fault::Record(*refusal)),
-        RunFault::TooManyJobs => Ok(Fault::TooManyJobs),
-        RunFault::OutOfMemory => Ok(Fault::OutOfMemory),
+        RunFault::Host(fault, _) => {
+            let name = failed_on(alloc, log, *fault)?;
+            Ok(Exit::Fault(Fault::Host(*fault, name)))
+        }
+        RunFault::Record(refusal) => Ok(Exit::Fault(Fault::Record(*refusal))),
+        RunFault::Mismatch(place) => Ok(Exit::Mismatch(place_in(alloc, place)?)),
+        RunFault::TooManyJobs => Ok(Exit::Fault(Fault::TooManyJobs)),
+        RunFault::OutOfMemory => Ok(Exit::Fault(Fault::OutOfMemory)),
     }
 }

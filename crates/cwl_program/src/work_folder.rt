@@ -6,7 +6,7 @@ use crate::reading::bytes_of_file;
 use crate::run_end::RunEnd;
 use crate::run_words::RunWords;
 use plain_data::Text;
-use process_machine::World;
+use process_machine::{World, remove_folder};
 use run_facts::{KEPT, WorkTrouble, mark_of, number_in, trouble_of};
 use std::alloc::AllocError;
 use std::{fs, io, str};
@@ -48,7 +48,7 @@ pub fn leave<R: World>(rt: &R, work: &Text, words: &RunWords, end: &Result<RunEn
     if stays {
         mark_kept(rt, work);
     } else {
-        let _removed = fs::remove_dir_all(rt, work.as_str());
+        let _removed = remove_folder(rt, work.as_str());
     }
 }
 

@@ -1,16 +1,26 @@
+mod Above
+mod Ahead
+mod AheadOf
 mod Graphs
+mod Going
+mod GoingOn
+mod Gone
 mod Grows
 mod Index
 pub mod Knowing
-mod Kept
+mod KeptFault
 mod Limits
 mod Loops
 mod Marks
 mod MetMore
 mod OneOpen
+mod OpenKept
 mod Outs
 mod Vertices
 mod Quotients
+mod RootWalk
+mod Rooted
+mod SettledWalk
 mod Settling
 mod Tuples
 mod Unfolds

@@ -5,8 +5,10 @@ use Rattle.std.proofs.Math.Seq.{take-append_seam}
 use Rattle.std.proofs.lemmas.List.{length_push, map-append}
 use Rattle.document_links.specs.declared.process.Process.{Process}
 use Rattle.input_files.specs.Measured.{Measures}
+use Rattle.workflow_check.specs.Sound.{IsIn}
 use Rattle.job_graph.specs.declared.fault.UnfoldError.{UnfoldError}
 use Rattle.job_graph.specs.declared.growth.KnownJob.{KnownJob}
+use Rattle.job_graph.specs.declared.kept.Kept.{Kept}
 use Rattle.job_graph.specs.declared.made.Resolved.{Resolved as KeptResolved}
 use Rattle.job_graph.specs.declared.outcome.Outputs.{Outputs}
 use Rattle.job_graph.specs.declared.progress.Progress.{Progress}
@@ -18,10 +20,12 @@ use Rattle.job_graph.specs.Unfold.{Resolved, Fault, made_by, with_met, first_fau
 use Rattle.job_graph.specs.KnownJobs.{jobs_in, known_of}
 use Rattle.job_graph.specs.Unfolding.{Blames}
 use Rattle.job_graph.specs.Beside.{is_one_open}
-use Rattle.job_graph.specs.inner.Growth.{AreCounted, IsOfOneProcess, Unfolds, UnfoldsTo, walk_in}
-use Rattle.job_graph.specs.inner.Inside.{Follows, walks_in}
+use Rattle.job_graph.specs.inner.Growth.{AreCounted, IsAhead, IsOfOneProcess, Unfolds, UnfoldsTo, walk_in}
+use Rattle.job_graph.specs.inner.Inside.{Follows, Stands, walks_in}
+use Rattle.job_graph.specs.inner.Kept.{KeepsRoot, met_by}
 use Rattle.job_graph.specs.inner.Outputs.{result_of}
 use Rattle.job_graph.specs.inner.Views.{resolved_of}
+use Rattle.job_graph.proofs.AheadOf.{ahead, kept_open}
 use Rattle.job_graph.proofs.laws_of_walks.Open.{more_jobs, more_fault, unfolded_same}
 
 -- the last one is taken off again
@@ -58,9 +62,9 @@ walk_is walks learned held walker places =
 pub knows_after : (walks : Walker) (past : List Job) (learned : List Resolved) (held new : Progress) →
     walks_in held ≡ walks → map resolved_of held.facts.learned ≡ learned → jobs_in held.known.items ≡ past → AreCounted held.known.items held.entries →
     (unfolded walks learned).jobs ≡ with_met past (walks (made_by learned)).met → (unfolded walks learned).fault ≡ first_fault past (walks (made_by learned)).met →
-    Unfolds held new (Ok tt) → Follows walks learned new
-knows_after walks past learned held new walker places known counted all fault unfolds =
-    let found : UnfoldsTo held new (Ok tt) = unfolds.unfolds counted in
+    ids_differ held.process.now ≡ true → IsAhead held → Unfolds held new (Ok tt) → Follows walks learned new
+knows_after walks past learned held new walker places known counted all fault apart ahead unfolds =
+    let found : UnfoldsTo held new (Ok tt) = unfolds.unfolds ahead counted in
     let walk : walk_in held ≡ walks (made_by learned) = walk_is walks learned held walker places in
     let jobs : jobs_in new.known.items ≡ (unfolded walks learned).jobs =
     found.grown.0 ∙ ap (λ (jobs : List Job). with_met jobs (walk_in held).met) known ∙ ap (λ (w : Walk). with_met past w.met) walk ∙ sym all in
@@ -73,17 +77,19 @@ knows_after walks past learned held new walker places known counted all fault un
       fault = fault ∙ sym (ap (λ (w : Walk). first_fault past w.met) walk) ∙ sym (ap (λ (jobs : List Job). first_fault jobs (walk_in held).met) known) ∙ found.grown.1;
       result = found.result ∙ ap (λ (found : List Resolved). result_in (made_by found) (walk_in held)) places ∙ ap (result_in (made_by learned)) walk;
       outs = found.outs ∙ ap (λ (w : Walk). those_named w.outs) walk;
+      apart = ap ids_differ unfolds.same.process ∙ apart;
+      kept = unfolds.root;
     }
 
 pub blames_after : (walks : Walker) (past : List Job) (learned : List Resolved) (held new : Progress) (error : UnfoldError) →
     walks_in held ≡ walks → map resolved_of held.facts.learned ≡ learned → jobs_in held.known.items ≡ past → AreCounted held.known.items held.entries →
     (unfolded walks learned).fault ≡ first_fault past (walks (made_by learned)).met →
-    Unfolds held new (Err error) → Blames (unfolded walks learned).fault error
-blames_after walks past learned held new error walker places known counted fault unfolds =
+    IsAhead held → Unfolds held new (Err error) → Blames (unfolded walks learned).fault error
+blames_after walks past learned held new error walker places known counted fault ahead unfolds =
     let walk : walk_in held ≡ walks (made_by learned) = walk_is walks learned held walker places in
     let same : first_fault (jobs_in held.known.items) (walk_in held).met ≡ (unfolded walks learned).fault =
     ap (λ (jobs : List Job). first_fault jobs (walk_in held).met) known ∙ ap (λ (w : Walk). first_fault past w.met) walk ∙ sym fault in
-    subst (λ (found : Option Fault). Blames found error) same (unfolds.unfolds counted)
+    subst (λ (found : Option Fault). Blames found error) same (unfolds.unfolds ahead counted)
 
 -- before any job has run
 
@@ -93,15 +99,21 @@ none_counted known entries none zero = record {
   count = zero ∙ sym (ap (λ (before : List KnownJob). entries_from 0 [] (jobs_in before)) none);
 }
 
+none_ahead : (held : Progress) → held.known.items ≡ [] → held.kept ≡ None → IsAhead held
+none_ahead held known kept = record {
+  seen = λ m at. absurd (subst (λ (k : Option Kept). IsIn m (met_by held.facts held.fields held.process.now k)) kept at);
+  met = λ job at. absurd (subst (λ (k : List KnownJob). IsIn job (jobs_in k)) known at);
+}
+
 pub knows_first : (walks : Walker) (held new : Progress) → walks_in held ≡ walks → held.facts.learned ≡ [] → held.known.items ≡ [] → held.entries ≡ 0 →
-    Unfolds held new (Ok tt) → Follows walks [] new
-knows_first walks held new walker learned known entries unfolds =
-    knows_after walks [] [] held new walker (ap (map resolved_of) learned) (ap jobs_in known) (none_counted held.known.items held.entries known entries) refl refl unfolds
+    held.kept ≡ None → ids_differ held.process.now ≡ true → Unfolds held new (Ok tt) → Follows walks [] new
+knows_first walks held new walker learned known entries kept apart unfolds =
+    knows_after walks [] [] held new walker (ap (map resolved_of) learned) (ap jobs_in known) (none_counted held.known.items held.entries known entries) refl refl apart (none_ahead held known kept) unfolds
 
 pub blames_first : (walks : Walker) (held new : Progress) (error : UnfoldError) → walks_in held ≡ walks → held.facts.learned ≡ [] → held.known.items ≡ [] → held.entries ≡ 0 →
-    Unfolds held new (Err error) → Blames (unfolded walks []).fault error
-blames_first walks held new error walker learned known entries unfolds =
-    blames_after walks [] [] held new error walker (ap (map resolved_of) learned) (ap jobs_in known) (none_counted held.known.items held.entries known entries) refl unfolds
+    held.kept ≡ None → Unfolds held new (Err error) → Blames (unfolded walks []).fault error
+blames_first walks held new error walker learned known entries kept unfolds =
+    blames_after walks [] [] held new error walker (ap (map resolved_of) learned) (ap jobs_in known) (none_counted held.known.items held.entries known entries) refl (none_ahead held known kept) unfolds
 
 -- once one more place is learned
 
@@ -114,19 +126,19 @@ more_places : (learned : List Resolved) (before more : List KeptResolved) (resol
 more_places learned before more resolved places is =
     ap (map resolved_of) is ∙ map-append resolved_of before (resolved ∷ []) ∙ ap (λ (front : List Resolved). front ++ resolved_of resolved ∷ []) places
 
-pub knows_more : (walks : Walker) (learned : List Resolved) (old new : Progress) (resolved : KeptResolved) (more : List KeptResolved) → Follows walks learned old →
+pub knows_more : (walks : Walker) (learned : List Resolved) (old new : Progress) (resolved : KeptResolved) (more : List KeptResolved) → Stands old → Follows walks learned old →
     more ≡ old.facts.learned ++ resolved ∷ [] → Unfolds (with_learned old more) new (Ok tt) → Follows walks (learned ++ resolved_of resolved ∷ []) new
-knows_more walks learned old new resolved more knows is unfolds =
+knows_more walks learned old new resolved more stands knows is unfolds =
     knows_after walks (unfolded walks learned).jobs (learned ++ resolved_of resolved ∷ []) (with_learned old more) new
     knows.walker (more_places learned old.facts.learned more resolved knows.places is) knows.jobs (is_counted walks learned old knows)
-    (more_jobs walks learned (resolved_of resolved)) (more_fault walks learned (resolved_of resolved) knows.fault) unfolds
+    (more_jobs walks learned (resolved_of resolved)) (more_fault walks learned (resolved_of resolved) knows.fault) knows.apart (ahead old resolved more is stands) unfolds
 
-pub blames_more : (walks : Walker) (learned : List Resolved) (old new : Progress) (resolved : KeptResolved) (more : List KeptResolved) (error : UnfoldError) → Follows walks learned old →
+pub blames_more : (walks : Walker) (learned : List Resolved) (old new : Progress) (resolved : KeptResolved) (more : List KeptResolved) (error : UnfoldError) → Stands old → Follows walks learned old →
     more ≡ old.facts.learned ++ resolved ∷ [] → Unfolds (with_learned old more) new (Err error) → Blames (unfolded walks (learned ++ resolved_of resolved ∷ [])).fault error
-blames_more walks learned old new resolved more error knows is unfolds =
+blames_more walks learned old new resolved more error stands knows is unfolds =
     blames_after walks (unfolded walks learned).jobs (learned ++ resolved_of resolved ∷ []) (with_learned old more) new error
     knows.walker (more_places learned old.facts.learned more resolved knows.places is) knows.jobs (is_counted walks learned old knows)
-    (more_fault walks learned (resolved_of resolved) knows.fault) unfolds
+    (more_fault walks learned (resolved_of resolved) knows.fault) (ahead old resolved more is stands) unfolds
 
 pub knows_still : (walks : Walker) (learned : List Resolved) (old new : Progress) (more less : List KeptResolved) (error : UnfoldError) → Follows walks learned old →
     less ≡ old.facts.learned → Unfolds (with_learned old more) new (Err error) → Follows walks learned (with_learned new less)
@@ -139,13 +151,16 @@ knows_still walks learned old new more less error knows is unfolds = record {
   fault = knows.fault;
   result = ap result_of unfolds.alike.outputs ∙ knows.result;
   outs = ap (λ (outputs : Outputs). outputs.named.items) unfolds.alike.outputs ∙ knows.outs;
+  apart = ap ids_differ unfolds.same.process ∙ knows.apart;
+  kept = subst (λ (k : Option Kept). KeepsRoot (record new.facts { learned = less }) new.fields new.process.now k) (sym unfolds.none) tt;
 }
 
 -- once one more place is learned, while a job beside it is open
 
 still_knows : (walks : Walker) (learned : List Resolved) (old : Progress) (one : Resolved) (more : List KeptResolved) → map resolved_of more ≡ learned ++ one ∷ [] →
-    Follows walks learned old → unfolded walks (learned ++ one ∷ []) ≡ unfolded walks learned → Follows walks (learned ++ one ∷ []) (with_learned old more)
-still_knows walks learned old one more places knows same = record {
+    Follows walks learned old → unfolded walks (learned ++ one ∷ []) ≡ unfolded walks learned →
+    KeepsRoot (record old.facts { learned = more }) old.fields old.process.now old.kept → Follows walks (learned ++ one ∷ []) (with_learned old more)
+still_knows walks learned old one more places knows same kept = record {
   walker = knows.walker;
   places = places;
   jobs = knows.jobs ∙ sym (ap (λ (u : Unfolded). u.jobs) same);
@@ -154,13 +169,15 @@ still_knows walks learned old one more places knows same = record {
   fault = ap (λ (u : Unfolded). u.fault) same ∙ knows.fault;
   result = knows.result ∙ sym (ap (λ (u : Unfolded). u.result) same);
   outs = knows.outs ∙ sym (ap (λ (u : Unfolded). u.outs) same);
+  apart = knows.apart;
+  kept = kept;
 }
 
-pub knows_open : (walks : Walker) (learned : List Resolved) (old : Progress) (resolved : KeptResolved) (more : List KeptResolved) → Follows walks learned old →
-    more ≡ old.facts.learned ++ resolved ∷ [] → ids_differ old.process.now ≡ true →
+pub knows_open : (walks : Walker) (learned : List Resolved) (old : Progress) (resolved : KeptResolved) (more : List KeptResolved) → Stands old → Follows walks learned old →
+    more ≡ old.facts.learned ++ resolved ∷ [] →
     is_one_open (map resolved_of old.facts.learned) (resolved_of resolved).place (jobs_in old.known.items) ≡ true →
     Follows walks (learned ++ resolved_of resolved ∷ []) (with_learned old more)
-knows_open walks learned old resolved more knows is apart waits =
+knows_open walks learned old resolved more stands knows is waits =
     let one : Resolved = resolved_of resolved in
     let through : walks_in old ≡ walks = knows.walker in
     let here : is_one_open learned one.place (unfolded (walks_in old) learned).jobs ≡ true =
@@ -170,4 +187,5 @@ knows_open walks learned old resolved more knows is apart waits =
     subst (λ (w : Walker). Follows w (learned ++ one ∷ []) (with_learned old more)) through
     (still_knows (walks_in old) learned old one more (more_places learned old.facts.learned more resolved knows.places is)
     (subst (λ (w : Walker). Follows w learned old) (sym through) knows)
-    (unfolded_same old.process.now old.fields old.facts.measures apart learned one here none))
+    (unfolded_same old.process.now old.fields old.facts.measures knows.apart learned one here none)
+    (kept_open old resolved more is stands waits))

@@ -2,6 +2,7 @@ pub mod Beside
 pub mod BesideSteps
 pub mod Ended
 pub mod Gives
+pub mod GoesOn
 pub mod Grown
 pub mod Held
 pub mod Known
@@ -14,6 +15,7 @@ pub mod PassedWalks
 pub mod Places
 pub mod Processes
 pub mod ReadDefaults
+pub mod Reads
 pub mod Rounds
 pub mod Same
 pub mod Settled

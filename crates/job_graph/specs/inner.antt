@@ -1,7 +1,9 @@
 pub mod Entered
+pub mod Going
 pub mod Growth
 pub mod Index
 pub mod Inside
+pub mod Kept
 pub mod Levels
 pub mod Marks
 pub mod Outputs

@@ -1,5 +1,5 @@
 //! The jobs that have ended, in the order learned, with an index by the marks of their places.
-ghost use Rattle.std.specs.Prelude.{◌≡◌, ◌++◌, ◌∷◌, [], drop, map, MatchOption, OnErr, OnOk};
+ghost use Rattle.std.specs.Prelude.{◌≡◌, ◌++◌, ◌∷◌, [], List, drop, map, MatchOption, OnErr, OnOk};
 ghost use Rattle.std.specs.BTreeMap.{get};
 ghost use Rattle.std.specs.Option.{option_copied};
 ghost use Rattle.std.specs.Ordering.{nat_cmp};
@@ -72,6 +72,14 @@ impl Learned {
         let first = first_of(&self.firsts, mark, self.list.len());
         self.firsts.insert(mark, first)?;
         self.list.push(resolved)
+    }
+
+    /// The one that was learned last.
+    pub(crate) fn last(&self) -> Option<&Resolved>
+        ensures { MatchOption result (self.now ≡ []) (λ last. (before : List Resolved)
+            × (self.now ≡ before ++ last.now ∷ [])) }
+    {
+        self.list.as_slice().last()
     }
 
     /// Takes off the one that was learned last. What the index has of it does no harm.

@@ -5,8 +5,9 @@
 //! - `known` has the jobs in the order in which they came to be known, `result` the process's outputs once all are.
 //! - `graph` makes of them, with their costs, the graph that a planner takes; `load_cost` has what it costs to load files.
 //!
-//! What is known is one walk through the process (`specs/Equations.antt`), made anew where more may be known. What computing every
-//! job gives (`specs/Eval.antt`) is the same walk where each job's outputs are known.
+//! What is known is one walk through the process (`specs/Equations.antt`). Where a place is learned it goes on: of the root's steps, the one above the
+//! place is walked anew, and those that waited for it. What computing every job gives (`specs/Eval.antt`) is the same walk where each job's outputs
+//! are known.
 #![tactic(auto)]
 
 mod cause;
@@ -16,6 +17,7 @@ mod gather;
 mod growth;
 mod ids;
 mod inputs;
+mod kept;
 mod laws;
 mod learned;
 mod links;
@@ -33,6 +35,7 @@ mod rounds;
 mod scatter;
 mod step;
 mod unfolding;
+mod waiting;
 mod walk;
 mod workflow;
 

@@ -1,12 +1,15 @@
 //! How far a process is unfolded.
-ghost use Rattle.std.specs.Prelude.{◌≡◌, [], All, List, IfErr, IfOk, None, OnOk, length, option_map, take};
+ghost use Rattle.std.specs.Prelude.{◌≡◌, [], All, List, IfErr, IfOk, None, OnOk, length, option_map, take, true};
+ghost use Rattle.job_graph.specs.Apart.{ids_differ};
 ghost use Rattle.job_graph.specs.Equations.{walker};
 ghost use Rattle.job_graph.specs.Jobs.{Walker};
 ghost use Rattle.job_graph.specs.PresentJobGraph.{AreWithin, present_job_graph};
 ghost use Rattle.job_graph.specs.Unfold.{Resolved as LearnedJob, unfolded};
 ghost use Rattle.job_graph.specs.Unfolding.{Blames};
+ghost use Rattle.job_graph.specs.inner.Going.{facts_before};
 ghost use Rattle.job_graph.specs.inner.Growth.{IsOfOneProcess, Keeps, LearnsIn, Resolves, Unfolds};
 ghost use Rattle.job_graph.specs.inner.Inside.{Follows, Stands, seen};
+ghost use Rattle.job_graph.specs.inner.Kept.{KeepsRoot};
 ghost use Rattle.job_graph.specs.inner.Outputs.{result_of};
 ghost use Rattle.job_graph.specs.inner.Views.{resolved_of};
 
@@ -15,11 +18,13 @@ use crate::fault::{UnfoldError, UnfoldFault};
 use crate::growth::{KnownJob, grow};
 use crate::ids::see_ids;
 use crate::inputs::root_fields;
+use crate::kept::{Kept, Rooted, walk_from_root};
 use crate::learned::Learned;
 use crate::made::{Facts, Resolved};
 use crate::open::is_one_open;
-use crate::outcome::{Outputs, walk_from_root};
+use crate::outcome::{Outputs, are_there, are_whole, those_named};
 use crate::present::{graph_of, vertices_of};
+use crate::walk::Walk;
 use cwl_value::Value;
 use document_links::Process;
 use plain_data::{Keyed, Text};
@@ -28,7 +33,7 @@ use staging::Measure;
 use std::alloc::Global;
 use std::mem;
 
-/// What is known of a process on its inputs. It is made anew from all that was learned in each `learn` by which more may be known.
+/// What is known of a process on its inputs. Each `learn` by which more may be known goes on with the walk that was made last.
 #[derive(Drop)]
 pub(crate) struct Progress<'a> {
     alloc: Global,
@@ -41,6 +46,8 @@ pub(crate) struct Progress<'a> {
     entries: usize,
     fault: Option<UnfoldFault>,
     outputs: Outputs,
+    /// What is kept of the walk that was made last; nothing after an error.
+    kept: Option<Kept>,
 }
 
 impl<'a> Progress<'a> {
@@ -56,6 +63,7 @@ impl<'a> Progress<'a> {
         ensures err { IfErr result
             (Blames (unfolded (walker process.now inputs.now measures) []).fault) }
     {
+        see_ids(process);
         let fields = root_fields(alloc, process, inputs, &measures)?;
         let mut progress = Progress {
             alloc,
@@ -69,6 +77,7 @@ impl<'a> Progress<'a> {
             entries: 0,
             fault: None,
             outputs: Outputs::new(alloc),
+            kept: None,
         };
         match progress.unfold() {
             Ok(()) => Ok(progress),
@@ -78,6 +87,7 @@ impl<'a> Progress<'a> {
 
     /// Takes the outputs of a job. A fault that is met is kept, and answered from then on.
     pub(crate) fn learn(&mut self, resolved: Resolved) -> Result<(), UnfoldError>
+        requires { Stands self.old }
         ensures learns { (walks : Walker) (learned : List LearnedJob)
             → Follows walks learned self.old →
             LearnsIn walks learned (resolved_of resolved) self.old self.new result }
@@ -128,6 +138,7 @@ impl<'a> Progress<'a> {
     /// Adds what was learned, and what is known then. No walk is made while another job of the same scattered step is open, since
     /// nothing more is known then (`open_jobs_hold_back`). After an error nothing has changed.
     fn resolve(&mut self, resolved: Resolved) -> Result<(), UnfoldError>
+        requires { Stands self.old }
         ensures resolves { (walks : Walker) (learned : List LearnedJob)
             → Follows walks learned self.old →
             Resolves walks learned (resolved_of resolved) self.new result }
@@ -140,7 +151,6 @@ impl<'a> Progress<'a> {
         let is_open = is_one_open(&self.facts.learned, place, self.known.as_slice());
         self.facts.learned.push(resolved)?;
         if is_open {
-            see_ids(self.process);
             return Ok(());
         }
         match self.unfold() {
@@ -168,16 +178,27 @@ impl<'a> Progress<'a> {
         }
     }
 
-    /// Makes what is known anew, from all that was learned. After an error it is as before.
+    /// Makes what is known anew, from all that was learned, by what is kept of the walk before. After an error it is as before.
     fn unfold(&mut self) -> Result<(), UnfoldError>
+        requires kept { KeepsRoot (facts_before self.old.facts) self.old.fields
+            self.old.process.now self.old.kept }
+        requires apart { ids_differ self.old.process.now ≡ true }
         ensures { Unfolds self.old self.new result }
     {
-        let (met, outputs) = walk_from_root(self.alloc, &self.facts, self.process, &self.fields)?;
+        let kept = mem::replace(&mut self.kept, None);
+        let found = walk_from_root(self.alloc, &self.facts, self.process, &self.fields, kept)?;
+        let Rooted { walk, kept } = found;
+        let Walk { met, outs } = walk;
+        let are_all = are_there(outs.as_slice());
+        let named = those_named(self.alloc, outs)?;
         let before = self.known.len();
         match grow(self.alloc, &mut self.known, self.entries, met) {
             Ok(entries) => {
                 self.entries = entries;
+                let is_whole = are_whole(are_all, &self.facts.learned, self.known.as_slice());
+                let outputs = Outputs { named, is_whole };
                 mem::drop(mem::replace(&mut self.outputs, outputs));
+                mem::drop(mem::replace(&mut self.kept, kept));
                 Ok(())
             }
             Err(error) => {

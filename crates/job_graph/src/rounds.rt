@@ -1,11 +1,9 @@
 //! The steps of a workflow: each is walked once, when none of its inputs waits any more.
-ghost use Rattle.std.specs.Prelude.{◌≡◌, IfOk, None, OnOk, is_some, length, map, replicate, unwrap_or};
+ghost use Rattle.std.specs.Prelude.{◌≡◌, IfOk, None, OnOk, is_some, map, replicate, unwrap_or};
 ghost use Rattle.document_links.specs.declared.process.Step.{out-Step};
 ghost use Rattle.plain_data.specs.ByName.{value_at, with_value};
-ghost use Rattle.job_graph.specs.Equations.{env_after};
 ghost use Rattle.job_graph.specs.Links.{out_under};
-ghost use Rattle.job_graph.specs.inner.Levels.{steps_of};
-ghost use Rattle.job_graph.specs.inner.Rounds.{AllMeet, Holds, SaysSame, SettlesMore, are_known, is_known, is_ready, is_stuck, walk_at};
+ghost use Rattle.job_graph.specs.inner.Rounds.{AllMeet, Holds, IsSettled, SettlesMore, are_known, is_known, is_ready, is_stuck, walk_at};
 ghost use Rattle.job_graph.specs.inner.Views.{met_of};
 
 use crate::links::{Env, sources_of, step_value};
@@ -37,9 +35,7 @@ pub(crate) fn settle_steps<'a>(
     inputs: &Keyed<Value>,
 ) -> Result<Settled<'a>, AllocError>
     ensures outs { IfOk result
-        (λ settled.
-        SaysSame (env_after (length (steps_of facts.now steps.now)) (steps_of facts.now steps.now)
-        place.now inputs.now) settled.outs) }
+        (λ settled. IsSettled facts.now place.now inputs.now steps.now settled.outs) }
     ensures met { IfOk result (λ settled. AllMeet facts.now place.now inputs.now settled.outs
         steps.now settled.met.items) }
 {
@@ -53,7 +49,10 @@ pub(crate) fn settle_steps<'a>(
 }
 
 /// A place for what each step meets, with nothing there yet.
-fn none_met<'a>(alloc: Global, count: usize) -> Result<Vec<Option<Items<Met<'a>>>>, AllocError>
+pub(crate) fn none_met<'a>(
+    alloc: Global,
+    count: usize,
+) -> Result<Vec<Option<Items<Met<'a>>>>, AllocError>
     ensures { IfOk result (λ met. met.items ≡ replicate count None) }
 {
     let mut met = Vec::with_capacity(alloc, count)?;
@@ -94,7 +93,7 @@ fn settle_more<'a>(
 
 /// Walks a step, keeps its outputs and returns what it met.
 #[cycle(walk)]
-fn settle<'a>(
+pub(crate) fn settle<'a>(
     alloc: Global,
     facts: &Facts,
     id: &Text,
@@ -116,13 +115,13 @@ fn settle<'a>(
 }
 
 /// Whether a step has its outputs there already, or one of its inputs waits.
-fn is_stuck(env: &Env, step: &(Text, Step)) -> bool
+pub(crate) fn is_stuck(env: &Env, step: &(Text, Step)) -> bool
     ensures { result ≡ is_stuck env.now step.now }
 {
     is_walked(env, step.0.as_str()) || !is_ready(env, &step.1)
 }
 
-fn is_walked(env: &Env, step: &str) -> bool
+pub(crate) fn is_walked(env: &Env, step: &str) -> bool
     ensures { result ≡ is_some (value_at step.now env.now) }
 {
     env.get(step).is_some()

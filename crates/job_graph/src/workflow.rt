@@ -4,7 +4,7 @@ ghost use Rattle.std.specs.List.{flat_map};
 ghost use Rattle.job_graph.specs.Equations.{fault_at, step_walk, workflow_meaning_of};
 ghost use Rattle.job_graph.specs.Links.{given, output_value};
 ghost use Rattle.job_graph.specs.inner.Levels.{steps_of, steps_walk};
-ghost use Rattle.job_graph.specs.inner.Rounds.{AllMeet, walk_at};
+ghost use Rattle.job_graph.specs.inner.Rounds.{AllMeet, IsSettled, walk_at};
 ghost use Rattle.job_graph.specs.inner.Views.{made_from, met_of, walk_of};
 
 use crate::gather::push_met;
@@ -58,16 +58,37 @@ fn walk_steps<'a>(
     ensures { IfOk result (λ walk. walk_of walk
         ≡ steps_walk outputs.now (steps_of facts.now steps.now) place.now inputs.now) }
 {
+    let Walked { walk, env } = walk_keeping(alloc, facts, steps, outputs, place, inputs)?;
+    drop(env);
+    Ok(walk)
+}
+
+/// The walk through a workflow's steps and outputs, and the outputs of those steps that were walked.
+#[derive(Drop)]
+pub(crate) struct Walked<'a> {
+    pub walk: Walk<'a>,
+    pub env: Env,
+}
+
+/// The walk through a workflow with these steps and outputs, on its inputs.
+#[cycle(walk)]
+pub(crate) fn walk_keeping<'a>(
+    alloc: Global,
+    facts: &Facts,
+    steps: &'a Entries<Step>,
+    outputs: &[(Text, WorkflowOutput)],
+    place: &JobPlace,
+    inputs: &Keyed<Value>,
+) -> Result<Walked<'a>, AllocError>
+    ensures walk { IfOk result (λ walked. walk_of walked.walk
+        ≡ steps_walk outputs.now (steps_of facts.now steps.now) place.now inputs.now) }
+    ensures env { IfOk result
+        (λ walked. IsSettled facts.now place.now inputs.now steps.now walked.env) }
+{
     let Settled { outs: env, met } = settle_steps(alloc, facts, steps, place, inputs)?;
-    let met = steps_met(alloc, facts, steps, place, inputs, &env, met);
-    match met {
-        Ok(met) => {
-            let walk = with_outputs(alloc, met, outputs, place, inputs, &env);
-            drop(env);
-            walk
-        }
-        Err(refused) => Err(refused),
-    }
+    let met = steps_met(alloc, facts, steps, place, inputs, &env, met)?;
+    let walk = with_outputs(alloc, met, outputs, place, inputs, &env)?;
+    Ok(Walked { walk, env })
 }
 
 /// What the steps meet, in the order of the document. It is known of those that were walked.
@@ -101,7 +122,7 @@ fn steps_met<'a>(
 }
 
 #[cycle(walk)]
-fn step_met<'a>(
+pub(crate) fn step_met<'a>(
     alloc: Global,
     facts: &Facts,
     id: &Text,
@@ -119,7 +140,7 @@ fn step_met<'a>(
 }
 
 /// The walk of a workflow whose steps met this.
-fn with_outputs<'a>(
+pub(crate) fn with_outputs<'a>(
     alloc: Global,
     met: Items<Met<'a>>,
     outputs: &[(Text, WorkflowOutput)],

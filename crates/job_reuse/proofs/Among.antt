@@ -1,5 +1,5 @@
 -- Files among others.
-use Rattle.std.proofs.Common.{◌≡◌, ◌↔◌, ℕ, ◌+◌, ◌<◌, Bool, true, false, true≢false, ◌&&◌, IsTrue, List, length, get_or, take, sym, ap, subst, ◌∙◌, arith}
+use Rattle.std.proofs.Common.{◌≡◌, ◌↔◌, ℕ, ◌+◌, ◌<◌, Bool, false, true≢false, ◌&&◌, IsTrue, List, length, get_or, take, sym, subst}
 use Rattle.std.specs.List.{All, Contains}
 use Rattle.std.proofs.lemmas.List.Elements.{All-more, All-contains, Contains-get_or}
 use Rattle.staging.proofs.Greedy.{both, both_first, both_second}

@@ -1,8 +1,8 @@
 -- The values of patterns, streams and `outputEval` are good, with the files beside them.
-use Rattle.std.proofs.Common.{◌≡◌, Bool, true, false, true≢false, not, ◌||◌, ◌&&◌, cond, IsTrue, List, [], ◌∷◌, ◌++◌, map, codes, Option, Some, None, is_some, option_map, Ok, Err, IfOk, Result, refl, sym, ap, subst, ◌∙◌, append-nil}
+use Rattle.std.proofs.Common.{◌≡◌, Bool, true, false, true≢false, not, ◌||◌, ◌&&◌, List, [], ◌∷◌, ◌++◌, map, Option, Some, None, is_some, Ok, Err, IfOk, Result, refl, sym, ap, subst, ◌∙◌, append-nil}
 use Rattle.std.specs.Prelude.{bytes_eq, if◌then◌else◌}
 use Rattle.std.specs.Cmp.Lexicographic.{nat_list_eq_equiv}
-use Rattle.std.specs.List.{All, AllByRecursion, Contains, list_all, list_any, before_last}
+use Rattle.std.specs.List.{All, AllByRecursion, list_all, list_any, before_last}
 use Rattle.std.specs.Option.{IfSome, option_map_or, option_to_list}
 use Rattle.std.proofs.lemmas.List.Elements.{All-head, All-tail}
 use Rattle.plain_data.specs.ByName.{IsByName, value_at}
@@ -14,14 +14,13 @@ use Rattle.cwl_process.specs.declared.tool.ToolOutput.{ToolOutput}
 use Rattle.cwl_types.specs.declared.types.MemberType.{MemberType}
 use Rattle.cwl_types.specs.declared.types.MemberType as member
 use Rattle.cwl_types.specs.declared.types.PlainType.TheVariants as plain
-use Rattle.cwl_value.specs.Reading.{is_name}
 use Rattle.cwl_value.specs.Secondary.{fit_beside, is_secondary, is_new, are_distinct, has_name, name_of}
 use Rattle.cwl_value.specs.declared.place.Place.{Place}
 use Rattle.cwl_value.specs.declared.place.Place.TheVariants.{Nowhere, Url, Path, Made}
 use Rattle.cwl_value.specs.declared.value.Value.{Value, out-Value, the_lemmas}
 use Rattle.cwl_value.specs.declared.value.Value as value
 use Rattle.cwl_value.specs.declared.value.Value.TheOpen.{Value-F, FileVal-F}
-use Rattle.cwl_value.specs.declared.value.FileVal.{FileVal, out-FileVal, roll-FileVal, out-roll-FileVal}
+use Rattle.cwl_value.specs.declared.value.FileVal.{FileVal, out-FileVal, out-roll-FileVal}
 use Rattle.cwl_value.specs.declared.value.DirVal.{DirVal}
 use Rattle.file_values.specs.Names.{secondary_name}
 use Rattle.param_refs.specs.Evaluation.{template_value}
@@ -36,7 +35,7 @@ use Rattle.collected_outputs.specs.Gives.{Gives, and_map, and_then, all_given}
 use Rattle.collected_outputs.specs.Listing.{Listing}
 use Rattle.collected_outputs.specs.Matched.{Name}
 use Rattle.collected_outputs.specs.Outputs.{Left, matched_values, evaluated, value_of_binding, stream_value, unchecked, value_beside}
-use Rattle.collected_outputs.specs.Patterns.{referred, value_in}
+use Rattle.collected_outputs.specs.Patterns.{referred}
 use Rattle.collected_outputs.specs.Values.{is_slash, basename_of, value_under, values_of}
 use Rattle.collected_outputs.specs.declared.fault.CollectFault.TheVariants.{NoMatch, SecondaryAbsent}
 use Rattle.job_reuse.proofs.Folder.{ArePaths, under, as_list, of_names, called_under}

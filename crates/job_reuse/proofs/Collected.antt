@@ -1,5 +1,5 @@
 -- What is collected of a job is settled, and such as a record keeps.
-use Rattle.std.proofs.Common.{◌≡◌, ℕ, Bool, true, false, true≢false, not, ◌&&◌, ◌||◌, IsTrue, List, [], ◌∷◌, ◌++◌, map, codes, pos, Option, Some, None, Result, Ok, Err, IfOk, option_map, refl, sym, ap, subst, ◌∙◌, Ordering, Less, Equal, Greater}
+use Rattle.std.proofs.Common.{◌≡◌, ℕ, Bool, true, false, true≢false, not, ◌||◌, List, [], ◌∷◌, ◌++◌, map, codes, pos, Option, Some, None, Result, Ok, Err, IfOk, option_map, refl, sym, ap, subst, ◌∙◌, Ordering, Less, Equal, Greater}
 use Rattle.std.specs.Prelude.{if◌then◌else◌, nat_le, unwrap_or}
 use Rattle.std.specs.Option.{IfSome, option_map_or}
 use Rattle.std.specs.Ordering.{match_ordering}
@@ -7,10 +7,9 @@ use Rattle.std.specs.List.{All, AllByRecursion, list_any}
 use Rattle.std.specs.Map.{values_of}
 use Rattle.std.proofs.lemmas.List.Elements.{All-nil, All-cons, All-head, All-tail}
 use Rattle.std.proofs.lemmas.Map.Views.{All-values-insert_entry}
-use Rattle.plain_data.specs.ByName.{IsByName, name_cmp, by_name, value_at, with_value, map_values}
+use Rattle.plain_data.specs.ByName.{IsByName, name_cmp, value_at, with_value, map_values}
 use Rattle.plain_data.proofs.ByName.{order_by_name}
 use Rattle.cwl_process.specs.declared.tool.OutputType.{OutputType}
-use Rattle.cwl_process.specs.declared.tool.SecondaryFile.{SecondaryFile}
 use Rattle.cwl_process.specs.declared.tool.ToolOutput.{ToolOutput}
 use Rattle.cwl_value.proofs.Induction.{Cases, induction}
 use Rattle.cwl_value.specs.Reading.{greatest_depth}
@@ -19,28 +18,24 @@ use Rattle.cwl_value.specs.declared.place.Place.TheVariants.{Nowhere, Url, Path,
 use Rattle.cwl_value.specs.declared.value.Value.{Value, the_lemmas}
 use Rattle.cwl_value.specs.declared.value.Value as value
 use Rattle.cwl_value.specs.declared.value.Value.TheOpen.{FileVal-F, DirVal-F}
-use Rattle.cwl_value.specs.declared.value.FileVal.{FileVal, roll-FileVal}
-use Rattle.cwl_value.specs.declared.value.DirVal.{DirVal, roll-DirVal}
-use Rattle.serde_json.specs.Data.{depth}
+use Rattle.cwl_value.specs.declared.value.FileVal.{FileVal}
+use Rattle.cwl_value.specs.declared.value.DirVal.{DirVal}
 use Rattle.staging.proofs.Greedy.{both_first, both_second}
 use Rattle.staging.specs.declared.found.Found.{Found}
 use Rattle.collected_outputs.specs.Checked.{every, is_typed, all_found, bare}
 use Rattle.collected_outputs.specs.Collected.{Collected, IsCollected, AreGathered, fault_of, readable, then_collected, by_object, written_after, with_output, written_value}
 use Rattle.collected_outputs.specs.Gives.{Gives, and_then}
-use Rattle.collected_outputs.specs.Laws.{is_name}
 use Rattle.collected_outputs.specs.Listing.{Listing, entry_of, listing_of}
 use Rattle.collected_outputs.specs.Matched.{Name}
 use Rattle.collected_outputs.specs.Object.{Named, object_of, written}
 use Rattle.collected_outputs.specs.Outputs.{Left, AreOutputs, HasValue, checked, output_value, value_beside}
-use Rattle.collected_outputs.specs.Patterns.{runtime}
-use Rattle.collected_outputs.specs.Readable.{Seen, seen, has_class, is_classed, is_readable, level_of, nesting}
+use Rattle.collected_outputs.specs.Readable.{Seen, seen, has_class, is_readable, level_of, nesting}
 use Rattle.collected_outputs.specs.Throughout.{FileTest, DirTest, all_places}
-use Rattle.collected_outputs.specs.Values.{is_slash}
 use Rattle.collected_outputs.specs.declared.fault.CollectFault.{CollectFault}
 use Rattle.collected_outputs.specs.declared.fault.CollectFault.TheVariants.{NotTyped, NameOutside}
 use Rattle.collected_outputs.proofs.Throughout.{file_pass, dir_pass, list_passes, fields_pass, file_value, dir_value, file_level, dir_level}
 use Rattle.job_rows.specs.Storable.{IsStorable, IsKept}
-use Rattle.job_reuse.specs.Form.{IsInForm, AreFieldsInForm, AreInForm}
+use Rattle.job_reuse.specs.Form.{AreInForm}
 use Rattle.job_reuse.specs.Left.{IsPath, is_elsewhere, IsLeftBy, ArePatternsOfNames, AreUnclassed}
 use Rattle.job_reuse.proofs.Bound.{ArePatterns, bound_good}
 use Rattle.job_reuse.proofs.Folder.{ArePaths}

@@ -5,7 +5,6 @@ use Rattle.std.specs.List.{list_all}
 use Rattle.plain_data.specs.ByName.{IsByName, map_values, value_at}
 use Rattle.cwl_process.specs.declared.tool.Tool.{Tool}
 use Rattle.collected_outputs.specs.Checked.{every}
-use Rattle.collected_outputs.specs.Laws.{AreDeclared}
 use Rattle.collected_outputs.specs.Listing.{listing_of}
 use Rattle.collected_outputs.specs.Matched.{Name}
 use Rattle.job_rows.specs.declared.row.Row.{Row}

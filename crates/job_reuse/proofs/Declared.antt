@@ -1,11 +1,11 @@
 -- Whether values are those that outputs declare, by tests of each.
-use Rattle.std.proofs.Common.{◌≡◌, ◌↔◌, ℕ, ◌<◌, Bool, true, false, true≢false, ◌&&◌, ◌||◌, cond, IsTrue, List, [], ◌∷◌, length, get_or, Some, arith, refl, sym, ap, subst, ◌∙◌}
+use Rattle.std.proofs.Common.{◌≡◌, ◌↔◌, Bool, true, false, true≢false, ◌&&◌, ◌||◌, cond, IsTrue, List, [], ◌∷◌, get_or, Some, arith, refl, sym, ap, subst, ◌∙◌}
 use Rattle.std.specs.Prelude.{bytes_eq, is_some}
 use Rattle.std.specs.List.{All, Contains, list_all, list_any}
 use Rattle.std.proofs.lemmas.List.Elements.{All-nil, All-cons, All-head, All-tail, All-contains, Contains-append_right, Contains-get_or}
 use Rattle.std.proofs.lemmas.Slice.Eq.{bytes_eq-Decides}
 use Rattle.plain_data.specs.ByName.{IsByName, value_at}
-use Rattle.plain_data.proofs.ByName.{by_name_first, by_name_rest, IsBelow}
+use Rattle.plain_data.proofs.ByName.{by_name_first, by_name_rest}
 use Rattle.plain_data.proofs.Lookup.{some_one, name_itself, value_at_first, value_at_below}
 use Rattle.staging.proofs.Greedy.{both, both_first, both_second}
 use Rattle.staging.proofs.Together.{any_of}

@@ -1,26 +1,22 @@
 -- The Files and Directories of a job's folder are good, where what was found has paths.
-use Rattle.std.proofs.Common.{◌≡◌, ℕ, zero, suc, Bool, true, false, true≢false, not, ◌==◌, ◌&&◌, cond, IsTrue, List, [], ◌∷◌, ◌++◌, length, map, codes, Option, Some, None, is_some, option_map, refl, sym, ap, subst, ◌∙◌, rules}
+use Rattle.std.proofs.Common.{◌≡◌, ℕ, zero, suc, Bool, true, false, true≢false, not, ◌==◌, ◌&&◌, cond, IsTrue, List, [], ◌∷◌, length, map, codes, Option, Some, None, is_some, option_map, refl, sym, ap, subst, ◌∙◌, rules}
 use Rattle.std.specs.Prelude.{bytes_eq, filter, unwrap_or}
-use Rattle.std.specs.List.{All, AllByRecursion, Contains, list_all, list_any, before_last}
+use Rattle.std.specs.List.{All, Contains, list_all}
 use Rattle.std.specs.List.Sorted.{IsStrictlySortedBy}
 use Rattle.std.specs.Map.{keys_of}
-use Rattle.std.specs.Option.{IfSome, option_to_list, option_map_or}
-use Rattle.std.specs.declared.cmp.Ordering.TheVariants.{Less}
+use Rattle.std.specs.Option.{IfSome, option_to_list}
 use Rattle.std.proofs.lemmas.Bool.{eq-eqb}
-use Rattle.std.proofs.lemmas.List.Elements.{All-contains_itself, All-head, All-tail, All-nil, All-contains}
+use Rattle.std.proofs.lemmas.List.Elements.{All-contains_itself, All-head, All-tail, All-contains}
 use Rattle.std.proofs.lemmas.Map.Views.{Contains-from_lookup}
 use Rattle.std.proofs.lemmas.Slice.Eq.{bytes_eq-Decides}
 use Rattle.plain_data.specs.ByName.{IsByName, name_cmp, value_at}
 use Rattle.plain_data.proofs.ByName.{IsBelow, by_name_first, by_name_rest}
 use Rattle.plain_data.proofs.Lookup.{name_itself}
 use Rattle.cwl_value.specs.Reading.{is_name}
-use Rattle.cwl_value.specs.Secondary.{fit_beside, is_file, is_secondary, name_of}
+use Rattle.cwl_value.specs.Secondary.{is_file, is_secondary, name_of}
 use Rattle.cwl_value.specs.declared.place.Place.TheVariants.{Url}
 use Rattle.cwl_value.specs.declared.value.Value.{Value, the_lemmas}
 use Rattle.cwl_value.specs.declared.value.Value as value
-use Rattle.cwl_value.specs.declared.value.Value.TheOpen.{FileVal-F, DirVal-F}
-use Rattle.cwl_value.specs.declared.value.FileVal.{FileVal, roll-FileVal}
-use Rattle.cwl_value.specs.declared.value.DirVal.{DirVal, roll-DirVal}
 use Rattle.param_refs.specs.Listings.{entry_name}
 use Rattle.staging.proofs.Greedy.{both}
 use Rattle.staging.proofs.Together.{any_of}
@@ -28,7 +24,7 @@ use Rattle.collected_outputs.specs.Laws.{is_entry}
 use Rattle.collected_outputs.specs.Listing.{Listing}
 use Rattle.collected_outputs.specs.Matched.{Name}
 use Rattle.collected_outputs.specs.Object.{named as written_name}
-use Rattle.collected_outputs.specs.Values.{is_slash, basename_of, stands_in, checksum_of, file_at, dir_at, entry_value, values_in, all_in, value_under, values_of}
+use Rattle.collected_outputs.specs.Values.{basename_of, stands_in, checksum_of, file_at, dir_at, entry_value, values_in, all_in, value_under, values_of}
 use Rattle.job_reuse.specs.Left.{IsPath}
 use Rattle.job_reuse.proofs.Good.{IsNamed, IsGood, AreGood, append}
 use Rattle.job_reuse.proofs.InTurn.{AreInTurn}

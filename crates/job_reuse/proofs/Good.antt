@@ -1,9 +1,8 @@
 -- What holds of each value before it is checked as an output's: each File and Directory of it that stands in the job's folder is one that was
 -- found there, has a name, and has only what fits beside it or in it.
-use Rattle.std.proofs.Common.{◌≡◌, ℕ, ℤ, Bool, true, IsTrue, List, [], ◌∷◌, ◌++◌, Option, Some, None, refl, sym, ap, subst, ◌∙◌, rules}
+use Rattle.std.proofs.Common.{◌≡◌, ℕ, ℤ, Bool, true, IsTrue, List, [], ◌∷◌, ◌++◌, Option, Some, sym, subst, rules}
 use Rattle.std.specs.Prelude.{unwrap_or}
 use Rattle.std.specs.List.{AllByRecursion, list_all}
-use Rattle.cwl_value.proofs.Induction.{Cases, induction}
 use Rattle.cwl_value.specs.Reading.{is_name}
 use Rattle.cwl_value.specs.Secondary.{fit_beside, is_file}
 use Rattle.cwl_value.specs.declared.place.Place.{Place}

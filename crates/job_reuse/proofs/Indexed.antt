@@ -1,5 +1,5 @@
 -- The files of a row by name, as a listing, and what is looked up among them.
-use Rattle.std.proofs.Common.{◌≡◌, ℕ, Bool, true, false, true≢false, not, ◌||◌, ◌&&◌, ◌==◌, cond, List, [], ◌∷◌, Option, Some, None, is_some, option_map, codes, refl, sym, ap, subst, ◌∙◌, Ordering, Less, Equal, Greater}
+use Rattle.std.proofs.Common.{◌≡◌, ℕ, Bool, true, false, not, ◌||◌, ◌&&◌, ◌==◌, cond, [], ◌∷◌, Option, Some, None, is_some, option_map, codes, refl, sym, ap, subst, ◌∙◌, Ordering, Less, Equal, Greater}
 use Rattle.std.specs.Prelude.{bytes_eq}
 use Rattle.std.specs.List.{list_any}
 use Rattle.std.specs.Option.{option_map_or}
@@ -16,7 +16,7 @@ use Rattle.collected_outputs.specs.Checked.{is_found, is_named}
 use Rattle.collected_outputs.specs.Laws.{is_entry, is_scanned}
 use Rattle.collected_outputs.specs.Listing.{Listing, entry_of}
 use Rattle.collected_outputs.specs.Matched.{Name}
-use Rattle.collected_outputs.specs.Throughout.{FileTest, DirTest, all_pass}
+use Rattle.collected_outputs.specs.Throughout.{all_pass}
 use Rattle.collected_outputs.specs.Values.{checksum_of}
 use Rattle.collected_outputs.specs.inner.Listings.{with_entry}
 use Rattle.staging.specs.declared.found.Found.{Found}

@@ -1,8 +1,7 @@
 -- The laws of jobs whose outputs were collected.
-use Rattle.std.proofs.Common.{◌≡◌, true, List, length, get_or, subst}
+use Rattle.std.proofs.Common.{◌≡◌, true, get_or, subst}
 use Rattle.std.specs.List.{All}
 use Rattle.std.specs.Map.{values_of}
-use Rattle.cwl_value.specs.declared.value.Value.{Value}
 use Rattle.collected_outputs.proofs.Declared.{those_declared}
 use Rattle.collected_outputs.specs.Listing.{Listing}
 use Rattle.job_rows.proofs.ReadBack.{outputs_read_back}

@@ -1,6 +1,5 @@
 -- What is looked up among the members of JSON that is written of values.
-use Rattle.std.proofs.Common.{◌≡◌, ◌≢◌, ℕ, Bool, true, false, true≢false, cond, List, [], ◌∷◌, Option, Some, None, option_map, bytes_eq, codes, refl, sym, ap, subst, ◌∙◌, Ordering, Less, Equal, Greater}
-use Rattle.std.specs.Prelude.{option_and_then, unwrap_or}
+use Rattle.std.proofs.Common.{◌≡◌, ℕ, Bool, true, false, true≢false, cond, List, [], ◌∷◌, Option, Some, None, option_map, bytes_eq, refl, sym, ap, subst, ◌∙◌, Ordering, Less, Equal, Greater}
 use Rattle.std.specs.Ordering.{is_eq, match_ordering, nat_cmp}
 use Rattle.std.specs.Cmp.Lexicographic.{slice_cmp, bytes_decides}
 use Rattle.std.specs.List.{fold}
@@ -9,7 +8,7 @@ use Rattle.plain_data.specs.ByName.{IsByName, value_at, map_values}
 use Rattle.plain_data.proofs.ByName.{by_name_mapped, by_name_rest}
 use Rattle.plain_data.proofs.Lookup.{value_at-map_values}
 use Rattle.serde_json.specs.Data.{Data, Members, no_members, member, put}
-use Rattle.serde_json.specs.Find.{get_member, as_str}
+use Rattle.serde_json.specs.Find.{get_member}
 use Rattle.serde_json.proofs.Views.{get_member-put, get_member-put_other}
 use Rattle.cwl_value.specs.Json.{json_of, fields_json, object_of, members_of, with_member}
 use Rattle.cwl_value.specs.declared.value.Value.{Value}

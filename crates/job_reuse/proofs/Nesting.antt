@@ -1,14 +1,13 @@
 -- How deep outputs nest is how deep their JSON does.
-use Rattle.std.proofs.Common.{◌≡◌, ℕ, suc, max, Bool, true, false, true≢false, not, ◌&&◌, List, [], ◌∷◌, map, Option, Some, None, option_map, refl, sym, ap, subst, ◌∙◌, rules}
-use Rattle.std.specs.Prelude.{nat_le, unwrap_or}
+use Rattle.std.proofs.Common.{◌≡◌, ℕ, suc, max, List, [], ◌∷◌, map, Option, Some, None, option_map, refl, sym, ap, ◌∙◌, rules}
+use Rattle.std.specs.Prelude.{unwrap_or}
 use Rattle.std.specs.List.{AllByRecursion}
 use Rattle.std.specs.Option.{IfSome, option_map_or}
 use Rattle.plain_data.specs.ByName.{IsByName, map_values}
 use Rattle.serde_json.specs.Data.{depth}
 use Rattle.cwl_value.proofs.Induction.{Cases, induction}
 use Rattle.cwl_value.proofs.JsonOf.{json_of-FileVal, json_of-DirVal, json_of-List, json_of-Fields}
-use Rattle.cwl_value.specs.Json.{json_of, file_data, dir_data, items_json, fields_json}
-use Rattle.cwl_value.specs.Reading.{greatest_depth}
+use Rattle.cwl_value.specs.Json.{json_of, file_data, dir_data, items_json}
 use Rattle.cwl_value.specs.declared.value.Value.{Value, the_lemmas}
 use Rattle.cwl_value.specs.declared.value.Value as value
 use Rattle.cwl_value.specs.declared.value.Value.TheOpen.{Value-F, FileVal-F, DirVal-F}

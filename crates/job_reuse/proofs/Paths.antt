@@ -1,8 +1,8 @@
 -- Paths by their last component, and names in one folder.
-use Rattle.std.proofs.Common.{◌≡◌, ◌≢◌, ℕ, zero, suc, ◌+◌, ◌-◌, ◌<◌, ◌≤◌, Bool, true, false, true≢false, not, ◌||◌, ◌==◌, IsTrue, List, [], ◌∷◌, ◌++◌, length, length-append, get_or, take, drop, take-append-drop, refl, sym, ap, subst, ◌∙◌, take_at, drop_at, append_assoc, arith}
+use Rattle.std.proofs.Common.{◌≡◌, ℕ, zero, suc, ◌+◌, ◌-◌, ◌<◌, ◌≤◌, Bool, true, false, true≢false, not, ◌||◌, ◌==◌, IsTrue, [], ◌∷◌, ◌++◌, length, length-append, get_or, take, drop, take-append-drop, refl, sym, ap, subst, ◌∙◌, take_at, drop_at, append_assoc, arith}
 use Rattle.std.specs.Prelude.{bytes_eq, codes, if◌then◌else◌, slice_index}
 use Rattle.std.specs.Cmp.Lexicographic.{slice_cmp}
-use Rattle.std.specs.List.{list_any, suffix_len, before_last, after_last}
+use Rattle.std.specs.List.{list_any, suffix_len, before_last}
 use Rattle.std.specs.Ordering.{nat_cmp, ordering_then}
 use Rattle.std.proofs.lemmas.Bool.{eqb-true}
 use Rattle.std.proofs.lemmas.Cmp.{nat_cmp_total, tied_itself}

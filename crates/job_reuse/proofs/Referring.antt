@@ -1,11 +1,10 @@
 -- What references give of good values is good.
-use Rattle.std.proofs.Common.{◌≡◌, ℕ, zero, suc, pos, Bool, true, false, ◌&&◌, ◌-◌, ◌^◌, cond, List, [], ◌∷◌, ◌++◌, length, take, drop, Option, Some, None, option_map, Ok, Err, IfOk, bytes_eq, codes, refl, sym, subst}
-use Rattle.std.specs.Prelude.{nat_lt, if◌then◌else◌, option_and_then, unwrap_or, slice_get, is_some}
+use Rattle.std.proofs.Common.{ℕ, zero, suc, pos, Bool, true, false, ◌&&◌, ◌-◌, ◌^◌, cond, List, [], ◌∷◌, length, Option, Some, None, option_map, Ok, Err, IfOk, bytes_eq, codes}
+use Rattle.std.specs.Prelude.{nat_lt, if◌then◌else◌, option_and_then, unwrap_or, slice_get}
 use Rattle.std.specs.List.{AllByRecursion, fold, insert, suffix_len}
 use Rattle.std.specs.Option.{IfSome, ok_or}
 use Rattle.plain_data.specs.ByName.{value_at}
 use Rattle.cwl_value.specs.NameParts.{nameroot, nameext}
-use Rattle.cwl_value.specs.declared.place.Place.{Place}
 use Rattle.cwl_value.specs.declared.value.Value.{Value, out-Value}
 use Rattle.cwl_value.specs.declared.value.Value as value
 use Rattle.cwl_value.specs.declared.value.Value.TheOpen.{Value-F, FileVal-F, DirVal-F}
@@ -24,7 +23,7 @@ use Rattle.param_refs.specs.declared.template.Segment.{Segment}
 use Rattle.param_refs.specs.declared.template.Segment.TheVariants.{Key, Index}
 use Rattle.collected_outputs.specs.Listing.{Listing}
 use Rattle.collected_outputs.specs.Matched.{Name}
-use Rattle.job_reuse.proofs.Good.{IsGood, AreGood, AreGoodFields, GoodFile, GoodDir, AtLevel, level, append}
+use Rattle.job_reuse.proofs.Good.{IsGood, AreGood, AreGoodFields, GoodFile, GoodDir, AtLevel, level}
 
 module _ (listing : Listing) where
   abbrev G : Value → Type 0

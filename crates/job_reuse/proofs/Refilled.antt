@@ -1,6 +1,6 @@
 -- A value is what its places make of it once it was erased: so values that are the same without places, and stand at the same ones, are one.
-use Rattle.std.proofs.Common.{◌≡◌, ◌↔◌, ℕ, List, [], ◌∷◌, ◌++◌, map, append_assoc, append-nil, Option, Some, None, option_map, refl, sym, ap, ◌∙◌, rules}
-use Rattle.std.specs.Prelude.{flat_map, unwrap_or}
+use Rattle.std.proofs.Common.{◌≡◌, List, [], ◌∷◌, ◌++◌, map, append_assoc, append-nil, Option, Some, None, option_map, refl, sym, ap, ◌∙◌, rules}
+use Rattle.std.specs.Prelude.{unwrap_or}
 use Rattle.std.specs.List.{AllByRecursion}
 use Rattle.std.specs.Option.{IfSome}
 use Rattle.plain_data.specs.ByName.{map_values}

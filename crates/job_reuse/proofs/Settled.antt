@@ -1,7 +1,7 @@
 -- Values that were checked as outputs: each File and Directory of them is one of the job's folder, has a name, and has what fits.
 use Rattle.std.proofs.Common.{◌≡◌, ℕ, ℤ, Bool, true, false, true≢false, not, ◌&&◌, ◌||◌, IsTrue, List, [], ◌∷◌, map, Option, Some, None, option_map, refl, sym, ap, subst, ◌∙◌, rules}
 use Rattle.std.specs.Prelude.{bytes_eq, unwrap_or, is_some}
-use Rattle.std.specs.List.{AllByRecursion, list_all, list_any}
+use Rattle.std.specs.List.{list_all, list_any}
 use Rattle.std.specs.List.Sorted.{IsStrictlySortedBy}
 use Rattle.std.specs.Option.{option_map_or}
 use Rattle.plain_data.specs.ByName.{map_values, name_cmp}
@@ -13,8 +13,8 @@ use Rattle.cwl_value.specs.declared.place.Place.TheVariants.{Nowhere, Url, Path,
 use Rattle.cwl_value.specs.declared.value.Value.{Value, the_lemmas}
 use Rattle.cwl_value.specs.declared.value.Value as value
 use Rattle.cwl_value.specs.declared.value.Value.TheOpen.{FileVal-F, DirVal-F}
-use Rattle.cwl_value.specs.declared.value.FileVal.{FileVal, out-FileVal, roll-FileVal}
-use Rattle.cwl_value.specs.declared.value.DirVal.{DirVal, out-DirVal, roll-DirVal}
+use Rattle.cwl_value.specs.declared.value.FileVal.{FileVal, roll-FileVal}
+use Rattle.cwl_value.specs.declared.value.DirVal.{DirVal, roll-DirVal}
 use Rattle.param_refs.specs.Listings.{entry_name}
 use Rattle.staging.proofs.Greedy.{both, both_first, both_second}
 use Rattle.collected_outputs.specs.Checked.{every, is_found, is_named, all_found, dir_found, bare, dir_bare}
@@ -23,7 +23,7 @@ use Rattle.collected_outputs.specs.Listing.{Listing}
 use Rattle.collected_outputs.specs.Matched.{Name}
 use Rattle.collected_outputs.proofs.Throughout.{bare_list, bare_fields, bare_dir_value, dir_value, dir_level}
 use Rattle.job_reuse.specs.Sound.{is_file_there, is_dir_there, all_stand}
-use Rattle.job_reuse.proofs.Good.{IsNamed, IsGood, AreGood, AreGoodFields, FileIs, FileStands, DirIs, DirStands}
+use Rattle.job_reuse.proofs.Good.{IsGood, AreGood, AreGoodFields, FileIs, DirIs}
 use Rattle.job_reuse.proofs.InTurn.{AreInTurn}
 
 abbrev pub a_file : Name → Name → Option Name → Option ℕ → List Value → FileVal

@@ -1,8 +1,8 @@
 -- Settled values whose types are as the program's are such as a record keeps.
-use Rattle.std.proofs.Common.{◌≡◌, ◌≢◌, ℕ, ℤ, Bool, true, false, true≢false, not, ◌||◌, ◌&&◌, IsTrue, List, [], ◌∷◌, map, Option, Some, None, option_map, bytes_eq, codes, refl, sym, ap, subst, ◌∙◌, rules}
+use Rattle.std.proofs.Common.{◌≡◌, ◌≢◌, Bool, true, false, true≢false, ◌||◌, List, [], map, Option, Some, None, option_map, bytes_eq, codes, refl, sym, ap, subst, ◌∙◌, rules}
 use Rattle.std.specs.Prelude.{option_and_then, unwrap_or}
 use Rattle.std.specs.Cmp.Lexicographic.{bytes_decides}
-use Rattle.std.specs.List.{AllByRecursion, list_any, list_all}
+use Rattle.std.specs.List.{list_any, list_all}
 use Rattle.std.specs.Option.{option_map_or}
 use Rattle.plain_data.specs.ByName.{IsByName, value_at, map_values}
 use Rattle.plain_data.proofs.Lookup.{value_at-map_values}
@@ -12,7 +12,7 @@ use Rattle.cwl_value.proofs.JsonOf.{json_of-FileVal, json_of-DirVal, file_data-r
 use Rattle.cwl_value.specs.Json.{json_of, fields_json}
 use Rattle.cwl_value.specs.Plain.{FitsWhole}
 use Rattle.cwl_value.specs.Reading.{class_in}
-use Rattle.cwl_value.specs.Secondary.{fit_inside, is_file, are_distinct}
+use Rattle.cwl_value.specs.Secondary.{is_file, are_distinct}
 use Rattle.cwl_value.specs.declared.place.Place.TheVariants.{Url}
 use Rattle.cwl_value.specs.declared.value.Value.{Value, out-Value, the_lemmas}
 use Rattle.cwl_value.specs.declared.value.Value as value
@@ -25,9 +25,9 @@ use Rattle.collected_outputs.specs.Matched.{Name}
 use Rattle.collected_outputs.specs.Readable.{Seen, is_class, any_seen, is_classed, seen, has_class, file_class, dir_class}
 use Rattle.job_rows.specs.Storable.{IsStorable, AreStorable, AreStorableFields}
 use Rattle.job_reuse.specs.Form.{IsInForm, AreAllInForm, AreFieldsInForm}
-use Rattle.job_reuse.proofs.InTurn.{AreInTurn, as_written, distinct}
+use Rattle.job_reuse.proofs.InTurn.{as_written, distinct}
 use Rattle.job_reuse.proofs.Members.{field_found}
-use Rattle.job_reuse.proofs.Settled.{a_file, a_dir, IsSettled, AreSettled, AreSettledFields}
+use Rattle.job_reuse.proofs.Settled.{IsSettled, AreSettled, AreSettledFields}
 
 -- ---- one level of a value in form
 

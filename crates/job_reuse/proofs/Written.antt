@@ -1,39 +1,38 @@
 -- The values that `cwl.output.json` gives are good.
-use Rattle.std.proofs.Common.{◌≡◌, ℕ, ℤ, Bool, true, false, true≢false, not, ◌&&◌, cond, IsTrue, List, [], ◌∷◌, map, codes, Option, Some, None, option_map, Ok, Err, IfOk, refl, sym, ap, subst, ◌∙◌, rules}
-use Rattle.std.specs.Prelude.{bytes_eq, if◌then◌else◌, unwrap_or, nat_le, nat_lt}
+use Rattle.std.proofs.Common.{◌≡◌, ℕ, ℤ, Bool, true, false, true≢false, ◌&&◌, cond, IsTrue, List, [], ◌∷◌, map, codes, Option, Some, None, option_map, Ok, Err, IfOk, refl, sym, ap, subst, ◌∙◌, rules}
+use Rattle.std.specs.Prelude.{bytes_eq, if◌then◌else◌, nat_le, nat_lt}
 use Rattle.std.specs.Str.{is_utf8}
 use Rattle.std.specs.List.{AllByRecursion, list_all}
-use Rattle.std.specs.Option.{IfSome, ok_or}
+use Rattle.std.specs.Option.{IfSome}
 use Rattle.plain_data.specs.ByName.{IsByName, value_at, map_values}
-use Rattle.serde_json.specs.Data.{Num, Data, null, boolean, number, string, array, object, Items, no_items, item, Members, no_members, member, depth}
+use Rattle.serde_json.specs.Data.{Data, null, boolean, number, string, array, object, Items, no_items, item, Members, no_members, member, depth}
 use Rattle.serde_json.specs.Find.{as_i64, is_float}
 use Rattle.serde_json.specs.Read as json
 use Rattle.cwl_value.proofs.Induction.{Cases, induction}
 use Rattle.cwl_value.specs.Reading as read
 use Rattle.cwl_value.specs.Reading.{Reads, all_read, is_name, value_read, items_read, members_read, fields_read, object_read, file_read, file_form, dir_read, placed_read, summed_read, list_read, list_form, secondary_read, listing_read, basename_read, named as name_read, name_form, place_read, text_read, whole_form, class_in, field, reading, greatest_depth}
-use Rattle.cwl_value.specs.Secondary.{fit_beside, is_secondary, is_secondary_level, is_new, are_distinct, is_empty}
+use Rattle.cwl_value.specs.Secondary.{fit_beside, is_secondary, is_new, are_distinct, is_empty}
 use Rattle.cwl_value.specs.declared.place.Place.{Place}
 use Rattle.cwl_value.specs.declared.place.Place.TheVariants.{Nowhere, Url, Path, Made}
-use Rattle.cwl_value.specs.declared.refusal.FileField.TheVariants.{Basename, Location, SecondaryFiles, Listing}
-use Rattle.cwl_value.specs.declared.refusal.ValueRefusal.{ValueRefusal}
+use Rattle.cwl_value.specs.declared.refusal.FileField.TheVariants.{Basename, SecondaryFiles, Listing}
 use Rattle.cwl_value.specs.declared.refusal.ValueRefusal.TheVariants as refusal
 use Rattle.cwl_value.specs.declared.value.Value.{Value, out-Value, the_lemmas}
 use Rattle.cwl_value.specs.declared.value.Value as value
 use Rattle.cwl_value.specs.declared.value.Value.TheOpen.{Value-F, FileVal-F, DirVal-F}
 use Rattle.cwl_value.specs.declared.value.FileVal.{FileVal, out-FileVal, roll-FileVal, out-roll-FileVal, roll-out-FileVal}
-use Rattle.cwl_value.specs.declared.value.DirVal.{DirVal, out-DirVal, roll-DirVal, out-roll-DirVal}
+use Rattle.cwl_value.specs.declared.value.DirVal.{DirVal, out-DirVal, roll-DirVal}
 use Rattle.staging.proofs.Greedy.{both, both_first, both_second}
 use Rattle.collected_outputs.specs.Contents.{Heads}
 use Rattle.collected_outputs.specs.Gives.{Gives, and_map, and_then, all_given}
 use Rattle.collected_outputs.specs.Listing.{Listing as Entries}
 use Rattle.collected_outputs.specs.Matched.{Name}
-use Rattle.collected_outputs.specs.Object.{Named, data_read, bytes_read, fields_level, fields_in, fields_of, object_of, placed, file_placed, dir_placed, relative_name, named, file_apart, file_in, file_level, dir_of, dir_in, dir_level, entries_apart, all_named, written}
-use Rattle.collected_outputs.specs.Values.{basename_of, value_under}
+use Rattle.collected_outputs.specs.Object.{Named, data_read, bytes_read, fields_level, fields_in, fields_of, object_of, placed, file_placed, dir_placed, relative_name, named, file_apart, file_in, file_level, dir_of, dir_level, entries_apart, all_named, written}
+use Rattle.collected_outputs.specs.Values.{value_under}
 use Rattle.collected_outputs.specs.declared.object.TheConstants.{MOST_OBJECT}
 use Rattle.collected_outputs.specs.declared.fault.CollectFault.TheVariants.{BadOutputObject}
 use Rattle.job_reuse.proofs.Bound.{all_good}
 use Rattle.job_reuse.proofs.Folder.{ArePaths, under, named_under}
-use Rattle.job_reuse.proofs.Good.{IsNamed, IsGood, AreGood, AreGoodFields, FileIs, FileStands, DirIs, DirStands, GoodFile, GoodDir, AtLevel, level, list_in, out_list}
+use Rattle.job_reuse.proofs.Good.{IsNamed, IsGood, AreGood, AreGoodFields, FileIs, DirIs, AtLevel, level, list_in, out_list}
 use Rattle.job_reuse.proofs.Entries.{Entry}
 
 -- a basename as it is read, where it is there

@@ -1,5 +1,5 @@
 -- What the definitions come to, of jobs whose outputs were collected and of rows (CWL v1.2, Command Line Tool, "Output binding", "WorkReuse").
-use Rattle.std.specs.Prelude.{◌≡◌, ◌↔◌, ◌⊎◌, ℕ, Bool, List, Ok, map, bytes_eq}
+use Rattle.std.specs.Prelude.{◌≡◌, ◌≢◌, ◌↔◌, ◌⊎◌, ℕ, Bool, List, Ok, map, bytes_eq}
 use Rattle.std.specs.List.{IsDistinct}
 use Rattle.plain_data.specs.ByName.{IsByName}
 use Rattle.cwl_process.specs.declared.tool.Tool.{Tool}
@@ -44,6 +44,10 @@ RowsOfJobsAreSound = (found : List Found) (left : Left) (tool : Tool) (values : 
 -- a row whose outputs are in the order of their names is one of a tool, or it is not
 abbrev pub RowsAreSoundOrNot : Type 0
 RowsAreSoundOrNot = (tool : Tool) (row : Row) → IsByName row.outputs → IsSound tool row ⊎ (IsSound tool row → ⊥)
+
+-- outputs are the same as others, or they are not
+abbrev pub OutputsAreTheSameOrNot : Type 0
+OutputsAreTheSameOrNot = (one other : Named) → (one ≡ other) ⊎ (one ≢ other)
 
 -- outputs are the same where they are so without their places, and stand at the same places, which are names in the job's folder
 abbrev pub SameWhereErasedAndNamedAlike : Type 0

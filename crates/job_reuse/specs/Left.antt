@@ -7,7 +7,6 @@ use Rattle.cwl_process.specs.declared.tool.SecondaryFile.{SecondaryFile}
 use Rattle.cwl_process.specs.declared.tool.ToolOutput.{ToolOutput}
 use Rattle.cwl_value.specs.Reading.{is_name}
 use Rattle.cwl_value.specs.declared.place.Place.{Place}
-use Rattle.cwl_value.specs.declared.value.Value.{Value}
 use Rattle.collected_outputs.specs.Laws.{is_name as is_name_there}
 use Rattle.collected_outputs.specs.Listing.{listing_of}
 use Rattle.collected_outputs.specs.Matched.{Name}

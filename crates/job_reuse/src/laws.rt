@@ -1,5 +1,5 @@
 //! Laws of rows and of what was collected: each is the contract of a function that does nothing.
-ghost use Rattle.job_reuse.specs.Laws.{CollectedOutputsAreKept, CollectedOutputsReadBack, RowsOfJobsAreSound, RowsAreSoundOrNot, SameWhereErasedAndNamedAlike, FetchedFilesStandIn};
+ghost use Rattle.job_reuse.specs.Laws.{CollectedOutputsAreKept, CollectedOutputsReadBack, RowsOfJobsAreSound, RowsAreSoundOrNot, SameWhereErasedAndNamedAlike, FetchedFilesStandIn, OutputsAreTheSameOrNot};
 
 /// Says that the outputs of a job are such as a record keeps and gives back as they were, by whatever way they were collected:
 /// where what was found has paths below the job's folder, the job's inputs stand elsewhere, and no output is named `class` with
@@ -18,6 +18,11 @@ pub fn rows_of_jobs_are_sound()
 /// look.
 pub fn rows_are_sound_or_not()
     ensures { RowsAreSoundOrNot }
+{}
+
+/// Says that of any outputs it can be told whether they are the same, whether or not there is memory to look.
+pub fn outputs_are_the_same_or_not()
+    ensures { OutputsAreTheSameOrNot }
 {}
 
 /// Says what a difference of outputs is: one in their values without places, or in the names that their Files and Directories have

@@ -7,7 +7,7 @@ use Rattle.proc_host.specs.declared.call.HostFault.{HostFault}
 use Rattle.proc_host.specs.declared.call.HostRequest.{HostRequest}
 use Rattle.proc_host.specs.declared.child.ChildEnd.{ChildEnd}
 use Rattle.staging.specs.declared.measure.Measure.{Measure}
-use Rattle.run_rules.specs.Answers.{MayAnswer, by_host, by_record, is_found, is_refused}
+use Rattle.run_rules.specs.Answers.{MayAnswer, by_host, by_record, is_found, is_refused, is_put}
 use Rattle.run_rules.specs.declared.request.Answer.{Answer}
 use Rattle.run_rules.specs.declared.request.Request.{Request}
 use Rattle.run_rules.specs.declared.request.RecordAnswer.{RecordAnswer}
@@ -17,8 +17,8 @@ use Rattle.run_core.specs.declared.state.Measuring.{Measuring}
 use Rattle.run_core.specs.declared.state.Course.{Course}
 use Rattle.run_core.specs.declared.state.JobPhase.{JobPhase}
 use Rattle.run_core.specs.declared.state.Phase.{Phase}
-use Rattle.run_core.specs.inner.Follows.{AnswersWork, AsksOf, CanStage, IsStaging, IsFinding, IsOfAFind, IsReady, IsReadyFor}
-use Rattle.run_core.proofs.standing.Answered.{asks_none, asks_no_call, stages_no_row}
+use Rattle.run_core.specs.inner.Follows.{AnswersWork, AsksOf, CanStage, IsStaging, IsReady, IsReadyFor, WaitsForRecord}
+use Rattle.run_core.proofs.standing.Answered.{asks_none, asks_no_call, stages_no_row, puts_no_call}
 
 -- the job of a number may be staged, which was asked
 pub record AtStaging (course : Course) (number : ℕ) (asks : Request) : Type 0 where
@@ -49,6 +49,7 @@ module _ (flying : List ℕ) (course : Course) where
   abbrev Awaits : Phase → HostAnswer → Type 0
   Awaits (Phase.Measuring measuring) answer = (measure : Measure) × (answer ≡ HostAnswer.Measured measure)
   Awaits (Phase.Finding number) answer = ⊥
+  Awaits (Phase.Putting number) answer = ⊥
   Awaits (Phase.Staging number) answer = answer ≡ HostAnswer.Done
   Awaits (Phase.Working number work) answer = Unit {0}
   Awaits Phase.Collecting answer = (ending : ChildEnd) × (answer ≡ HostAnswer.Ended ending)
@@ -60,6 +61,7 @@ module _ (flying : List ℕ) (course : Course) where
       ((fault : HostFault) → answer ≡ HostAnswer.Failed fault → ⊥) → Awaits phase answer
   awaits asks (Phase.Measuring measuring) answer (by_host place request its (is_measured path measure)) fits well = (measure, refl)
   awaits asks (Phase.Finding number) answer (by_host place request its can) fits well = absurd (asks_no_call course place request number fits)
+  awaits asks (Phase.Putting number) answer (by_host place request its can) fits well = absurd (puts_no_call course place request number fits)
   awaits asks (Phase.Staging number) answer (by_host place request its (is_staged plan folder)) fits well = refl
   awaits asks (Phase.Working number work) answer may fits well = tt
   awaits asks Phase.Collecting answer (by_host place request its (has_ended ending flies)) fits well = (ending, refl)
@@ -75,6 +77,7 @@ module _ (flying : List ℕ) (course : Course) where
       ((outputs : Value) → phase ≡ Phase.Delivering outputs → ⊥) → (phase ≡ Phase.Draining → ⊥) → ⊥
   awaits_none (Phase.Measuring measuring) answer waits no_measuring no_staging no_working no_collecting no_delivering no_draining = no_measuring measuring refl
   awaits_none (Phase.Finding number) answer waits no_measuring no_staging no_working no_collecting no_delivering no_draining = waits
+  awaits_none (Phase.Putting number) answer waits no_measuring no_staging no_working no_collecting no_delivering no_draining = waits
   awaits_none (Phase.Staging number) answer waits no_measuring no_staging no_working no_collecting no_delivering no_draining = no_staging number refl
   awaits_none (Phase.Working number work) answer waits no_measuring no_staging no_working no_collecting no_delivering no_draining = no_working number work refl
   awaits_none Phase.Collecting answer waits no_measuring no_staging no_working no_collecting no_delivering no_draining = no_collecting refl
@@ -82,21 +85,21 @@ module _ (flying : List ℕ) (course : Course) where
   awaits_none Phase.Draining answer waits no_measuring no_staging no_working no_collecting no_delivering no_draining = no_draining refl
   awaits_none (Phase.Ended outcome) answer waits no_measuring no_staging no_working no_collecting no_delivering no_draining = waits
 
-  -- the record's answer is one to a find, which was asked for a known job
-  pub record AtFinding (phase : Phase) (answer : RecordAnswer) : Type 0 where
+  -- the record's answer is one to what was asked for a known job
+  pub record AtRecord (phase : Phase) (answer : RecordAnswer) : Type 0 where
     pub ready : IsReady course
-    pub finds : IsFinding course phase
-    pub answers : IsOfAFind answer
+    pub waits : WaitsForRecord course phase answer
 
-  pub at_finding : (asks : Request) (phase : Phase) (answer : RecordAnswer) → MayAnswer flying asks (Answer.Record answer) → AsksOf course asks phase → IsReadyFor course phase →
-      AtFinding phase answer
-  at_finding asks (Phase.Finding number) answer (by_record place request its (is_found key row)) fits ready = record { ready = ready; finds = fits; answers = tt }
-  at_finding asks (Phase.Finding number) answer (by_record place request its (is_refused (RecordRequest.Find key) refusal)) fits ready =
-      record { ready = ready; finds = fits; answers = tt }
-  at_finding asks phase answer (by_record place request its (is_refused (RecordRequest.Find key) refusal)) fits ready = absurd fits
-  at_finding asks phase answer (by_record place request its (is_refused (RecordRequest.Put row) refusal)) fits ready = absurd fits
-  at_finding asks phase answer (by_record place request its (is_refused (RecordRequest.DropArchive key) refusal)) fits ready = absurd fits
-  at_finding asks phase answer (by_record place request its can) fits ready = absurd fits
+  pub at_record : (asks : Request) (phase : Phase) (answer : RecordAnswer) → MayAnswer flying asks (Answer.Record answer) → AsksOf course asks phase → IsReadyFor course phase →
+      AtRecord phase answer
+  at_record asks (Phase.Finding number) answer (by_record place request its (is_found key row)) fits ready = record { ready = ready; waits = (fits, tt) }
+  at_record asks (Phase.Finding number) answer (by_record place request its (is_refused (RecordRequest.Find key) refusal)) fits ready = record { ready = ready; waits = (fits, tt) }
+  at_record asks (Phase.Putting number) answer (by_record place request its (is_put row)) fits ready = record { ready = ready; waits = (fits, tt) }
+  at_record asks (Phase.Putting number) answer (by_record place request its (is_refused (RecordRequest.Put row) refusal)) fits ready = record { ready = ready; waits = (fits, tt) }
+  at_record asks phase answer (by_record place request its (is_refused (RecordRequest.Find key) refusal)) fits ready = absurd fits
+  at_record asks phase answer (by_record place request its (is_refused (RecordRequest.Put row) refusal)) fits ready = absurd fits
+  at_record asks phase answer (by_record place request its (is_refused (RecordRequest.DropArchive key) refusal)) fits ready = absurd fits
+  at_record asks phase answer (by_record place request its can) fits ready = absurd fits
 
   pub it_flies : (asks : Request) (ending : ChildEnd) → MayAnswer flying asks (Answer.Host (HostAnswer.Ended ending)) → Contains flying ending.ticket
   it_flies asks ending (by_host place request answer (has_ended ended flies)) = flies

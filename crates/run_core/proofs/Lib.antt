@@ -1,7 +1,9 @@
 pub mod Asked
 pub mod Choices
 pub mod Choosing
+pub mod FoundRows
 pub mod Holding
+pub mod Kept
 pub mod Lists
 pub mod Loops
 pub mod Lost

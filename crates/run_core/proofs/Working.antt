@@ -27,9 +27,11 @@ use Rattle.run_core.specs.declared.state.JobNext.{JobNext}
 use Rattle.run_core.specs.declared.state.JobPhase.{JobPhase}
 use Rattle.run_core.specs.declared.state.Kept.{Kept}
 use Rattle.run_core.specs.declared.state.Reading.{Reading}
-use Rattle.run_core.specs.inner.Due.{Collects, CollectsPast, Gathers, IsKept, Launches, Starts, StartsPast, call_for, gives, gives_none, has_launch, has_none, job_at_site, left_by}
+use Rattle.run_core.specs.inner.Due.{Collects, CollectsPast, Gathers, IsKept, Launches, Starts, StartsPast, call_for, gives, gives_none, has_launch, has_none, job_at_site, left_by, AsksNothing, CallsNext, KeepsStill, events_next, work_next}
 use Rattle.run_core.specs.inner.Turns.{PutsNext}
 use Rattle.run_core.proofs.Turning.{IsTurn, turn_of}
+use Rattle.run_rules.specs.declared.setting.Options.{Options}
+use Rattle.std.specs.Prelude.{option_copied}
 
 -- what comes next is the first of those that are left
 pub turned : (left rest : List Name) (name : Name) → left ≡ rest ++ name ∷ [] → reverse left ≡ name ∷ reverse rest
@@ -40,8 +42,8 @@ pub reads_next : (site : Site) (filling : Filling) (rest : List Name) (path : Na
 reads_next site filling rest path is few =
     let first : reverse filling.left ≡ path ∷ reverse rest = turned filling.left rest path is in
     record {
-      on = λ place inputs.
-          subst (λ (todo : List Name). StartsOn site.options.now place (job_at_site site place inputs) site.folder filling.staged filling.heads todo
+      on = λ place.
+          subst (λ (todo : List Name). StartsOn site.options.now place (job_at_site site place) site.folder filling.staged filling.heads todo
           (input_heads_due place filling.staged todo filling.heads) []) (sym first) (started.reads_on path (reverse rest));
       calls = record {
         due = ap (λ (todo : List Name). call_for site.options.now site.folder (input_heads_due [] filling.staged todo filling.heads)) first;
@@ -52,13 +54,13 @@ reads_next site filling rest path is few =
 pub starts_by : (site : Site) (staged : Fields) (read : Heads) (inputs : Fields) (next : JobNext) → with_contents site.tool.now.inputs staged read ≡ Ok inputs →
     Launches site inputs next → Starts site staged read [] next
 starts_by site staged read inputs next filled (has_launch launch is) =
-    record { on = λ place given. started.has_launch inputs launch filled is; calls = record { due = refl; fits = refl } }
+    record { on = λ place. started.has_launch inputs launch filled is; calls = record { due = refl; fits = refl } }
 starts_by site staged read inputs next filled (has_none fault is) =
-    record { on = λ place given. started.has_no_launch inputs fault filled is; calls = tt }
+    record { on = λ place. started.has_no_launch inputs fault filled is; calls = tt }
 
 pub starts_not : (site : Site) (staged : Fields) (read : Heads) (fault : ContentsFault) → with_contents site.tool.now.inputs staged read ≡ Err fault →
     Starts site staged read [] (JobNext.Fails (Cause.Collect (CollectCause.Input fault)))
-starts_not site staged read fault is = record { on = λ place given. started.has_no_contents fault is; calls = tt }
+starts_not site staged read fault is = record { on = λ place. started.has_no_contents fault is; calls = tt }
 
 pub reads_name : (site : Site) (kept : Kept) (reading : Reading) (rest : List Name) (name : Name) → reading.left ≡ rest ++ name ∷ [] → length reading.left < 2 ^ 64 →
     Collects site kept reading.millis reading.found reading.heads (reverse reading.left)
@@ -66,8 +68,8 @@ pub reads_name : (site : Site) (kept : Kept) (reading : Reading) (rest : List Na
 reads_name site kept reading rest name is few =
     let first : reverse reading.left ≡ name ∷ reverse rest = turned reading.left rest name is in
     record {
-      on = λ place inputs begun same.
-          subst (λ (todo : List Name). CollectsOn place (job_at_site site place inputs) begun reading.millis reading.found reading.heads todo
+      on = λ place begun same.
+          subst (λ (todo : List Name). CollectsOn place (job_at_site site place) (option_copied site.row) begun reading.millis reading.found reading.heads todo
           (output_heads_due place reading.millis reading.found todo reading.heads) []) (sym first) (collected.reads_on name (reverse rest));
       calls = record {
         due = ap (λ (todo : List Name). call_for site.options.now site.folder (output_heads_due [] reading.millis reading.found todo reading.heads)) first;
@@ -80,18 +82,32 @@ reads_name site kept reading rest name is few =
 left_same : (kept : Kept) (begun : Started) (found : List Found) (read : Heads) → IsKept kept begun → left_by kept found read ≡ left_of begun found read
 left_same kept begun found read same = rw (same.inputs, same.stdout, same.stderr) refl
 
-pub collects_by : (site : Site) (kept : Kept) (millis : ℕ) (found : List Found) (read : Heads) (next : JobNext) → Gathers site kept found read next →
+-- what asks nothing
+calls_nothing : (options : Options) (folder : ℕ) (next : JobNext) → AsksNothing next → CallsNext options folder next
+calls_nothing options folder (JobNext.Asks call phase) none = absurd none
+calls_nothing options folder (JobNext.Fails cause) none = tt
+calls_nothing options folder (JobNext.Gives outputs row) none = tt
+calls_nothing options folder (JobNext.Differs outputs) none = tt
+
+keeps_nothing : (kept : Kept) (next : JobNext) → AsksNothing next → KeepsStill kept next
+keeps_nothing kept (JobNext.Asks call phase) none = absurd none
+keeps_nothing kept (JobNext.Fails cause) none = tt
+keeps_nothing kept (JobNext.Gives outputs row) none = tt
+keeps_nothing kept (JobNext.Differs outputs) none = tt
+
+pub collects_by : (site : Site) (kept : Kept) (millis : ℕ) (found : List Found) (read : Heads) (next : JobNext) → Gathers site kept millis found read next →
     Collects site kept millis found read [] next
-collects_by site kept millis found read next (gives outputs is) =
+collects_by site kept millis found read next (gives outputs its_next is keeps) =
     record {
-      on = λ place inputs begun same.
-          collected.collects outputs (subst (λ (left : Left). IsCollected left site.tool.now.outputs (Ok outputs)) (left_same kept begun found read same) is);
-      calls = tt;
-      keeps = tt;
+      on = λ place begun same.
+          collected.collects outputs (work_next place next) (events_next place next)
+          (subst (λ (left : Left). IsCollected left site.tool.now.outputs (Ok outputs)) (left_same kept begun found read same) is) (keeps.on place);
+      calls = calls_nothing site.options.now site.folder next keeps.asks_nothing;
+      keeps = keeps_nothing kept next keeps.asks_nothing;
     }
 collects_by site kept millis found read next (gives_none fault is) =
     record {
-      on = λ place inputs begun same.
+      on = λ place begun same.
           collected.collects_none fault (subst (λ (left : Left). IsCollected left site.tool.now.outputs (Err fault)) (left_same kept begun found read same) is);
       calls = tt;
       keeps = tt;

@@ -4,6 +4,7 @@ pub mod Course
 pub mod Due
 pub mod Follows
 pub mod Inside
+pub mod FoundRows
 pub mod JobStates
 pub mod Keeps
 pub mod Knows

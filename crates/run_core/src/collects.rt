@@ -9,6 +9,7 @@ ghost use Rattle.run_rules.specs.Folders.{out_folder};
 ghost use Rattle.staging.specs.Groups.{path_in as path_under};
 
 use crate::folders::{out_folder, path_in};
+use crate::keeping::kept as kept_as;
 use crate::site::Site;
 use crate::state::{JobNext, JobPhase, Kept, Reading};
 use crate::turn::failing;
@@ -26,7 +27,7 @@ use std::mem;
 /// The output folder is listed next.
 pub(crate) fn scanning(
     alloc: Global,
-    site: Site<'_, '_>,
+    site: Site<'_, '_, '_>,
     kept: Kept,
     millis: u64,
 ) -> Result<JobNext, AllocError>
@@ -46,7 +47,7 @@ pub(crate) fn scanning(
 /// The output folder is listed: the first bytes of the files that need it are read, and then the outputs are collected.
 pub(crate) fn listed(
     alloc: Global,
-    site: Site<'_, '_>,
+    site: Site<'_, '_, '_>,
     kept: Kept,
     millis: u64,
     found: &Items<Found>,
@@ -65,7 +66,7 @@ pub(crate) fn listed(
 /// What is read before any first bytes are.
 fn first_reading(
     alloc: Global,
-    site: Site<'_, '_>,
+    site: Site<'_, '_, '_>,
     kept: &Kept,
     millis: u64,
     found: &Items<Found>,
@@ -87,7 +88,7 @@ fn first_reading(
 /// The names of the files whose first bytes are read, the first of them last.
 fn names_left(
     alloc: Global,
-    site: Site<'_, '_>,
+    site: Site<'_, '_, '_>,
     kept: &Kept,
     found: &[Found],
 ) -> Result<Items<Text>, AllocError>
@@ -103,7 +104,7 @@ fn names_left(
 /// The first bytes of a file are read.
 pub(crate) fn read(
     alloc: Global,
-    site: Site<'_, '_>,
+    site: Site<'_, '_, '_>,
     kept: Kept,
     mut reading: Reading,
     bytes: &Items<u8>,
@@ -128,7 +129,7 @@ fn put_head(alloc: Global, reading: &mut Reading, bytes: &Items<u8>) -> Result<(
 /// The next file's first bytes are read; where all are, the outputs are collected.
 fn read_on(
     alloc: Global,
-    site: Site<'_, '_>,
+    site: Site<'_, '_, '_>,
     kept: Kept,
     reading: Reading,
 ) -> Result<JobNext, AllocError>
@@ -147,7 +148,7 @@ fn read_on(
 }
 
 /// Asks for the first bytes of a file of the output folder.
-fn head_of(alloc: Global, site: Site<'_, '_>, name: &Text) -> Result<HostRequest, AllocError>
+fn head_of(alloc: Global, site: Site<'_, '_, '_>, name: &Text) -> Result<HostRequest, AllocError>
     ensures { IfOk result (λ asks. asks
         ≡ Call.Head (path_under (out_folder site.entry.options.now.work site.entry.folder) name.now)
         (limit_of name.now)) }
@@ -168,11 +169,11 @@ fn name_or_empty(name: &Option<Text>) -> &str
 
 fn gathered_from(
     alloc: Global,
-    site: Site<'_, '_>,
+    site: Site<'_, '_, '_>,
     kept: Kept,
     reading: Reading,
 ) -> Result<JobNext, AllocError>
-    ensures { IfOk result (Gathers site.entry kept reading.found reading.heads) }
+    ensures { IfOk result (Gathers site.entry kept reading.millis reading.found reading.heads) }
 {
     gathered(alloc, site, &kept, &reading)
 }
@@ -180,11 +181,12 @@ fn gathered_from(
 /// The outputs are collected, or there is a cause why there are none.
 fn gathered(
     alloc: Global,
-    site: Site<'_, '_>,
+    site: Site<'_, '_, '_>,
     kept: &Kept,
     reading: &Reading,
 ) -> Result<JobNext, AllocError>
-    ensures { IfOk result (Gathers site.entry kept.now reading.now.found reading.now.heads) }
+    ensures { IfOk result (Gathers site.entry kept.now reading.now.millis reading.now.found
+        reading.now.heads) }
 {
     let streams = StreamNames {
         stdout: name_or_empty(&kept.stdout),
@@ -198,7 +200,7 @@ fn gathered(
         heads: &reading.heads,
     };
     match collect_outputs(alloc, site.tool, left) {
-        Ok(outputs) => Ok(JobNext::Gives(outputs)),
+        Ok(outputs) => kept_as(alloc, site, reading, outputs),
         Err(CollectError::Refused(fault)) => {
             let cause = CollectCause::Output(fault);
             Ok(failing(Cause::Collect(cause)))

@@ -2,14 +2,17 @@
 ghost use Rattle.std.specs.Prelude.{◌≡◌, ◌<◌, ◌≤◌, ◌+◌, ◌^◌, ◌∷◌, [], None, Some, Contains, IsSome, IfOk, OnErr, OnOk, length, map, slice_get, vec_len, vec_capacity};
 ghost use Rattle.job_graph.specs.declared.unfolding.Unfolding.{Unfolding as Held};
 ghost use Rattle.job_graph.specs.KnownJobs.{job_of as job_seen};
-ghost use Rattle.run_core.specs.inner.Course.{GivesUp, TakesOut, known_in, nothing_past, past_of, place_at, with_answer, with_end, with_staging, with_start};
+ghost use Rattle.run_core.specs.inner.Course.{GivesUp, TakesOut, failure_in, known_in, nothing_past, past_of, place_at, put_note, with_answer, with_end, with_note, with_staging, with_start};
 ghost use Rattle.run_core.specs.inner.Knows.{IsTold, Learns, end_by};
 ghost use Rattle.run_core.specs.inner.Turn.{permanent};
+ghost use Rattle.run_rules.specs.declared.outcome.RunFault.{RunFault as Fault};
+ghost use Rattle.run_core.specs.inner.FoundRows.{rows_after};
 
+use crate::found_rows::FoundRows;
 use crate::job_states::JobStates;
 use crate::state::{Course, Flight, Kept};
 use crate::turn::permanent;
-use crate::{Cause, Outcome, RunFault};
+use crate::{Cause, Note, NoteKind, Outcome, RecordAnswer, RunFault};
 use cwl_value::{Value, copy_job};
 use job_graph::{Job, KnownJob, UnfoldError, UnfoldFault, Unfolding};
 use job_rows::RecordRefusal;
@@ -28,6 +31,8 @@ pub(crate) fn at_first<'a>(alloc: Global) -> Course<'a>
         jobs: JobStates::new(alloc),
         folders: 0,
         looked_up: 0,
+        rows: FoundRows::new(alloc),
+        notes: Vec::new(alloc),
         known: None,
         end: None,
     }
@@ -126,7 +131,7 @@ pub(crate) fn note_end(course: &mut Course<'_>, ticket: u64) -> Flight
     }
 }
 
-/// The job gives no outputs.
+/// The job gives no outputs: that is a mismatch, where a row was found.
 pub(crate) fn note_failure(
     alloc: Global,
     course: &mut Course<'_>,
@@ -135,13 +140,36 @@ pub(crate) fn note_failure(
 ) -> Result<(), AllocError>
     requires { number < length (known_in course.old.known) }
     ensures ok { OnOk result (past_of course.new
-        ≡ with_end (permanent (place_at (known_in course.old.known) number) cause)
+        ≡ with_end (failure_in (past_of course.old) number
+        (place_at (known_in course.old.known) number) cause) (past_of course.old)) }
+    ensures err { OnErr result (past_of course.new ≡ past_of course.old) }
+    ensures known { course.new.known ≡ course.old.known }
+{
+    let place = copy_job(alloc, &job_of(course, number).place)?;
+    if course.rows.get(number).is_some() {
+        mem::drop(cause);
+        settle(course, Err(RunFault::Mismatch(place)));
+    } else {
+        settle(course, permanent(place, cause));
+    }
+    Ok(())
+}
+
+/// The job gives other outputs than its row has.
+pub(crate) fn note_mismatch(
+    alloc: Global,
+    course: &mut Course<'_>,
+    number: usize,
+) -> Result<(), AllocError>
+    requires { number < length (known_in course.old.known) }
+    ensures ok { OnOk result (past_of course.new
+        ≡ with_end (Err (Fault.Mismatch (place_at (known_in course.old.known) number)))
         (past_of course.old)) }
     ensures err { OnErr result (past_of course.new ≡ past_of course.old) }
     ensures known { course.new.known ≡ course.old.known }
 {
     let place = copy_job(alloc, &job_of(course, number).place)?;
-    settle(course, permanent(place, cause));
+    settle(course, Err(RunFault::Mismatch(place)));
     Ok(())
 }
 
@@ -203,16 +231,65 @@ pub(crate) fn note_success(
 }
 
 /// The record has told what it has of the job of this number, or why the run ends.
-pub(crate) fn note_answer(course: &mut Course<'_>, number: usize, refusal: Option<RecordRefusal>)
+pub(crate) fn note_answer(
+    alloc: Global,
+    course: &mut Course<'_>,
+    number: usize,
+    answer: &RecordAnswer,
+    refusal: Option<RecordRefusal>,
+) -> Result<(), AllocError>
     requires { number < length (known_in course.old.known) }
-    ensures past { past_of course.new ≡ with_answer number refusal (past_of course.old) }
+    ensures past { OnOk result (past_of course.new
+        ≡ with_answer number answer.now refusal (past_of course.old)) }
     ensures known { course.new.known ≡ course.old.known }
+    ensures flying { course.new.tickets.items ≡ course.old.tickets.items }
 {
     let _number_has_a_next = known_in(&course.known).len();
     match refusal {
-        None => course.looked_up = number + 1,
+        None => {
+            keep_row(alloc, &mut course.rows, number, answer)?;
+            course.looked_up = number + 1;
+        }
         Some(refusal) => settle(course, Err(RunFault::Record(refusal))),
     }
+    Ok(())
+}
+
+/// Keeps the row that the record has told, if it told one.
+fn keep_row(
+    alloc: Global,
+    rows: &mut FoundRows,
+    number: usize,
+    answer: &RecordAnswer,
+) -> Result<(), AllocError>
+    ensures { OnOk result (rows.new ≡ rows_after number answer.now rows.old) }
+{
+    match answer {
+        RecordAnswer::Found(Some(row)) => rows.set(number, row.clone_in(alloc)?),
+        _ => Ok(()),
+    }
+}
+
+/// The record refused to keep the row of the job of a number.
+pub(crate) fn note_refused_row(
+    alloc: Global,
+    course: &mut Course<'_>,
+    number: usize,
+    refusal: RecordRefusal,
+) -> Result<(), AllocError>
+    requires { number < length (known_in course.old.known) }
+    ensures past { OnOk result (past_of course.new
+        ≡ with_note (put_note (place_at (known_in course.old.known) number) refusal)
+        (past_of course.old)) }
+    ensures known { course.new.known ≡ course.old.known }
+    ensures flying { course.new.tickets.items ≡ course.old.tickets.items }
+{
+    let place = copy_job(alloc, &job_of(course, number).place)?;
+    course.notes.push(Note {
+        place,
+        kind: NoteKind::Put(refusal),
+    })?;
+    Ok(())
 }
 
 /// Tells what is known of the job's outputs.

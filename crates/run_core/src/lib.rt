@@ -16,7 +16,9 @@ mod fields;
 mod files;
 mod finding;
 mod folders;
+mod found_rows;
 mod job_states;
+mod keeping;
 mod measuring;
 mod places;
 mod rows;
@@ -29,7 +31,7 @@ mod turn;
 mod turns;
 
 pub use run_rules::{
-    Answer, Cause, CollectCause, Note, Options, Outcome, Pair, PlanNote, RecordAnswer,
+    Answer, Cause, CollectCause, Note, NoteKind, Options, Outcome, Pair, PlanNote, RecordAnswer,
     RecordRequest, Report, Request, RunFault, Setting,
 };
 pub use runner::RunCore;

@@ -1,13 +1,13 @@
-//! What the record has of a job, once it has told it.
-ghost use Rattle.std.specs.Prelude.{◌≡◌, ◌<◌, ◌+◌, ◌^◌, Some, IfOk, OnErr, length};
-ghost use Rattle.run_core.specs.inner.Course.{known_in};
-ghost use Rattle.run_core.specs.inner.Follows.{FollowsFind, IsFinding, IsOfAFind, IsReady};
-ghost use Rattle.run_core.specs.inner.Picks.{AfterFind, Tells};
+//! What follows from the record's answers: what it has of a job, and whether it keeps the row of one.
+ghost use Rattle.std.specs.Prelude.{◌≡◌, ◌<◌, ◌+◌, ◌^◌, Some, IfOk, OnErr, OnOk, length};
+ghost use Rattle.run_core.specs.inner.Course.{known_in, past_of, place_at};
+ghost use Rattle.run_core.specs.inner.Follows.{FollowsRecord, IsOfAFind, IsOfAPut, IsReady, WaitsForRecord};
+ghost use Rattle.run_core.specs.inner.Picks.{AfterFind, AfterPut, Tells, noted_by};
 ghost use Rattle.run_rules.specs.declared.request.RecordAnswer.{RecordAnswer as Told};
 
 use crate::RecordAnswer;
 use crate::choice::pick;
-use crate::course::{job_of, note_answer};
+use crate::course::{job_of, note_answer, note_refused_row};
 use crate::state::{Course, Given, Phase, Turn};
 use cwl_process::Tool;
 use job_reuse::row_is_sound;
@@ -23,14 +23,14 @@ pub(crate) fn told(
     answer: &RecordAnswer,
 ) -> Result<Turn, AllocError>
     requires ready { IsReady course.old }
-    requires finds { IsFinding course.old phase }
-    requires answers { IsOfAFind answer.now }
-    ensures is { IfOk result (λ turn. FollowsFind given.now course.old phase answer.now turn
+    requires waits { WaitsForRecord course.old phase answer.now }
+    ensures is { IfOk result (λ turn. FollowsRecord given.now course.old phase answer.now turn
         course.new) }
     ensures flying { OnErr result (course.new.tickets.items ≡ course.old.tickets.items) }
 {
     match phase {
         Phase::Finding(number) => told_of_job(alloc, given, course, number, answer),
+        Phase::Putting(number) => put(alloc, given, course, number, answer),
         _ => unreachable!(),
     }
 }
@@ -51,8 +51,48 @@ fn told_of_job(
     ensures flying { OnErr result (course.new.tickets.items ≡ course.old.tickets.items) }
 {
     let refusal = refusal_of(alloc, job_of(course, number).tool, answer)?;
-    note_answer(course, number, refusal);
+    note_answer(alloc, course, number, answer, refusal)?;
     pick(alloc, given, course)
+}
+
+/// The record has answered whether the row of this job is kept.
+fn put(
+    alloc: Global,
+    given: &Given<'_>,
+    course: &mut Course<'_>,
+    number: usize,
+    answer: &RecordAnswer,
+) -> Result<Turn, AllocError>
+    requires folders { course.old.folders + 1 < 2 ^ 64 }
+    requires number { number < length (known_in course.old.known) }
+    requires answers { IsOfAPut answer.now }
+    ensures is { IfOk result (λ turn. AfterPut given.now course.old number answer.now turn
+        course.new) }
+    ensures flying { OnErr result (course.new.tickets.items ≡ course.old.tickets.items) }
+{
+    note_put(alloc, course, number, answer)?;
+    pick(alloc, given, course)
+}
+
+/// Notes that the record refused to keep a row, if it did.
+fn note_put(
+    alloc: Global,
+    course: &mut Course<'_>,
+    number: usize,
+    answer: &RecordAnswer,
+) -> Result<(), AllocError>
+    requires number { number < length (known_in course.old.known) }
+    requires answers { IsOfAPut answer.now }
+    ensures past { OnOk result (past_of course.new
+        ≡ noted_by (place_at (known_in course.old.known) number) answer.now (past_of course.old)) }
+    ensures known { course.new.known ≡ course.old.known }
+    ensures flying { course.new.tickets.items ≡ course.old.tickets.items }
+{
+    match answer {
+        RecordAnswer::Done => Ok(()),
+        RecordAnswer::Refused(refusal) => note_refused_row(alloc, course, number, *refusal),
+        RecordAnswer::Found(_) => unreachable!(),
+    }
 }
 
 /// Why the run ends by this answer, if it does: the record refused, or the row contradicts itself or the tool.

@@ -22,7 +22,7 @@ use crate::measuring::begun;
 use crate::state::{Course, Given, Phase, Turn};
 use crate::steps::answered;
 use crate::turn::{ended, given_up, lost};
-use crate::{Answer, Options, Outcome, Pair, Report, Request, RunFault};
+use crate::{Answer, Note, Options, Outcome, Pair, Report, Request, RunFault};
 use cwl_value::Value;
 use document_links::Process;
 use job_graph::see_ids;
@@ -199,8 +199,7 @@ impl<'a> RunCore<'a> {
         } = self;
         mem::drop(given);
         mem::drop(pairs);
-        mem::drop(course);
-        reported(alloc, phase_outcome(turn))
+        reported(alloc, phase_outcome(turn), course)
     }
 }
 
@@ -327,17 +326,48 @@ fn told_of(phase: &Phase) -> Result<(), RunFault>
 }
 
 /// The report of what came of the process.
-fn reported(alloc: Global, outcome: Result<Outcome, RunFault>) -> Result<Report, RunFault>
-    ensures { result ≡ reported outcome }
+fn reported(
+    alloc: Global,
+    outcome: Result<Outcome, RunFault>,
+    course: Course<'_>,
+) -> Result<Report, RunFault>
+    ensures { result ≡ reported (past_of course.entry).notes outcome }
 {
     match outcome {
         Ok(outcome) => Ok(Report {
             outcome,
             plans: Items::new(alloc),
-            notes: Items::new(alloc),
+            notes: Items::from_vec(notes_of(course)),
         }),
-        Err(fault) => Err(fault),
+        Err(fault) => {
+            mem::drop(course);
+            Err(fault)
+        }
     }
+}
+
+/// What went wrong without changing the end.
+fn notes_of(course: Course<'_>) -> Vec<Note>
+    ensures { result.items ≡ (past_of course.entry).notes }
+{
+    let Course {
+        tickets,
+        flights,
+        jobs,
+        folders: _,
+        looked_up: _,
+        rows,
+        notes,
+        known,
+        end,
+    } = course;
+    mem::drop(tickets);
+    mem::drop(flights);
+    mem::drop(jobs);
+    mem::drop(rows);
+    mem::drop(known);
+    mem::drop(end);
+    notes
 }
 
 /// What came of the process by the last turn.

@@ -26,7 +26,7 @@ use std::mem;
 /// The job's folders are made: the contents of its inputs are read, and then it is started.
 pub(crate) fn filled_first(
     alloc: Global,
-    site: Site<'_, '_>,
+    site: Site<'_, '_, '_>,
     staged: &Keyed<Value>,
 ) -> Result<JobNext, AllocError>
     ensures { IfOk result
@@ -39,7 +39,7 @@ pub(crate) fn filled_first(
 
 fn first_filling(
     alloc: Global,
-    site: Site<'_, '_>,
+    site: Site<'_, '_, '_>,
     staged: &Keyed<Value>,
 ) -> Result<Filling, AllocError>
     ensures staged { IfOk result (λ filling. filling.staged ≡ staged.now) }
@@ -58,7 +58,7 @@ fn first_filling(
 /// The first bytes of an input file are read.
 pub(crate) fn filled(
     alloc: Global,
-    site: Site<'_, '_>,
+    site: Site<'_, '_, '_>,
     mut filling: Filling,
     bytes: &Items<u8>,
 ) -> Result<JobNext, AllocError>
@@ -78,7 +78,7 @@ fn put_contents(alloc: Global, filling: &mut Filling, bytes: &Items<u8>) -> Resu
 }
 
 /// The next input file's contents are read; where all are, the job is started.
-fn fill_on(alloc: Global, site: Site<'_, '_>, filling: Filling) -> Result<JobNext, AllocError>
+fn fill_on(alloc: Global, site: Site<'_, '_, '_>, filling: Filling) -> Result<JobNext, AllocError>
     ensures { IfOk result (λ next. Starts site.entry filling.staged filling.heads
         (reverse filling.left) next) }
 {
@@ -94,7 +94,11 @@ fn fill_on(alloc: Global, site: Site<'_, '_>, filling: Filling) -> Result<JobNex
 }
 
 /// The job is started on these inputs, or there is a fault of their contents.
-fn inputs_filled(alloc: Global, site: Site<'_, '_>, filling: Filling) -> Result<JobNext, AllocError>
+fn inputs_filled(
+    alloc: Global,
+    site: Site<'_, '_, '_>,
+    filling: Filling,
+) -> Result<JobNext, AllocError>
     requires { filling.left ≡ [] }
     ensures { IfOk result (λ next. Starts site.entry filling.staged filling.heads [] next) }
 {
@@ -115,7 +119,11 @@ fn inputs_filled(alloc: Global, site: Site<'_, '_>, filling: Filling) -> Result<
 }
 
 /// The job is started by its launch, or has none.
-fn launched(alloc: Global, site: Site<'_, '_>, inputs: Keyed<Value>) -> Result<JobNext, AllocError>
+fn launched(
+    alloc: Global,
+    site: Site<'_, '_, '_>,
+    inputs: Keyed<Value>,
+) -> Result<JobNext, AllocError>
     ensures { IfOk result (Launches site.entry inputs) }
 {
     match launch_of(alloc, site, &inputs) {
@@ -131,7 +139,11 @@ fn launched(alloc: Global, site: Site<'_, '_>, inputs: Keyed<Value>) -> Result<J
     }
 }
 
-fn launch_of(alloc: Global, site: Site<'_, '_>, inputs: &Keyed<Value>) -> Result<Launch, BuildError>
+fn launch_of(
+    alloc: Global,
+    site: Site<'_, '_, '_>,
+    inputs: &Keyed<Value>,
+) -> Result<Launch, BuildError>
     ensures ok { IfOk result
         (IsLaunch site.entry.tool.now inputs.now
         (runtime_of site.entry.options.now site.entry.folder)) }

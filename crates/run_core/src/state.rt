@@ -1,10 +1,12 @@
 //! Where a run is: what its events have brought about so far, and what it waits for.
 
+use crate::found_rows::FoundRows;
 use crate::job_states::JobStates;
-use crate::{Cause, Options, Outcome, Request, RunFault};
+use crate::{Cause, Note, Options, Outcome, Request, RunFault};
 use cwl_value::Value;
 use document_links::Process;
 use job_graph::Unfolding;
+use job_rows::Row;
 use plain_data::{Items, Keyed, Text};
 use proc_host::HostRequest;
 use staging::{Found, Measure};
@@ -80,8 +82,10 @@ pub(crate) enum JobNext {
     Asks(HostRequest, JobPhase),
     /// It gives no outputs.
     Fails(Cause),
-    /// It gives these outputs.
-    Gives(Keyed<Value>),
+    /// It gives these outputs, and this row is put, where there is one.
+    Gives(Keyed<Value>, Option<Row>),
+    /// It was to give what its row has, and these outputs are others.
+    Differs(Keyed<Value>),
 }
 
 /// What the machine waits for.
@@ -95,6 +99,8 @@ pub(crate) enum Phase {
     Staging(usize),
     /// The open work on the job of this number.
     Working(usize, JobPhase),
+    /// Whether the row of the job of this number is kept.
+    Putting(usize),
     /// The end of a child.
     Collecting,
     /// The result's files at their targets, which this output object names.
@@ -134,6 +140,10 @@ pub(crate) struct Course<'a> {
     pub folders: u64,
     /// The row of each known job below this number was looked for, where it may have one; of no other it was.
     pub looked_up: usize,
+    /// The rows that were found.
+    pub rows: FoundRows,
+    /// What went wrong without changing the end.
+    pub notes: Vec<Note>,
     /// The jobs that are known, once all input files are measured.
     pub known: Option<Unfolding<'a>>,
     /// The failure that settled the end.

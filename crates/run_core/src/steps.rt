@@ -1,5 +1,6 @@
 //! What the machine waits for after each answer.
-ghost use Rattle.std.specs.Prelude.{◌≡◌, ◌<◌, ◌+◌, ◌^◌, ◌∷◌, ◌++◌, [], Contains, IfOk, OnErr, length, vec_len, vec_capacity};
+ghost use Rattle.std.specs.Prelude.{◌≡◌, ◌<◌, ◌+◌, ◌^◌, ◌∷◌, ◌++◌, [], Some, Contains, IfOk, OnErr, length, vec_len, vec_capacity};
+ghost use Rattle.run_core.specs.declared.state.JobNext.{JobNext as Next};
 ghost use Rattle.run_core.specs.declared.state.Phase.{Phase as Waits};
 ghost use Rattle.run_core.specs.inner.Course.{known_in};
 ghost use Rattle.run_core.specs.inner.Follows.{AfterFailure, AnswersWork, AsksOf, CanStage, Drains, FollowsFrom, FollowsIn, FollowsWork, IsLeftAfter, IsOneLess, IsReady, IsReadyFor, IsStaging};
@@ -12,16 +13,18 @@ ghost use Rattle.run_rules.specs.Answers.{MayAnswer};
 use crate::choice::pick;
 use crate::collects::{listed, read, scanning};
 use crate::course::{
-    job_of, note_end, note_failure, note_giving_up, note_staging, note_start, note_success, settle,
+    job_of, note_end, note_failure, note_giving_up, note_mismatch, note_staging, note_start,
+    note_success, settle,
 };
 use crate::measuring::measured;
 use crate::rows::told;
 use crate::site::Site;
 use crate::starts::{filled, filled_first};
 use crate::state::{Course, Filling, Flight, Given, JobNext, JobPhase, Kept, Phase, Reading, Turn};
-use crate::turn::{ended, failing, lost, succeeded, working};
+use crate::turn::{ended, failing, lost, putting, succeeded, working};
 use crate::{Answer, Cause, Request, RunFault};
 use cwl_value::Value;
+use job_rows::Row;
 use plain_data::{Items, Keyed};
 use proc_host::{ChildEnd, ExitClass, HostAnswer, HostFault, HostRequest, classify};
 use staging::Found;
@@ -124,13 +127,20 @@ fn works_on(
 }
 
 /// A job in the folders that it was staged in last.
-fn site_of<'a, 's>(given: &'s Given<'_>, course: &Course<'a>, number: usize) -> Site<'a, 's>
+fn site_of<'a, 's, 'c>(
+    given: &'s Given<'_>,
+    course: &'c Course<'a>,
+    number: usize,
+) -> Site<'a, 's, 'c>
     requires number { number < length course.now.jobs }
     requires known { number < length (known_in course.now.known) }
     ensures { IsSite given.now course.now number result }
 {
+    let job = job_of(course, number);
     Site {
-        tool: job_of(course, number).tool,
+        tool: job.tool,
+        inputs: &job.inputs,
+        row: course.rows.get(number),
         folder: course.jobs.as_slice()[number].folder,
         options: &given.options,
     }
@@ -157,9 +167,65 @@ fn turn_of(
             note_failure(alloc, course, number, cause)?;
             pick(alloc, given, course)
         }
-        JobNext::Gives(outputs) => {
+        JobNext::Gives(outputs, row) => gave(alloc, given, course, number, outputs, row),
+        JobNext::Differs(outputs) => {
+            mem::drop(outputs);
+            note_mismatch(alloc, course, number)?;
+            pick(alloc, given, course)
+        }
+    }
+}
+
+/// A job's outputs are there: its row is put next, if one is made of it.
+fn gave(
+    alloc: Global,
+    given: &Given<'_>,
+    course: &mut Course<'_>,
+    number: usize,
+    outputs: Keyed<Value>,
+    row: Option<Row>,
+) -> Result<Turn, AllocError>
+    requires folders { course.old.folders + 1 < 2 ^ 64 }
+    requires number { number < length (known_in course.old.known) }
+    ensures is { IfOk result (λ turn. Turns given.now course.old number (Next.Gives outputs row)
+        turn course.new) }
+    ensures flying { OnErr result (course.new.tickets.items ≡ course.old.tickets.items) }
+{
+    match row {
+        None => {
             note_success(alloc, course, number, outputs)?;
             pick(alloc, given, course)
+        }
+        Some(row) => gave_row(alloc, given, course, number, outputs, row),
+    }
+}
+
+/// A job's outputs are there, and its row is put next.
+fn gave_row(
+    alloc: Global,
+    given: &Given<'_>,
+    course: &mut Course<'_>,
+    number: usize,
+    outputs: Keyed<Value>,
+    row: Row,
+) -> Result<Turn, AllocError>
+    requires { number < length (known_in course.old.known) }
+    ensures is { IfOk result (λ turn. Turns given.now course.old number
+        (Next.Gives outputs (Some row)) turn course.new) }
+    ensures flying { OnErr result (course.new.tickets.items ≡ course.old.tickets.items) }
+{
+    let _run = given;
+    match putting(alloc, &job_of(course, number).place, number, row) {
+        Ok(turn) => match note_success(alloc, course, number, outputs) {
+            Ok(()) => Ok(turn),
+            Err(error) => {
+                mem::drop(turn);
+                Err(error)
+            }
+        },
+        Err(error) => {
+            mem::drop(outputs);
+            Err(error)
         }
     }
 }

@@ -2,11 +2,12 @@
 ghost use Rattle.std.specs.Prelude.{◌≡◌, IfOk};
 ghost use Rattle.run_core.specs.declared.state.JobNext.{JobNext as Next};
 ghost use Rattle.run_core.specs.inner.Course.{past_of};
-ghost use Rattle.run_core.specs.inner.Turn.{collects, ends, given_up, lost_after, permanent, root_asks, succeeds, waits, works};
+ghost use Rattle.run_core.specs.inner.Turn.{collects, ends, given_up, lost_after, permanent, puts, root_asks, succeeds, waits, works};
 
 use crate::state::{Course, JobNext, JobPhase, Phase, Turn};
-use crate::{Cause, Outcome, Request, RunFault};
+use crate::{Cause, Outcome, RecordRequest, Request, RunFault};
 use cwl_value::{JobPlace, Value, copy_job};
+use job_rows::Row;
 use plain_data::Items;
 use proc_host::HostRequest;
 use std::alloc::{AllocError, Global};
@@ -90,6 +91,27 @@ pub(crate) fn working(
         Err(refused) => {
             mem::drop(request);
             mem::drop(phase);
+            Err(refused)
+        }
+    }
+}
+
+/// The row of a job is put.
+pub(crate) fn putting(
+    alloc: Global,
+    place: &JobPlace,
+    number: usize,
+    row: Row,
+) -> Result<Turn, AllocError>
+    ensures { IfOk result (λ turn. turn ≡ puts place.now number row) }
+{
+    match copy_job(alloc, place) {
+        Ok(place) => Ok(Turn {
+            asks: Request::Record(place, RecordRequest::Put(row)),
+            phase: Phase::Putting(number),
+        }),
+        Err(refused) => {
+            mem::drop(row);
             Err(refused)
         }
     }

@@ -98,6 +98,10 @@ fn fault_json(alloc: Global, fault: &RunFault) -> Result<String, RowFault> {
         RunFault::Record(refusal) => {
             Ok(format!(in alloc; "{{\"fault\":\"{}\"}}", refusal.code())?)
         }
+        RunFault::Mismatch(place) => {
+            let place = place_json(alloc, place)?;
+            Ok(format!(in alloc; "{{\"fault\":\"Mismatch\",\"place\":{place}}}")?)
+        }
         RunFault::TooManyJobs => Ok(String::from_str(alloc, "{\"fault\":\"TooManyJobs\"}")?),
         RunFault::OutOfMemory => Err(RowFault::OutOfMemory),
     }

@@ -14,7 +14,7 @@ use std::str;
 /// `head` (of three bytes at most), `fetch` and `store` (both of the row's `files`), `deliver`, and `close` for the ticket that was
 /// started last.
 pub fn answer(alloc: Global, row: &Row) -> Result<String, RowFault> {
-    let script = script_of(alloc, row)?;
+    let script = script_of(alloc, row, "script")?;
     let mut host = Scripted::new(alloc, script, row.natural("least_started")?);
     let mut held = Vec::new(alloc);
     let answered = answered(alloc, row, &mut host, &mut held);

@@ -8,6 +8,7 @@
 //! the script does not answer next fails.
 #![tactic(auto)]
 
+mod again;
 mod alone;
 mod copies;
 mod end;
@@ -39,6 +40,7 @@ impl Answers for Calls<'_> {
             "copy_listing" => copies::listing(alloc, row),
             "copy_plan" => copies::plan(alloc, row),
             "run" => run::answer(alloc, row),
+            "run_again" => again::answer(alloc, row),
             "gives_up" => giving_up::answer(alloc, row),
             "orders" => orders::answer(alloc, row),
             "timed" => timed::answer(self.0, row),

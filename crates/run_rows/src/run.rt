@@ -48,12 +48,27 @@ fn end_on(alloc: Global, row: &Row, host: &mut Scripted) -> Result<String, RowFa
 fn end_of(alloc: Global, row: &Row, host: &mut Scripted, case: &Case) -> Result<String, RowFault>
     requires { host.old.running ≡ [] }
 {
-    let options = options_of(alloc, row)?;
     let mut rows = MemoryRecord::new(alloc);
+    let text = end_over(alloc, row, host, &mut rows, case);
+    mem::drop(rows);
+    text
+}
+
+/// How a run over this host and this record ends.
+pub fn end_over(
+    alloc: Global,
+    row: &Row,
+    host: &mut Scripted,
+    rows: &mut MemoryRecord,
+    case: &Case,
+) -> Result<String, RowFault>
+    requires { host.old.running ≡ [] }
+{
+    let options = options_of(alloc, row)?;
     let end = run(
         alloc,
         host,
-        &mut rows,
+        rows,
         case.process.as_process(),
         &case.inputs,
         options,
@@ -61,7 +76,6 @@ fn end_of(alloc: Global, row: &Row, host: &mut Scripted, case: &Case) -> Result<
     );
     let text = end_json(alloc, &end);
     mem::drop(end);
-    mem::drop(rows);
     text
 }
 
@@ -89,7 +103,7 @@ fn host_of(alloc: Global, row: &Row) -> Result<Scripted, RowFault>
     ensures { IfOk result (λ host. host.running ≡ []) }
 {
     let least_started = natural_or(row, "least_started", 0)?;
-    Ok(Scripted::new(alloc, script_of(alloc, row)?, least_started))
+    Ok(Scripted::new(alloc, script_of(alloc, row, "script")?, least_started))
 }
 
 fn accepted(alloc: Global, row: &Row) -> Result<Accepted, RowFault> {

@@ -5,10 +5,10 @@ use serde_json::Value as Json;
 use staging::{Found, Measure};
 use std::alloc::{AllocError, Global};
 
-/// The script of a row.
-pub fn script_of(alloc: Global, row: &Row) -> Result<Items<Reply>, RowFault> {
+/// The script that a row has under a name.
+pub fn script_of(alloc: Global, row: &Row, name: &str) -> Result<Items<Reply>, RowFault> {
     let mut script = Items::new(alloc);
-    for reply in row.list("script")? {
+    for reply in row.list(name)? {
         script.push(reply_of(alloc, reply)?)?;
     }
     Ok(script)

@@ -9,7 +9,7 @@ use Rattle.job_graph.specs.Unfold.{Resolved, Unfolded, is_at, outputs_at, unfold
 use Rattle.job_graph.specs.Words.{Fields, JobPlace, is_same_place}
 use Rattle.job_key.specs.Key.{key}
 use Rattle.run_rules.specs.Scene.{Scene}
-use Rattle.run_rules.specs.Events.{Event, file_measured, job_staged, job_started, child_exited, job_succeeded, job_failed, job_failed_for_now, result_delivered, host_failed, collect_failed, row_found, no_row, find_failed, measures, are_measured, resolved, resolves, job_at}
+use Rattle.run_rules.specs.Events.{Event, file_measured, job_staged, job_started, child_exited, job_succeeded, job_failed, job_failed_for_now, result_delivered, host_failed, collect_failed, row_found, no_row, find_failed, put_failed, row_differs, measures, are_measured, resolved, resolves, job_at}
 use Rattle.run_rules.specs.Honest.{AgreesAt, AgreesFrom}
 use Rattle.run_rules.proofs.Measuring.{FitsAt, Fits, resolved_more, resolved_success}
 use Rattle.run_rules.proofs.Places.{same_place}
@@ -39,7 +39,7 @@ module _ (s : Scene) (world : World) where
   abbrev pub AreGiven : List Event → Type 0
   AreGiven es = (place : JobPlace) (outputs : Fields) → outputs_at (resolved es) place ≡ Some outputs → IsGiven es place outputs
 
-  given_still : (es : List Event) (e : Event) → FitsAt s es e → (place : JobPlace) (outputs : Fields) → IsGiven es place outputs → IsGiven (es ++ e ∷ []) place outputs
+  pub given_still : (es : List Event) (e : Event) → FitsAt s es e → (place : JobPlace) (outputs : Fields) → IsGiven es place outputs → IsGiven (es ++ e ∷ []) place outputs
   given_still es e fits place outputs it = record { job = it.job; known = stays_one s es place it.job e fits it.known; gives = it.gives }
 
   quietly : (es : List Event) (e : Event) → FitsAt s es e → resolves e ≡ None → AreGiven es → AreGiven (es ++ e ∷ [])
@@ -77,6 +77,8 @@ module _ (s : Scene) (world : World) where
   given_one es (row_found at row) fits agrees given = quietly es (row_found at row) fits refl given
   given_one es (no_row at) fits agrees given = quietly es (no_row at) fits refl given
   given_one es (find_failed at refusal) fits agrees given = quietly es (find_failed at refusal) fits refl given
+  given_one es (put_failed at refusal) fits agrees given = quietly es (put_failed at refusal) fits refl given
+  given_one es (row_differs at outputs) fits agrees given = quietly es (row_differs at outputs) fits refl given
 
   pub given_first : AreGiven []
   given_first place outputs is = absurd cc

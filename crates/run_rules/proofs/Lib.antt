@@ -18,6 +18,7 @@ pub mod RightEnds
 pub mod Evaluating
 pub mod Reported
 pub mod TwoJobs
+pub mod OtherOutputs
 pub mod MeasuredFile
 pub mod Rows
 pub mod events

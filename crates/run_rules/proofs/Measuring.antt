@@ -1,5 +1,5 @@
 -- Once each input file is measured, nothing is measured any more; and of each end of a job, the job is known.
-use Rattle.std.specs.Prelude.{◌&&◌, ◌||◌, Contains}
+use Rattle.std.specs.Prelude.{◌≢◌, ◌&&◌, ◌||◌, Contains}
 use Rattle.std.specs.List.{list_all, cons_option}
 use Rattle.std.proofs.Common.{◌≡◌, ℕ, ◌∙◌, Bool, true, false, cond, List, [], ◌∷◌, ◌++◌, filter_map, append-nil, find, fold, Option, Some, None, refl, sym, ap, subst}
 use Rattle.std.proofs.lemmas.List.{append_assoc}
@@ -13,13 +13,15 @@ use Rattle.job_graph.specs.Jobs.{Job}
 use Rattle.job_graph.specs.Unfold.{Resolved, Unfolded, is_at, nothing_known, unfolded}
 use Rattle.job_graph.specs.Words.{Name, Fields, JobPlace}
 use Rattle.run_rules.specs.Scene.{Scene}
-use Rattle.run_rules.specs.Events.{Event, file_measured, job_staged, job_started, child_exited, job_succeeded, job_failed, job_failed_for_now, result_delivered, host_failed, collect_failed, row_found, no_row, find_failed, Work, Progress, Started, measures, measures_after, measures_path, is_measured, are_measured, resolves, resolved, unfolding_at, job_at}
+use Rattle.run_rules.specs.Events.{Event, file_measured, job_staged, job_started, child_exited, job_succeeded, job_failed, job_failed_for_now, result_delivered, host_failed, collect_failed, row_found, no_row, find_failed, put_failed, row_differs, Work, Progress, Started, measures, measures_after, measures_path, is_measured, are_measured, resolves, resolved, unfolding_at, job_at, row_at}
 use Rattle.run_rules.specs.StartsOn.{StartsOn, reads_on as starts_reading, has_launch, has_no_launch, has_no_contents}
 use Rattle.run_rules.specs.CollectsOn.{CollectsOn, reads_on as collects_reading, collects, collects_none}
-use Rattle.run_rules.specs.Steps.{Steps, measures_file, stages, reads_input, starts, exits_well, exits_for_now, exits_badly, scans, reads_output, delivers, loses_collect, call_fails, finds_none, finds, finds_wrong, find_fails}
+use Rattle.run_rules.specs.Steps.{Steps, measures_file, stages, reads_input, starts, exits_well, exits_for_now, exits_badly, scans, reads_output, delivers, loses_collect, call_fails, finds_none, finds, finds_wrong, find_fails, puts, put_fails}
 use Rattle.plan_checker.specs.declared.plan.Mark.{Mark}
 use Rattle.run_rules.specs.Allowed.{Allowed}
 use Rattle.run_rules.specs.Run.{Goes, begins, asks}
+use Rattle.run_rules.specs.Keeps.{Keeps, keeps, keeps_none, differs}
+use Rattle.job_rows.specs.declared.row.Row.{Row}
 
 pub left_true : (a b : Bool) → (a && b) ≡ true → a ≡ true
 left_true true b both = refl
@@ -92,11 +94,20 @@ module _ (s : Scene) where
     pub job : Job
     pub known : job_at s es place ≡ Some job
 
-  -- a measure comes before all is measured, and an end of a job where the job is known
+  -- a job is known there, and a row with other outputs was found
+  pub record Differs (es : List Event) (place : JobPlace) (outputs : Fields) : Type 0 where
+    pub its : IsKnownAt es place
+    pub row : Row
+    pub found : row_at es place ≡ Some row
+    pub other : row.outputs ≢ outputs
+
+  -- a measure comes before all is measured, and an end of a job, or its row, where the job is known
   abbrev pub FitsAt : List Event → Event → Type 0
   FitsAt es (file_measured path measure) = are_measured s es ≡ true → ⊥
   FitsAt es (job_succeeded place outputs) = IsKnownAt es place
   FitsAt es (job_failed place cause) = IsKnownAt es place
+  FitsAt es (row_found place row) = IsKnownAt es place
+  FitsAt es (row_differs place outputs) = Differs es place outputs
   FitsAt es _ = Unit {0}
 
   abbrev pub Fits : List Event → List Event → Type 0
@@ -122,6 +133,8 @@ module _ (s : Scene) where
   same_measures es (row_found place row) fits all = refl
   same_measures es (no_row place) fits all = refl
   same_measures es (find_failed place refusal) fits all = refl
+  same_measures es (put_failed place refusal) fits all = refl
+  same_measures es (row_differs place outputs) fits all = refl
 
   -- so what is measured by then is measured at the end
   pub measures_stay : (es later : List Event) → Fits es later → are_measured s es ≡ true → fold measures_after (measures es) later ≡ measures es
@@ -151,10 +164,16 @@ module _ (s : Scene) where
   starts_fit es place job known (has_no_launch inputs fault with_them is) = (known, tt)
   starts_fit es place job known (has_no_contents fault is) = (known, tt)
 
+  keeps_fit : (es : List Event) (place : JobPlace) (job : Job) {millis : ℕ} {found : List Found} {outputs : Fields} {work : Work} {more : List Event} →
+      IsKnownAt es place → Keeps place job (row_at es place) millis found outputs work more → Fits es more
+  keeps_fit es place job known (keeps_none once) = (known, tt)
+  keeps_fit es place job known (keeps reusable agrees) = (known, tt)
+  keeps_fit es place job known (differs row reusable found other) = (record { its = known; row = row; found = found; other = other }, tt)
+
   collects_fit : (es : List Event) (place : JobPlace) (job : Job) {started : Started} {millis : ℕ} {found : List Found} {read : Heads} {todo : List Name} {work : Work} {more : List Event} →
-      IsKnownAt es place → CollectsOn place job started millis found read todo work more → Fits es more
+      IsKnownAt es place → CollectsOn place job (row_at es place) started millis found read todo work more → Fits es more
   collects_fit es place job known (collects_reading name rest) = tt
-  collects_fit es place job known (collects outputs is) = (known, tt)
+  collects_fit es place job known (collects outputs work more is kept) = keeps_fit es place job known kept
   collects_fit es place job known (collects_none fault is) = (known, tt)
 
   not_measured : (es : List Event) (path : Name) → Contains s.paths path → is_measured es path ≡ false → are_measured s es ≡ true → ⊥
@@ -185,9 +204,11 @@ module _ (s : Scene) where
   step_fits f marks may loses_collect = (tt, tt)
   step_fits f marks may (call_fails place request other) = (tt, tt)
   step_fits f marks may (finds_none place its_key) = (tt, tt)
-  step_fits f marks may (finds place its_key row job known sound) = (tt, tt)
+  step_fits f marks may (finds place its_key row job known sound) = (record { job = job; known = known }, tt)
   step_fits f marks may (finds_wrong place its_key row job known unsound) = (tt, tt)
   step_fits f marks may (find_fails place its_key refusal) = (tt, tt)
+  step_fits f marks may (puts place row) = tt
+  step_fits f marks may (put_fails place row refusal) = (tt, tt)
 
   module _ (Plans : Progress → List Mark → Type 0) where
     pub goes_fitting : {t : List Pair} {f : Progress} {marks : List Mark} → Goes s Plans t f marks → Fits [] f.events

@@ -35,11 +35,13 @@ use Rattle.job_graph.proofs.laws_of_walks.Passed.{Each, EachField}
 use Rattle.run_rules.specs.declared.request.Pair.{Pair}
 use Rattle.run_rules.specs.declared.setting.Options.{Options}
 use Rattle.run_rules.specs.Scene.{Scene}
-use Rattle.run_rules.specs.Events.{Event, file_measured, job_staged, job_started, child_exited, job_succeeded, job_failed, job_failed_for_now, result_delivered, host_failed, collect_failed, row_found, no_row, find_failed, Work, Progress, Started, is_at_hand, resolved}
+use Rattle.run_rules.specs.Events.{Event, file_measured, job_staged, job_started, child_exited, job_succeeded, job_failed, job_failed_for_now, result_delivered, host_failed, collect_failed, row_found, no_row, find_failed, put_failed, row_differs, Work, Progress, Started, is_at_hand, resolved}
 use Rattle.run_rules.specs.StartsOn.{StartsOn, reads_on as starts_reading, has_launch, has_no_launch, has_no_contents}
 use Rattle.run_rules.specs.CollectsOn.{CollectsOn, left_of, reads_on as collects_reading, collects, collects_none}
-use Rattle.run_rules.specs.Steps.{Steps, measures_file, stages, reads_input, starts, exits_well, exits_for_now, exits_badly, scans, reads_output, delivers, loses_collect, call_fails, finds_none, finds, finds_wrong, find_fails}
+use Rattle.run_rules.specs.Steps.{Steps, measures_file, stages, reads_input, starts, exits_well, exits_for_now, exits_badly, scans, reads_output, delivers, loses_collect, call_fails, finds_none, finds, finds_wrong, find_fails, puts, put_fails}
 use Rattle.run_rules.specs.Run.{Goes, begins, asks}
+use Rattle.run_rules.specs.Keeps.{Keeps, keeps, keeps_none, differs}
+use Rattle.job_rows.specs.declared.row.Row.{Row}
 
 -- ---- a value whose places are names holds nothing that a job made
 
@@ -156,11 +158,17 @@ starts_named (has_launch inputs launch with is) = tt
 starts_named (has_no_launch inputs fault with is) = (tt, tt)
 starts_named (has_no_contents fault is) = (tt, tt)
 
-collects_named : {place : JobPlace} {job : Job} {started : Started} {millis : ℕ} {found : List Found} {read : Heads} {todo : List Name} {work : Work} {more : List Event} →
-    CollectsOn place job started millis found read todo work more → AllByRecursion NamedAt more
+keeps_named : {place : JobPlace} {job : Job} {row : Option Row} {millis : ℕ} {found : List Found} {outputs : Fields} {work : Work} {more : List Event} → AreUnmade outputs →
+    Keeps place job row millis found outputs work more → AllByRecursion NamedAt more
+keeps_named unmade (keeps_none once) = (unmade, tt)
+keeps_named unmade (keeps reusable agrees) = (unmade, tt)
+keeps_named unmade (differs other reusable found differ) = (tt, tt)
+
+collects_named : {place : JobPlace} {job : Job} {row : Option Row} {started : Started} {millis : ℕ} {found : List Found} {read : Heads} {todo : List Name} {work : Work} {more : List Event} →
+    CollectsOn place job row started millis found read todo work more → AllByRecursion NamedAt more
 collects_named (collects_reading name more) = tt
-collects_named {job = job} {started = started} {found = found} {read = read} (collects outputs is) =
-    (collected_unmade (left_of started found read) job.tool.outputs outputs is, tt)
+collects_named {job = job} {started = started} {found = found} {read = read} (collects outputs work more is kept) =
+    keeps_named (collected_unmade (left_of started found read) job.tool.outputs outputs is) kept
 collects_named (collects_none fault is) = (tt, tt)
 
 module _ (s : Scene) where
@@ -181,6 +189,8 @@ module _ (s : Scene) where
   steps_named (finds place its_key row job known sound) = (tt, tt)
   steps_named (finds_wrong place its_key row job known unsound) = (tt, tt)
   steps_named (find_fails place its_key refusal) = (tt, tt)
+  steps_named (puts place row) = tt
+  steps_named (put_fails place row refusal) = (tt, tt)
 
   module _ {Plans : Progress → List Mark → Type 0} where
     goes_named : {t : List Pair} {f : Progress} {marks : List Mark} → Goes s Plans t f marks → AllByRecursion NamedAt f.events
@@ -202,6 +212,8 @@ named_resolved (collect_failed ∷ es) all = named_resolved es all.1
 named_resolved (row_found place row ∷ es) all = named_resolved es all.1
 named_resolved (no_row place ∷ es) all = named_resolved es all.1
 named_resolved (find_failed place refusal ∷ es) all = named_resolved es all.1
+named_resolved (put_failed place refusal ∷ es) all = named_resolved es all.1
+named_resolved (row_differs place outputs ∷ es) all = named_resolved es all.1
 
 -- the outputs that a run has learned are named
 pub learned_are_named : (s : Scene) {Plans : Progress → List Mark → Type 0} {t : List Pair} {f : Progress} {marks : List Mark} → Goes s Plans t f marks → AreNamed (resolved f.events)
@@ -214,9 +226,9 @@ hand_by : (test : Bool) (p place : JobPlace) (outputs : Fields) (learned : List 
     is_some (outputs_at (record { place = p; outputs = outputs } ∷ learned) place) ≡ true →
     (is_some (outputs_at learned place) ≡ true → later ≡ true) → (is_same_place p place || later) ≡ true
 hand_by true p place outputs learned later same is rest = ap (λ b. b || later) same
-hand_by false p place outputs learned later differs is rest =
-    ap (λ b. b || later) differs
-    ∙ rest (ap (λ b. is_some (option_map (λ (r : Resolved). r.outputs) (cond b (Some (record { place = p; outputs = outputs })) (find (λ r. is_same_place r.place place) learned)))) (sym differs) ∙ is)
+hand_by false p place outputs learned later other is rest =
+    ap (λ b. b || later) other
+    ∙ rest (ap (λ b. is_some (option_map (λ (r : Resolved). r.outputs) (cond b (Some (record { place = p; outputs = outputs })) (find (λ r. is_same_place r.place place) learned)))) (sym other) ∙ is)
 
 pub learned_is_at_hand : (es : List Event) (place : JobPlace) → IsLearned (resolved es) place → is_at_hand es place ≡ true
 learned_is_at_hand [] place is = absurd cc
@@ -234,3 +246,5 @@ learned_is_at_hand (collect_failed ∷ es) place is = learned_is_at_hand es plac
 learned_is_at_hand (row_found at row ∷ es) place is = learned_is_at_hand es place is
 learned_is_at_hand (no_row at ∷ es) place is = learned_is_at_hand es place is
 learned_is_at_hand (find_failed at refusal ∷ es) place is = learned_is_at_hand es place is
+learned_is_at_hand (put_failed at refusal ∷ es) place is = learned_is_at_hand es place is
+learned_is_at_hand (row_differs at outputs ∷ es) place is = learned_is_at_hand es place is

@@ -1,6 +1,7 @@
 -- In each world where a run is honest, its end is right.
 use Rattle.std.specs.Prelude.{nat_lt, Contains}
-use Rattle.std.proofs.Common.{◌≡◌, ◌∙◌, ◌⊎◌, inl, inr, Bool, true, false, cond, List, [], ◌∷◌, ◌++◌, length, filter, find, fold, Option, Some, None, refl, sym, ap, subst}
+use Rattle.std.proofs.Common.{◌≡◌, ◌∙◌, ◌⊎◌, inl, inr, Bool, true, false, cond, List, [], ◌∷◌, ◌++◌, length, filter, find, fold, Option, Some, None, refl, sym, ap, subst, unwrap_or, is_some, ℕ}
+use Rattle.std.proofs.lemmas.List.Sums.{fold-append}
 use Rattle.cwl_value.specs.Erased.{fields_erased}
 use Rattle.input_files.specs.Measured.{Measures}
 use Rattle.job_graph.specs.declared.cause.Cause.{Cause as Unmet}
@@ -8,22 +9,24 @@ use Rattle.job_graph.specs.Equations.{walker}
 use Rattle.job_graph.specs.Eval.{World, eval_by}
 use Rattle.job_graph.specs.Jobs.{Job, Walker}
 use Rattle.job_graph.specs.Unfold.{Fault, fault_at, too_many_jobs, Resolved, Unfolded, is_at, nothing_known, or_else, unfolded}
-use Rattle.job_graph.specs.Words.{Fields, JobPlace}
+use Rattle.job_graph.specs.Words.{Fields, JobPlace, is_same_place}
 use Rattle.run_rules.specs.declared.outcome.Cause.{Cause}
 use Rattle.run_rules.specs.declared.request.Pair.{Pair}
 use Rattle.run_rules.specs.declared.setting.Setting.{Setting}
 use Rattle.job_key.specs.Key.{key}
 use Rattle.run_rules.specs.Scene.{Scene, scene_of}
-use Rattle.run_rules.specs.Events.{Event, file_measured, job_staged, job_started, child_exited, job_succeeded, job_failed, job_failed_for_now, result_delivered, host_failed, collect_failed, row_found, no_row, find_failed, measures, measures_after, are_measured, resolved, unfolding_at, job_at}
-use Rattle.run_rules.specs.End.{End, succeeds_with, fails_permanently, fails_temporarily, beyond_limits, ended_by_host, ended_by_record, fault_end, gives_up, settled_by, unfold_end, settled_from, settled}
+use Rattle.run_rules.specs.Events.{Event, file_measured, job_staged, job_started, child_exited, job_succeeded, job_failed, job_failed_for_now, result_delivered, host_failed, collect_failed, row_found, no_row, find_failed, put_failed, row_differs, measures, measures_after, are_measured, resolved, unfolding_at, job_at, row_at, row_if}
+use Rattle.run_rules.specs.End.{End, succeeds_with, fails_permanently, fails_temporarily, beyond_limits, ended_by_host, ended_by_record, fault_end, gives_up, settled_by, unfold_end, settled_from, settled, mismatches}
 use Rattle.run_rules.specs.Plans.{InForce}
 use Rattle.run_rules.specs.Honest.{AgreesAt, AgreesFrom, IsHonest, Means}
 use Rattle.run_rules.specs.Run.{IsRun}
-use Rattle.run_rules.proofs.Agreeing.{Agrees, AreGiven, agrees, given_first, given_later, given_one}
-use Rattle.run_rules.proofs.Measuring.{Fits, measures_stay, measures_step, goes_fitting}
+use Rattle.run_rules.proofs.Agreeing.{Agrees, AreGiven, agrees, given_first, given_later, given_one, IsGiven, given_still}
+use Rattle.run_rules.proofs.Measuring.{Fits, measures_stay, measures_step, goes_fitting, FitsAt, IsKnownAt}
 use Rattle.run_rules.proofs.Staying.{has_result, measured_if_known, unfolding_if}
-use Rattle.run_rules.proofs.SuccessCollects.{success_is_result, failure_settles}
+use Rattle.run_rules.proofs.SuccessCollects.{success_is_result, failure_settles, mismatch_settles}
 use Rattle.run_rules.proofs.Finding.{found_in}
+use Rattle.job_rows.specs.declared.row.Row.{Row}
+use Rattle.run_rules.proofs.Places.{same_place}
 
 -- What a walk says of a world, where the resolved places agree with it
 
@@ -105,6 +108,8 @@ module _ (s : Scene) (world : World) (all : Measures) (evaluates : Evaluates wor
   breaks_rightly es later (row_found at row) place cause fits leads agrees_so given is = absurd cc
   breaks_rightly es later (no_row at) place cause fits leads agrees_so given is = absurd cc
   breaks_rightly es later (find_failed at refusal) place cause fits leads agrees_so given is = absurd cc
+  breaks_rightly es later (put_failed at refusal) place cause fits leads agrees_so given is = absurd cc
+  breaks_rightly es later (row_differs at outputs) place cause fits leads agrees_so given is = absurd cc
 
   lacks_rightly : (es later : List Event) (place : JobPlace) (cause : Cause) → Fits s es later → Leads_to es later → AreGiven s world es →
       unfold_end s es ≡ Some (fails_permanently place cause) → Fails
@@ -146,6 +151,116 @@ module _ (s : Scene) (world : World) (all : Measures) (evaluates : Evaluates wor
       evaluates.by_result (resolved es) outputs (subst (λ (m : Measures). Agrees world (s.walker m) (resolved es)) leads its)
       (ap (λ (m : Measures). (unfolded (s.walker m) (resolved es)).result) (sym leads) ∙ ap (λ (u : Unfolded). u.result) (sym (unfolding_if s es measured)) ∙ is)
 
+-- No job differs from its row
+
+module _ (s : Scene) (world : World) where
+  -- the outputs of each row that was found are those that the world gives
+  abbrev AreRowsGiven : List Event → Type 0
+  AreRowsGiven es = (place : JobPlace) (row : Row) → row_at es place ≡ Some row → IsGiven s world es place row.outputs
+
+  row_after : (es : List Event) (e : Event) (place : JobPlace) → row_at (es ++ e ∷ []) place ≡ row_if place (row_at es place) e
+  row_after es e place = fold-append (row_if place) None es (e ∷ [])
+
+  by_row : (es : List Event) (at : JobPlace) (found : Row) → FitsAt s es (row_found at found) → AgreesAt s world es (row_found at found) → AreRowsGiven es →
+      (place : JobPlace) (row : Row) (now : Bool) → is_same_place at place ≡ now → cond now (Some found) (row_at es place) ≡ Some row →
+      IsGiven s world (es ++ row_found at found ∷ []) place row.outputs
+  by_row es at found fits agrees_so given place row true same is =
+      let its : IsGiven s world es at found.outputs = record { job = fits.job; known = fits.known; gives = agrees_so fits.job fits.known } in
+      let here : at ≡ place = same_place at place same in
+      let one : found ≡ row = ap (λ (o : Option Row). unwrap_or o found) is in
+      subst (λ (p : JobPlace). IsGiven s world (es ++ row_found at found ∷ []) p row.outputs) here
+      (subst (λ (r : Row). IsGiven s world (es ++ row_found at found ∷ []) at r.outputs) one (given_still s world es (row_found at found) fits at found.outputs its))
+  by_row es at found fits agrees_so given place row false same is = given_still s world es (row_found at found) fits place row.outputs (given place row is)
+
+  row_as_before : (es : List Event) (e : Event) → FitsAt s es e → ((place : JobPlace) (last : Option Row) → row_if place last e ≡ last) → AreRowsGiven es → AreRowsGiven (es ++ e ∷ [])
+  row_as_before es e fits same given place row is =
+      given_still s world es e fits place row.outputs (given place row (sym (row_after es e place ∙ same place (row_at es place)) ∙ is))
+
+  rows_given_one : (es : List Event) (e : Event) → FitsAt s es e → AgreesAt s world es e → AreRowsGiven es → AreRowsGiven (es ++ e ∷ [])
+  rows_given_one es (row_found at found) fits agrees_so given = λ place row is.
+      by_row es at found fits agrees_so given place row (is_same_place at place) refl (sym (row_after es (row_found at found) place) ∙ is)
+  rows_given_one es (file_measured path measure) fits agrees_so given = row_as_before es (file_measured path measure) fits (λ place last. refl) given
+  rows_given_one es (job_staged at number) fits agrees_so given = row_as_before es (job_staged at number) fits (λ place last. refl) given
+  rows_given_one es (job_started at inputs launch ticket) fits agrees_so given = row_as_before es (job_started at inputs launch ticket) fits (λ place last. refl) given
+  rows_given_one es (child_exited ticket) fits agrees_so given = row_as_before es (child_exited ticket) fits (λ place last. refl) given
+  rows_given_one es (job_succeeded at outputs) fits agrees_so given = row_as_before es (job_succeeded at outputs) fits (λ place last. refl) given
+  rows_given_one es (row_differs at outputs) fits agrees_so given = row_as_before es (row_differs at outputs) fits (λ place last. refl) given
+  rows_given_one es (job_failed at cause) fits agrees_so given = row_as_before es (job_failed at cause) fits (λ place last. refl) given
+  rows_given_one es (job_failed_for_now at) fits agrees_so given = row_as_before es (job_failed_for_now at) fits (λ place last. refl) given
+  rows_given_one es (result_delivered plan) fits agrees_so given = row_as_before es (result_delivered plan) fits (λ place last. refl) given
+  rows_given_one es (host_failed at fault) fits agrees_so given = row_as_before es (host_failed at fault) fits (λ place last. refl) given
+  rows_given_one es collect_failed fits agrees_so given = row_as_before es collect_failed fits (λ place last. refl) given
+  rows_given_one es (no_row at) fits agrees_so given = row_as_before es (no_row at) fits (λ place last. refl) given
+  rows_given_one es (find_failed at refusal) fits agrees_so given = row_as_before es (find_failed at refusal) fits (λ place last. refl) given
+  rows_given_one es (put_failed at refusal) fits agrees_so given = row_as_before es (put_failed at refusal) fits (λ place last. refl) given
+
+  -- the world gives the one job at a place one thing
+  one_given : (es : List Event) (place : JobPlace) (job : Job) (outputs : Fields) → job_at s es place ≡ Some job → IsGiven s world es place outputs →
+      world (key job.tool job.inputs) ≡ Some outputs
+  one_given es place job outputs known its =
+      let same : Some its.job ≡ Some job = sym its.known ∙ known in
+      let one : its.job ≡ job = ap (λ (o : Option Job). unwrap_or o job) same in
+      subst (λ (j : Job). world (key j.tool j.inputs) ≡ Some outputs) one its.gives
+
+  some_is_not_none : (key_text : List ℕ) (outputs : Fields) → world key_text ≡ Some outputs → world key_text ≡ None → ⊥
+  some_is_not_none key_text outputs is is_not = let never : Some outputs ≡ None = sym is ∙ is_not in cc
+
+  no_failure : (es : List Event) (at place : JobPlace) (why : Cause) (fits : IsKnownAt s es at) → AgreesAt s world es (job_failed at why) → AreRowsGiven es →
+      (row : Option Row) → row_at es at ≡ row → Some (cond (is_some row) (mismatches at) (fails_permanently at why)) ≡ Some (mismatches place) → ⊥
+  no_failure es at place why fits agrees_so given None there is = cc
+  no_failure es at place why fits agrees_so given (Some row) there is =
+      some_is_not_none (key fits.job.tool fits.job.inputs) row.outputs (one_given es at fits.job row.outputs fits.known (given at row there)) (agrees_so fits.job fits.known)
+
+  now_is_no_mismatch : (b : Bool) (at place : JobPlace) → cond b None (Some (fails_temporarily at)) ≡ Some (mismatches place) → ⊥
+  now_is_no_mismatch true at place is = cc
+  now_is_no_mismatch false at place is = cc
+
+  breaks_nowhere : (es : List Event) (e : Event) (place : JobPlace) → FitsAt s es e → AgreesAt s world es e → AreRowsGiven es → settled_by s es e ≡ Some (mismatches place) → ⊥
+  breaks_nowhere es (row_differs at outputs) place fits agrees_so given is =
+      let by_row_it : world (key fits.its.job.tool fits.its.job.inputs) ≡ Some fits.row.outputs =
+      one_given es at fits.its.job fits.row.outputs fits.its.known (given at fits.row fits.found) in
+      let both : Some fits.row.outputs ≡ Some outputs = sym by_row_it ∙ agrees_so fits.its.job fits.its.known in
+      fits.other (ap (λ (o : Option Fields). unwrap_or o outputs) both)
+  breaks_nowhere es (job_failed at why) place fits agrees_so given is = no_failure es at place why fits agrees_so given (row_at es at) refl is
+  breaks_nowhere es (job_failed_for_now at) place fits agrees_so given is =
+      now_is_no_mismatch (nat_lt (length (filter (gives_up at) es)) s.options.retries) at place is
+  breaks_nowhere es (file_measured path measure) place fits agrees_so given is = cc
+  breaks_nowhere es (job_staged at number) place fits agrees_so given is = cc
+  breaks_nowhere es (job_started at inputs launch ticket) place fits agrees_so given is = cc
+  breaks_nowhere es (child_exited ticket) place fits agrees_so given is = cc
+  breaks_nowhere es (job_succeeded at outputs) place fits agrees_so given is = cc
+  breaks_nowhere es (result_delivered plan) place fits agrees_so given is = cc
+  breaks_nowhere es (host_failed at fault) place fits agrees_so given is = cc
+  breaks_nowhere es collect_failed place fits agrees_so given is = cc
+  breaks_nowhere es (row_found at row) place fits agrees_so given is = cc
+  breaks_nowhere es (no_row at) place fits agrees_so given is = cc
+  breaks_nowhere es (find_failed at refusal) place fits agrees_so given is = cc
+  breaks_nowhere es (put_failed at refusal) place fits agrees_so given is = cc
+
+  fault_is_no_mismatch : (fault : Option Fault) (place : JobPlace) → fault_end fault ≡ Some (mismatches place) → ⊥
+  fault_is_no_mismatch None place is = cc
+  fault_is_no_mismatch (Some (fault_at at cause)) place is = cc
+  fault_is_no_mismatch (Some too_many_jobs) place is = cc
+
+  never_later : (es later : List Event) (place : JobPlace) → Fits s es later → AgreesFrom s world es later → AreRowsGiven es →
+      settled_from s es later ≡ Some (mismatches place) → ⊥
+  never_later es [] place fits agrees_so given is = cc
+  never_later es (e ∷ later) place fits agrees_so given is =
+      elim (or_cases (settled_by s es e) (or_else (unfold_end s (es ++ e ∷ [])) (settled_from s (es ++ e ∷ []) later)) (mismatches place) is) [
+        | inl by_it ↦ breaks_nowhere es e place fits.0 agrees_so.0 given by_it
+        | inr by_more ↦ elim (or_cases (unfold_end s (es ++ e ∷ [])) (settled_from s (es ++ e ∷ []) later) (mismatches place) by_more) [
+          | inl by_fault ↦ fault_is_no_mismatch (unfolding_at s (es ++ e ∷ [])).fault place by_fault
+          | inr by_later ↦ never_later (es ++ e ∷ []) later place fits.1 agrees_so.1 (rows_given_one es e fits.0 agrees_so.0 given) by_later
+        ]
+      ]
+
+  never_mismatches : (es : List Event) (place : JobPlace) → Fits s [] es → AgreesFrom s world [] es → settled s es ≡ Some (mismatches place) → ⊥
+  never_mismatches es place fits agrees_so is =
+      elim (or_cases (unfold_end s []) (settled_from s [] es) (mismatches place) is) [
+        | inl by_fault ↦ fault_is_no_mismatch (unfolding_at s []).fault place by_fault
+        | inr by_later ↦ never_later [] es place fits agrees_so (λ at row none. cc) by_later
+      ]
+
 pub ends_rightly : (setting : Setting) (world : World) → ((all : Measures) → Evaluates world (walker setting.process setting.inputs all)) →
     (t : List Pair) (end : End) (run : IsRun setting t end) → IsHonest setting world run.happened.events → Means setting (measures run.happened.events) world end
 ends_rightly setting world evaluates t (succeeds_with outputs delivered) run honest =
@@ -162,3 +277,6 @@ ends_rightly setting world evaluates t (fails_temporarily place) run honest = tt
 ends_rightly setting world evaluates t beyond_limits run honest = tt
 ends_rightly setting world evaluates t (ended_by_host fault running) run honest = tt
 ends_rightly setting world evaluates t (ended_by_record refusal) run honest = tt
+ends_rightly setting world evaluates t (mismatches place) run honest =
+    never_mismatches (scene_of setting) world run.happened.events place (goes_fitting (scene_of setting) (InForce (scene_of setting)) run.goes) honest
+    (mismatch_settles (scene_of setting) place run.ended)

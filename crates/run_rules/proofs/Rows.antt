@@ -60,19 +60,22 @@ use Rattle.job_graph.specs.Jobs.{Job}
 use Rattle.job_graph.specs.Made.{value_moved, file_moved, dir_moved, made_place}
 use Rattle.job_graph.specs.Words.{Name, Fields, JobPlace}
 use Rattle.run_rules.specs.Delivered.{any_file, has_file_at, location_place, source_place, sources}
-use Rattle.run_rules.specs.Events.{Event, Progress, job_staged, job_started, child_exited, job_succeeded, job_failed, job_failed_for_now, result_delivered, host_failed, collect_failed, no_row, nothing_due, start_due, Started, at_first, folder_at, unfolding_at}
+use Rattle.run_rules.specs.Events.{Event, Progress, job_staged, job_started, child_exited, job_succeeded, job_failed, job_failed_for_now, result_delivered, host_failed, collect_failed, no_row, nothing_due, start_due, put_due, Started, at_first, folder_at, unfolding_at}
 use Rattle.run_rules.specs.Folders.{runtime_of}
 use Rattle.run_rules.specs.StartsOn.{has_launch}
 use Rattle.run_rules.specs.CollectsOn.{collects, left_of}
+use Rattle.run_rules.specs.Keeps.{keeps}
 use Rattle.run_rules.specs.declared.request.RecordAnswer.{RecordAnswer}
 use Rattle.run_rules.specs.declared.request.RecordRequest.{RecordRequest}
-use Rattle.run_rules.specs.Steps.{Steps, call, command, stages, starts, exits_well, exits_for_now, exits_badly, scans, delivers, finds_none}
+use Rattle.run_rules.specs.Steps.{Steps, call, command, stages, starts, exits_well, exits_for_now, exits_badly, scans, delivers, finds_none, puts}
 use Rattle.run_rules.specs.End.{End, succeeds_with, fails_permanently, fails_temporarily, ended_by_host, IsDelivery}
 use Rattle.run_rules.specs.EndsSo.{EndsSo, IsDelivered, no_file, copied as was_copied, lost, fails, succeeds}
 use Rattle.plan_checker.specs.declared.plan.Mark.{Mark}
 use Rattle.plan_checker.specs.declared.plan.Mark.TheVariants.{Load, Compute}
 use Rattle.run_rules.specs.Allowed.{MayStage}
 use Rattle.job_key.specs.Key.{key}
+use Rattle.job_reuse.specs.Rows.{made_row}
+use Rattle.job_rows.specs.declared.row.Row.{Row}
 use Rattle.run_rules.specs.Reports.{report_of, reported}
 use Rattle.run_rules.specs.Scene.{Scene, is_made_before, scene_of}
 use Rattle.run_rules.proofs.Leads.{Leads, stays, follows}
@@ -232,12 +235,6 @@ put_out = out_at (Place.Path (codes "/out/out.txt"))
 abbrev with_file : Value → Fields
 with_file file = (codes "out", file) ∷ []
 
-its_report : report_of (succeeds_with made_out put_out)
-    ≡ reported (Ok (Outcome.Success (roll-Value (Value-F.Fields (out_at (Place.Url (codes "file:///out/out.txt")))))))
-its_report =
-    ap (λ (file : Value). reported (Ok (Outcome.Success (roll-Value (Value-F.Fields (with_file file))))))
-    (file_moves location_place (Place.Path (codes "/out/out.txt")) out)
-
 -- one copy, from the job's output folder to the folder of the outputs
 abbrev its_move : Move
 its_move = record { source = codes "w/j1/out/out.txt"; target = codes "/out/out.txt" }
@@ -252,6 +249,12 @@ before = no_row [] ∷ job_staged [] 1 ∷ job_started [] abc its_launch 1 ∷ c
 
 abbrev whole : List Event
 whole = before ++ result_delivered its_plan ∷ []
+
+its_report : report_of whole (succeeds_with made_out put_out)
+    ≡ reported [] (Ok (Outcome.Success (roll-Value (Value-F.Fields (out_at (Place.Url (codes "file:///out/out.txt")))))))
+its_report =
+    ap (λ (file : Value). reported [] (Ok (Outcome.Success (roll-Value (Value-F.Fields (with_file file))))))
+    (file_moves location_place (Place.Path (codes "/out/out.txt")) out)
 
 its_result : (unfolding_at s whole).result ≡ Some made_out
 its_result = ap (λ (file : Value). Some (with_file file)) (file_moves (made_place []) (Place.Url (codes "out.txt")) out)
@@ -382,6 +385,10 @@ staged = record { moves = []; value = abc }
 abbrev its_start : Started
 its_start = record { inputs = abc; launch = its_launch }
 
+-- what is put of it
+abbrev its_row : Row
+its_row = made_row (key hello abc) found_out (out ∷ []) 1000 false
+
 -- where its launch and its outputs are these, and no first bytes are wanted
 module _ (is : IsLaunch hello abc (runtime_of options 1) its_launch) (collected : IsCollected (left_of its_start (out ∷ []) []) hello.outputs (Ok found_out))
     (unread : AreHeadsWanted (listing_of (out ∷ [])) abc hello.outputs []) where
@@ -391,6 +398,7 @@ module _ (is : IsLaunch hello abc (runtime_of options 1) its_launch) (collected 
       ∷ call [] (HostRequest.Start its_launch) (HostAnswer.Started 1)
       ∷ call [] HostRequest.Collect (HostAnswer.Ended (one_ended (Some (pos 0))))
       ∷ call [] (HostRequest.Scan (codes "w/j1/out")) (HostAnswer.Listed (out ∷ []))
+      ∷ command [] (RecordRequest.Put its_row) RecordAnswer.Done
       ∷ call [] (HostRequest.Deliver its_plan) HostAnswer.Done
       ∷ []) (after_events whole)
   it_goes =
@@ -398,8 +406,9 @@ module _ (is : IsLaunch hello abc (runtime_of options 1) its_launch) (collected 
       (follows (stages [] staged 1 job (start_due [] abc its_launch) [] refl (has_launch abc its_launch refl is))
       (follows (starts [] abc its_launch 1 refl)
       (follows (exits_well [] (one_ended (Some (pos 0))) job (0, lit< tt, refl) refl refl)
-      (follows (scans [] (codes "w/j1/out") (one_ended (Some (pos 0))).millis (out ∷ []) job its_start [] nothing_due (job_succeeded [] found_out ∷ []) refl refl refl unread (collects found_out collected))
-      (follows (delivers [] its_plan) stays)))))
+      (follows (scans [] (codes "w/j1/out") (one_ended (Some (pos 0))).millis (out ∷ []) job its_start [] (put_due [] its_row) (job_succeeded [] found_out ∷ []) refl refl refl unread (collects found_out _ _ collected (keeps refl tt)))
+      (follows (puts [] its_row)
+      (follows (delivers [] its_plan) stays))))))
 
 abbrev started : List Event
 started = no_row [] ∷ job_staged [] 1 ∷ job_started [] abc its_launch 1 ∷ []

@@ -8,7 +8,7 @@ use Rattle.job_graph.specs.Jobs.{Job, Walker}
 use Rattle.job_graph.specs.Unfold.{Resolved, Unfolded, is_at, is_known, job_met, jobs_after, met_after, nothing_known, unfolded, with_job}
 use Rattle.job_graph.specs.Words.{Fields, JobPlace}
 use Rattle.run_rules.specs.Scene.{Scene}
-use Rattle.run_rules.specs.Events.{Event, file_measured, job_staged, job_started, child_exited, job_succeeded, job_failed, job_failed_for_now, result_delivered, host_failed, collect_failed, row_found, no_row, find_failed, measures, are_measured, resolved, unfolding_at, job_at}
+use Rattle.run_rules.specs.Events.{Event, file_measured, job_staged, job_started, child_exited, job_succeeded, job_failed, job_failed_for_now, result_delivered, host_failed, collect_failed, row_found, no_row, find_failed, put_failed, row_differs, measures, are_measured, resolved, unfolding_at, job_at}
 use Rattle.run_rules.proofs.Measuring.{FitsAt, Fits, known_as_before, all_same, measures_more, resolved_success}
 
 abbrev known_if : Bool → Unfolded → Unfolded
@@ -80,6 +80,8 @@ module _ (s : Scene) where
   stays_one es place job (row_found at row) fits is = quietly es place job _ (known_as_before s es (row_found at row) (λ p. refl) refl refl) is
   stays_one es place job (no_row at) fits is = quietly es place job _ (known_as_before s es (no_row at) (λ p. refl) refl refl) is
   stays_one es place job (find_failed at refusal) fits is = quietly es place job _ (known_as_before s es (find_failed at refusal) (λ p. refl) refl refl) is
+  stays_one es place job (put_failed at refusal) fits is = quietly es place job _ (known_as_before s es (put_failed at refusal) (λ p. refl) refl refl) is
+  stays_one es place job (row_differs at outputs) fits is = quietly es place job _ (known_as_before s es (row_differs at outputs) (λ p. refl) refl refl) is
 
   pub stays_known : (es later : List Event) (place : JobPlace) (job : Job) → Fits s es later → job_at s es place ≡ Some job → job_at s (es ++ later) place ≡ Some job
   stays_known es [] place job fits is = subst (λ (x : List Event). job_at s x place ≡ Some job) (sym (append-nil es)) is

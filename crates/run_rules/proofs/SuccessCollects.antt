@@ -11,8 +11,8 @@ use Rattle.job_graph.specs.Jobs.{Job, Walker}
 use Rattle.job_graph.specs.Unfold.{Fault, fault_at, too_many_jobs, Resolved, Unfolded, is_at, or_else, outputs_at, unfolded}
 use Rattle.job_graph.specs.Words.{Fields, JobPlace, is_same_place}
 use Rattle.run_rules.specs.Scene.{Scene, scene_of}
-use Rattle.run_rules.specs.Events.{Event, file_measured, job_staged, job_started, child_exited, job_succeeded, job_failed, job_failed_for_now, result_delivered, host_failed, collect_failed, row_found, no_row, find_failed, Progress, measures, are_measured, resolved, unfolding_at, job_at}
-use Rattle.run_rules.specs.End.{End, succeeds_with, fails_permanently, fails_temporarily, fault_end, gives_up, settled_by, unfold_end, settled_from, settled}
+use Rattle.run_rules.specs.Events.{Event, file_measured, job_staged, job_started, child_exited, job_succeeded, job_failed, job_failed_for_now, result_delivered, host_failed, collect_failed, row_found, no_row, find_failed, put_failed, row_differs, Progress, measures, are_measured, resolved, unfolding_at, job_at, row_at}
+use Rattle.run_rules.specs.End.{End, succeeds_with, fails_permanently, fails_temporarily, fault_end, gives_up, settled_by, unfold_end, settled_from, settled, mismatches}
 use Rattle.run_rules.specs.EndsSo.{EndsSo, IsDelivered, fails, succeeds}
 use Rattle.plan_checker.specs.declared.plan.Mark.{Mark}
 use Rattle.run_rules.specs.Plans.{InForce}
@@ -42,6 +42,10 @@ cond_is_none : (b : Bool) (place : JobPlace) → IsNoSuccess (cond b None (Some 
 cond_is_none true place = tt
 cond_is_none false place = tt
 
+failure_is_none : (b : Bool) (place : JobPlace) (cause : Cause) → IsNoSuccess (Some (cond b (mismatches place) (fails_permanently place cause)))
+failure_is_none true place cause = tt
+failure_is_none false place cause = tt
+
 module _ (s : Scene) where
   settled_by_failure : (es : List Event) (e : Event) → IsNoSuccess (settled_by s es e)
   settled_by_failure es (job_failed_for_now place) = cond_is_none (nat_lt (length (filter (gives_up place) es)) s.options.retries) place
@@ -50,13 +54,15 @@ module _ (s : Scene) where
   settled_by_failure es (job_started place inputs launch ticket) = tt
   settled_by_failure es (child_exited ticket) = tt
   settled_by_failure es (job_succeeded place outputs) = tt
-  settled_by_failure es (job_failed place cause) = tt
+  settled_by_failure es (job_failed place cause) = failure_is_none (is_some (row_at es place)) place cause
   settled_by_failure es (result_delivered plan) = tt
   settled_by_failure es (host_failed place fault) = tt
   settled_by_failure es collect_failed = tt
   settled_by_failure es (row_found place row) = tt
   settled_by_failure es (no_row place) = tt
   settled_by_failure es (find_failed place refusal) = tt
+  settled_by_failure es (put_failed place refusal) = tt
+  settled_by_failure es (row_differs place outputs) = tt
 
   settled_later : (es later : List Event) → IsNoSuccess (settled_from s es later)
   settled_later es [] = tt
@@ -84,6 +90,11 @@ module _ (s : Scene) where
   pub failure_settles : {f : Progress} {marks : List Mark} (place : JobPlace) (cause : Cause) → EndsSo s f marks (fails_permanently place cause) →
       settled s f.events ≡ Some (fails_permanently place cause)
   failure_settles place cause (fails end idle collects landed settles) = settles
+
+  -- as has a mismatch
+  pub mismatch_settles : {f : Progress} {marks : List Mark} (place : JobPlace) → EndsSo s f marks (mismatches place) →
+      settled s f.events ≡ Some (mismatches place)
+  mismatch_settles place (fails end idle collects landed settles) = settles
 
 -- What was collected
 
@@ -118,6 +129,8 @@ where_collected (collect_failed ∷ es) place is = further _ es place (where_col
 where_collected (row_found at row ∷ es) place is = further _ es place (where_collected es place is)
 where_collected (no_row at ∷ es) place is = further _ es place (where_collected es place is)
 where_collected (find_failed at refusal ∷ es) place is = further _ es place (where_collected es place is)
+where_collected (put_failed at refusal ∷ es) place is = further _ es place (where_collected es place is)
+where_collected (row_differs at outputs ∷ es) place is = further _ es place (where_collected es place is)
 
 -- What is known of a walk with a result: each known job is at a place of its own, and its outputs are known
 

@@ -1,6 +1,6 @@
 -- What has happened in a run, its transcript tells, of each job.
 use Rattle.std.specs.Prelude.{Contains}
-use Rattle.std.proofs.Common.{◌≡◌, ◌∙◌, ◌⊎◌, inl, inr, ℕ, zero, suc, ◌==◌, Bool, not, List, [], ◌∷◌, ◌++◌, filter, fold, Some, refl, sym, subst, arith}
+use Rattle.std.proofs.Common.{◌≡◌, ◌∙◌, ◌⊎◌, inl, inr, ℕ, zero, suc, ◌==◌, Bool, not, List, [], ◌∷◌, ◌++◌, filter, fold, Some, refl, sym, subst, arith, Option}
 use Rattle.std.proofs.lemmas.List.{append_assoc}
 use Rattle.std.proofs.lemmas.List.Elements.{Contains-append_left, Contains-append_cases, Contains-push, Contains-push_cases, All-contains, All-filter, All-contains_itself}
 use Rattle.std.proofs.lemmas.List.Sums.{fold-append}
@@ -21,14 +21,16 @@ use Rattle.collected_outputs.specs.Contents.{Heads}
 use Rattle.job_graph.specs.Jobs.{Job}
 use Rattle.job_graph.specs.Words.{Name, Fields, JobPlace}
 use Rattle.run_rules.specs.Scene.{Scene}
-use Rattle.run_rules.specs.Events.{Event, file_measured, job_staged, job_started, child_exited, job_succeeded, job_failed, job_failed_for_now, result_delivered, host_failed, collect_failed, row_found, no_row, find_failed, Work, nothing_due, input_heads_due, start_due, scan_due, output_heads_due, Progress, Started, flight_after, in_flight, job_at}
+use Rattle.run_rules.specs.Events.{Event, file_measured, job_staged, job_started, child_exited, job_succeeded, job_failed, job_failed_for_now, result_delivered, host_failed, collect_failed, row_found, no_row, find_failed, put_failed, Work, nothing_due, input_heads_due, start_due, scan_due, output_heads_due, Progress, Started, flight_after, in_flight, job_at, put_due}
 use Rattle.run_rules.specs.StartsOn.{StartsOn, reads_on as starts_reading, has_launch, has_no_launch, has_no_contents}
 use Rattle.run_rules.specs.CollectsOn.{CollectsOn, reads_on as collects_reading, collects, collects_none}
-use Rattle.run_rules.specs.Steps.{Steps, measures_file, stages, reads_input, starts, exits_well, exits_for_now, exits_badly, scans, reads_output, delivers, loses_collect, call_fails, call, progress_with, finds_none, finds, finds_wrong, find_fails}
+use Rattle.run_rules.specs.Steps.{Steps, measures_file, stages, reads_input, starts, exits_well, exits_for_now, exits_badly, scans, reads_output, delivers, loses_collect, call_fails, call, progress_with, finds_none, finds, finds_wrong, find_fails, puts, put_fails}
 use Rattle.plan_checker.specs.declared.plan.Mark.{Mark}
 use Rattle.run_rules.specs.Allowed.{Allowed, due_in}
 use Rattle.run_rules.specs.Run.{Goes, begins, asks}
 use Rattle.run_rules.specs.RanWell.{RanWell}
+use Rattle.run_rules.specs.Keeps.{Keeps, keeps, keeps_none, differs}
+use Rattle.job_rows.specs.declared.row.Row.{Row}
 
 pub none_in : {X : Type 0} (x : X) → Contains [] x → ⊥
 none_in x (k, within, is) = omega arith
@@ -105,6 +107,7 @@ module _ (codes : JobPlace → ExitCodes) where
     work_still (start_due place inputs launch) told = tt
     work_still (scan_due place millis) told = ran_still place told
     work_still (output_heads_due place millis found todo read) told = ran_still place told
+    work_still (put_due place row) told = tt
 
     knows_still : (f : Progress) → Knows t f → Knows (t ++ p ∷ []) f
     knows_still f knows = record {
@@ -125,6 +128,7 @@ module _ (codes : JobPlace → ExitCodes) where
   scanned t s es (scan_due at millis) place folder told is = let same : at ≡ place = cc in subst (λ (p : JobPlace). RanWell t p (codes p)) same told
   scanned t s es (output_heads_due at millis found [] read) place folder told is = absurd cc
   scanned t s es (output_heads_due at millis found (name ∷ todo) read) place folder told is = absurd cc
+  scanned t s es (put_due at row) place folder told is = absurd cc
 
   module _ (t : List Pair) (s : Scene) (f : Progress) (its_codes : (place : JobPlace) (job : Job) → job_at s f.events place ≡ Some job → job.tool.exit_codes ≡ codes place)
       (marks : List Mark) (knows : Knows t f) where
@@ -189,15 +193,26 @@ module _ (codes : JobPlace → ExitCodes) where
     starts_told (has_no_launch inputs fault with_them is) = quiet_one _ refl (λ at outputs same. cc)
     starts_told (has_no_contents fault is) = quiet_one _ refl (λ at outputs same. cc)
 
-    collects_told : {place : JobPlace} {job : Job} {started : Started} {millis : ℕ} {found : List Found} {read : Heads} {todo : List Name} {work : Work} {more : List Event} →
-        RanWell t place (codes place) → CollectsOn place job started millis found read todo work more → IsTold t flying work more
-    collects_told its (collects_reading name rest) = no_event _ its
-    collects_told {place = place} its (collects outputs is) = record {
+    -- outputs that were collected are those of a job that ran well
+    one_success : (place : JobPlace) (outputs : Fields) (work : Work) → WorkTold t work → RanWell t place (codes place) →
+        IsTold t flying work (job_succeeded place outputs ∷ [])
+    one_success place outputs work told its = record {
       flights = λ x there. inl there;
-      next = tt;
+      next = told;
       success = λ at others there. let same : job_succeeded place outputs ≡ job_succeeded at others = only_in _ _ there in
           let here : place ≡ at = cc in subst (λ (p : JobPlace). RanWell t p (codes p)) here its;
     }
+
+    keeps_told : {place : JobPlace} {job : Job} {row : Option Row} {millis : ℕ} {found : List Found} {outputs : Fields} {work : Work} {more : List Event} →
+        RanWell t place (codes place) → Keeps place job row millis found outputs work more → IsTold t flying work more
+    keeps_told its (keeps_none once) = one_success _ _ nothing_due tt its
+    keeps_told its (keeps reusable agrees) = one_success _ _ _ tt its
+    keeps_told its (differs other reusable found differ) = quiet_one _ refl (λ at outputs same. cc)
+
+    collects_told : {place : JobPlace} {job : Job} {row : Option Row} {started : Started} {millis : ℕ} {found : List Found} {read : Heads} {todo : List Name} {work : Work} {more : List Event} →
+        RanWell t place (codes place) → CollectsOn place job row started millis found read todo work more → IsTold t flying work more
+    collects_told its (collects_reading name rest) = no_event _ its
+    collects_told its (collects outputs work more is kept) = keeps_told its kept
     collects_told its (collects_none fault is) = quiet_one _ refl (λ at outputs same. cc)
 
     step_told : {p : Pair} {work : Work} {new : List Event} → Contains t p → Allowed s f marks p.request → Steps s f p work new → IsTold t flying work new
@@ -230,6 +245,8 @@ module _ (codes : JobPlace → ExitCodes) where
     step_told now may (finds place its_key row job known sound) = quiet_one (row_found place row) refl (λ at outputs is. cc)
     step_told now may (finds_wrong place its_key row job known unsound) = quiet_one (find_failed place NotARecord) refl (λ at outputs is. cc)
     step_told now may (find_fails place its_key refusal) = quiet_one (find_failed place refusal) refl (λ at outputs is. cc)
+    step_told now may (puts place row) = no_event nothing_due tt
+    step_told now may (put_fails place row refusal) = quiet_one (put_failed place refusal) refl (λ at outputs is. cc)
 
   -- of a run whose events are the first of these, where the jobs that are known after any first events have these codes
   module _ (s : Scene) (all : List Event) (its_codes : (es rest : List Event) → es ++ rest ≡ all → (place : JobPlace) (job : Job) →

@@ -24,12 +24,13 @@ use Rattle.run_rules.specs.declared.setting.Options.{Options}
 use Rattle.collected_outputs.specs.Contents.{Heads}
 use Rattle.job_graph.specs.Jobs.{Job, met_job, Made, Walk}
 use Rattle.job_graph.specs.Words.{Name, JobPlace, is_same_place}
-use Rattle.run_rules.specs.Events.{Event, job_staged, job_started, child_exited, job_succeeded, job_failed, job_failed_for_now, host_failed, collect_failed, no_row, find_failed, nothing_due, input_heads_due, start_due, output_heads_due, Progress, Started, at_first, in_flight, unfolding_at}
+use Rattle.run_rules.specs.Events.{Event, job_staged, job_started, child_exited, job_succeeded, job_failed, job_failed_for_now, host_failed, collect_failed, no_row, find_failed, nothing_due, input_heads_due, start_due, output_heads_due, put_due, Progress, Started, at_first, in_flight, unfolding_at}
 use Rattle.run_rules.specs.Folders.{runtime_of, in_folder}
 use Rattle.run_rules.specs.StartsOn.{has_launch, reads_on}
 use Rattle.run_rules.specs.CollectsOn.{collects, left_of}
+use Rattle.run_rules.specs.Keeps.{keeps}
 use Rattle.run_rules.specs.Plans.{is_planning}
-use Rattle.run_rules.specs.Steps.{call, command, stages, reads_input, reads_output, starts, exits_well, exits_badly, scans, finds_none}
+use Rattle.run_rules.specs.Steps.{call, command, stages, reads_input, reads_output, starts, exits_well, exits_badly, scans, finds_none, puts}
 use Rattle.run_rules.proofs.Leads.{Leads, stays, follows}
 use Rattle.run_rules.specs.End.{End, succeeds_with, fails_permanently, fails_temporarily, ended_by_host, ended_by_record, settled}
 use Rattle.run_rules.specs.EndsSo.{EndsSo, no_file, lost, fails, succeeds}
@@ -37,7 +38,9 @@ use Rattle.plan_checker.specs.declared.plan.Mark.{Mark}
 use Rattle.plan_checker.specs.declared.plan.Mark.TheVariants.{Load, Compute}
 use Rattle.plan_checker.specs.Plan.{mark}
 use Rattle.job_key.specs.Key.{Key, key}
+use Rattle.job_reuse.specs.Rows.{made_row}
 use Rattle.job_rows.specs.declared.refusal.RecordRefusal.TheVariants.{Store}
+use Rattle.job_rows.specs.declared.row.Row.{Row}
 use Rattle.run_rules.specs.declared.request.RecordAnswer.{RecordAnswer}
 use Rattle.run_rules.specs.declared.request.RecordRequest.{RecordRequest}
 use Rattle.run_rules.specs.Allowed.{MayFind, MayStage, MayCollect, due}
@@ -92,7 +95,7 @@ at_step name = record { step = name; index = [] } ∷ []
 abbrev pub a : JobPlace
 a = at_step (codes "a")
 
-abbrev b : JobPlace
+abbrev pub b : JobPlace
 b = at_step (codes "b")
 
 abbrev pub job : JobPlace → Job
@@ -101,7 +104,7 @@ job place = record { place = place; tool = tool; inputs = [] }
 abbrev pub two : Made → Walk
 two made = record { met = met_job (job a) ∷ met_job (job b) ∷ []; outs = [] }
 
-abbrev s : Scene
+abbrev pub s : Scene
 s = record { walker = λ measures. two; paths = []; options = options; made_before = λ place. false }
 
 abbrev plan : StagePlan
@@ -118,11 +121,11 @@ copies_nothing n = record {
   value = refl;
 }
 
-abbrev started_as : ℕ → Started
+abbrev pub started_as : ℕ → Started
 started_as n = record { inputs = []; launch = launch n }
 
 -- and nothing is collected of one without outputs
-collects_nothing : (n : ℕ) → IsCollected (left_of (started_as n) [] []) [] (Ok [])
+pub collects_nothing : (n : ℕ) → IsCollected (left_of (started_as n) [] []) [] (Ok [])
 collects_nothing n = record { gathered = Ok []; are_gathered = bound [] refl no_outputs; is = refl }
 
 abbrev ended : ℕ → Option ℤ → Pair
@@ -131,14 +134,14 @@ ended ticket code = call [] HostRequest.Collect (HostAnswer.Ended (record { tick
 abbrev scanned : JobPlace → Pair
 scanned place = call place (HostRequest.Scan (codes "")) (HostAnswer.Listed [])
 
-abbrev well : Option ℤ
+abbrev pub well : Option ℤ
 well = Some (pos 0)
 
-abbrev badly : Option ℤ
+abbrev pub badly : Option ℤ
 badly = Some (pos 1)
 
 -- after these events, with nothing due
-abbrev at : List Event → Progress
+abbrev pub at : List Event → Progress
 at events = record { work = nothing_due; events = events }
 
 -- the record has no row of either, and the first child runs; both run
@@ -175,7 +178,7 @@ may_stage = record {
 
 -- The row of each is looked for first, under the key of both, and nothing is planned before
 
-abbrev its_key : Key
+abbrev pub its_key : Key
 its_key = key tool []
 
 abbrev not_there : JobPlace → Pair
@@ -218,11 +221,19 @@ module _ (is : (n : ℕ) → IsLaunch tool [] (runtime_of options n) (launch n))
       (follows (stages b plan 2 (job b) (start_due b [] (launch 2)) [] refl (has_launch [] (launch 2) refl (is 2)))
       (follows (starts b [] (launch 2) 2 refl) stays)))))
 
-either_ends : Leads s (at both) (ended 2 well ∷ scanned b ∷ ended 1 badly ∷ []) (at (both ++ came_well 2 b ++ came_badly 1 a))
+-- what is put of a job
+abbrev pub its_row : Row
+its_row = made_row its_key [] [] 1000 false
+
+abbrev is_put : JobPlace → Pair
+is_put place = command place (RecordRequest.Put its_row) RecordAnswer.Done
+
+either_ends : Leads s (at both) (ended 2 well ∷ scanned b ∷ is_put b ∷ ended 1 badly ∷ []) (at (both ++ came_well 2 b ++ came_badly 1 a))
 either_ends =
     follows (exits_well b (record { ticket = 2; code = well; millis = 1000 }) (job b) (1, lit< tt, refl) refl refl)
-    (follows (scans b (codes "") 1000 [] (job b) (started_as 2) [] nothing_due (job_succeeded b [] ∷ []) refl refl refl (of_outputs [] refl none_asked) (collects [] (collects_nothing 2)))
-    (follows (exits_badly a (record { ticket = 1; code = badly; millis = 1000 }) (job a) (0, lit< tt, refl) refl refl) stays))
+    (follows (scans b (codes "") 1000 [] (job b) (started_as 2) [] (put_due b its_row) (job_succeeded b [] ∷ []) refl refl refl (of_outputs [] refl none_asked) (collects [] _ _ (collects_nothing 2) (keeps refl tt)))
+    (follows (puts b its_row)
+    (follows (exits_badly a (record { ticket = 1; code = badly; millis = 1000 }) (job a) (0, lit< tt, refl) refl refl) stays)))
 
 -- First bytes are read one file after another, and the start or the outputs come with the last
 
@@ -241,10 +252,11 @@ collects_what_was_read : (n : ℕ) (read : Heads) → IsCollected (left_of (star
 collects_what_was_read n read = record { gathered = Ok []; are_gathered = bound [] refl no_outputs; is = refl }
 
 it_is_collected_once_all_is_read : Leads s (record { work = output_heads_due a 1000 [] (codes "g" ∷ []) []; events = one ++ child_exited 1 ∷ [] })
-    (read_of (codes "w/j1/out/g") ∷ []) (at (one ++ came_well 1 a))
+    (read_of (codes "w/j1/out/g") ∷ is_put a ∷ []) (at (one ++ came_well 1 a))
 it_is_collected_once_all_is_read =
-    follows (reads_output a (codes "w/j1/out/g") 65536 (codes "abc") 1000 [] (codes "g") [] [] (job a) (started_as 1) nothing_due (job_succeeded a [] ∷ []) refl refl refl
-    (collects [] (collects_what_was_read 1 _))) stays
+    follows (reads_output a (codes "w/j1/out/g") 65536 (codes "abc") 1000 [] (codes "g") [] [] (job a) (started_as 1) (put_due a its_row) (job_succeeded a [] ∷ []) refl refl refl
+    (collects [] _ _ (collects_what_was_read 1 _) (keeps refl tt)))
+    (follows (puts a its_row) stays)
 
 -- what is asked is the first bytes of the next file, in the job's output folder
 the_next_is_asked : due s (record { work = output_heads_due a 1000 [] (codes "g" ∷ []) []; events = one ++ child_exited 1 ∷ [] })

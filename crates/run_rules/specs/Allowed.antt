@@ -15,7 +15,7 @@ use Rattle.job_graph.specs.Made.{any_made, fields_moved}
 use Rattle.job_graph.specs.Words.{Name, Fields, JobPlace}
 use Rattle.run_rules.specs.Folders.{in_folder}
 use Rattle.run_rules.specs.Delivered.{any_file, source_place}
-use Rattle.run_rules.specs.Events.{Event, Work, nothing_due, input_heads_due, start_due, scan_due, output_heads_due, Progress, in_flight, is_at_hand, is_held, is_measured, is_looked_up, is_reusable, is_staging, are_looked_up, are_measured, delivered_at, folder_at, unfolding_at, job_at}
+use Rattle.run_rules.specs.Events.{Event, Work, nothing_due, input_heads_due, start_due, scan_due, output_heads_due, put_due, Progress, in_flight, is_at_hand, is_held, is_measured, is_looked_up, is_reusable, is_staging, are_looked_up, are_measured, delivered_at, folder_at, unfolding_at, job_at}
 use Rattle.run_rules.specs.End.{settled, IsDelivery, is_lost_collect}
 use Rattle.plan_checker.specs.declared.plan.Mark.{Mark}
 use Rattle.plan_checker.specs.declared.plan.Mark.TheVariants.{Compute}
@@ -90,7 +90,7 @@ module _ (s : Scene) where
     pub only : delivered_at f.events ≡ None
     pub delivery : IsDelivery s f.events outputs plan
 
-  -- the request for the work that is due: first bytes are read, a job's launch is started, and its output folder is listed
+  -- the request for the work that is due: first bytes are read, a job's launch is started, its output folder is listed, and its row is put
   abbrev pub due_in : List Event → Work → Option Request
   due_in es nothing_due = None
   due_in es (input_heads_due place staged [] read) = None
@@ -100,6 +100,7 @@ module _ (s : Scene) where
   due_in es (output_heads_due place millis found [] read) = None
   due_in es (output_heads_due place millis found (name ∷ todo) read) =
       Some (Request.Host place (HostRequest.Head (path_in (folder_at s es place) name) (limit_of name)))
+  due_in es (put_due place row) = Some (Request.Record place (RecordRequest.Put row))
 
   abbrev pub due : Progress → Option Request
   due f = due_in f.events f.work

@@ -35,5 +35,6 @@ pub record IsToBlame (entries : List Entry) (fault : HostFault) (running : List 
 abbrev pub BlamesRightly : List Entry → RunFault → Type 0
 BlamesRightly entries (RunFault.Host fault running) = IsToBlame entries fault running
 BlamesRightly entries (RunFault.Record refusal) = Unit {0}
+BlamesRightly entries (RunFault.Mismatch place) = Unit {0}
 BlamesRightly entries RunFault.TooManyJobs = Unit {0}
 BlamesRightly entries RunFault.OutOfMemory = Unit {0}

@@ -1,5 +1,5 @@
 -- Which ends there are, and which failure settles one: the first, whatever comes after it.
-use Rattle.std.specs.Prelude.{ℕ, Bool, true, false, cond, List, [], ◌∷◌, ◌++◌, Option, Some, None, length, filter, nat_lt}
+use Rattle.std.specs.Prelude.{ℕ, Bool, true, false, cond, List, [], ◌∷◌, ◌++◌, Option, Some, None, is_some, length, filter, nat_lt}
 use Rattle.job_rows.specs.declared.refusal.RecordRefusal.{RecordRefusal}
 use Rattle.proc_host.specs.declared.call.HostFault.{HostFault}
 use Rattle.staging.specs.Plan.{IsPlan}
@@ -8,7 +8,7 @@ use Rattle.run_rules.specs.declared.outcome.Cause.{Cause}
 use Rattle.job_graph.specs.Unfold.{Fault, fault_at, too_many_jobs, or_else}
 use Rattle.job_graph.specs.Words.{Fields, JobPlace, is_same_place}
 use Rattle.run_rules.specs.Delivered.{sources}
-use Rattle.run_rules.specs.Events.{Event, job_failed, job_failed_for_now, host_failed, collect_failed, find_failed, folder_at, unfolding_at}
+use Rattle.run_rules.specs.Events.{Event, job_failed, job_failed_for_now, host_failed, collect_failed, find_failed, row_differs, row_at, folder_at, unfolding_at}
 use Rattle.run_rules.specs.Scene.{Scene}
 
 pub data End : Type 0 where
@@ -22,6 +22,8 @@ pub data End : Type 0 where
   beyond_limits : End
   -- a call of the host's failed; the tickets of the children that nobody waits for any more
   ended_by_host : (fault : HostFault) (running : List ℕ) → End
+  -- the job at this place was computed and did not give what its row has
+  mismatches : (place : JobPlace) → End
   -- the record refused to give a row, or gave one that contradicts itself or its job's tool
   ended_by_record : (refusal : RecordRefusal) → End
 
@@ -44,7 +46,8 @@ is_lost_collect _ = false
 module _ (s : Scene) where
   -- the end that an event is, after these: a failure for now is none while the job may be started again
   abbrev pub settled_by : List Event → Event → Option End
-  settled_by es (job_failed place cause) = Some (fails_permanently place cause)
+  settled_by es (job_failed place cause) = Some (cond (is_some (row_at es place)) (mismatches place) (fails_permanently place cause))
+  settled_by es (row_differs place outputs) = Some (mismatches place)
   settled_by es (job_failed_for_now place) =
       cond (nat_lt (length (filter (gives_up place) es)) s.options.retries) None (Some (fails_temporarily place))
   settled_by es (host_failed place fault) = Some (ended_by_host fault [])

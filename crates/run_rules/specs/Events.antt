@@ -30,6 +30,8 @@ pub data Event : Type 0 where
   child_exited : (ticket : ℕ) → Event
   -- the job's named outputs were collected
   job_succeeded : (place : JobPlace) (outputs : Fields) → Event
+  -- the job's named outputs were collected, and are not those of its row
+  row_differs : (place : JobPlace) (outputs : Fields) → Event
   -- the job gives no outputs
   job_failed : (place : JobPlace) (cause : Cause) → Event
   -- the job gives no outputs, and might if it were started again: a signal ended its child, or a code that its tool calls temporary
@@ -46,6 +48,8 @@ pub data Event : Type 0 where
   no_row : (place : JobPlace) → Event
   -- the question for it was refused, or the row contradicts itself or the tool
   find_failed : (place : JobPlace) (refusal : RecordRefusal) → Event
+  -- the record refused to keep the row of the job at a place
+  put_failed : (place : JobPlace) (refusal : RecordRefusal) → Event
 
 -- the work that is due next
 pub data Work : Type 0 where
@@ -60,6 +64,8 @@ pub data Work : Type 0 where
   -- first bytes of what was found there are read, its child having ended well after so long: of the files of these names, where these were
   -- read
   output_heads_due : (place : JobPlace) (millis : ℕ) (found : List Found) (todo : List Name) (read : Heads) → Work
+  -- the row of the job is put, its outputs having been collected
+  put_due : (place : JobPlace) (row : Row) → Work
 
 -- what a transcript has brought about: what is due next, and what has happened
 pub record Progress : Type 0 where
@@ -169,6 +175,15 @@ is_reusable job = reuse_of job.tool.asked
 -- whether the row of a job is not looked for any more: it was, or its tool lets no earlier result be used
 abbrev pub has_no_find : List Event → Job → Bool
 has_no_find es job = not (is_reusable job) || is_looked_up es job.place
+
+-- the row of the job at a place after one more event, where it was so
+abbrev pub row_if : JobPlace → Option Row → Event → Option Row
+row_if place last (row_found p row) = cond (is_same_place p place) (Some row) last
+row_if place last _ = last
+
+-- the row that the record has of the job at a place, as far as it was looked for
+abbrev pub row_at : List Event → JobPlace → Option Row
+row_at es place = fold (row_if place) None es
 
 -- whether folders were made
 abbrev pub is_staging : Event → Bool

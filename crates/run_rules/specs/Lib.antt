@@ -3,6 +3,7 @@ pub mod Delivered
 pub mod Scene
 pub mod Events
 pub mod StartsOn
+pub mod Keeps
 pub mod CollectsOn
 pub mod Steps
 pub mod End

@@ -7,6 +7,8 @@ use Rattle.run_rules.specs.declared.request.Answer.{Answer}
 use Rattle.run_rules.specs.declared.request.Request.{Request}
 use Rattle.run_rules.specs.declared.request.Pair.{Pair}
 use Rattle.run_rules.specs.declared.outcome.Outcome.{Outcome}
+use Rattle.run_rules.specs.declared.outcome.Note.{Note}
+use Rattle.run_rules.specs.declared.outcome.NoteKind.{NoteKind}
 use Rattle.run_rules.specs.declared.outcome.Report.{Report}
 use Rattle.run_rules.specs.declared.outcome.RunFault.{RunFault}
 use Rattle.run_rules.specs.declared.setting.Options.{Options}
@@ -16,8 +18,8 @@ use Rattle.job_graph.specs.Words.{Fields}
 use Rattle.cwl_value.specs.Erased.{erased}
 use Rattle.input_files.specs.Measured.{Measures}
 use Rattle.run_rules.specs.Delivered.{located, object_of}
-use Rattle.run_rules.specs.Events.{Progress, measures}
-use Rattle.run_rules.specs.End.{End, succeeds_with, fails_permanently, fails_temporarily, beyond_limits, ended_by_host, ended_by_record}
+use Rattle.run_rules.specs.Events.{Event, put_failed, Progress, measures}
+use Rattle.run_rules.specs.End.{End, succeeds_with, fails_permanently, fails_temporarily, beyond_limits, ended_by_host, mismatches, ended_by_record}
 use Rattle.plan_checker.specs.declared.plan.Mark.{Mark}
 use Rattle.run_rules.specs.Recorded.{Line, lines_of}
 use Rattle.run_rules.specs.Run.{IsRunSoFar, IsRun}
@@ -43,16 +45,25 @@ outcome_of (fails_permanently place cause) = Ok (Outcome.PermanentFail place cau
 outcome_of (fails_temporarily place) = Ok (Outcome.TemporaryFail place)
 outcome_of beyond_limits = Err RunFault.TooManyJobs
 outcome_of (ended_by_host fault running) = Err (RunFault.Host fault running)
+outcome_of (mismatches place) = Err (RunFault.Mismatch place)
 outcome_of (ended_by_record refusal) = Err (RunFault.Record refusal)
 
--- the report of what came of it
-abbrev pub reported : Result Outcome RunFault → Result Report RunFault
-reported (Ok outcome) = Ok (record { outcome = outcome; plans = []; notes = [] })
-reported (Err fault) = Err fault
+-- what went wrong by an event without changing the end
+abbrev pub note_of : Event → Option Note
+note_of (put_failed place refusal) = Some (record { place = place; kind = NoteKind.Put refusal })
+note_of _ = None
 
--- what is reported of an end
-abbrev pub report_of : End → Result Report RunFault
-report_of end = reported (outcome_of end)
+abbrev pub notes_of : List Event → List Note
+notes_of es = filter_map note_of es
+
+-- the report of what came of it, with these notes
+abbrev pub reported : List Note → Result Outcome RunFault → Result Report RunFault
+reported notes (Ok outcome) = Ok (record { outcome = outcome; plans = []; notes = notes })
+reported notes (Err fault) = Err fault
+
+-- what is reported of an end, after these events
+abbrev pub report_of : List Event → End → Result Report RunFault
+report_of es end = reported (notes_of es) (outcome_of end)
 
 -- what an outcome says of computing every job, where the input files were measured so: a success is its value, both without
 -- places, and where a job fails permanently there is none
@@ -64,6 +75,7 @@ IsRightOutcome setting measures world (Outcome.TemporaryFail place) = Unit {0}
 
 abbrev pub IsRight : Setting → Measures → World → Result Report RunFault → Type 0
 IsRight setting measures world (Ok report) = IsRightOutcome setting measures world report.outcome
+IsRight setting measures world (Err (RunFault.Mismatch place)) = ⊥
 IsRight setting measures world (Err fault) = Unit {0}
 
 -- only the ends of children were waited for
@@ -81,8 +93,8 @@ pub data Concludes (setting : Setting) (t : List Pair) : Result Report RunFault 
       Concludes setting t (Err RunFault.OutOfMemory)
   -- it is a whole run, its end is reported, and in each world where it is honest the report is right
   whole : (end : End) (run : IsRun setting t end) →
-      ((world : World) → IsHonest setting world run.happened.events → IsRight setting (measures run.happened.events) world (report_of end)) →
-      Concludes setting t (report_of end)
+      ((world : World) → IsHonest setting world run.happened.events → IsRight setting (measures run.happened.events) world (report_of run.happened.events end)) →
+      Concludes setting t (report_of run.happened.events end)
 
 -- the logs of a host and of a record gained these entries by a run of this process, which is reported so
 pub record GainsRun (process : Process) (inputs : Fields) (options : Options) (gained : List Entry) (lines : List Line) (result : Result Report RunFault) : Type 0 where

@@ -1,5 +1,5 @@
 -- What an answer brings about: the events that it adds, and the work that is due after it. A rule for each kind of answer.
-use Rattle.std.specs.Prelude.{◌≡◌, ℕ, List, [], ◌∷◌, ◌++◌, Option, Some, None, Contains}
+use Rattle.std.specs.Prelude.{◌≡◌, ℕ, List, [], ◌∷◌, ◌++◌, Some, None, Contains}
 use Rattle.collected_outputs.specs.HeadsWanted.{AreHeadsWanted}
 use Rattle.collected_outputs.specs.Listing.{listing_of}
 use Rattle.input_files.specs.Contents.{heads_wanted}
@@ -29,7 +29,7 @@ use Rattle.run_rules.specs.declared.request.Request.{Request}
 use Rattle.collected_outputs.specs.Contents.{Heads}
 use Rattle.job_graph.specs.Jobs.{Job}
 use Rattle.job_graph.specs.Words.{Name, Fields, JobPlace}
-use Rattle.run_rules.specs.Events.{Event, file_measured, job_staged, job_started, child_exited, job_failed, job_failed_for_now, result_delivered, host_failed, collect_failed, row_found, no_row, find_failed, Work, nothing_due, input_heads_due, start_due, scan_due, output_heads_due, Progress, Started, in_flight, number_at, started_at, job_at}
+use Rattle.run_rules.specs.Events.{Event, file_measured, job_staged, job_started, child_exited, job_failed, job_failed_for_now, result_delivered, host_failed, collect_failed, row_found, no_row, find_failed, put_failed, Work, nothing_due, input_heads_due, start_due, scan_due, output_heads_due, Progress, Started, in_flight, number_at, started_at, row_at, job_at}
 use Rattle.run_rules.specs.StartsOn.{StartsOn}
 use Rattle.run_rules.specs.CollectsOn.{CollectsOn}
 use Rattle.run_rules.specs.Scene.{Scene}
@@ -74,12 +74,12 @@ module _ (s : Scene) where
     -- its folder is listed: first bytes of what was found are read next, or its outputs are collected, or there are none
     scans : (place : JobPlace) (folder : Name) (millis : ℕ) (found : List Found) (job : Job) (started : Started) (wanted : List Name) (work : Work)
         (more : List Event) → f.work ≡ scan_due place millis → job_at s f.events place ≡ Some job → started_at f.events place ≡ Some started → AreHeadsWanted (listing_of found) started.inputs job.tool.outputs wanted →
-        CollectsOn place job started millis found [] wanted work more →
+        CollectsOn place job (row_at f.events place) started millis found [] wanted work more →
         Steps f (call place (HostRequest.Scan folder) (HostAnswer.Listed found)) work more
     -- and the same where one was read
     reads_output : (place : JobPlace) (path : Name) (limit : ℕ) (bytes : List ℕ) (millis : ℕ) (found : List Found) (name : Name) (todo : List Name) (read : Heads)
         (job : Job) (started : Started) (work : Work) (more : List Event) → f.work ≡ output_heads_due place millis found (name ∷ todo) read → job_at s f.events place ≡ Some job →
-        started_at f.events place ≡ Some started → CollectsOn place job started millis found (with_value name bytes read) todo work more →
+        started_at f.events place ≡ Some started → CollectsOn place job (row_at f.events place) started millis found (with_value name bytes read) todo work more →
         Steps f (call place (HostRequest.Head path limit) (HostAnswer.FirstBytes bytes)) work more
     -- the record has no row of a job, or one of its tool; one that contradicts itself or the tool is refused, as what does not read is
     finds_none : (place : JobPlace) (its_key : Key) →
@@ -90,6 +90,10 @@ module _ (s : Scene) where
         Steps f (command place (RecordRequest.Find its_key) (RecordAnswer.Found (Some row))) nothing_due (find_failed place NotARecord ∷ [])
     find_fails : (place : JobPlace) (its_key : Key) (refusal : RecordRefusal) →
         Steps f (command place (RecordRequest.Find its_key) (RecordAnswer.Refused refusal)) nothing_due (find_failed place refusal ∷ [])
+    -- the job's row is kept, or refused
+    puts : (place : JobPlace) (row : Row) → Steps f (command place (RecordRequest.Put row) RecordAnswer.Done) nothing_due []
+    put_fails : (place : JobPlace) (row : Row) (refusal : RecordRefusal) →
+        Steps f (command place (RecordRequest.Put row) (RecordAnswer.Refused refusal)) nothing_due (put_failed place refusal ∷ [])
     delivers : (place : JobPlace) (plan : StagePlan) →
         Steps f (call place (HostRequest.Deliver plan) HostAnswer.Done) nothing_due (result_delivered plan ∷ [])
     -- a call fails, by its own fault

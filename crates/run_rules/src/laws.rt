@@ -90,7 +90,8 @@ pub fn an_honest_run_is_reported_rightly()
     ensures { (setting : Setting) (t : List Pair) (end : End) (run : IsRun setting t end)
         (world : World)
         → ids_differ setting.process ≡ true → IsHonest setting world run.happened.events
-        → IsRight setting (measures run.happened.events) world (report_of end) }
+        → IsRight setting (measures run.happened.events) world
+        (report_of run.happened.events end) }
 {
     known_jobs_agree();
     results_are_eval();

@@ -16,6 +16,6 @@ pub use laws::{
     delivery_keeps_the_value, nothing_follows_the_end, nothing_read_was_made_before, one_end,
     success_ran_each_job,
 };
-pub use outcome::{Cause, CollectCause, Note, Outcome, PlanNote, Report, RunFault};
+pub use outcome::{Cause, CollectCause, Note, NoteKind, Outcome, PlanNote, Report, RunFault};
 pub use request::{Answer, Pair, RecordAnswer, RecordRequest, Request};
 pub use setting::{Options, Setting};

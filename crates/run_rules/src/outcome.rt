@@ -44,11 +44,18 @@ pub struct PlanNote {
     pub cost: u64,
 }
 
-/// What went wrong without changing the end.
+/// What went wrong without changing the end, for the job at this place.
 #[derive(Drop)]
 pub struct Note {
     pub place: JobPlace,
-    pub fault: HostFault,
+    pub kind: NoteKind,
+}
+
+/// Which call it was that failed, and how.
+#[derive(Drop)]
+pub enum NoteKind {
+    /// The record refused to keep the job's row.
+    Put(RecordRefusal),
 }
 
 /// What a whole run says.
@@ -66,6 +73,8 @@ pub enum RunFault {
     Host(HostFault, Items<u64>),
     /// The record refused to give a row, or gave one that contradicts itself or its job's tool.
     Record(RecordRefusal),
+    /// The job at this place was computed, and did not give what its row has: other outputs, or none.
+    Mismatch(JobPlace),
     /// There are more jobs, or more parents of jobs, than a graph may have.
     TooManyJobs,
     /// Out of memory.

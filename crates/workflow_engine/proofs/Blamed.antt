@@ -29,6 +29,7 @@ pub hosts_fault : (before after gained : List Entry) (result : Result Report Run
     IfErr result (BlamesRightly gained) → IfErr result (IsHostsFault before after)
 hosts_fault before after gained (Ok report) logged blames = tt
 hosts_fault before after gained (Err (RunFault.Record refusal)) logged blames = tt
+hosts_fault before after gained (Err (RunFault.Mismatch place)) logged blames = tt
 hosts_fault before after gained (Err RunFault.TooManyJobs) logged blames = tt
 hosts_fault before after gained (Err RunFault.OutOfMemory) logged blames = tt
 hosts_fault before after gained (Err (RunFault.Host fault running)) logged blames = record {

@@ -95,6 +95,7 @@ module _ (before : ℕ) (entries : List Entry) (entry : Entry) (so_far : AreNumb
 pub rising_tickets : (entries : List Entry) (result : Result Report RunFault) → Rise (given_tickets entries) → (IfErr result (BlamesRightly entries)) → IfErr result HasRisingTickets
 rising_tickets entries (Ok report) rise blames = tt
 rising_tickets entries (Err (RunFault.Record refusal)) rise blames = tt
+rising_tickets entries (Err (RunFault.Mismatch place)) rise blames = tt
 rising_tickets entries (Err RunFault.TooManyJobs) rise blames = tt
 rising_tickets entries (Err RunFault.OutOfMemory) rise blames = tt
 rising_tickets entries (Err (RunFault.Host fault running)) rise blames = blames.started.rising rise

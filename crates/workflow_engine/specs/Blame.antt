@@ -17,6 +17,7 @@ pub record HasFailed (before after : List Entry) (fault : HostFault) (running : 
 abbrev pub IsHostsFault : List Entry → List Entry → RunFault → Type 0
 IsHostsFault before after (RunFault.Host fault running) = HasFailed before after fault running
 IsHostsFault before after (RunFault.Record refusal) = Unit {0}
+IsHostsFault before after (RunFault.Mismatch place) = Unit {0}
 IsHostsFault before after RunFault.TooManyJobs = Unit {0}
 IsHostsFault before after RunFault.OutOfMemory = Unit {0}
 
@@ -24,5 +25,6 @@ IsHostsFault before after RunFault.OutOfMemory = Unit {0}
 abbrev pub HasRisingTickets : RunFault → Type 0
 HasRisingTickets (RunFault.Host fault running) = Rise running
 HasRisingTickets (RunFault.Record refusal) = Unit {0}
+HasRisingTickets (RunFault.Mismatch place) = Unit {0}
 HasRisingTickets RunFault.TooManyJobs = Unit {0}
 HasRisingTickets RunFault.OutOfMemory = Unit {0}

@@ -1,22 +1,21 @@
-use Rattle.std.proofs.Common.{◌≡◌, ◌∙◌, ℕ, ◌+◌, ◌<◌, List, Option, Some, None, Bool, true, false, ap, arith, length, map, refl, replicate, set, subst, sym}
+use Rattle.std.proofs.Common.{◌≡◌, ◌∙◌, ℕ, ◌+◌, ◌<◌, List, Ok, Option, Some, None, Bool, true, false, ap, arith, length, map, refl, replicate, set, subst, sym}
 use Rattle.std.specs.Prelude.{slice_get}
 use Rattle.std.specs.Map.{keys_of}
 use Rattle.std.proofs.lemmas.List.{length_push, length-set, map-append}
 use Rattle.std.proofs.lemmas.Option.{slice_get_read}
 use Rattle.document_links.specs.declared.process.Step.{Step}
-use Rattle.job_graph.specs.Equations.{env_after, instance, step_meaning_of, step_place, step_walk, StepMeaning}
-use Rattle.plain_data.specs.ByName.{value_at}
-use Rattle.job_graph.specs.Links.{Env, out_under}
+use Rattle.job_graph.specs.Equations.{instance, step_meaning_of, step_place, step_walk, StepMeaning}
+use Rattle.job_graph.specs.Links.{Env}
 use Rattle.job_graph.specs.Scatter.{at_tuple}
 use Rattle.job_graph.specs.Words.{Name}
 use Rattle.job_graph.specs.inner.Levels.{step_of, steps_of}
 use Rattle.job_graph.specs.inner.Rounds.{AllMeet, Holds, MeetsBy, SettlesMore, count, walk_at}
 use Rattle.job_graph.specs.inner.Views.{made_from, met_of, walk_of}
 use Rattle.job_graph.specs.declared.walk.Met.{Met as KeptMet}
-use Rattle.job_graph.proofs.Loops.{steps_length}
+use Rattle.job_graph.proofs.SettledWalk.{settled_walk}
 use Rattle.job_graph.proofs.Settling.{goes_on, goes_past, slot_met, slots_left}
 use Rattle.job_graph.proofs.laws_of_walks.Places.{names_differ}
-use Rattle.job_graph.proofs.laws_of_walks.Settled.{as_many, count_within, nothing_held, says_same, walks_alike}
+use Rattle.job_graph.proofs.laws_of_walks.Settled.{as_many, count_within, nothing_held}
 use Rattle.job_graph.proofs.Walks.{each_push, met_push, whole_walk}
 use Rattle.job_graph.proofs.+walk.Goals.{workflow::steps_met-in-Some, workflow::steps_met-in-None+in_ok-more-in-None, rounds::settle_more-then-not-is_stuck+in_ok-met, rounds::settle_more-else-not-is_stuck}
 use Rattle.job_graph.proofs.+walk.Goals as goal
@@ -111,13 +110,10 @@ rounds::settle_steps-returns-clause-outs t c =
     let env : Env = c.settle_more.new.settled.outs in
     let settles : SettlesMore c.args.facts.now c.args.place.now c.args.inputs.now steps c.loop-settled.settled.outs false env c.settle_more.new.settled.met.items =
     subst (λ (more : Bool). SettlesMore c.args.facts.now c.args.place.now c.args.inputs.now steps c.loop-settled.settled.outs more env c.settle_more.new.settled.met.items) c.if-branch.false c.in_ok-settle_more.ensures in
-    λ step name.
-    says_same c.args.facts.now c.args.place.now c.args.inputs.now steps env c.settle_more.new.settled.met.items settles.holds settles.goes_on step name
-    ∙ ap (λ (n : ℕ). out_under name (value_at step (env_after n (steps_of c.args.facts.now steps) c.args.place.now c.args.inputs.now))) (sym (steps_length c.args.facts.now steps))
+    record { keeps = settles.holds.keeps; stuck = settles.goes_on }
 
-pub workflow::walk_steps-returns-in-Ok : goal.workflow::walk_steps-returns-in-Ok
-workflow::walk_steps-returns-in-Ok t c =
-    whole_walk c.args.outputs.now (steps_of c.args.facts.now c.args.steps.now) c.args.place.now c.args.inputs.now c.in_ok-env.field-0.outs c.in-Ok.met c.with_outputs-walk.result
-    (walks_alike c.args.facts.now.measures (made_from c.args.facts.now) c.args.place.now c.args.inputs.now c.in_ok-env.field-0.outs
-    (env_after (length (steps_of c.args.facts.now c.args.steps.now)) (steps_of c.args.facts.now c.args.steps.now) c.args.place.now c.args.inputs.now) c.in_ok-env.ensures.outs c.args.outputs.now c.args.steps.now)
-    c.in-Ok.ensures c.with_outputs-walk.ensures.met c.with_outputs-walk.ensures.outs
+pub workflow::walk_keeping-returns-clause-walk : goal.workflow::walk_keeping-returns-clause-walk
+workflow::walk_keeping-returns-clause-walk t c =
+    whole_walk {E = Unit {0}} c.args.outputs.now (steps_of c.args.facts.now c.args.steps.now) c.args.place.now c.args.inputs.now c.in_ok-env.field-0.outs c.in_ok-met.met (Ok c.in_ok-walk.walk)
+    (settled_walk c.args.facts.now c.args.place.now c.args.inputs.now c.args.steps.now c.in_ok-env.field-0.outs c.in_ok-env.ensures.outs c.args.outputs.now)
+    c.in_ok-met.ensures c.in_ok-walk.ensures.met c.in_ok-walk.ensures.outs

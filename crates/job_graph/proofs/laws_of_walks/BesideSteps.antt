@@ -6,7 +6,8 @@ use Rattle.cwl_value.specs.declared.place.Segment.{Segment}
 use Rattle.cwl_process.specs.declared.tool.Tool.{Tool}
 use Rattle.cwl_process.specs.declared.workflow.WorkflowOutput.{WorkflowOutput}
 use Rattle.document_links.specs.declared.process.Process.{Process}
-use Rattle.document_links.specs.declared.process.Step.{Step, roll-Step}
+use Rattle.document_links.specs.declared.process.Process.TheViews.{roll-out-Step}
+use Rattle.document_links.specs.declared.process.Step.{Step, out-Step, roll-Step}
 use Rattle.document_links.specs.declared.process.Workflow.{Workflow}
 use Rattle.input_files.specs.Measured.{Measures}
 use Rattle.plain_data.specs.ByName.{map_values}
@@ -20,7 +21,7 @@ use Rattle.job_graph.specs.Equations.{Meaning, StepMeaning, fault_at, meaning_of
 use Rattle.job_graph.specs.inner.Rounds.{EnvGrows}
 use Rattle.job_graph.proofs.laws_of_walks.Processes.{StepLevel, WorkflowLevel, workflow_of, Cases, induction, tool_level, workflow_in, step_level, workflow_level}
 use Rattle.job_graph.proofs.laws_of_walks.Part.{AllIn, and_left, and_right, each_part, stays_itself, stays_on, weaker}
-use Rattle.job_graph.proofs.laws_of_walks.Places.{IsAt, IsBeyond, Fans, IsAmong, OfStep, StepFans, no_job, faults_none, ids_of, among_any, not_both, step_fan, steps_fan, workflow_fans, walk_places, workflow_differs, step_differs, steps_differ}
+use Rattle.job_graph.proofs.laws_of_walks.Places.{IsAt, IsBeyond, Fans, IsAmong, OfStep, StepFans, no_job, faults_none, ids_of, among_any, not_both, step_fan, steps_fan, workflow_fans, walk_places, workflow_differs, step_differs, steps_differ, step_is as step_is_apart}
 use Rattle.job_graph.proofs.laws_of_walks.Same.{Agree, StepAgrees, step_agrees, outs_agree, met_agree, workflow_agrees, tool_agrees, agrees}
 use Rattle.job_graph.proofs.laws_of_walks.Steps.{unknown_under}
 use Rattle.job_graph.proofs.laws_of_walks.Rounds.{StepRises, met_in, outs_in, round, met_rises, round_rises, length_values}
@@ -66,10 +67,10 @@ module _ (r w : JobPlace) where
     w_by : w ≡ place ++ by.waits ∷ by.after_open
     w_by = at_w ∙ ap (λ (rest : JobPlace). place ++ rest) by.other
 
-    abbrev met : (Step → StepMeaning) → Env → List (Name × Step) → List Met
+    abbrev pub met : (Step → StepMeaning) → Env → List (Name × Step) → List Met
     met means env steps = met_in G F H place inputs means env steps
 
-    abbrev outs : (Step → StepMeaning) → Env → List (Name × Step) → Env
+    abbrev pub outs : (Step → StepMeaning) → Env → List (Name × Step) → Env
     outs means env steps = outs_in G F H place inputs means env steps
 
     abbrev at : (Step → StepMeaning) → List (Name × Step) → ℕ → Env
@@ -93,11 +94,11 @@ module _ (r w : JobPlace) where
           has_holds (IsBeyond place (λ s. IsAmong s.step (ids_of xs))) w (met F later xs) (steps_fan F place inputs later xs apart fans).0 there in
           subst (λ (id : Name). IsAmong id (ids_of xs)) (ap (λ (s : Segment). s.step) (first_segment place w found.1.0 by.waits found.1.1 by.after_open (sym found.2 ∙ found.1.3) w_by) ∙ sym by.alike) found.1.2
 
-      abbrev AreSame : List (Name × Step) → Type 0
+      abbrev pub AreSame : List (Name × Step) → Type 0
       AreSame steps = (outs F env steps ≡ outs H env steps) × (met F env steps ≡ met H env steps)
 
       -- the steps meet and give the same
-      steps_same : (steps : List (Name × Step)) → differ (ids_of steps) ≡ true
+      pub steps_same : (steps : List (Name × Step)) → differ (ids_of steps) ≡ true
           → AllByRecursion (λ (e : Name × Step). StepFans (F e.1)) steps → AllByRecursion (λ (e : Name × Step). StepRises (F e.1)) steps
           → AllByRecursion (λ (e : Name × Step). StepAgrees G (F e.1) (H e.1)) steps → AllByRecursion (λ (e : Name × Step). StepStill r w (F e.1) (H e.1)) steps
           → HasAt w (met F later steps) → AreSame steps
@@ -220,11 +221,11 @@ module _ (measures : Measures) (made more : Made) (r w : JobPlace) (same : (job 
   not_met : (place : JobPlace) → NotAbove r w place → (met : List Met) → Fans place (λ s. Unit {0}) met → AllIn E met
   not_met place apart met fans = weaker (IsBeyond place (λ s. Unit {0})) E (λ job at is. apart at.0 at.1 (sym is ∙ at.3)) met fans.0
 
-  record StepIs (s : Step) : Type 0 where
-    fans : StepFans (step_meaning_of measures made s)
-    fans_more : StepFans (step_meaning_of measures more s)
-    agree : StepAgrees E (step_meaning_of measures made s) (step_meaning_of measures more s)
-    still : StepStill r w (step_meaning_of measures made s) (step_meaning_of measures more s)
+  pub record StepIs (s : Step) : Type 0 where
+    pub fans : StepFans (step_meaning_of measures made s)
+    pub fans_more : StepFans (step_meaning_of measures more s)
+    pub agree : StepAgrees E (step_meaning_of measures made s) (step_meaning_of measures more s)
+    pub still : StepStill r w (step_meaning_of measures made s) (step_meaning_of measures more s)
 
   abbrev P : Process → Type 0
   P p = ids_differ p ≡ true → AreStill r w (meaning_of measures made p) (meaning_of measures more p)
@@ -242,7 +243,7 @@ module _ (measures : Measures) (made more : Made) (r w : JobPlace) (same : (job 
     each_is es (and_right (step_ids_differ e.1) (list_all (λ x. x.1) (map_values step_ids_differ es)) apart) all.1,
   )
 
-  each_has : (Q : Step → Type 0) → ((s : Step) → StepIs s → Q s) → (steps : List (Name × Step)) → AllByRecursion (λ (e : Name × Step). StepIs e.1) steps → AllByRecursion (λ (e : Name × Step). Q e.1) steps
+  pub each_has : (Q : Step → Type 0) → ((s : Step) → StepIs s → Q s) → (steps : List (Name × Step)) → AllByRecursion (λ (e : Name × Step). StepIs e.1) steps → AllByRecursion (λ (e : Name × Step). Q e.1) steps
   each_has Q has [] all = tt
   each_has Q has (e ∷ es) all = (has e.1 all.0, each_has Q has es all.1)
 
@@ -295,3 +296,13 @@ module _ (measures : Measures) (made more : Made) (r w : JobPlace) (same : (job 
 
   pub all_still : (p : Process) → ids_differ p ≡ true → AreStill r w (meaning_of measures made p) (meaning_of measures more p)
   all_still p = induction cases p
+
+  -- each of these steps
+  pub all_steps_still : (steps : List (Name × Step)) → list_all (λ s. step_ids_differ s.1) steps ≡ true → AllByRecursion (λ (e : Name × Step). StepIs e.1) steps
+  all_steps_still [] apart = tt
+  all_steps_still (e ∷ es) apart =
+      let inside : ids_differ (out-Step e.1).process ≡ true =
+      sym (step_is_apart e.1) ∙ and_left (step_ids_differ e.1) (list_all (λ (s : Name × Step). step_ids_differ s.1) es) apart in (
+        subst StepIs (roll-out-Step e.1) (step_is (out-Step e.1) (all_still (out-Step e.1).process) inside),
+        all_steps_still es (and_right (step_ids_differ e.1) (list_all (λ (s : Name × Step). step_ids_differ s.1) es) apart),
+      )

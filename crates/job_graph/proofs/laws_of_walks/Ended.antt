@@ -26,7 +26,7 @@ no_either true within seen later none = inl none
 no_either false true seen later none = inr none
 no_either false false seen later none = absurd cc
 
-none_first : (place : JobPlace) (cause : Cause) (jobs : List Job) (met : List Met) → first_fault jobs met ≡ None → IsIn (met_fault place cause) met → ⊥
+pub none_first : (place : JobPlace) (cause : Cause) (jobs : List Job) (met : List Met) → first_fault jobs met ≡ None → IsIn (met_fault place cause) met → ⊥
 none_first place cause jobs [] none at = at
 none_first place cause jobs (met_fault there why ∷ met) none at = cc
 none_first place cause jobs (met_job job ∷ met) none (inl here) = cc
@@ -46,7 +46,7 @@ none_met walks place cause (r ∷ earlier) none at =
 
 -- ---- all that is met is well
 
-each_well : (made : Made) (met : List Met) → ((job : Job) → IsIn (met_job job) met → is_some (made job) ≡ true) → ((place : JobPlace) (cause : Cause) → IsIn (met_fault place cause) met → ⊥) → AllWell made met
+pub each_well : (made : Made) (met : List Met) → ((job : Job) → IsIn (met_job job) met → is_some (made job) ≡ true) → ((place : JobPlace) (cause : Cause) → IsIn (met_fault place cause) met → ⊥) → AllWell made met
 each_well made [] jobs faults = refl
 each_well made (met_job job ∷ met) jobs faults =
     ap₂ (λ (a b : Bool). a && b) (jobs job (inl refl)) (each_well made met (λ job at. jobs job (inr at)) (λ place cause at. faults place cause (inr at)))

@@ -94,7 +94,7 @@ module _ (P : Job → Type 0) where
   all_with true jobs job all last = all
   all_with false jobs job all last = all_last jobs job all last
 
-  all_put : (new jobs : List Job) → AllByRecursion P jobs → AllByRecursion P new → AllByRecursion P (fold with_job jobs new)
+  pub all_put : (new jobs : List Job) → AllByRecursion P jobs → AllByRecursion P new → AllByRecursion P (fold with_job jobs new)
   all_put [] jobs all more = all
   all_put (job ∷ new) jobs all more = all_put new (with_job jobs job) (all_with (is_known jobs job) jobs job all more.0) more.1
 
@@ -102,7 +102,7 @@ or_true : (a b : Bool) → b ≡ true → (a || b) ≡ true
 or_true true b is = refl
 or_true false b is = is
 
-still_known : (b : Bool) (jobs : List Job) (job other : Job) → is_known jobs other ≡ true → is_known (cond b jobs (jobs ++ job ∷ [])) other ≡ true
+pub still_known : (b : Bool) (jobs : List Job) (job other : Job) → is_known jobs other ≡ true → is_known (cond b jobs (jobs ++ job ∷ [])) other ≡ true
 still_known true jobs job other is = is
 still_known false jobs job other is = list_any-append (is_at other.place) jobs (job ∷ []) ∙ ap (λ (b : Bool). b || list_any (is_at other.place) (job ∷ [])) is
 
@@ -115,10 +115,10 @@ stays_known : (new jobs : List Job) (job : Job) → is_known jobs job ≡ true �
 stays_known [] jobs job is = is
 stays_known (k ∷ new) jobs job is = stays_known new (with_job jobs k) job (still_known (is_known jobs k) jobs k job is)
 
-same_job : (a b : Job) → met_job a ≡ met_job b → a ≡ b
+pub same_job : (a b : Job) → met_job a ≡ met_job b → a ≡ b
 same_job a b is = cc
 
-met_known : (met : List Met) (jobs : List Job) (job : Job) → IsIn (met_job job) met → is_known (with_met jobs met) job ≡ true
+pub met_known : (met : List Met) (jobs : List Job) (job : Job) → IsIn (met_job job) met → is_known (with_met jobs met) job ≡ true
 met_known [] jobs job at = absurd at
 met_known (met_job k ∷ met) jobs job (inl here) =
     subst (λ (j : Job). is_known (with_met (with_job jobs k) met) j ≡ true) (sym (same_job job k here)) (stays_known (filter_map job_met met) (with_job jobs k) k (itself_known (is_known jobs k) jobs k refl))
@@ -173,7 +173,7 @@ contains_of m [] at = absurd at
 contains_of m (x ∷ xs) (inl here) = (zero, omega arith, sym here)
 contains_of m (x ∷ xs) (inr later) = let rest : Contains xs m = contains_of m xs later in (suc rest.0, omega arith, rest.2)
 
-listed : (whole met : List Met) → ((m : Met) → IsIn m met → IsIn m whole) → AllByRecursion (λ (job : Job). IsIn (met_job job) whole) (filter_map job_met met)
+pub listed : (whole met : List Met) → ((m : Met) → IsIn m met → IsIn m whole) → AllByRecursion (λ (job : Job). IsIn (met_job job) whole) (filter_map job_met met)
 listed whole [] means = tt
 listed whole (met_job job ∷ met) means = (means (met_job job) (inl refl), listed whole met (λ m at. means m (inr at)))
 listed whole (met_fault place cause ∷ met) means = listed whole met (λ m at. means m (inr at))
@@ -184,12 +184,12 @@ all_means P Q means (job ∷ jobs) all = (means job all.0, all_means P Q means j
 
 -- ---- jobs whose outputs are known
 
-well_in : (made : Made) (met : List Met) → list_all (is_well made) met ≡ true → (job : Job) → IsIn (met_job job) met → is_some (made job) ≡ true
+pub well_in : (made : Made) (met : List Met) → list_all (is_well made) met ≡ true → (job : Job) → IsIn (met_job job) met → is_some (made job) ≡ true
 well_in made [] well job at = absurd at
 well_in made (x ∷ xs) well job (inl here) = ap (is_well made) here ∙ and_left (is_well made x) (list_all (is_well made) xs) well
 well_in made (x ∷ xs) well job (inr later) = well_in made xs (and_right (is_well made x) (list_all (is_well made) xs) well) job later
 
-known_some : (found : Option Fields) (f : Fields → Fields) → is_some (option_map f found) ≡ true → is_some found ≡ true
+pub known_some : (found : Option Fields) (f : Fields → Fields) → is_some (option_map f found) ≡ true → is_some found ≡ true
 known_some None f some = some
 known_some (Some outputs) f some = refl
 

@@ -81,7 +81,7 @@ outputs_elsewhere learned one place differ =
 
 -- ---- one of the known jobs
 
-in_at : (met : List Met) (job : Job) → IsIn (met_job job) met → HasAt job.place met
+pub in_at : (met : List Met) (job : Job) → IsIn (met_job job) met → HasAt job.place met
 in_at [] job there = there
 in_at (met_job k ∷ met) job (inl here) = inl (ap place_of (sym here))
   where
@@ -156,13 +156,13 @@ module _ (process : Process) (fields : Fields) (measures : Measures) (apart : id
   more = learned ++ one ∷ []
 
   -- a known job beside it, which is open
-  record HasOpen : Type 0 where
-    job : Job
-    met : IsIn (met_job job) (walks (made_by learned)).met
-    beside : Beside one.place job.place
-    none : outputs_at learned job.place ≡ None
+  pub record HasOpen : Type 0 where
+    pub job : Job
+    pub met : IsIn (met_job job) (walks (made_by learned)).met
+    pub beside : Beside one.place job.place
+    pub none : outputs_at learned job.place ≡ None
 
-  has_open : is_one_open learned one.place known ≡ true → HasOpen
+  pub has_open : is_one_open learned one.place known ≡ true → HasOpen
   has_open is =
       let found : (job : Job) × IsIn (met_job job) (walks (made_by learned)).met × (is_open_beside learned one.place job.place ≡ true) =
       one_of (λ job. IsIn (met_job job) (walks (made_by learned)).met) (λ job. is_open_beside learned one.place job.place) known (known_met process fields measures learned) is in
@@ -174,10 +174,10 @@ module _ (process : Process) (fields : Fields) (measures : Measures) (apart : id
       }
 
   module _ (waits : HasOpen) where
-    none_more : outputs_at more waits.job.place ≡ None
+    pub none_more : outputs_at more waits.job.place ≡ None
     none_more = outputs_elsewhere learned one waits.job.place (beside_differ one.place waits.job.place waits.beside) ∙ waits.none
 
-    made_none : (outputs : List Resolved) → outputs_at outputs waits.job.place ≡ None → (job : Job) → job.place ≡ waits.job.place → made_by outputs job ≡ None
+    pub made_none : (outputs : List Resolved) → outputs_at outputs waits.job.place ≡ None → (job : Job) → job.place ≡ waits.job.place → made_by outputs job ≡ None
     made_none outputs none job is = ap (option_map (fields_made job.place)) (ap (outputs_at outputs) is ∙ none)
 
     walk_same : walks (made_by learned) ≡ walks (made_by more)
@@ -195,7 +195,7 @@ module _ (process : Process) (fields : Fields) (measures : Measures) (apart : id
     results_same : result walks (made_by learned) ≡ result walks (made_by more)
     results_same = no_result learned waits.none refl ∙ sym (no_result more none_more walk_same)
 
-  met_known : (job : Job) → IsIn (met_job job) (walks (made_by learned)).met → is_known known job ≡ true
+  pub met_known : (job : Job) → IsIn (met_job job) (walks (made_by learned)).met → is_known known job ≡ true
   met_known job at = after_known process fields measures (reverse learned) job (subst (IsIn (met_job job)) (sym (in_order process fields measures learned)) at)
 
   -- nothing new is met, no fault is told, there is no result, and the known outputs stay

@@ -86,7 +86,7 @@ module _ (G : Job → Type 0) (F H : Step → StepMeaning) (place : JobPlace) (i
     met_before n all = each_part G (met_in F (round F steps n) steps) (met_in F (round F steps (suc n)) steps) (met_rises (round F steps n) (round F steps (suc n)) (round_rises n) steps rise) all
 
     module _ (go : AllByRecursion (λ (e : Name × Step). StepGoes G (F e.1) (H e.1)) steps) where
-      round_goes : (n : ℕ) → AllIn G (met_in F (round F steps n) steps) → EnvGrows (round F steps n) (round H steps n)
+      pub round_goes : (n : ℕ) → AllIn G (met_in F (round F steps n) steps) → EnvGrows (round F steps n) (round H steps n)
       round_goes zero all = λ step name. tt
       round_goes (suc n) all =
           put_grows (round F steps n) (round H steps n) (round_goes n (met_before n all)) steps go (met_before n all) [] [] (λ step name. tt)

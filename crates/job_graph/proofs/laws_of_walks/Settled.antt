@@ -23,12 +23,12 @@ use Rattle.job_graph.specs.declared.partly.Partly.{Partly}
 use Rattle.job_graph.specs.declared.partly.Partly.TheVariants.{Waits}
 use Rattle.job_graph.specs.Apart.{differ}
 use Rattle.job_graph.specs.Words.{Name, Fields, JobPlace, put_from}
-use Rattle.job_graph.specs.Jobs.{Job, Made, Met, Outs, Walk, with_first}
+use Rattle.job_graph.specs.Jobs.{Job, Made, Met, Outs, Walk, unknown, with_first}
 use Rattle.job_graph.specs.Links.{Env, entry_value, given, linked_values, out_under, output_from, output_value, measured, once_known, by_link, source_value, value_from, with_entry}
 use Rattle.job_graph.specs.Equations.{StepMeaning, StepOf, entered, env_after, fault_at, meaning_of, step_at, step_meaning_of, step_place, step_walk, workflow_walk}
 use Rattle.job_graph.specs.More.{Stays}
 use Rattle.job_graph.specs.inner.Levels.{steps_of}
-use Rattle.job_graph.specs.inner.Rounds.{AllMeet, EnvGrows, Holds, MeetsBy, SaysSame, StandsBy, are_known, count, is_known, is_ready, is_stuck, is_there, one_if, walk_at}
+use Rattle.job_graph.specs.inner.Rounds.{AllMeet, EnvGrows, Holds, Keeps, MeetsBy, SaysSame, StandsBy, WasReady, are_known, count, is_known, is_ready, is_stuck, is_there, one_if, walk_at}
 use Rattle.job_graph.specs.declared.walk.Met.{Met as KeptMet}
 use Rattle.job_graph.specs.inner.Views.{made_from, met_of}
 use Rattle.job_graph.proofs.laws_of_walks.Processes.{step_of, step_level}
@@ -55,7 +55,7 @@ none_of true one other = absurd cc
 none_of false one other = absurd cc
 
 -- two steps of one id are one step
-one_step : (s t : Name × Step) (steps : List (Name × Step)) → differ (keys_of steps) ≡ true → IsIn s steps → IsIn t steps → bytes_eq s.0 t.0 ≡ true → s ≡ t
+pub one_step : (s t : Name × Step) (steps : List (Name × Step)) → differ (keys_of steps) ≡ true → IsIn s steps → IsIn t steps → bytes_eq s.0 t.0 ≡ true → s ≡ t
 one_step s t [] apart at there same = absurd at
 one_step s t (u ∷ us) apart (inl here) (inl there) same = here ∙ sym there
 one_step s t (u ∷ us) apart (inl here) (inr there) same =
@@ -72,7 +72,7 @@ is_element [] i s below is = absurd (omega (arith, below))
 is_element (t ∷ ts) zero s below is = inl is
 is_element (t ∷ ts) (suc i) s below is = let less : i < length ts = omega (arith, below) in inr (is_element ts i s less is)
 
-each_of : {X : Type 0} (p : X → Bool) (xs : List X) → list_all p xs ≡ true → (x : X) → IsIn x xs → p x ≡ true
+pub each_of : {X : Type 0} (p : X → Bool) (xs : List X) → list_all p xs ≡ true → (x : X) → IsIn x xs → p x ≡ true
 each_of p [] all x at = absurd at
 each_of p (y ∷ ys) all x (inl here) = ap p here ∙ and_left (p y) (list_all p ys) all
 each_of p (y ∷ ys) all x (inr later) = each_of p ys (and_right (p y) (list_all p ys) all) x later
@@ -95,7 +95,7 @@ no_fewer false outs found = omega arith
 found_with : (id : Name) (outs : Outs) (env : Env) (s : Name × Step) → value_at s.0 (with_value id outs env) ≡ cond (bytes_eq s.0 id) (Some outs) (value_at s.0 env)
 found_with id outs env s = value_at-with_value s.0 id outs env
 
-count_keeps : (id : Name) (outs : Outs) (env : Env) (steps : List (Name × Step)) → count env steps ≤ count (with_value id outs env) steps
+pub count_keeps : (id : Name) (outs : Outs) (env : Env) (steps : List (Name × Step)) → count env steps ≤ count (with_value id outs env) steps
 count_keeps id outs env [] = omega arith
 count_keeps id outs env (s ∷ ss) =
     let here : one_if (value_at s.0 env) ≤ one_if (value_at s.0 (with_value id outs env)) =
@@ -181,15 +181,15 @@ module _ (measures : Measures) (made : Made) (place : JobPlace) (inputs : Fields
         (sym (linked_known later (sources_in i.1)) ∙ (linked_later (sources_in i.1) (and_left (are_known env (sources_in i.1)) (are_ready env is) ready)).1)
         (still_ready is (and_right (are_known env (sources_in i.1)) (are_ready env is) ready))
 
-    ready_stays : (s : Name × Step) → is_ready env s.1 ≡ true → is_ready later s.1 ≡ true
+    pub ready_stays : (s : Name × Step) → is_ready env s.1 ≡ true → is_ready later s.1 ≡ true
     ready_stays s ready = still_ready (out-Step s.1).inputs ready
 
-    walk_stays : (s : Name × Step) → is_ready env s.1 ≡ true → walk env s ≡ walk later s
+    pub walk_stays : (s : Name × Step) → is_ready env s.1 ≡ true → walk env s ≡ walk later s
     walk_stays s ready = walk_by env later s (entries_stay (out-Step s.1).inputs ready)
 
   -- ---- where one of its inputs waits, none of its outputs is known
 
-  no_value : {T : Type 0} (o : Option T) → is_some o ≡ false → o ≡ None
+  pub no_value : {T : Type 0} (o : Option T) → is_some o ≡ false → o ≡ None
   no_value None none = refl
   no_value (Some v) none = absurd cc
 
@@ -210,6 +210,15 @@ module _ (measures : Measures) (made : Made) (place : JobPlace) (inputs : Fields
           ap (λ (now : Option Fields). fold with_entry now (entries_of measures is inputs env))
           (with_waiting o i.0 (entry_value measures inputs env i.1) (ap (entry_from i.1) none))
           ∙ none_given (entries_of measures is inputs env)
+
+  -- it meets the inputs that fail, whatever its process means
+  pub waits_walk : (env : Env) (s : Name × Step) → is_ready env s.1 ≡ false
+      → walk env s ≡ record { met = faults_in (step_place place s.0 []) (entries_of measures (out-Step s.1).inputs inputs env); outs = unknown (out-Step s.1).outputs }
+  waits_walk env s waits =
+      let one : StepOf = step_of (out-Step s.1) (meaning_of measures made (out-Step s.1).process) in
+      let entries : List (Name × Partly) = entries_of measures (out-Step s.1).inputs inputs env in
+      walk_is env s
+      ∙ ap (λ (o : Option Fields). entered one s.0 place (faults_in (step_place place s.0 []) entries) o) (none_together env (out-Step s.1).inputs (Some []) waits)
 
   waits_unknown : (env : Env) (s : Name × Step) (name : Name) → is_ready env s.1 ≡ false → out_under name (Some (walk env s).outs) ≡ None
   waits_unknown env s name waits =
@@ -288,7 +297,7 @@ module _ (facts : Facts) (place : JobPlace) (inputs : Fields) (steps : List (Nam
   abbrev no_job : Job → Type 0
   no_job job = ⊥
 
-  grows_on : (a b c : Env) → EnvGrows a b → EnvGrows b c → EnvGrows a c
+  pub grows_on : (a b c : Env) → EnvGrows a b → EnvGrows b c → EnvGrows a c
   grows_on a b c one other = λ step name.
       stays_on (out_under name (value_at step a)) (out_under name (value_at step b)) (out_under name (value_at step c)) (one step name) (other step name)
 
@@ -303,31 +312,34 @@ module _ (facts : Facts) (place : JobPlace) (inputs : Fields) (steps : List (Nam
       let next : m ≡ suc n + d = omega (arith, is) in
       grows_on (E n) (E (suc n)) (E m) (rises n) (up_by d (suc n) m next)
 
-  up_to : (n m : ℕ) → n ≤ m → EnvGrows (E n) (E m)
+  pub up_to : (n m : ℕ) → n ≤ m → EnvGrows (E n) (E m)
   up_to n m less = let is : m ≡ n + (m - n) = omega (arith, less) in up_by (m - n) n m is
 
-  none_meet : (env : Env) (some : List (Name × Step)) → AllMeet facts place inputs env some (replicate (length some) None)
+  pub none_meet : (env : Env) (some : List (Name × Step)) → AllMeet facts place inputs env some (replicate (length some) None)
   none_meet env [] = tt
   none_meet env (s ∷ ss) = (tt, none_meet env ss)
 
   -- before any step is walked
   pub nothing_held : (kept : List (Option (List KeptMet))) → kept ≡ replicate (length steps) None → Holds facts place inputs steps [] kept
-  nothing_held kept is = record { stands = λ s at. tt; below = λ step name. tt; met = subst (AllMeet facts place inputs [] steps) (sym is) (none_meet [] steps) }
+  nothing_held kept is = record {
+    keeps = record { stands = λ s at. tt; below = λ step name. tt; early = λ s at. tt };
+    met = subst (AllMeet facts place inputs [] steps) (sym is) (none_meet [] steps);
+  }
 
-  meets_on : (env later : Env) → EnvGrows env later → (s : Name × Step) (met : Option (List KeptMet)) → MeetsBy facts place inputs env s met → MeetsBy facts place inputs later s met
+  pub meets_on : (env later : Env) → EnvGrows env later → (s : Name × Step) (met : Option (List KeptMet)) → MeetsBy facts place inputs env s met → MeetsBy facts place inputs later s met
   meets_on env later grows s None meets = tt
   meets_on env later grows s (Some met) meets = (
     ready_stays facts.measures (made_from facts) place inputs env later grows s meets.0,
     meets.1 ∙ ap (λ (w : Walk). w.met) (walk_stays facts.measures (made_from facts) place inputs env later grows s meets.0),
   )
 
-  all_on : (env later : Env) → EnvGrows env later → (some : List (Name × Step)) (kept : List (Option (List KeptMet))) → AllMeet facts place inputs env some kept → AllMeet facts place inputs later some kept
+  pub all_on : (env later : Env) → EnvGrows env later → (some : List (Name × Step)) (kept : List (Option (List KeptMet))) → AllMeet facts place inputs env some kept → AllMeet facts place inputs later some kept
   all_on env later grows [] [] all = tt
   all_on env later grows [] (met ∷ kept) all = absurd all
   all_on env later grows (s ∷ ss) [] all = absurd all
   all_on env later grows (s ∷ ss) (met ∷ kept) all = (meets_on env later grows s met all.0, all_on env later grows ss kept all.1)
 
-  all_set : (env : Env) (some : List (Name × Step)) (kept : List (Option (List KeptMet))) (i : ℕ) (t : Name × Step) (met : Option (List KeptMet)) → i < length some → t ≡ get_or some i t
+  pub all_set : (env : Env) (some : List (Name × Step)) (kept : List (Option (List KeptMet))) (i : ℕ) (t : Name × Step) (met : Option (List KeptMet)) → i < length some → t ≡ get_or some i t
       → MeetsBy facts place inputs env t met → AllMeet facts place inputs env some kept → AllMeet facts place inputs env some (set kept i met)
   all_set env [] kept i t met below is meets all = absurd (omega (arith, below))
   all_set env (s ∷ ss) [] i t met below is meets all = absurd all
@@ -341,7 +353,7 @@ module _ (facts : Facts) (place : JobPlace) (inputs : Fields) (steps : List (Nam
   as_many env (s ∷ ss) [] all = absurd all
   as_many env (s ∷ ss) (met ∷ kept) all = ap suc (as_many env ss kept all.1)
 
-  keeps : (env later : Env) → EnvGrows env later → (s : Name × Step) (found : Option Outs) → StandsBy facts place inputs env s found → StandsBy facts place inputs later s found
+  pub keeps : (env later : Env) → EnvGrows env later → (s : Name × Step) (found : Option Outs) → StandsBy facts place inputs env s found → StandsBy facts place inputs later s found
   keeps env later grows s None stands = tt
   keeps env later grows s (Some outs) stands = (
     ready_stays facts.measures (made_from facts) place inputs env later grows s stands.0,
@@ -375,7 +387,7 @@ module _ (facts : Facts) (place : JobPlace) (inputs : Fields) (steps : List (Nam
     elsewhere : (step : Name) → bytes_eq step t.0 ≡ false → value_at step later ≡ value_at step env
     elsewhere step is = value_at-with_value step t.0 outs env ∙ ap (λ (b : Bool). cond b (Some outs) (value_at step env)) is
 
-    grows : EnvGrows env later
+    pub grows : EnvGrows env later
     grows = λ step name. by step name (bytes_eq step t.0) refl
       where
         by : (step name : Name) (b : Bool) → bytes_eq step t.0 ≡ b → Stays (out_under name (value_at step env)) (out_under name (value_at step later))
@@ -393,7 +405,7 @@ module _ (facts : Facts) (place : JobPlace) (inputs : Fields) (steps : List (Nam
             let walked : StandsBy facts place inputs later t (Some outs) = keeps env later grows t (Some outs) (ready, refl) in
             subst (StandsBy facts place inputs later s) (sym (here s.0 is))
             (subst (λ (u : Name × Step). StandsBy facts place inputs later u (Some outs)) (sym (one_step s t steps apart among there is)) walked)
-        by false is = subst (StandsBy facts place inputs later s) (sym (elsewhere s.0 is)) (keeps env later grows s (value_at s.0 env) (holds.stands s among))
+        by false is = subst (StandsBy facts place inputs later s) (sym (elsewhere s.0 is)) (keeps env later grows s (value_at s.0 env) (holds.keeps.stands s among))
 
     abbrev n : ℕ
     n = count env steps
@@ -409,20 +421,37 @@ module _ (facts : Facts) (place : JobPlace) (inputs : Fields) (steps : List (Nam
         by step name true is =
             let now : value_at step (E (suc n)) ≡ Some (at (E n) t).outs = ap (λ (id : Name). value_at id (E (suc n))) ((bytes_eq-Decides step t.0).0 is) ∙ in_round in
             let same : Some outs ≡ Some (at (E n) t).outs =
-            ap (λ (w : Walk). Some w.outs) (walk_stays facts.measures (made_from facts) place inputs env (E n) holds.below t ready) in
+            ap (λ (w : Walk). Some w.outs) (walk_stays facts.measures (made_from facts) place inputs env (E n) holds.keeps.below t ready) in
             subst₂ (λ (a b : Option Outs). Stays (out_under name a) (out_under name b)) (sym (here step is)) (same ∙ sym now) (stays_itself (out_under name (Some outs)))
         by step name false is =
             subst (λ (o : Option Outs). Stays (out_under name o) (out_under name (value_at step (E (suc n))))) (sym (elsewhere step is))
-            (stays_on (out_under name (value_at step env)) (out_under name (value_at step (E n))) (out_under name (value_at step (E (suc n)))) (holds.below step name) (rises n step name))
+            (stays_on (out_under name (value_at step env)) (out_under name (value_at step (E n))) (out_under name (value_at step (E (suc n)))) (holds.keeps.below step name) (rises n step name))
 
     more : count env steps < count later steps
     more = count_grows t outs env steps none there
 
+    was_more : (s : Name × Step) (found : Option Outs) → WasReady facts place inputs steps env s found → WasReady facts place inputs steps later s found
+    was_more s None was = tt
+    was_more s (Some found) was = let below : was.0 < count later steps = omega (arith, was.1, more) in (was.0, below, was.2)
+
+    early_then : (s : Name × Step) → IsIn s steps → WasReady facts place inputs steps later s (value_at s.0 later)
+    early_then s among = by (bytes_eq s.0 t.0) refl
+      where
+        by : (b : Bool) → bytes_eq s.0 t.0 ≡ b → WasReady facts place inputs steps later s (value_at s.0 later)
+        by true is =
+            let in_time : is_ready (E n) t.1 ≡ true = ready_stays facts.measures (made_from facts) place inputs env (E n) holds.keeps.below t ready in
+            subst (WasReady facts place inputs steps later s) (sym (here s.0 is))
+            (n, more, subst (λ (u : Name × Step). is_ready (E n) u.1 ≡ true) (sym (one_step s t steps apart among there is)) in_time)
+        by false is = subst (WasReady facts place inputs steps later s) (sym (elsewhere s.0 is)) (was_more s (value_at s.0 env) (holds.keeps.early s among))
+
     -- one more step is walked
     pub holds_then : (met : List KeptMet) → map met_of met ≡ (at env t).met → Holds facts place inputs steps later (set kept i (Some met))
     holds_then met is = record {
-      stands = stands_then;
-      below = let fits : suc n ≤ count later steps = omega (arith, more) in grows_on later (E (suc n)) (E (count later steps)) below_next (up_to (suc n) (count later steps) fits);
+      keeps = record {
+        stands = stands_then;
+        below = let fits : suc n ≤ count later steps = omega (arith, more) in grows_on later (E (suc n)) (E (count later steps)) below_next (up_to (suc n) (count later steps) fits);
+        early = early_then;
+      };
       met = all_set later steps kept i t (Some met) inside here_is (meets_on env later grows t (Some met) (ready, is)) (all_on env later grows steps kept holds.met);
     }
 
@@ -431,9 +460,9 @@ module _ (facts : Facts) (place : JobPlace) (inputs : Fields) (steps : List (Nam
 
   -- ---- once each step is stuck
 
-  module _ (env : Env) (kept : List (Option (List KeptMet))) (holds : Holds facts place inputs steps env kept) (stuck : list_all (is_stuck env) steps ≡ true) where
+  module _ (env : Env) (keeps : Keeps facts place inputs steps env) (stuck : list_all (is_stuck env) steps ≡ true) where
     settled_at : (s : Name × Step) → IsIn s steps → (name : Name) → out_under name (value_at s.0 env) ≡ out_under name (Some (at env s).outs)
-    settled_at s among name = by (value_at s.0 env) (holds.stands s among) (each_of (is_stuck env) steps stuck s among)
+    settled_at s among name = by (value_at s.0 env) (keeps.stands s among) (each_of (is_stuck env) steps stuck s among)
       where
         by : (found : Option Outs) → StandsBy facts place inputs env s found → (is_some found || not (is_ready env s.1)) ≡ true → out_under name found ≡ out_under name (Some (at env s).outs)
         by None stands waits = sym (waits_unknown facts.measures (made_from facts) place inputs env s name (not_true (is_ready env s.1) waits))
@@ -470,6 +499,6 @@ module _ (facts : Facts) (place : JobPlace) (inputs : Fields) (steps : List (Nam
     pub says_same : SaysSame (E (length steps)) env
     says_same = λ step name.
         stays_both (out_under name (value_at step env)) (out_under name (value_at step (E (length steps))))
-        (stays_on (out_under name (value_at step env)) (out_under name (value_at step (E (count env steps)))) (out_under name (value_at step (E (length steps)))) (holds.below step name)
+        (stays_on (out_under name (value_at step env)) (out_under name (value_at step (E (count env steps)))) (out_under name (value_at step (E (length steps)))) (keeps.below step name)
         (up_to (count env steps) (length steps) (count_within env steps) step name))
         (above (length steps) step name)

@@ -1,10 +1,12 @@
 -- How the known jobs grow by what is met.
-use Rattle.std.specs.Prelude.{◌≡◌, ℕ, List, [], ◌∷◌, ◌++◌, None, Some, Result, Ok, Err, OnErr, length, map, option_map, take}
-use Rattle.job_graph.specs.Jobs.{Met, Walk, Walker, result_in, those_named}
+use Rattle.std.specs.Prelude.{◌≡◌, ℕ, List, [], ◌∷◌, ◌++◌, None, Some, Result, Ok, Err, OnErr, OnOk, length, map, option_map, take, true}
+use Rattle.workflow_check.specs.Sound.{IsIn}
+use Rattle.job_graph.specs.Jobs.{Job, Met, met_fault, met_job, Walk, Walker, result_in, those_named}
 use Rattle.job_graph.specs.KnownJobs.{jobs_in, known_of}
-use Rattle.job_graph.specs.Unfold.{Resolved, entries_from, first_fault, known_from, or_else, unfolded, with_met}
+use Rattle.job_graph.specs.Unfold.{Resolved, entries_from, first_fault, is_known, known_from, or_else, unfolded, with_met}
 use Rattle.job_graph.specs.Unfolding.{Blames, fault_of}
 use Rattle.job_graph.specs.inner.Inside.{Follows, walks_in}
+use Rattle.job_graph.specs.inner.Kept.{KeepsRoot, met_by}
 use Rattle.job_graph.specs.inner.Outputs.{result_of}
 use Rattle.job_graph.specs.inner.Views.{made_from}
 use Rattle.job_graph.specs.declared.fault.UnfoldError.{UnfoldError}
@@ -37,6 +39,11 @@ pub record IsOfOneProcess (old new : Progress) : Type 0 where
   pub fields : new.fields ≡ old.fields
   pub measures : new.facts.measures ≡ old.facts.measures
 
+-- one of these jobs is at its place
+abbrev pub IsKnownMet : List Job → Met → Type 0
+IsKnownMet jobs (met_job job) = is_known jobs job ≡ true
+IsKnownMet jobs (met_fault place cause) = ⊥
+
 -- what is known stays
 pub record IsAlike (old new : Progress) : Type 0 where
   pub jobs : new.known.items ≡ old.known.items
@@ -49,6 +56,11 @@ pub record IsWalked (old new : Progress) : Type 0 where
   pub result : result_of new.outputs ≡ result_in (made_from old.facts) (walk_in old)
   pub outs : new.outputs.named.items ≡ those_named (walk_in old).outs
 
+-- where these are known, each that was met of which something is kept is one of them, and each of them is met
+pub record IsAhead (held : Progress) : Type 0 where
+  pub seen : (m : Met) → IsIn m (met_by held.facts held.fields held.process.now held.kept) → IsKnownMet (jobs_in held.known.items) m
+  pub met : (job : Job) → IsIn job (jobs_in held.known.items) → IsIn (met_job job) (walk_in held).met
+
 abbrev pub UnfoldsTo : Progress → Progress → Result (Unit {0}) UnfoldError → Type 0
 UnfoldsTo old new (Ok done) = IsWalked old new
 UnfoldsTo old new (Err error) = Blames (first_fault (jobs_in old.known.items) (walk_in old).met) error
@@ -59,7 +71,9 @@ pub record Unfolds (old new : Progress) (result : Result (Unit {0}) UnfoldError)
   pub kept : new.fault ≡ old.fault
   pub front : take (length old.known.items) new.known.items ≡ old.known.items
   pub alike : OnErr result (IsAlike old new)
-  pub unfolds : AreCounted old.known.items old.entries → UnfoldsTo old new result
+  pub root : OnOk result (KeepsRoot new.facts new.fields new.process.now new.kept)
+  pub none : OnErr result (new.kept ≡ None)
+  pub unfolds : IsAhead old → AreCounted old.known.items old.entries → UnfoldsTo old new result
 
 -- one more place is learned, or nothing changes
 abbrev pub Resolves : Walker → List Resolved → Resolved → Progress → Result (Unit {0}) UnfoldError → Type 0

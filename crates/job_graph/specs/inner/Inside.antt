@@ -1,10 +1,12 @@
 -- What the fields of an unfolding are to its callers, and what they keep.
-use Rattle.std.specs.Prelude.{◌≡◌, List, [], None, map, option_map}
+use Rattle.std.specs.Prelude.{◌≡◌, List, [], None, map, option_map, true}
+use Rattle.job_graph.specs.Apart.{ids_differ}
 use Rattle.job_graph.specs.Jobs.{Walker}
 use Rattle.job_graph.specs.KnownJobs.{jobs_in, known_of}
 use Rattle.job_graph.specs.Unfold.{Resolved, entries_from, known_from, unfolded}
 use Rattle.job_graph.specs.UnfoldedSoFar.{UnfoldedSoFar, walks_of}
 use Rattle.job_graph.specs.Unfolding.{fault_of}
+use Rattle.job_graph.specs.inner.Kept.{KeepsRoot}
 use Rattle.job_graph.specs.inner.Outputs.{result_of}
 use Rattle.job_graph.specs.inner.Views.{resolved_of}
 use Rattle.job_graph.specs.declared.progress.Progress.{Progress}
@@ -33,6 +35,8 @@ pub record Follows (walks : Walker) (learned : List Resolved) (held : Progress) 
   pub fault : (unfolded walks learned).fault ≡ None
   pub result : result_of held.outputs ≡ (unfolded walks learned).result
   pub outs : held.outputs.named.items ≡ (unfolded walks learned).outs
+  pub apart : ids_differ held.process.now ≡ true
+  pub kept : KeepsRoot held.facts held.fields held.process.now held.kept
 
 -- it follows what it has learned, also once a fault was met
 abbrev pub Stands : Progress → Type 0

@@ -74,11 +74,25 @@ module _ (facts : Facts) (place : JobPlace) (inputs : Fields) where
   AllMeet env (s ∷ steps) (met ∷ kept) = MeetsBy env s met × AllMeet env steps kept
 
   module _ (steps : List (Name × Step)) where
-    -- no more is known than after as many rounds as there are steps whose outputs are there
-    pub record Holds (env : Env) (kept : List (Option (List KeptMet))) : Type 0 where
+    -- the inputs of a step that was walked were known after fewer rounds than there are steps that were walked
+    abbrev pub WasReady : Env → Name × Step → Option Outs → Type 0
+    WasReady env s None = Unit {0}
+    WasReady env s (Some outs) = (n : ℕ) × (n < count env steps) × (is_ready (env_after n (steps_of facts steps) place inputs) s.1 ≡ true)
+
+    -- what is there is of steps that were walked, and no more is known than after as many rounds as there are of them
+    pub record Keeps (env : Env) : Type 0 where
       pub stands : (s : Name × Step) → IsIn s steps → StandsBy env s (value_at s.0 env)
       pub below : EnvGrows env (env_after (count env steps) (steps_of facts steps) place inputs)
+      pub early : (s : Name × Step) → IsIn s steps → WasReady env s (value_at s.0 env)
+
+    pub record Holds (env : Env) (kept : List (Option (List KeptMet))) : Type 0 where
+      pub keeps : Keeps env
       pub met : AllMeet env steps kept
+
+    -- no other step can be walked
+    pub record IsSettled (env : Env) : Type 0 where
+      pub keeps : Keeps env
+      pub stuck : list_all (is_stuck env) steps ≡ true
 
     abbrev pub GoesOn : Env → Bool → Env → Type 0
     GoesOn old false new = (list_all (is_stuck new) steps ≡ true)

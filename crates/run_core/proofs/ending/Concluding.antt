@@ -12,7 +12,7 @@ use Rattle.run_rules.specs.End.{End}
 use Rattle.run_rules.specs.EndsSo.{EndsSo}
 use Rattle.run_rules.specs.Events.{Progress, measures}
 use Rattle.run_rules.specs.Honest.{IsHonest}
-use Rattle.run_rules.specs.Reports.{Concludes, IsRight, outcome_of, report_of, reported, whole}
+use Rattle.run_rules.specs.Reports.{Concludes, IsRight, outcome_of, report_of, reported, whole, notes_of}
 use Rattle.run_rules.specs.Reports as reports
 use Rattle.run_rules.specs.Run.{IsRun}
 use Rattle.run_rules.specs.Scene.{Scene, scene_of}
@@ -23,54 +23,60 @@ use Rattle.run_core.specs.declared.state.Turn.{Turn}
 use Rattle.run_core.specs.inner.Inside.{Goes, Stands, off_run, on_run, setting_in}
 use Rattle.run_core.specs.inner.Course.{Past, past_of}
 use Rattle.run_core.specs.inner.Turn.{IsEnded}
-use Rattle.run_core.specs.inner.Standing.{IsAt, IsLostAt, Runs, collecting, delivering, draining, ended, lost, measuring, staging, working, finding}
+use Rattle.run_core.specs.inner.Standing.{IsAt, IsLostAt, Runs, collecting, delivering, draining, ended, lost, measuring, staging, working, finding, putting}
+use Rattle.run_rules.specs.declared.outcome.Note.{Note}
 
 -- the law that what is reported of a run is right in each world where it is honest
 abbrev pub ReportsRightly : Type 0
 ReportsRightly =
     (setting : Setting) (t : List Pair) (end : End) (run : IsRun setting t end) (world : World) → ids_differ setting.process ≡ true →
-    IsHonest setting world run.happened.events → IsRight setting (measures run.happened.events) world (report_of end)
+    IsHonest setting world run.happened.events → IsRight setting (measures run.happened.events) world (report_of run.happened.events end)
 
 -- On the run
 
--- the end that it has come to
-record HasEnded (s : Scene) (f : Progress) (marks : List Mark) (result : Result Outcome RunFault) : Type 0 where
+-- the end that it has come to, and what went wrong without changing it
+record HasEnded (s : Scene) (f : Progress) (marks : List Mark) (notes : List Note) (result : Result Outcome RunFault) : Type 0 where
   pub end : End
   pub so : EndsSo s f marks end
+  pub noted : notes ≡ notes_of f.events
   pub is : outcome_of end ≡ result
 
 module _ (s : Scene) (f : Progress) (marks : List Mark) (course : Course) where
-  ended_at : {turn : Turn} (result : Result Outcome RunFault) → IsAt s f marks course turn → turn.phase ≡ Phase.Ended result → HasEnded s f marks result
+  ended_at : {turn : Turn} (result : Result Outcome RunFault) → IsAt s f marks course turn → turn.phase ≡ Phase.Ended result → HasEnded s f marks (past_of course).notes result
   ended_at result (measuring found m rest path is left happened none nothing) phase = absurd cc
   ended_at result (finding n job r next) phase = absurd cc
+  ended_at result (putting n job row r it due) phase = absurd cc
   ended_at result (staging n job plan r st) phase = absurd cc
   ended_at result (working n job call phase r w) is = absurd cc
   ended_at result (collecting r may) phase = absurd cc
   ended_at result (delivering plan r may going all) phase = absurd cc
-  ended_at result (ended end so) phase = record { end = end; so = so; is = let same : outcome_of end ≡ result = cc in same }
+  ended_at result (ended end so noted) phase = record { end = end; so = so; noted = noted; is = let same : outcome_of end ≡ result = cc in same }
 
   asks_no_more : {turn : Turn} → IsAt s f marks course turn → turn.asks ≡ Request.Finished → IsEnded turn.phase
   asks_no_more (measuring found m rest path is left happened none nothing) asks = absurd cc
   asks_no_more (finding n job r next) asks = absurd cc
+  asks_no_more (putting n job row r it due) asks = absurd cc
   asks_no_more (staging n job plan r st) asks = absurd cc
   asks_no_more (working n job call phase r w) asks = absurd cc
   asks_no_more (collecting r may) asks = absurd cc
   asks_no_more (delivering plan r may going all) asks = absurd cc
-  asks_no_more (ended end so) asks = tt
+  asks_no_more (ended end so noted) asks = tt
 
 whole_run : (law : ReportsRightly) (setting : Setting) (t : List Pair) (course : Course) (turn : Turn) (result : Result Outcome RunFault) → ids_differ setting.process ≡ true →
-    Runs (scene_of setting) t course turn → turn.phase ≡ Phase.Ended result → Concludes setting t (reported result)
+    Runs (scene_of setting) t course turn → turn.phase ≡ Phase.Ended result → Concludes setting t (reported (past_of course).notes result)
 whole_run law setting t course turn result ids runs phase =
-    let its : HasEnded (scene_of setting) runs.happened runs.marks result = ended_at (scene_of setting) runs.happened runs.marks course result runs.at phase in
+    let its : HasEnded (scene_of setting) runs.happened runs.marks (past_of course).notes result = ended_at (scene_of setting) runs.happened runs.marks course result runs.at phase in
     let run : IsRun setting t its.end = record { happened = runs.happened; marks = runs.marks; goes = runs.goes; ended = its.so } in
-    subst (λ (result : Result Outcome RunFault). Concludes setting t (reported result)) its.is (whole its.end run (λ world honest. law setting t its.end run world ids honest))
+    subst (λ (notes : List Note). Concludes setting t (reported notes result)) (sym its.noted)
+    (subst (λ (result : Result Outcome RunFault). Concludes setting t (reported (notes_of runs.happened.events) result)) its.is
+    (whole its.end run (λ world honest. law setting t its.end run world ids honest)))
 
 -- Off the run
 
-lost_at : (setting : Setting) (t : List Pair) (past : Past) {turn : Turn} (result : Result Outcome RunFault) → IsLostAt past turn → turn.phase ≡ Phase.Ended result →
-    Concludes setting t (Err RunFault.OutOfMemory) → Concludes setting t (reported result)
-lost_at setting t past result (draining some) phase told = absurd cc
-lost_at setting t past result lost phase told = let same : Err RunFault.OutOfMemory ≡ result = cc in subst (λ (its : Result Outcome RunFault). Concludes setting t (reported its)) same told
+lost_at : (setting : Setting) (t : List Pair) (past : Past) (notes : List Note) {turn : Turn} (result : Result Outcome RunFault) → IsLostAt past turn → turn.phase ≡ Phase.Ended result →
+    Concludes setting t (Err RunFault.OutOfMemory) → Concludes setting t (reported notes result)
+lost_at setting t past notes result (draining some) phase told = absurd cc
+lost_at setting t past notes result lost phase told = let same : Err RunFault.OutOfMemory ≡ result = cc in subst (λ (its : Result Outcome RunFault). Concludes setting t (reported notes its)) same told
 
 lost_asks_no_more : (past : Past) {turn : Turn} → IsLostAt past turn → turn.asks ≡ Request.Finished → IsEnded turn.phase
 lost_asks_no_more past (draining some) asks = absurd cc
@@ -84,14 +90,14 @@ module _ (core : Inside) where
   lost_so (off_run out) = reports.lost out.front out.tail out.happened out.marks out.goes out.collects out.pairs
 
   concludes_so : (law : ReportsRightly) (result : Result Outcome RunFault) → ids_differ core.given.process.now ≡ true → Goes core → core.turn.phase ≡ Phase.Ended result →
-      Concludes (setting_in core.given) core.pairs.items (reported result)
+      Concludes (setting_in core.given) core.pairs.items (reported (past_of core.course).notes result)
   concludes_so law result ids (on_run runs) phase = whole_run law (setting_in core.given) core.pairs.items core.course core.turn result ids runs phase
   concludes_so law result ids (off_run out) phase =
-      lost_at (setting_in core.given) core.pairs.items (past_of core.course) result out.at phase (lost_so (off_run out))
+      lost_at (setting_in core.given) core.pairs.items (past_of core.course) (past_of core.course).notes result out.at phase (lost_so (off_run out))
 
   -- where it has ended
   pub concludes : (law : ReportsRightly) (result : Result Outcome RunFault) → Stands core → core.turn.phase ≡ Phase.Ended result →
-      Concludes (setting_in core.given) core.pairs.items (reported result)
+      Concludes (setting_in core.given) core.pairs.items (reported (past_of core.course).notes result)
   concludes law result stands = concludes_so law result stands.ids stands.going
 
   ended_so : Goes core → core.turn.asks ≡ Request.Finished → IsEnded core.turn.phase
@@ -104,11 +110,11 @@ module _ (core : Inside) where
 -- Of the report
 
 -- only out of memory is reported as that
-pub reports_lost : (result : Result Outcome RunFault) → reported result ≡ Err RunFault.OutOfMemory → result ≡ Err RunFault.OutOfMemory
-reports_lost (Ok outcome) is = absurd cc
-reports_lost (Err fault) is = let same : fault ≡ RunFault.OutOfMemory = cc in ap Err same
+pub reports_lost : (notes : List Note) (result : Result Outcome RunFault) → reported notes result ≡ Err RunFault.OutOfMemory → result ≡ Err RunFault.OutOfMemory
+reports_lost notes (Ok outcome) is = absurd cc
+reports_lost notes (Err fault) is = let same : fault ≡ RunFault.OutOfMemory = cc in ap Err same
 
 -- a fault is reported as it is
-pub reports_fault : (P : RunFault → Type 0) (result : Result Outcome RunFault) → IfErr result P → IfErr (reported result) P
-reports_fault P (Ok outcome) holds = tt
-reports_fault P (Err fault) holds = holds
+pub reports_fault : (P : RunFault → Type 0) (notes : List Note) (result : Result Outcome RunFault) → IfErr result P → IfErr (reported notes result) P
+reports_fault P notes (Ok outcome) holds = tt
+reports_fault P notes (Err fault) holds = holds

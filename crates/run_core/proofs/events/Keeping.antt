@@ -30,7 +30,7 @@ use Rattle.run_rules.proofs.events.Turns.{so_many}
 use Rattle.run_core.specs.declared.state.Flight.{Flight}
 use Rattle.run_core.specs.declared.job_states.JobState.{JobState}
 use Rattle.run_core.specs.declared.state.Kept.{Kept}
-use Rattle.run_core.specs.inner.Course.{Past, TakesOut, nothing_past, with_end, with_giving_up, with_staging, with_start, with_answer}
+use Rattle.run_core.specs.inner.Course.{Past, TakesOut, nothing_past, with_end, with_giving_up, with_staging, with_start, with_answer, with_note}
 use Rattle.run_core.specs.inner.Due.{IsKept}
 use Rattle.run_core.specs.inner.Keeps.{Keeps, KeepsFlight, course_of, worked}
 use Rattle.run_core.specs.inner.Standing.{HasStarted}
@@ -38,6 +38,8 @@ use Rattle.run_core.proofs.events.Kept.{Lands, counted_once_more, gave_up_staged
 use Rattle.run_core.proofs.events.Numbers.{Flies, contains_before, flight_flies, state_there}
 use Rattle.run_core.specs.inner.JobStates.{given_up_in, state_at, waits_in}
 use Rattle.run_core.proofs.States.{given_up_length, staged_few}
+use Rattle.run_rules.specs.declared.outcome.Note.{Note}
+use Rattle.run_rules.specs.declared.request.RecordAnswer.{RecordAnswer}
 
 flights_still : (es es' : List Event) (jobs more : List Job) (flights : List Flight) → ((place : JobPlace) → started_at es' place ≡ started_at es place) → IsFront jobs more →
     ((flight : Flight) → Contains flights flight → KeepsFlight es jobs flight) → (flight : Flight) → Contains flights flight → KeepsFlight es' more flight
@@ -314,8 +316,22 @@ module _ (s : Scene) (es : List Event) (jobs : List Job) where
   }
 
   -- the row of a job was looked for
-  pub looked_keeps : (past : Past) (n : ℕ) → Keeps s es jobs past None → Keeps s es jobs (with_answer n None past) None
-  looked_keeps past n k = record {
+  pub looked_keeps : (past : Past) (n : ℕ) (answer : RecordAnswer) → Keeps s es jobs past None → Keeps s es jobs (with_answer n answer None past) None
+  looked_keeps past n answer k = record {
+    gave_up = k.gave_up;
+    books = k.books;
+    few = k.few;
+    counts = k.counts;
+    retries = k.retries;
+    slots = k.slots;
+    flights = k.flights;
+    front = k.front;
+    end = k.end;
+  }
+
+  -- something was noted
+  pub noted_keeps : (past : Past) (note : Note) → Keeps s es jobs past None → Keeps s es jobs (with_note note past) None
+  noted_keeps past note k = record {
     gave_up = k.gave_up;
     books = k.books;
     few = k.few;

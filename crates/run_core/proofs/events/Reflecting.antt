@@ -1,7 +1,7 @@
 -- What a course reflects goes on with each event: a lemma for each.
 use Rattle.std.specs.Prelude.{Ok, ◌<◌, ◌||◌, Contains, IsSome, is_some, Result, Err, option_map, ◌&&◌, ◌≤◌}
 use Rattle.std.specs.List.{list_any}
-use Rattle.std.proofs.Common.{◌≡◌, ◌∙◌, ◌+◌, ℕ, Bool, true, false, List, [], ◌∷◌, ◌++◌, length, Option, Some, None, refl, sym, ap, subst}
+use Rattle.std.proofs.Common.{◌≡◌, ◌∙◌, ◌+◌, ℕ, Bool, true, false, List, [], ◌∷◌, ◌++◌, length, Option, Some, None, refl, sym, ap, subst, cond, filter_map, append-nil}
 use Rattle.std.proofs.lemmas.Bool.{or_from}
 use Rattle.command_line.specs.declared.launch.Launch.{Launch}
 use Rattle.input_files.specs.Measured.{Measures}
@@ -18,11 +18,11 @@ use Rattle.job_graph.specs.Words.{Fields, JobPlace, is_same_place}
 use Rattle.run_rules.specs.declared.outcome.Cause.{Cause}
 use Rattle.run_rules.specs.declared.outcome.Outcome.{Outcome}
 use Rattle.run_rules.specs.declared.outcome.RunFault.{RunFault}
-use Rattle.run_rules.specs.End.{End, beyond_limits, ended_by_host, fails_permanently, fault_end, is_lost_collect, settled, settled_by, ended_by_record}
-use Rattle.run_rules.specs.Events.{Event, child_exited, delivered_at, delivered_if, in_flight, job_at, job_failed, job_failed_for_now, job_staged, job_started, job_succeeded, host_failed, measures, number_at, resolved, started_at, unfolding_at, find_failed, is_reusable, looks_up, no_row, row_found, started_if, Started}
-use Rattle.run_rules.specs.Reports.{outcome_of}
+use Rattle.run_rules.specs.End.{End, beyond_limits, ended_by_host, fails_permanently, fault_end, is_lost_collect, settled, settled_by, ended_by_record, mismatches}
+use Rattle.run_rules.specs.Events.{Event, child_exited, delivered_at, delivered_if, in_flight, job_at, job_failed, job_failed_for_now, job_staged, job_started, job_succeeded, host_failed, measures, number_at, resolved, started_at, unfolding_at, find_failed, is_reusable, looks_up, no_row, row_found, started_if, Started, row_differs, put_failed, row_at}
+use Rattle.run_rules.specs.Reports.{outcome_of, note_of, notes_of}
 use Rattle.run_rules.specs.Scene.{Scene, NothingWasMadeBefore}
-use Rattle.run_rules.proofs.events.Known.{IsFront, found_still, front_itself, is_measure, measured_still, measures_stay, resolved_stay, teaches, unfolding_learns}
+use Rattle.run_rules.proofs.events.Known.{IsFront, found_still, front_itself, is_measure, measured_still, measures_stay, resolved_stay, teaches, unfolding_learns, numbered_still}
 use Rattle.run_rules.proofs.events.Places.{AreApart, IsJob, found_at}
 use Rattle.run_rules.proofs.events.Readings.{delivered_after, lost_after, resolved_after, started_after}
 use Rattle.run_rules.proofs.events.Settled.{settled_more, settled_stays, is_quiet, settled_quietly}
@@ -34,15 +34,19 @@ use Rattle.job_rows.specs.declared.row.Row.{Row}
 use Rattle.run_core.specs.declared.state.Course.{Course}
 use Rattle.run_core.specs.declared.state.Flight.{Flight}
 use Rattle.run_core.specs.declared.state.Kept.{Kept}
-use Rattle.run_core.specs.inner.Course.{GivesUp, Past, TakesOut, again, known_in, past_of, place_at, too_often, with_end, with_giving_up, with_staging, with_start, with_answer}
+use Rattle.run_core.specs.inner.Course.{GivesUp, Past, TakesOut, again, known_in, past_of, place_at, too_often, with_end, with_giving_up, with_staging, with_start, with_answer, failure_by, failure_in, put_note, with_note}
 use Rattle.run_core.specs.inner.Due.{IsKept}
-use Rattle.run_core.specs.inner.Keeps.{Keeps, Reflects, course_of, numbers_of}
+use Rattle.run_core.specs.inner.Keeps.{Keeps, Reflects, course_of, numbers_of, AreFound}
 use Rattle.run_core.specs.inner.Knows.{IsKnown, IsUnfolded, Knows, Learns, end_by, fails, fault_of, knows}
 use Rattle.run_core.specs.inner.Standing.{HasStarted}
-use Rattle.run_core.specs.inner.Turn.{permanent}
-use Rattle.run_core.proofs.events.Keeping.{HasLanded, failed_keeps, front_late, gave_up_keeps, landed_keeps, never_none, none_settled, staged_keeps, started_keeps, succeeded_keeps, success_fails_keeps, too_often_keeps, aside_keeps, looked_keeps}
+use Rattle.run_core.proofs.events.Keeping.{HasLanded, failed_keeps, front_late, gave_up_keeps, landed_keeps, never_none, none_settled, staged_keeps, started_keeps, succeeded_keeps, success_fails_keeps, too_often_keeps, aside_keeps, looked_keeps, noted_keeps}
 use Rattle.run_core.proofs.events.Numbers.{place_there}
 use Rattle.run_core.specs.inner.JobStates.{state_at, waits_in}
+use Rattle.std.proofs.lemmas.List.Elements.{filter_map-append}
+use Rattle.run_rules.specs.declared.outcome.Note.{Note}
+use Rattle.run_rules.specs.declared.request.RecordAnswer.{RecordAnswer}
+use Rattle.run_core.specs.inner.FoundRows.{rows_after}
+use Rattle.run_core.proofs.FoundRows.{found_still as rows_still, more_found}
 
 -- whether an event leaves what is known, delivered and collected as it was
 abbrev pub is_plain : Event → Bool
@@ -53,6 +57,7 @@ is_plain (job_failed place cause) = true
 is_plain (job_failed_for_now place) = true
 is_plain (host_failed place fault) = true
 is_plain (find_failed place refusal) = true
+is_plain (row_differs place outputs) = true
 is_plain _ = false
 
 plain_teaches_nothing : (e : Event) → is_plain e ≡ true → teaches e ≡ false
@@ -63,6 +68,7 @@ plain_teaches_nothing (job_failed place cause) plain = refl
 plain_teaches_nothing (job_failed_for_now place) plain = refl
 plain_teaches_nothing (host_failed place fault) plain = refl
 plain_teaches_nothing (find_failed place refusal) plain = refl
+plain_teaches_nothing (row_differs place outputs) plain = refl
 plain_teaches_nothing _ plain = absurd cc
 
 plain_measures_nothing : (e : Event) → is_plain e ≡ true → is_measure e ≡ false
@@ -73,6 +79,7 @@ plain_measures_nothing (job_failed place cause) plain = refl
 plain_measures_nothing (job_failed_for_now place) plain = refl
 plain_measures_nothing (host_failed place fault) plain = refl
 plain_measures_nothing (find_failed place refusal) plain = refl
+plain_measures_nothing (row_differs place outputs) plain = refl
 plain_measures_nothing _ plain = absurd cc
 
 plain_loses_nothing : (e : Event) → is_plain e ≡ true → is_lost_collect e ≡ false
@@ -83,6 +90,7 @@ plain_loses_nothing (job_failed place cause) plain = refl
 plain_loses_nothing (job_failed_for_now place) plain = refl
 plain_loses_nothing (host_failed place fault) plain = refl
 plain_loses_nothing (find_failed place refusal) plain = refl
+plain_loses_nothing (row_differs place outputs) plain = refl
 plain_loses_nothing _ plain = absurd cc
 
 plain_delivers_nothing : (e : Event) → is_plain e ≡ true → delivered_if None e ≡ None
@@ -93,6 +101,7 @@ plain_delivers_nothing (job_failed place cause) plain = refl
 plain_delivers_nothing (job_failed_for_now place) plain = refl
 plain_delivers_nothing (host_failed place fault) plain = refl
 plain_delivers_nothing (find_failed place refusal) plain = refl
+plain_delivers_nothing (row_differs place outputs) plain = refl
 plain_delivers_nothing _ plain = absurd cc
 
 plain_tells_nothing : (e : Event) → is_plain e ≡ true → is_no_answer e ≡ true
@@ -103,7 +112,19 @@ plain_tells_nothing (job_failed place cause) plain = refl
 plain_tells_nothing (job_failed_for_now place) plain = refl
 plain_tells_nothing (host_failed place fault) plain = refl
 plain_tells_nothing (find_failed place refusal) plain = refl
+plain_tells_nothing (row_differs place outputs) plain = refl
 plain_tells_nothing _ plain = absurd cc
+
+plain_notes_nothing : (e : Event) → is_plain e ≡ true → note_of e ≡ None
+plain_notes_nothing (put_failed place refusal) plain = absurd cc
+plain_notes_nothing _ plain = refl
+
+-- notes after one more event
+pub notes_more : (es : List Event) (e : Event) (o : Option Note) → note_of e ≡ o → notes_of (es ++ e ∷ []) ≡ notes_of es ++ filter_map (λ (n : Option Note). n) (o ∷ [])
+notes_more es e o is = filter_map-append note_of es (e ∷ []) ∙ ap (λ (n : Option Note). notes_of es ++ filter_map (λ (x : Option Note). x) (n ∷ [])) is
+
+pub no_notes_more : (es : List Event) (e : Event) → note_of e ≡ None → notes_of (es ++ e ∷ []) ≡ notes_of es
+no_notes_more es e none = notes_more es e None none ∙ append-nil (notes_of es)
 
 one_test : (b : Bool) → b ≡ false → (b || false) ≡ false
 one_test b is = ap (λ c. c || false) is
@@ -157,12 +178,13 @@ pub record IsTold (place : JobPlace) (e : Event) : Type 0 where
   pub delivers : delivered_if None e ≡ None
   pub started : (last : Option Started) (at : JobPlace) → started_if at last e ≡ last
   pub tells : (at : JobPlace) → looks_up at e ≡ is_same_place place at
+  pub notes : note_of e ≡ None
 
 pub row_is_told : (place : JobPlace) (row : Row) → IsTold place (row_found place row)
-row_is_told place row = record { aside = refl; quiet = refl; teaches = refl; measures = refl; collects = refl; delivers = refl; started = λ last at. refl; tells = λ at. refl }
+row_is_told place row = record { aside = refl; quiet = refl; teaches = refl; measures = refl; collects = refl; delivers = refl; started = λ last at. refl; tells = λ at. refl; notes = refl }
 
 pub none_is_told : (place : JobPlace) → IsTold place (no_row place)
-none_is_told place = record { aside = refl; quiet = refl; teaches = refl; measures = refl; collects = refl; delivers = refl; started = λ last at. refl; tells = λ at. refl }
+none_is_told place = record { aside = refl; quiet = refl; teaches = refl; measures = refl; collects = refl; delivers = refl; started = λ last at. refl; tells = λ at. refl; notes = refl }
 
 module _ (s : Scene) where
   -- the same course
@@ -177,6 +199,14 @@ module _ (s : Scene) where
   looks_moved es old new known count looks =
       subst (λ (jobs : List Job). LooksUp jobs es new.looked_up) (sym known) (subst (λ n. LooksUp (known_in old.known) es n) (sym count) looks)
 
+  -- the same rows were found
+  pub found_moved : (es : List Event) (old new : Course) → known_in new.known ≡ known_in old.known → new.rows ≡ old.rows → new.looked_up ≡ old.looked_up →
+      AreFound (known_in old.known) es old.rows old.looked_up → AreFound (known_in new.known) es new.rows new.looked_up
+  found_moved es old new known rows count found =
+      subst (λ (jobs : List Job). AreFound jobs es new.rows new.looked_up) (sym known)
+      (subst (λ (rs : List (Option Row)). AreFound (known_in old.known) es rs new.looked_up) (sym rows)
+      (subst (λ n. AreFound (known_in old.known) es old.rows n) (sym count) found))
+
   pub reflects_same : (es : List Event) (old new : Course) (at_work : Option ℕ) → past_of new ≡ past_of old → new.known ≡ old.known → Reflects s es old at_work →
       Reflects s es new at_work
   reflects_same es old new at_work past known r = record {
@@ -186,6 +216,8 @@ module _ (s : Scene) where
     collects = r.collects;
     undelivered = r.undelivered;
     looks = looks_moved es old new (ap known_in known) (ap (λ (p : Past). p.looked_up) past) r.looks;
+    rows = found_moved es old new (ap known_in known) (ap (λ (p : Past). p.rows) past) (ap (λ (p : Past). p.looked_up) past) r.rows;
+    notes = ap (λ (p : Past). p.notes) past ∙ r.notes;
   }
 
   known_after : (es : List Event) (e : Event) (known : Option Unfolding) → is_measure e ≡ false → teaches e ≡ false →
@@ -200,9 +232,15 @@ module _ (s : Scene) where
   pub collects_after : (es : List Event) (e : Event) → list_any is_lost_collect es ≡ false → is_lost_collect e ≡ false → list_any is_lost_collect (es ++ e ∷ []) ≡ false
   collects_after es e none so = lost_after es (e ∷ []) ∙ or_from (list_any is_lost_collect es) (is_lost_collect e || false) none (one_test (is_lost_collect e) so)
 
+  -- what the record has told stays, and what was noted
+  record SameRecord (past : Past) (old : Course) : Type 0 where
+    pub looked_up : past.looked_up ≡ old.looked_up
+    pub rows : past.rows ≡ old.rows
+    pub notes : past.notes ≡ old.notes.items
+
   -- a plain event leaves what is known
   reflects_on : (es : List Event) (e : Event) (old new : Course) (past : Past) (before after : Option ℕ) → is_plain e ≡ true → past_of new ≡ past → new.known ≡ old.known →
-      past.looked_up ≡ old.looked_up → (past.end ≡ None → old.end ≡ None) → Reflects s es old before → Keeps s (es ++ e ∷ []) (known_in old.known) past after → Reflects s (es ++ e ∷ []) new after
+      SameRecord past old → (past.end ≡ None → old.end ≡ None) → Reflects s es old before → Keeps s (es ++ e ∷ []) (known_in old.known) past after → Reflects s (es ++ e ∷ []) new after
   reflects_on es e old new past before after plain same known count opens r keeps = record {
     keeps = moved (es ++ e ∷ []) (known_in old.known) past after new (ap known_in known) same keeps;
     measured = λ still. measured_still s es (e ∷ []) (r.measured (opens (ap (λ (p : Past). p.end) (sym same) ∙ still)));
@@ -210,22 +248,25 @@ module _ (s : Scene) where
         (known_after es e old.known (plain_measures_nothing e plain) (plain_teaches_nothing e plain) (r.knows (opens (ap (λ (p : Past). p.end) (sym same) ∙ still))));
     collects = collects_after es e r.collects (plain_loses_nothing e plain);
     undelivered = undelivered_after es e r.undelivered (plain_delivers_nothing e plain);
-    looks = looks_moved (es ++ e ∷ []) old new (ap known_in known) (ap (λ (p : Past). p.looked_up) same ∙ count)
+    looks = looks_moved (es ++ e ∷ []) old new (ap known_in known) (ap (λ (p : Past). p.looked_up) same ∙ count.looked_up)
         (still_looked_up (known_in old.known) es (e ∷ []) old.looked_up (ap (λ b. b && true) (plain_tells_nothing e plain)) r.looks);
+    rows = found_moved (es ++ e ∷ []) old new (ap known_in known) (ap (λ (p : Past). p.rows) same ∙ count.rows) (ap (λ (p : Past). p.looked_up) same ∙ count.looked_up)
+        (rows_still (known_in old.known) es old.rows old.looked_up r.rows (e ∷ []) (ap (λ b. b && true) (plain_tells_nothing e plain)));
+    notes = ap (λ (p : Past). p.notes) same ∙ count.notes ∙ r.notes ∙ sym (no_notes_more es e (plain_notes_nothing e plain));
   }
 
   pub staged_reflects : (es : List Event) (old new : Course) (n : ℕ) (job : Job) → IsJob (known_in old.known) n job → waits_in old.jobs n ≡ true →
       length (in_flight es) < s.options.slots → past_of new ≡ with_staging n (past_of old) → new.known ≡ old.known →
       Reflects s es old None → Reflects s (es ++ job_staged job.place (old.folders + 1) ∷ []) new (Some n)
   staged_reflects es old new n job it free slot past known r =
-      reflects_on es (job_staged job.place (old.folders + 1)) old new (with_staging n (past_of old)) None (Some n) refl past known refl (λ still. still) r
+      reflects_on es (job_staged job.place (old.folders + 1)) old new (with_staging n (past_of old)) None (Some n) refl past known (record { looked_up = refl; rows = refl; notes = refl }) (λ still. still) r
       (staged_keeps s es (known_in old.known) (past_of old) n job it free slot r.keeps)
 
   pub started_reflects : (es : List Event) (old new : Course) (n : ℕ) (job : Job) (inputs : Fields) (launch : Launch) (kept : Kept) (ticket : ℕ) → IsJob (known_in old.known) n job →
       IsKept kept (record { inputs = inputs; launch = launch }) → IsFresh ticket old.tickets.items → past_of new ≡ with_start n kept ticket (past_of old) → new.known ≡ old.known →
       Reflects s es old (Some n) → Reflects s (es ++ job_started job.place inputs launch ticket ∷ []) new None
   started_reflects es old new n job inputs launch kept ticket it same fresh past known r =
-      reflects_on es (job_started job.place inputs launch ticket) old new (with_start n kept ticket (past_of old)) (Some n) None refl past known refl (λ still. still) r
+      reflects_on es (job_started job.place inputs launch ticket) old new (with_start n kept ticket (past_of old)) (Some n) None refl past known (record { looked_up = refl; rows = refl; notes = refl }) (λ still. still) r
       (started_keeps s es (known_in old.known) (past_of old) n job inputs launch kept ticket it same fresh r.keeps)
 
   -- a child has ended
@@ -248,7 +289,11 @@ module _ (s : Scene) where
         there = lands.there;
         left = lands.left;
         begun = lands.begun;
-        reflects = reflects_on es (child_exited ticket) old new (past_of new) None (Some flight.job) refl refl known (ap (λ (p : Past). p.looked_up) taken.is)
+        reflects = reflects_on es (child_exited ticket) old new (past_of new) None (Some flight.job) refl refl known (record {
+          looked_up = ap (λ (p : Past). p.looked_up) taken.is;
+          rows = ap (λ (p : Past). p.rows) taken.is;
+          notes = ap (λ (p : Past). p.notes) taken.is;
+        })
             (λ still. ap (λ (p : Past). p.end) (sym taken.is) ∙ still) r lands.keeps;
       }
 
@@ -257,13 +302,28 @@ module _ (s : Scene) where
       ((place : JobPlace) → started_at (es ++ e ∷ []) place ≡ started_at es place) → settled_by s es e ≡ Some end →
       past_of new ≡ with_end (outcome_of end) (past_of old) → new.known ≡ old.known → Reflects s es old at_work → Reflects s (es ++ e ∷ []) new None
   failure_reflects es old new at_work e end plain aside same is past known r =
-      reflects_on es e old new (with_end (outcome_of end) (past_of old)) at_work None plain past known refl (λ still. absurd (never_none old.end (outcome_of end) still)) r
+      reflects_on es e old new (with_end (outcome_of end) (past_of old)) at_work None plain past known (record { looked_up = refl; rows = refl; notes = refl }) (λ still. absurd (never_none old.end (outcome_of end) still)) r
       (failed_keeps s es (known_in old.known) (past_of old) at_work e end aside (plain_teaches_nothing e plain) same is r.keeps)
 
-  pub job_failed_reflects : (es : List Event) (old new : Course) (at_work : Option ℕ) (place : JobPlace) (cause : Cause) →
-      past_of new ≡ with_end (permanent place cause) (past_of old) → new.known ≡ old.known → Reflects s es old at_work → Reflects s (es ++ job_failed place cause ∷ []) new None
-  job_failed_reflects es old new at_work place cause past known r =
-      failure_reflects es old new at_work (job_failed place cause) (fails_permanently place cause) refl refl (λ p. started_after es (job_failed place cause ∷ []) p) refl past known r
+  -- a job failed, or did not give what its row has
+  failure_is : (row : Option Row) (place : JobPlace) (cause : Cause) → outcome_of (cond (is_some row) (mismatches place) (fails_permanently place cause)) ≡ failure_by row place cause
+  failure_is None place cause = refl
+  failure_is (Some row) place cause = refl
+
+  pub job_failed_reflects : (es : List Event) (old new : Course) (at_work : Option ℕ) (n : ℕ) (job : Job) (cause : Cause) → IsJob (known_in old.known) n job →
+      past_of new ≡ with_end (failure_in (past_of old) n job.place cause) (past_of old) → new.known ≡ old.known → Reflects s es old at_work →
+      Reflects s (es ++ job_failed job.place cause ∷ []) new None
+  job_failed_reflects es old new at_work n job cause it past known r =
+      failure_reflects es old new at_work (job_failed job.place cause) (cond (is_some (row_at es job.place)) (mismatches job.place) (fails_permanently job.place cause)) refl refl
+      (λ p. started_after es (job_failed job.place cause ∷ []) p) refl
+      (past ∙ ap (λ (end : Result Outcome RunFault). with_end end (past_of old))
+      (ap (λ (row : Option Row). failure_by row job.place cause) (sym (r.rows.each n job it)) ∙ sym (failure_is (row_at es job.place) job.place cause)))
+      known r
+
+  pub mismatch_reflects : (es : List Event) (old new : Course) (at_work : Option ℕ) (place : JobPlace) (outputs : Fields) →
+      past_of new ≡ with_end (Err (RunFault.Mismatch place)) (past_of old) → new.known ≡ old.known → Reflects s es old at_work → Reflects s (es ++ row_differs place outputs ∷ []) new None
+  mismatch_reflects es old new at_work place outputs past known r =
+      failure_reflects es old new at_work (row_differs place outputs) (mismatches place) refl refl (λ p. started_after es (row_differs place outputs ∷ []) p) refl past known r
 
   pub host_failed_reflects : (es : List Event) (old new : Course) (at_work : Option ℕ) (place : JobPlace) (fault : HostFault) →
       past_of new ≡ with_end (Err (RunFault.Host fault [])) (past_of old) → new.known ≡ old.known → Reflects s es old at_work → Reflects s (es ++ host_failed place fault ∷ []) new None
@@ -278,10 +338,11 @@ module _ (s : Scene) where
   -- the row of the first job that is left was looked for
   pub answer_reflects : (es : List Event) (old new : Course) (n : ℕ) (job : Job) (e : Event) → IsTold job.place e → IsJob (known_in old.known) n job → old.looked_up ≤ n →
       ((other : ℕ) (its : Job) → IsJob (known_in old.known) other its → old.looked_up ≤ other → other < n → is_reusable its ≡ false) →
-      past_of new ≡ with_answer n None (past_of old) → new.known ≡ old.known → Reflects s es old None → Reflects s (es ++ e ∷ []) new None
-  answer_reflects es old new n job e told it left first past known r = record {
-    keeps = moved (es ++ e ∷ []) (known_in old.known) (with_answer n None (past_of old)) None new (ap known_in known) past
-        (looked_keeps s (es ++ e ∷ []) (known_in old.known) (past_of old) n
+      (answer : RecordAnswer) → AreFound (known_in old.known) (es ++ e ∷ []) (rows_after n answer old.rows) (n + 1) →
+      past_of new ≡ with_answer n answer None (past_of old) → new.known ≡ old.known → Reflects s es old None → Reflects s (es ++ e ∷ []) new None
+  answer_reflects es old new n job e told it left first answer found past known r = record {
+    keeps = moved (es ++ e ∷ []) (known_in old.known) (with_answer n answer None (past_of old)) None new (ap known_in known) past
+        (looked_keeps s (es ++ e ∷ []) (known_in old.known) (past_of old) n answer
         (aside_keeps s es (known_in old.known) (past_of old) None e told.aside told.quiet told.teaches (λ place. started_after es (e ∷ []) place ∙ told.started (started_at es place) place)
         (settled_quietly s es (e ∷ []) (ap (λ b. b && true) told.quiet)) r.keeps));
     measured = λ still. measured_still s es (e ∷ []) (r.measured (ap (λ (p : Past). p.end) (sym past) ∙ still));
@@ -292,19 +353,43 @@ module _ (s : Scene) where
     looks = subst (λ (jobs : List Job). LooksUp jobs (es ++ e ∷ []) new.looked_up) (sym (ap known_in known))
         (subst (λ count. LooksUp (known_in old.known) (es ++ e ∷ []) count) (sym (ap (λ (p : Past). p.looked_up) past))
         (one_looked_up (known_in old.known) es e old.looked_up n job r.keeps.books.apart it told.tells left first r.looks));
+    rows = subst (λ (jobs : List Job). AreFound jobs (es ++ e ∷ []) new.rows new.looked_up) (sym (ap known_in known))
+        (subst (λ (p : Past). AreFound (known_in old.known) (es ++ e ∷ []) p.rows p.looked_up) (sym past) found);
+    notes = ap (λ (p : Past). p.notes) past ∙ r.notes ∙ sym (no_notes_more es e told.notes);
   }
+
+  -- the record refused to keep a row
+  pub put_failed_reflects : (es : List Event) (old new : Course) (place : JobPlace) (refusal : RecordRefusal) → past_of new ≡ with_note (put_note place refusal) (past_of old) →
+      new.known ≡ old.known → Reflects s es old None → Reflects s (es ++ put_failed place refusal ∷ []) new None
+  put_failed_reflects es old new place refusal past known r =
+      let e : Event = put_failed place refusal in
+      record {
+        keeps = moved (es ++ e ∷ []) (known_in old.known) (with_note (put_note place refusal) (past_of old)) None new (ap known_in known) past
+            (noted_keeps s (es ++ e ∷ []) (known_in old.known) (past_of old) (put_note place refusal)
+            (aside_keeps s es (known_in old.known) (past_of old) None e refl refl refl (λ at. started_after es (e ∷ []) at) (settled_quietly s es (e ∷ []) refl) r.keeps));
+        measured = λ still. measured_still s es (e ∷ []) (r.measured (ap (λ (p : Past). p.end) (sym past) ∙ still));
+        knows = λ still. subst (λ (k : Option Unfolding). IsKnown (s.walker (measures (es ++ e ∷ []))) (resolved (es ++ e ∷ [])) k) (sym known)
+            (known_after es e old.known refl refl (r.knows (ap (λ (p : Past). p.end) (sym past) ∙ still)));
+        collects = collects_after es e r.collects refl;
+        undelivered = undelivered_after es e r.undelivered refl;
+        looks = looks_moved (es ++ e ∷ []) old new (ap known_in known) (ap (λ (p : Past). p.looked_up) past)
+            (still_looked_up (known_in old.known) es (e ∷ []) old.looked_up refl r.looks);
+        rows = found_moved (es ++ e ∷ []) old new (ap known_in known) (ap (λ (p : Past). p.rows) past) (ap (λ (p : Past). p.looked_up) past)
+            (rows_still (known_in old.known) es old.rows old.looked_up r.rows (e ∷ []) refl);
+        notes = ap (λ (p : Past). p.notes) past ∙ ap (λ (ns : List Note). ns ++ put_note place refusal ∷ []) r.notes ∙ sym (notes_more es e (Some (put_note place refusal)) refl);
+      }
 
   -- a job failed for now: it waits again, or was started often enough
   pub gave_up_reflects : (es : List Event) (old new : Course) (n : ℕ) (job : Job) (past : Past) → IsJob (known_in old.known) n job →
       GivesUp (known_in old.known) n s.options.retries (past_of old) past → past_of new ≡ past → new.known ≡ old.known →
       Reflects s es old (Some n) → Reflects s (es ++ job_failed_for_now job.place ∷ []) new None
   gave_up_reflects es old new n job past it (again state is below) same known r =
-      reflects_on es (job_failed_for_now job.place) old new (with_giving_up n (past_of old)) (Some n) None refl same known refl (λ still. still) r
+      reflects_on es (job_failed_for_now job.place) old new (with_giving_up n (past_of old)) (Some n) None refl same known (record { looked_up = refl; rows = refl; notes = refl }) (λ still. still) r
       (gave_up_keeps s es (known_in old.known) (past_of old) n job state it is below r.keeps)
   gave_up_reflects es old new n job past it (too_often state is often) same known r =
       let place : place_at (known_in old.known) n ≡ job.place = place_there (known_in old.known) n job it in
       reflects_on es (job_failed_for_now job.place) old new (with_end (Ok (Outcome.TemporaryFail job.place)) (past_of old)) (Some n) None refl
-      (same ∙ ap (λ (p : JobPlace). with_end (Ok (Outcome.TemporaryFail p)) (past_of old)) place) known refl
+      (same ∙ ap (λ (p : JobPlace). with_end (Ok (Outcome.TemporaryFail p)) (past_of old)) place) known (record { looked_up = refl; rows = refl; notes = refl })
       (λ still. absurd (never_none old.end (Ok (Outcome.TemporaryFail job.place)) still)) r
       (too_often_keeps s es (known_in old.known) (past_of old) n job state it is often r.keeps)
 
@@ -326,6 +411,9 @@ module _ (s : Scene) where
         undelivered = undelivered_after es (job_succeeded job.place outputs) r.undelivered refl;
         looks = looks_moved (es ++ job_succeeded job.place outputs ∷ []) old new (ap known_in known) (ap (λ (p : Past). p.looked_up) past)
             (still_looked_up (known_in old.known) es (job_succeeded job.place outputs ∷ []) old.looked_up refl r.looks);
+        rows = found_moved (es ++ job_succeeded job.place outputs ∷ []) old new (ap known_in known) (ap (λ (p : Past). p.rows) past) (ap (λ (p : Past). p.looked_up) past)
+            (rows_still (known_in old.known) es old.rows old.looked_up r.rows (job_succeeded job.place outputs ∷ []) refl);
+        notes = ap (λ (p : Past). p.notes) past ∙ r.notes ∙ sym (no_notes_more es (job_succeeded job.place outputs) refl);
       }
 
   -- outputs by which more is known, or an equation fails
@@ -352,6 +440,13 @@ module _ (s : Scene) where
     leads : IsFront (known_in old.known) (unfolding_at s (es ++ e ∷ [])).jobs
     leads = front_late s es (known_in old.known) job.place outputs r.keeps.front
 
+    looks_then : (new : Course) → known_in new.known ≡ (unfolded walks (resolved es ++ one ∷ [])).jobs → (unfolding_at s (es ++ e ∷ [])).jobs ≡ known_in new.known →
+        LooksUp (known_in new.known) (es ++ e ∷ []) old.looked_up
+    looks_then new jobs whole =
+        more_looked_up (known_in old.known) (known_in new.known) (es ++ e ∷ []) old.looked_up (subst AreApart (sym jobs) (laws.differ walks (resolved es ++ one ∷ [])))
+        (subst (λ (js : List Job). IsFront (known_in old.known) js) whole leads)
+        (still_looked_up (known_in old.known) es (e ∷ []) old.looked_up refl r.looks)
+
     learns_more : (kept : Unfolding) (new : Course) → Knows walks (resolved es ++ one ∷ []) kept → new.known ≡ Some kept → past_of new ≡ past_of old →
         Reflects s (es ++ e ∷ []) new None
     learns_more kept new k known past =
@@ -370,10 +465,12 @@ module _ (s : Scene) where
               (subst (λ (learned : List Resolved). Knows walks learned kept) (sym (resolved_after es (e ∷ []))) k));
           collects = collects_after es e r.collects refl;
           undelivered = undelivered_after es e r.undelivered refl;
-          looks = subst (λ n. LooksUp (known_in new.known) (es ++ e ∷ []) n) (sym (ap (λ (p : Past). p.looked_up) past))
-              (more_looked_up (known_in old.known) (known_in new.known) (es ++ e ∷ []) old.looked_up (subst AreApart (sym jobs) (laws.differ walks (resolved es ++ one ∷ [])))
-              (subst (λ (js : List Job). IsFront (known_in old.known) js) whole leads)
-              (still_looked_up (known_in old.known) es (e ∷ []) old.looked_up refl r.looks));
+          looks = subst (λ n. LooksUp (known_in new.known) (es ++ e ∷ []) n) (sym (ap (λ (p : Past). p.looked_up) past)) (looks_then new jobs whole);
+          rows = subst (λ (p : Past). AreFound (known_in new.known) (es ++ e ∷ []) p.rows p.looked_up) (sym past)
+              (more_found (known_in old.known) (es ++ e ∷ []) old.rows old.looked_up (rows_still (known_in old.known) es old.rows old.looked_up r.rows (e ∷ []) refl)
+              (known_in new.known) (subst (λ (js : List Job). IsFront (known_in old.known) js) whole leads)
+              (still_looked_up (known_in old.known) es (e ∷ []) old.looked_up refl r.looks) (looks_then new jobs whole));
+          notes = ap (λ (p : Past). p.notes) past ∙ r.notes ∙ sym (no_notes_more es e refl);
         }
 
     learns_fault : (fault : UnfoldFault) (new : Course) → (unfolded walks (resolved es ++ one ∷ [])).fault ≡ Some (fault_of fault) → known_in new.known ≡ known_in old.known →
@@ -389,11 +486,25 @@ module _ (s : Scene) where
       undelivered = undelivered_after es e r.undelivered refl;
       looks = looks_moved (es ++ e ∷ []) old new known (ap (λ (p : Past). p.looked_up) past)
           (still_looked_up (known_in old.known) es (e ∷ []) old.looked_up refl r.looks);
+      rows = found_moved (es ++ e ∷ []) old new known (ap (λ (p : Past). p.rows) past) (ap (λ (p : Past). p.looked_up) past)
+          (rows_still (known_in old.known) es old.rows old.looked_up r.rows (e ∷ []) refl);
+      notes = ap (λ (p : Past). p.notes) past ∙ r.notes ∙ sym (no_notes_more es e refl);
     }
 
     learned_by : {new : Course} → IsUnfolded walks (resolved es ++ one ∷ []) old new → Reflects s (es ++ e ∷ []) new None
     learned_by (knows kept new k known past) = learns_more kept new k known past
     learned_by (fails fault new is known past) = learns_fault fault new is known past
+
+    -- and the job is known still
+    job_still : {new : Course} → IsUnfolded walks (resolved es ++ one ∷ []) old new → IsJob (known_in new.known) n job
+    job_still (knows kept new k known past) =
+        let jobs : known_in new.known ≡ (unfolded walks (resolved es ++ one ∷ [])).jobs = ap known_in known ∙ k.jobs in
+        let whole : (unfolding_at s (es ++ e ∷ [])).jobs ≡ known_in new.known = ap (λ (u : Unfolded). u.jobs) learned_is ∙ sym jobs in
+        numbered_still (known_in old.known) (known_in new.known) n job (subst (λ (js : List Job). IsFront (known_in old.known) js) whole leads) it
+    job_still (fails fault new is known past) = subst (λ (jobs : List Job). IsJob jobs n job) (sym known) it
+
+    pub learned_job : (new : Course) → Learns one old new → IsJob (known_in new.known) n job
+    learned_job new learns = job_still (unfolds_by old.known walks (resolved es) one old new refl (r.knows going) learns)
 
     pub success_reflects : (new : Course) → Learns one old new → Reflects s (es ++ e ∷ []) new None
     success_reflects new learns = learned_by (unfolds_by old.known walks (resolved es) one old new refl (r.knows going) learns)

@@ -16,7 +16,7 @@ use Rattle.run_rules.specs.declared.request.Pair.{Pair}
 use Rattle.run_rules.specs.declared.request.Request.{Request}
 use Rattle.run_rules.specs.declared.setting.Options.{Options}
 use Rattle.run_rules.specs.Allowed.{Allowed, MayCollect, MayMeasure}
-use Rattle.run_rules.specs.Events.{Event, Progress, in_flight, input_heads_due, output_heads_due}
+use Rattle.run_rules.specs.Events.{Event, Progress, in_flight, input_heads_due, output_heads_due, put_due}
 use Rattle.run_rules.specs.Folders.{out_folder}
 use Rattle.run_rules.specs.Scene.{Scene}
 use Rattle.run_rules.specs.Plans.{number_of}
@@ -40,7 +40,7 @@ use Rattle.run_core.specs.inner.Due.{FitsCall, call_for, work_of}
 use Rattle.run_core.specs.inner.Follows.{AsksIn, AsksOf}
 use Rattle.run_core.specs.inner.Keeps.{Reflects, course_of}
 use Rattle.run_core.specs.Core.{IsFirst}
-use Rattle.run_core.specs.inner.Standing.{IsAt, IsStaging, Runs, collecting, delivering, ended, measuring, staging, working, finding}
+use Rattle.run_core.specs.inner.Standing.{IsAt, IsStaging, Runs, collecting, delivering, ended, measuring, staging, working, finding, putting}
 use Rattle.run_core.proofs.events.Numbers.{Flies, flight_flies, flights_as_many}
 use Rattle.run_core.proofs.events.Reflecting.{Laws, folder_there}
 use Rattle.run_core.proofs.going.Measured.{IsOf, may_measure}
@@ -49,6 +49,7 @@ use Rattle.run_core.proofs.job_steps.Calls.{IsForJob, for_job, working_allowed}
 use Rattle.run_core.proofs.job_steps.Turns.{PicksAt}
 use Rattle.run_core.specs.inner.JobStates.{state_at, waits_in}
 use Rattle.run_core.proofs.States.{taken_within}
+use Rattle.run_rules.proofs.events.Asks.{due_when}
 
 -- the phase fits the call that is due
 
@@ -129,21 +130,23 @@ module _ (s : Scene) (f : Progress) (marks : List Mark) (course : Course) where
   fits_at : {turn : Turn} → turn.asks ≢ Request.Finished → IsAt s f marks course turn → AreFitting course
   fits_at asks (measuring found m rest path is left happened none nothing) = nothing_fits course (past_of course) refl nothing
   fits_at asks (finding n job r next) = lists_fit s f.events course None r
+  fits_at asks (putting n job row r it due) = lists_fit s f.events course None r
   fits_at asks (staging n job plan r st) = lists_fit s f.events course None r
   fits_at asks (working n job call phase r w) = lists_fit s f.events course (Some n) r
   fits_at asks (collecting r may) = lists_fit s f.events course None r
   fits_at asks (delivering plan r may going all) = lists_fit s f.events course None r
-  fits_at asks (ended end so) = absurd (asks refl)
+  fits_at asks (ended end so noted) = absurd (asks refl)
 
   asks_at : {turn : Turn} → IsAt s f marks course turn → AsksIn course turn
   asks_at (measuring found m rest path is left happened none nothing) = tt
   asks_at (finding n job r next) = next.it.within
+  asks_at (putting n job row r it due) = it.within
   asks_at (staging n job plan r st) = record { known = st.it.within }
   asks_at (working n job call phase r w) =
       work_asks s.options course job.place n (state_at course.jobs n).folder call phase w.calls.due w.calls.fits (taken_within course.jobs n (r.keeps.books.worked_on n refl))
   asks_at (collecting r may) = tt
   asks_at (delivering plan r may going all) = tt
-  asks_at (ended end so) = tt
+  asks_at (ended end so noted) = tt
 
   module _ (r : Reflects s f.events course None) (may : MayCollect s f marks []) where
     flying_tickets : course.tickets.items ≢ []
@@ -160,25 +163,28 @@ module _ (s : Scene) (f : Progress) (marks : List Mark) (course : Course) where
   collects_at place (measuring found m rest path is left happened none nothing) asks = absurd (not_waiting (HostRequest.Measure path) place [] (λ same. cc) asks)
   collects_at place (finding n job r next) asks =
       let never : Request.Record job.place (RecordRequest.Find (key job.tool job.inputs)) ≡ Request.Host place HostRequest.Collect = asks in absurd cc
+  collects_at place (putting n job row r it due) asks =
+      let never : Request.Record job.place (RecordRequest.Put row) ≡ Request.Host place HostRequest.Collect = asks in absurd cc
   collects_at place (staging n job plan r st) asks = absurd (not_waiting (HostRequest.Stage plan (course.folders + 1)) place job.place (λ same. cc) asks)
   collects_at place (working n job call phase r w) asks =
       absurd (not_waiting call place job.place
       (λ same. subst IsForJob same (for_job s.options (state_at course.jobs n).folder [] call phase w.calls.due)) asks)
   collects_at place (collecting r may) asks = flying_tickets r may
   collects_at place (delivering plan r may going all) asks = absurd (not_waiting (HostRequest.Deliver plan) place [] (λ same. cc) asks)
-  collects_at place (ended end so) asks = let never : Request.Finished ≡ Request.Host place HostRequest.Collect = asks in absurd cc
+  collects_at place (ended end so noted) asks = let never : Request.Finished ≡ Request.Host place HostRequest.Collect = asks in absurd cc
 
 module _ (s : Scene) (given : Given) (its : IsOf s given) (laws : Laws s) (picks : PicksAt s given) where
   allows_at : (t : List Pair) (f : Progress) (marks : List Mark) (course : Course) {turn : Turn} → turn.asks ≢ Request.Finished → IsAt s f marks course turn → Allowed s f marks turn.asks
   allows_at t f marks course asks (measuring found m rest path is left happened none nothing) =
       subst (λ (g : Progress). MayMeasure s g [] path) (sym happened) (may_measure s given its laws picks t found marks m rest path is left)
   allows_at t f marks course asks (finding n job r next) = next.may
+  allows_at t f marks course asks (putting n job row r it due) = due_when s f marks (put_due job.place row) (Request.Record job.place (RecordRequest.Put row)) due refl
   allows_at t f marks course asks (staging n job plan r st) = st.may
   allows_at t f marks course asks (working n job call phase r w) =
       working_allowed s f marks course n job call phase (folder_there s f.events course (Some n) n job w.it r) w
   allows_at t f marks course asks (collecting r may) = may
   allows_at t f marks course asks (delivering plan r may going all) = may
-  allows_at t f marks course asks (ended end so) = absurd (asks refl)
+  allows_at t f marks course asks (ended end so noted) = absurd (asks refl)
 
   first_call : (f : Progress) (marks : List Mark) (place : JobPlace) (call : HostRequest) → IsForJob call → IsFirst s f marks (Request.Host place call)
   first_call f marks place (HostRequest.Stage plan number) its = absurd its
@@ -200,12 +206,13 @@ module _ (s : Scene) (given : Given) (its : IsOf s given) (laws : Laws s) (picks
   first_at : (f : Progress) (marks : List Mark) (course : Course) {turn : Turn} → turn.asks ≢ Request.Finished → IsAt s f marks course turn → IsFirst s f marks turn.asks
   first_at f marks course asks (measuring found m rest path is left happened none nothing) = tt
   first_at f marks course asks (finding n job r next) = tt
+  first_at f marks course asks (putting n job row r it due) = tt
   first_at f marks course asks (staging n job plan r st) = first_staged f marks course n job plan r st
   first_at f marks course asks (working n job call phase r w) =
       first_call f marks job.place call (for_job s.options (state_at course.jobs n).folder [] call phase w.calls.due)
   first_at f marks course asks (collecting r may) = tt
   first_at f marks course asks (delivering plan r may going all) = tt
-  first_at f marks course asks (ended end so) = absurd (asks refl)
+  first_at f marks course asks (ended end so noted) = absurd (asks refl)
 
   -- what is asked may be asked
   pub allows : (t : List Pair) (course : Course) (turn : Turn) (runs : Runs s t course turn) → turn.asks ≢ Request.Finished → Allowed s runs.happened runs.marks turn.asks

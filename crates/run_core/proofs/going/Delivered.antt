@@ -38,7 +38,7 @@ use Rattle.run_core.specs.inner.Keeps.{Keeps, Reflects, course_of}
 use Rattle.run_core.specs.inner.Standing.{Runs, ended}
 use Rattle.run_core.specs.inner.Turn.{succeeds as succeeds_so}
 use Rattle.run_core.proofs.events.Keeping.{aside_keeps}
-use Rattle.run_core.proofs.events.Reflecting.{collects_after}
+use Rattle.run_core.proofs.events.Reflecting.{collects_after, no_notes_more}
 use Rattle.run_core.proofs.going.Picking.{all_known, unsettled}
 
 module _ (s : Scene) (t : List Pair) (f : Progress) (marks : List Mark) (goes : Goes s (InForce s) t f marks) (old : Course) (plan : StagePlan)
@@ -96,7 +96,8 @@ module _ (s : Scene) (t : List Pair) (f : Progress) (marks : List Mark) (goes : 
         (succeeds may.outputs plan.value busy_then (in_flight_after f.events (e ∷ []) ∙ may.landed)
         (ap (λ (u : Unfolded). u.result) (unfolding_stays s f.events (e ∷ []) refl) ∙ may.result)
         (copied plan (delivered_after f.events (e ∷ []))
-        (subst (λ (number : JobPlace → ℕ). IsPlan true s.options.outdir (sources (λ place. out_folder s.options.work (number place)) may.outputs) plan) same_numbers may.delivery)));
+        (subst (λ (number : JobPlace → ℕ). IsPlan true s.options.outdir (sources (λ place. out_folder s.options.work (number place)) may.outputs) plan) same_numbers may.delivery)))
+        (r.notes ∙ sym (no_notes_more f.events e refl));
   }
 
   pub delivery_goes_on : (turn : Turn) (new : Course) → (turn ≡ succeeds_so (located plan.value)) × (new ≡ old) →

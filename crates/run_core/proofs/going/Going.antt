@@ -19,7 +19,7 @@ use Rattle.run_rules.specs.Events.{Progress}
 use Rattle.run_rules.specs.Plans.{InForce}
 use Rattle.run_rules.specs.Run.{Goes}
 use Rattle.run_rules.specs.Scene.{Scene}
-use Rattle.run_core.proofs.job_steps.Found.{answer_goes_on}
+use Rattle.run_core.proofs.job_steps.Found.{answer_goes_on, put_goes_on}
 use Rattle.run_core.specs.declared.state.Course.{Course}
 use Rattle.run_core.specs.declared.state.Given.{Given}
 use Rattle.run_core.specs.declared.state.JobPhase.{JobPhase}
@@ -31,7 +31,7 @@ use Rattle.run_core.specs.inner.Follows.{FollowsFrom}
 use Rattle.run_core.specs.inner.Keeps.{Reflects}
 use Rattle.run_core.specs.inner.Measured.{IsMeasuring}
 use Rattle.run_core.specs.inner.Measures.{Begins}
-use Rattle.run_core.specs.inner.Standing.{IsAt, IsStaging, IsWorking, Runs, collecting, delivering, ended, measuring, staging, working, finding}
+use Rattle.run_core.specs.inner.Standing.{IsAt, IsStaging, IsWorking, Runs, collecting, delivering, ended, measuring, staging, working, finding, putting}
 use Rattle.run_core.specs.inner.Turn.{collects, waits, works}
 use Rattle.run_core.proofs.events.Reflecting.{Laws, folder_there}
 use Rattle.run_core.proofs.going.Delivered.{delivery_goes_on}
@@ -107,7 +107,7 @@ module _ (s : Scene) (given : Given) (same : given.options ≡ s.options) (its :
     collect_by : Reflects s f.events old None → MayCollect s f marks [] → {answer : HostAnswer} → CanAnswer old.tickets.items HostRequest.Collect answer →
         FollowsFrom given old collects (Answer.Host answer) turn new → GoesOnWith [] HostRequest.Collect answer
     collect_by r may (has_ended ending there) follows = child_goes_on s given same laws picks t f marks goes old r may ending turn new follows
-    collect_by r may (has_failed request) follows = collect_fails s given picks t f marks goes old r may new turn follows.0
+    collect_by r may (has_failed request) follows = collect_fails s given picks t f marks goes old r may new follows.3 turn follows.0
 
     deliver_by : (plan : StagePlan) → Reflects s f.events old None → MayDeliver s f marks [] plan → old.end ≡ None → NoneWaits old.jobs (length (known_in old.known)) →
         {answer : HostAnswer} → CanAnswer old.tickets.items (HostRequest.Deliver plan) answer →
@@ -122,11 +122,12 @@ module _ (s : Scene) (given : Given) (same : given.options ≡ s.options) (its :
     answered (measuring found m rest path is left happened none nothing) (by_host place request answer can) follows =
         measure_by found m rest path is left happened none nothing can follows
     answered (finding n job r next) (by_record place request answer can) follows = answer_goes_on s given picks t f marks goes old n job r next answer turn new follows
+    answered (putting n job row r it due) (by_record place request answer can) follows = put_goes_on s given picks t f marks goes old n job row r it due answer can turn new follows
     answered (staging n job plan r st) (by_host place request answer can) follows = stage_by n job plan r st can follows
     answered (working n job call phase r w) (by_host place request answer can) follows = work_by n job phase can r w follows
     answered (collecting r may) (by_host place request answer can) follows = collect_by r may can follows
     answered (delivering plan r may going all) (by_host place request answer can) follows = deliver_by plan r may going all can follows
-    answered (ended end so) may follows = elim may [ ]
+    answered (ended end so noted) may follows = elim may [ ]
 
   pub goes_on_with : (t : List Pair) (old : Course) (before : Turn) (answer : Answer) (turn : Turn) (new : Course) → Runs s t old before → MayAnswer old.tickets.items before.asks answer →
       FollowsFrom given old before answer turn new → Runs s (t ++ record { request = before.asks; answer = answer } ∷ []) new turn

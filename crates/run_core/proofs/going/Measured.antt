@@ -30,7 +30,7 @@ use Rattle.run_rules.specs.Allowed.{MayMeasure}
 use Rattle.run_rules.specs.End.{End, ended_by_host, fault_end, is_lost_collect, settled, settled_from, unfold_end}
 use Rattle.run_rules.specs.Events.{Event, Progress, are_measured, delivered_if, file_measured, host_failed, is_measured, measures, measures_after, nothing_due, resolved, unfolding_at}
 use Rattle.run_rules.specs.Plans.{InForce}
-use Rattle.run_rules.specs.Reports.{outcome_of}
+use Rattle.run_rules.specs.Reports.{outcome_of, notes_of}
 use Rattle.run_rules.specs.Run.{Goes}
 use Rattle.run_rules.specs.Scene.{Scene}
 use Rattle.run_rules.specs.Steps.{call, measures_file, progress_with}
@@ -47,7 +47,7 @@ use Rattle.run_core.specs.declared.state.Given.{Given}
 use Rattle.run_core.specs.declared.state.Measuring.{Measuring}
 use Rattle.run_core.specs.declared.state.Turn.{Turn}
 use Rattle.run_core.specs.inner.Course.{Past, known_in, nothing_past, past_of, with_end}
-use Rattle.run_core.specs.inner.Keeps.{Keeps, Reflects}
+use Rattle.run_core.specs.inner.Keeps.{Keeps, Reflects, AreFound}
 use Rattle.run_core.specs.inner.Knows.{IsKnown, IsUnfolded, Knows, end_by, fails, fault_of, knows}
 use Rattle.run_core.specs.inner.Measured.{IsMeasuring, measured_by}
 use Rattle.run_core.specs.inner.Measures.{Begins, MeasuresOn, TakesMeasure, all_measured, measures as measures_next}
@@ -56,8 +56,9 @@ use Rattle.run_core.proofs.Once.{Once, not_before}
 use Rattle.run_core.proofs.Turning.{IsTurn, fewer, turn_of}
 use Rattle.run_core.proofs.Working.{turned}
 use Rattle.run_core.proofs.events.Keeping.{failed_keeps, first_fails_keeps, first_keeps, never_none}
-use Rattle.run_core.proofs.events.Reflecting.{Laws, collects_after, end_of, end_reported, fault_ends, moved, undelivered_after}
+use Rattle.run_core.proofs.events.Reflecting.{Laws, collects_after, end_of, end_reported, fault_ends, moved, undelivered_after, no_notes_more}
 use Rattle.run_core.proofs.job_steps.Turns.{PicksAt}
+use Rattle.run_core.proofs.FoundRows.{nothing_found, found_still}
 
 -- while input files are measured
 abbrev pub when_measured : List (Name × Measure) → Progress
@@ -72,6 +73,10 @@ none_resolved (m ∷ found) = none_resolved found
 none_lost : (found : List (Name × Measure)) → list_any is_lost_collect (measured_by found) ≡ false
 none_lost [] = refl
 none_lost (m ∷ found) = none_lost found
+
+none_noted : (found : List (Name × Measure)) → notes_of (measured_by found) ≡ []
+none_noted [] = refl
+none_noted (m ∷ found) = none_noted found
 
 none_delivered : (found : List (Name × Measure)) → fold delivered_if None (measured_by found) ≡ None
 none_delivered [] = refl
@@ -201,6 +206,9 @@ module _ (s : Scene) (once : Once s.paths) where
             undelivered = none_delivered found;
             looks = subst (λ n. LooksUp (known_in new.known) (measured_by found) n) (sym (ap (λ (p : Past). p.looked_up) (past ∙ nothing)))
                 (nothing_looked_up (known_in new.known) found);
+            rows = subst (λ (p : Past). AreFound (known_in new.known) (measured_by found) p.rows p.looked_up) (sym (past ∙ nothing))
+                (nothing_found (known_in new.known) (measured_by found) (nothing_looked_up (known_in new.known) found));
+            notes = ap (λ (p : Past). p.notes) (past ∙ nothing) ∙ sym (none_noted found);
           }
 
       first_fault : (fault : UnfoldFault) (new : Course) → (unfolded walks []).fault ≡ Some (fault_of fault) → known_in new.known ≡ known_in old.known →
@@ -219,6 +227,9 @@ module _ (s : Scene) (once : Once s.paths) where
             undelivered = none_delivered found;
             looks = subst (λ n. LooksUp (known_in new.known) (measured_by found) n) (sym (ap (λ (p : Past). p.looked_up) after))
                 (nothing_looked_up (known_in new.known) found);
+            rows = subst (λ (p : Past). AreFound (known_in new.known) (measured_by found) p.rows p.looked_up) (sym after)
+                (nothing_found (known_in new.known) (measured_by found) (nothing_looked_up (known_in new.known) found));
+            notes = ap (λ (p : Past). p.notes) after ∙ sym (none_noted found);
           }
 
       first_by : {new : Course} → IsUnfolded walks [] old new → Reflects s (measured_by found) new None
@@ -317,4 +328,8 @@ module _ (s : Scene) (given : Given) (its : IsOf s given) (laws : Laws s) (picks
           undelivered = undelivered_after s (measured_by found) (host_failed [] HostFault.Measure) (none_delivered found) refl;
           looks = subst (λ n. LooksUp (known_in new.known) (measured_by found ++ host_failed [] HostFault.Measure ∷ []) n) (sym (ap (λ (p : Past). p.looked_up) after))
               (still_looked_up (known_in new.known) (measured_by found) (host_failed [] HostFault.Measure ∷ []) 0 refl (nothing_looked_up (known_in new.known) found));
+          rows = subst (λ (p : Past). AreFound (known_in new.known) (measured_by found ++ host_failed [] HostFault.Measure ∷ []) p.rows p.looked_up) (sym after)
+              (found_still (known_in new.known) (measured_by found) [] 0 (nothing_found (known_in new.known) (measured_by found) (nothing_looked_up (known_in new.known) found))
+              (host_failed [] HostFault.Measure ∷ []) refl);
+          notes = ap (λ (p : Past). p.notes) after ∙ sym (no_notes_more (measured_by found) (host_failed [] HostFault.Measure) refl ∙ none_noted found);
         }

@@ -231,11 +231,12 @@ module _ (s : Scene) (given : Given) (same : given.options ≡ s.options) where
           collecting r (may_collect_settled s f marks (first.ticket, flies.job.place) so.end idle r.collects flies.there so.is)
 
       -- and then it ends
-      ended_so : (told : Result Outcome RunFault) → course.end ≡ Some told → course.tickets.items ≡ [] → (new : Course) → IsAt s f marks new (ends told)
-      ended_so told is none new =
+      ended_so : (told : Result Outcome RunFault) → course.end ≡ Some told → course.tickets.items ≡ [] → (new : Course) → (past_of new).notes ≡ (past_of course).notes →
+          IsAt s f marks new (ends told)
+      ended_so told is none new same_notes =
           let so : IsSettled s f.events told = settled_so s f.events (settled s f.events) told refl (sym r.keeps.end ∙ is) in
           subst (λ (end : Result Outcome RunFault). IsAt s f marks new (ends end)) so.tells
-          (ended so.end (fails so.end idle r.collects (none_in_flight s f.events course None r none) so.is))
+          (ended so.end (fails so.end idle r.collects (none_in_flight s f.events course None r none) so.is) (same_notes ∙ r.notes))
 
       module _ (going : course.end ≡ None) (looked : NoneToFind course) where
         busy_if_full : s.options.slots ≤ length course.tickets.items → IsBusy s f marks
@@ -309,7 +310,7 @@ module _ (s : Scene) (given : Given) (same : given.options ≡ s.options) where
               subst (λ (outputs : Fields). IsAt s f marks course (ends (Ok (Outcome.Success (located (last_by_name outputs)))))) (sym result.kept)
               (ended (succeeds_with result.outputs (last_by_name result.outputs))
               (succeeds result.outputs (last_by_name result.outputs) (busy_if_none_waits all) (none_in_flight s f.events course None r none) result.result
-              (no_file (ap any_file (sym result.kept) ∙ no_files) r.undelivered)))
+              (no_file (ap any_file (sym result.kept) ∙ no_files) r.undelivered)) r.notes)
 
           delivered_by : {turn : Turn} → Delivers given course turn → IsAt s f marks course turn
           delivered_by (delivers turn files d) = delivered_files the_result files turn d
@@ -325,7 +326,7 @@ module _ (s : Scene) (given : Given) (same : given.options ≡ s.options) where
     module _ (laws : Laws s) (some : 1 ≤ s.options.slots) (old : Course) (r : Reflects s f.events old None) where
       pub picked : {turn : Turn} {new : Course} → Picks given old turn new → IsAt s f marks new turn
       picked (drains new over flying past known) = at_same s f marks old new past known (drained old r over flying)
-      picked (ends_so told new is none left known) = ended_so old r told is none new
+      picked (ends_so told new is none left known same_notes) = ended_so old r told is none new same_notes
       picked (finds number turn new going next f_is past known) = at_same s f marks old new past known (found_next old number turn r going next f_is)
       picked (stages number turn new going looked slot lowest st past known) =
           at_same s f marks old new past known (staged_next laws old number turn r going looked (subst (λ (o : Options). length old.tickets.items < o.slots) same slot) lowest st)

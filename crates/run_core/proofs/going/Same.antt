@@ -17,7 +17,7 @@ use Rattle.run_core.specs.declared.state.Phase.{Phase}
 use Rattle.run_core.specs.declared.state.Turn.{Turn}
 use Rattle.run_core.specs.inner.Course.{Past, known_in, past_of}
 use Rattle.run_core.specs.inner.Due.{Calls}
-use Rattle.run_core.specs.inner.Standing.{IsAt, IsStaging, IsWorking, Runs, collecting, delivering, ended, measuring, staging, working, FindsNext, finding}
+use Rattle.run_core.specs.inner.Standing.{IsAt, IsStaging, IsWorking, Runs, collecting, delivering, ended, measuring, staging, working, FindsNext, finding, putting}
 use Rattle.run_core.proofs.events.Reflecting.{reflects_same}
 use Rattle.run_core.specs.inner.JobStates.{IsLowest, NoneWaits, state_at}
 
@@ -80,7 +80,9 @@ module _ (s : Scene) (f : Progress) (marks : List Mark) (old new : Course) (past
       delivering plan (reflects_same s f.events old new None past known r) may (same_end ∙ going)
       (subst (λ (states : List JobState). NoneWaits states (length (known_in new.known))) same_states
       (subst (λ (jobs : List Job). NoneWaits old.jobs (length jobs)) same_jobs all))
-  at_same (ended end so) = ended end so
+  at_same (putting n job row r it due) =
+      putting n job row (reflects_same s f.events old new None past known r) (subst (λ (jobs : List Job). IsJob jobs n job) same_jobs it) due
+  at_same (ended end so noted) = ended end so (ap (λ (p : Past). p.notes) past ∙ noted)
 
 -- so with its run
 pub runs_same : (s : Scene) (t : List Pair) (old new : Course) (turn : Turn) → past_of new ≡ past_of old → new.known ≡ old.known → Runs s t old turn → Runs s t new turn

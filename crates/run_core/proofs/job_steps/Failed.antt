@@ -30,8 +30,9 @@ use Rattle.run_core.specs.inner.Keeps.{Reflects}
 use Rattle.run_core.specs.inner.Picks.{AfterFault}
 use Rattle.run_core.specs.inner.Standing.{IsAt, Runs, ended}
 use Rattle.run_core.specs.inner.Turn.{ends}
-use Rattle.run_core.proofs.events.Reflecting.{host_failed_reflects}
+use Rattle.run_core.proofs.events.Reflecting.{host_failed_reflects, no_notes_more}
 use Rattle.run_core.proofs.job_steps.Turns.{PicksAt}
+use Rattle.run_core.specs.inner.Course.{past_of}
 
 module _ (s : Scene) (given : Given) (picks : PicksAt s given) (t : List Pair) (f : Progress) (marks : List Mark) (goes : Goes s (InForce s) t f marks) where
   module _ (old : Course) (place : JobPlace) (request : HostRequest) (may : Allowed s f marks (Request.Host place request)) (other : request ≡ HostRequest.Collect → ⊥)
@@ -70,13 +71,13 @@ module _ (s : Scene) (given : Given) (picks : PicksAt s given) (t : List Pair) (
     is_lost : list_any is_lost_collect gone.events ≡ true
     is_lost = lost_after f.events (collect_failed ∷ []) ∙ ap (λ b. b || true) r.collects
 
-    pub collect_fails : (turn : Turn) → turn ≡ ends (Err (RunFault.Host HostFault.Collect old.tickets.items)) →
+    pub collect_fails : (past_of new).notes ≡ (past_of old).notes → (turn : Turn) → turn ≡ ends (Err (RunFault.Host HostFault.Collect old.tickets.items)) →
         Runs s (t ++ call [] HostRequest.Collect (HostAnswer.Failed HostFault.Collect) ∷ []) new turn
-    collect_fails turn is = record {
+    collect_fails same_notes turn is = record {
       happened = gone;
       marks = marks_after s gone marks;
       goes = goes_on s (call [] HostRequest.Collect (HostAnswer.Failed HostFault.Collect)) nothing_due (collect_failed ∷ []) goes may loses_collect;
       at = subst (IsAt s gone (marks_after s gone marks) new)
           (ap (λ (running : List ℕ). ends (Err (RunFault.Host HostFault.Collect running))) its_tickets ∙ sym is)
-          (ended (ended_by_host HostFault.Collect (tickets gone.events)) (lost refl is_lost));
+          (ended (ended_by_host HostFault.Collect (tickets gone.events)) (lost refl is_lost) (same_notes ∙ r.notes ∙ sym (no_notes_more f.events collect_failed refl)));
     }

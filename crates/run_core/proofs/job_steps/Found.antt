@@ -1,5 +1,5 @@
 -- The record has told what it has of a job: the run goes on, or the answer settles its end.
-use Rattle.std.proofs.Common.{◌≡◌, ℕ, List, [], ◌∷◌, ◌++◌, Option, Some, None, subst, refl}
+use Rattle.std.proofs.Common.{◌≡◌, ℕ, List, [], ◌∷◌, ◌++◌, Option, Some, None, subst, sym, refl, append-nil, ◌∙◌, ap}
 use Rattle.plan_checker.specs.declared.plan.Mark.{Mark}
 use Rattle.job_graph.specs.Jobs.{Job}
 use Rattle.job_key.specs.Key.{key}
@@ -8,24 +8,30 @@ use Rattle.job_rows.specs.declared.refusal.RecordRefusal.TheVariants.{NotARecord
 use Rattle.run_rules.specs.declared.request.Pair.{Pair}
 use Rattle.run_rules.specs.declared.request.RecordAnswer.{RecordAnswer}
 use Rattle.run_rules.specs.declared.request.RecordRequest.{RecordRequest}
-use Rattle.run_rules.specs.Events.{Event, Progress, find_failed, job_at, no_row, nothing_due, row_found}
+use Rattle.run_rules.specs.Events.{Event, Progress, find_failed, job_at, no_row, nothing_due, row_found, put_due, put_failed}
 use Rattle.run_rules.specs.Plans.{InForce}
 use Rattle.run_rules.specs.Run.{Goes}
 use Rattle.run_rules.specs.Scene.{Scene}
-use Rattle.run_rules.specs.Steps.{Steps, command, find_fails, finds, finds_none, finds_wrong, progress_with}
+use Rattle.run_rules.specs.Steps.{Steps, command, find_fails, finds, finds_none, finds_wrong, progress_with, puts, put_fails}
 use Rattle.run_rules.proofs.events.Grows.{goes_on}
 use Rattle.run_rules.proofs.events.Planned.{marks_after}
 use Rattle.run_core.specs.declared.state.Course.{Course}
 use Rattle.run_core.specs.declared.state.Given.{Given}
 use Rattle.run_core.specs.declared.state.Turn.{Turn}
-use Rattle.run_core.specs.inner.Course.{known_in, past_of, with_answer}
+use Rattle.run_core.specs.inner.Course.{known_in, past_of, with_answer, with_note, put_note}
 use Rattle.run_core.specs.inner.Keeps.{Reflects}
-use Rattle.run_core.specs.inner.Picks.{AfterFind, Picks, Tells, has_none, has_row, has_wrong_row, refuses}
+use Rattle.run_core.specs.inner.Picks.{AfterFind, Picks, Tells, has_none, has_row, has_wrong_row, refuses, AfterPut}
 use Rattle.run_core.specs.inner.Standing.{FindsNext, Runs}
-use Rattle.run_core.proofs.events.Numbers.{job_there}
-use Rattle.run_core.proofs.events.Reflecting.{answer_reflects, find_failed_reflects, known_there, none_is_told, row_is_told}
+use Rattle.run_core.proofs.events.Numbers.{job_there, place_there}
+use Rattle.run_core.proofs.events.Reflecting.{answer_reflects, find_failed_reflects, known_there, none_is_told, row_is_told, put_failed_reflects, reflects_same}
 use Rattle.run_core.proofs.job_steps.Turns.{PicksAt}
-use Rattle.run_rules.proofs.events.Places.{one_job}
+use Rattle.run_rules.proofs.events.Places.{one_job, IsJob}
+use Rattle.run_core.proofs.FoundRows.{no_row_found, row_is_found}
+use Rattle.run_rules.specs.Answers.{CanTell, is_put, is_refused}
+use Rattle.run_rules.proofs.events.Asks.{due_when}
+use Rattle.run_rules.specs.declared.request.Request.{Request}
+use Rattle.job_rows.specs.declared.row.Row.{Row}
+use Rattle.job_graph.specs.Words.{JobPlace}
 
 module _ (s : Scene) (given : Given) (picks : PicksAt s given) (t : List Pair) (f : Progress) (marks : List Mark) (goes : Goes s (InForce s) t f marks) (old : Course) (n : ℕ) (job : Job)
     (r : Reflects s f.events old None) (next : FindsNext s f old n job) where
@@ -50,13 +56,15 @@ module _ (s : Scene) (given : Given) (picks : PicksAt s given) (t : List Pair) (
   known = known_there s f.events old None n job next.it r
 
   told_by : (noted : Course) (turn : Turn) (new : Course) {answer : RecordAnswer} {refusal : Option RecordRefusal} → Tells job.tool answer refusal →
-      past_of noted ≡ with_answer n refusal (past_of old) → noted.known ≡ old.known → Picks given noted turn new → Runs s (t ++ command job.place asked answer ∷ []) new turn
+      past_of noted ≡ with_answer n answer refusal (past_of old) → noted.known ≡ old.known → Picks given noted turn new → Runs s (t ++ command job.place asked answer ∷ []) new turn
   told_by noted turn new has_none past kept picked =
       by_event (RecordAnswer.Found None) (no_row job.place) (finds_none job.place (key job.tool job.inputs)) noted
-      (answer_reflects s f.events old noted n job (no_row job.place) (none_is_told job.place) next.it next.left next.first past kept r) turn new picked
+      (answer_reflects s f.events old noted n job (no_row job.place) (none_is_told job.place) next.it next.left next.first (RecordAnswer.Found None)
+      (no_row_found (known_in old.known) f.events old.rows old.looked_up r.rows n job next.it r.keeps.books.apart next.left r.looks) past kept r) turn new picked
   told_by noted turn new (has_row row sound) past kept picked =
       by_event (RecordAnswer.Found (Some row)) (row_found job.place row) (finds job.place (key job.tool job.inputs) row job known sound) noted
-      (answer_reflects s f.events old noted n job (row_found job.place row) (row_is_told job.place row) next.it next.left next.first past kept r) turn new picked
+      (answer_reflects s f.events old noted n job (row_found job.place row) (row_is_told job.place row) next.it next.left next.first (RecordAnswer.Found (Some row))
+      (row_is_found (known_in old.known) f.events old.rows old.looked_up r.rows n job next.it r.keeps.books.apart next.left r.looks row) past kept r) turn new picked
   told_by noted turn new (has_wrong_row row unsound) past kept picked =
       by_event (RecordAnswer.Found (Some row)) (find_failed job.place NotARecord) (finds_wrong job.place (key job.tool job.inputs) row job known unsound) noted
       (find_failed_reflects s f.events old noted None job.place NotARecord past kept r) turn new picked
@@ -68,3 +76,34 @@ module _ (s : Scene) (given : Given) (picks : PicksAt s given) (t : List Pair) (
   answer_goes_on answer turn new after =
       let same : after.job ≡ job = one_job (known_in old.known) n n after.job job refl (job_there (known_in old.known) n after.job after.is_job) next.it in
       told_by after.noted turn new (subst (λ (j : Job). Tells j.tool answer after.refusal) same after.tells) after.past after.known after.picks
+
+-- The record has answered whether the row of a job is kept
+module _ (s : Scene) (given : Given) (picks : PicksAt s given) (t : List Pair) (f : Progress) (marks : List Mark) (goes : Goes s (InForce s) t f marks) (old : Course) (n : ℕ) (job : Job)
+    (row : Row) (r : Reflects s f.events old None) (it : IsJob (known_in old.known) n job) (due : f.work ≡ put_due job.place row) where
+  abbrev its_put : RecordRequest
+  its_put = RecordRequest.Put row
+
+  put_by : (answer : RecordAnswer) (new_events : List Event) → Steps s f (command job.place its_put answer) nothing_due new_events → (noted : Course) →
+      Reflects s (f.events ++ new_events) noted None → (turn : Turn) (new : Course) → Picks given noted turn new → Runs s (t ++ command job.place its_put answer ∷ []) new turn
+  put_by answer new_events steps noted reflects turn new picked =
+      let later : Progress = progress_with f nothing_due new_events in
+      let further : Goes s (InForce s) (t ++ command job.place its_put answer ∷ []) later (marks_after s later marks) =
+      goes_on s (command job.place its_put answer) nothing_due new_events goes (due_when s f marks (put_due job.place row) (Request.Record job.place its_put) due refl) steps in
+      record {
+        happened = later;
+        marks = marks_after s later marks;
+        goes = further;
+        at = picks (t ++ command job.place its_put answer ∷ []) later (marks_after s later marks) further refl noted turn new reflects picked;
+      }
+
+  pub put_goes_on : (answer : RecordAnswer) → CanTell its_put answer → (turn : Turn) (new : Course) → AfterPut given old n answer turn new →
+      Runs s (t ++ command job.place its_put answer ∷ []) new turn
+  put_goes_on answer (is_put its_row) turn new after =
+      put_by RecordAnswer.Done [] (puts job.place row) after.noted
+      (subst (λ (happened : List Event). Reflects s happened after.noted None) (sym (append-nil f.events)) (reflects_same s f.events old after.noted None after.past after.known r))
+      turn new after.picks
+  put_goes_on answer (is_refused request refusal) turn new after =
+      put_by (RecordAnswer.Refused refusal) (put_failed job.place refusal ∷ []) (put_fails job.place row refusal) after.noted
+      (put_failed_reflects s f.events old after.noted job.place refusal
+      (after.past ∙ ap (λ (place : JobPlace). with_note (put_note place refusal) (past_of old)) (place_there (known_in old.known) n job it)) after.known r)
+      turn new after.picks

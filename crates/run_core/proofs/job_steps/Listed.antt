@@ -11,7 +11,7 @@ use Rattle.job_graph.specs.Jobs.{Job}
 use Rattle.job_graph.specs.Words.{Fields, Name}
 use Rattle.run_rules.specs.declared.request.Pair.{Pair}
 use Rattle.run_rules.specs.CollectsOn.{CollectsOn}
-use Rattle.run_rules.specs.Events.{Progress, nothing_due}
+use Rattle.run_rules.specs.Events.{Progress, nothing_due, row_at}
 use Rattle.run_rules.specs.Plans.{InForce}
 use Rattle.run_rules.specs.Run.{Goes}
 use Rattle.run_rules.specs.Scene.{Scene}
@@ -31,7 +31,7 @@ use Rattle.run_core.specs.inner.Standing.{IsWorking, Runs}
 use Rattle.run_core.proofs.events.Reflecting.{Laws, folder_there, known_there}
 use Rattle.run_core.proofs.job_steps.Calls.{working_allowed}
 use Rattle.run_core.proofs.job_steps.Firsts.{never_input, never_output}
-use Rattle.run_core.proofs.job_steps.Sites.{Fits, site_fits, collects_at, collects_call, works_started}
+use Rattle.run_core.proofs.job_steps.Sites.{Fits, site_fits, collects_at, collects_call, works_started, row_fits}
 use Rattle.run_core.proofs.job_steps.Turns.{PicksAt, turns_at}
 use Rattle.run_core.specs.inner.JobStates.{state_at}
 
@@ -46,8 +46,8 @@ module _ (s : Scene) (given : Given) (same : given.options ≡ s.options) (laws 
       fits : Fits s.options folder job after.site
       fits = site_fits s.options given same old n job after.site is.it after.is_site
 
-      on : CollectsOn job.place job is.on.started millis found [] after.collects.wanted (work_next job.place after.next) (events_next job.place after.next)
-      on = collects_at s.options folder job after.site fits f.events kept millis found [] after.collects.wanted after.next is.on after.collects.on
+      on : CollectsOn job.place job (row_at f.events job.place) is.on.started millis found [] after.collects.wanted (work_next job.place after.next) (events_next job.place after.next)
+      on = collects_at s.options folder job after.site fits (row_at f.events job.place) (row_fits s given f.events old (Some n) n job after.site is.it after.is_site r) f.events kept millis found [] after.collects.wanted after.next is.on after.collects.on
 
       wanted : AreHeadsWanted (listing_of found) is.on.started.inputs job.tool.outputs after.collects.wanted
       wanted =
@@ -76,7 +76,7 @@ module _ (s : Scene) (given : Given) (same : given.options ≡ s.options) (laws 
             (marks_after s (progress_with f (work_next job.place after.next) (events_next job.place after.next)) marks) its_goes
             f.events old n job r is.it after.next turn new refl refl
             (collects_call s.options folder job after.site fits kept millis found [] after.collects.wanted after.next after.collects.on)
-            (works_started f.events job kept is.on.started millis found [] after.collects.wanted after.next is.on after.collects.on.keeps on)
+            (works_started f.events job (row_at f.events job.place) kept is.on.started millis found [] after.collects.wanted after.next is.on after.collects.on.keeps on)
             after.turns;
       }
 

@@ -9,7 +9,7 @@ use Rattle.job_graph.specs.Jobs.{Job}
 use Rattle.job_graph.specs.Words.{Name}
 use Rattle.run_rules.specs.declared.request.Pair.{Pair}
 use Rattle.run_rules.specs.CollectsOn.{CollectsOn}
-use Rattle.run_rules.specs.Events.{Progress, nothing_due, output_heads_due, scan_due}
+use Rattle.run_rules.specs.Events.{Progress, nothing_due, output_heads_due, scan_due, row_at}
 use Rattle.run_rules.specs.Plans.{InForce}
 use Rattle.run_rules.specs.Run.{Goes}
 use Rattle.run_rules.specs.Scene.{Scene}
@@ -31,7 +31,7 @@ use Rattle.run_core.proofs.events.Reflecting.{Laws, folder_there, known_there}
 use Rattle.run_core.proofs.job_steps.Calls.{working_allowed}
 use Rattle.run_core.proofs.job_steps.Filled.{input_head_goes_on}
 use Rattle.run_core.proofs.job_steps.Firsts.{HasFirst, first_output}
-use Rattle.run_core.proofs.job_steps.Sites.{Fits, site_fits, collects_at, collects_call, works_started}
+use Rattle.run_core.proofs.job_steps.Sites.{Fits, site_fits, collects_at, collects_call, works_started, row_fits}
 use Rattle.run_core.proofs.job_steps.Turns.{PicksAt, turns_at}
 use Rattle.run_core.specs.inner.JobStates.{state_at}
 
@@ -58,8 +58,8 @@ module _ (s : Scene) (given : Given) (same : given.options ≡ s.options) (laws 
       its_collects : Collects after.site kept reading.millis reading.found read todo after.next
       its_collects = after.collects.each next_file.first.rest next_file.name next_file.first.is
 
-      on : CollectsOn job.place job is.on.started reading.millis reading.found read todo (work_next job.place after.next) (events_next job.place after.next)
-      on = collects_at s.options folder job after.site fits f.events kept reading.millis reading.found read todo after.next is.on its_collects
+      on : CollectsOn job.place job (row_at f.events job.place) is.on.started reading.millis reading.found read todo (work_next job.place after.next) (events_next job.place after.next)
+      on = collects_at s.options folder job after.site fits (row_at f.events job.place) (row_fits s given f.events old (Some n) n job after.site is.it after.is_site r) f.events kept reading.millis reading.found read todo after.next is.on its_collects
 
       step : Steps s f (call job.place (HostRequest.Head path limit) (HostAnswer.FirstBytes bytes)) (work_next job.place after.next) (events_next job.place after.next)
       step =
@@ -85,7 +85,7 @@ module _ (s : Scene) (given : Given) (same : given.options ≡ s.options) (laws 
             (marks_after s (progress_with f (work_next job.place after.next) (events_next job.place after.next)) marks) its_goes
             f.events old n job r is.it after.next turn new refl refl
             (collects_call s.options folder job after.site fits kept reading.millis reading.found read todo after.next its_collects)
-            (works_started f.events job kept is.on.started reading.millis reading.found read todo after.next is.on its_collects.keeps on)
+            (works_started f.events job (row_at f.events job.place) kept is.on.started reading.millis reading.found read todo after.next is.on its_collects.keeps on)
             after.turns;
       }
 

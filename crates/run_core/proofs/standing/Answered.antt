@@ -33,7 +33,7 @@ use Rattle.run_core.specs.inner.Measures.{MeasuresOn, all_measured, measures}
 use Rattle.run_core.specs.inner.Picks.{AfterEnd, AfterFault, badly, for_now, well}
 use Rattle.run_core.specs.inner.Standing.{Blames}
 use Rattle.run_core.proofs.standing.Books.{Books, books_end, books_landed, books_staged, books_start, books_unstaged}
-use Rattle.run_core.proofs.standing.Leaving.{FewKnown, KnowsSome, Leaves, MayKnow, books_course, books_unfolded, leaves_end, leaves_temporary, picks_leave, turns_leave, leaves_find}
+use Rattle.run_core.proofs.standing.Leaving.{FewKnown, KnowsSome, Leaves, MayKnow, books_course, books_unfolded, leaves_end, leaves_temporary, picks_leave, turns_leave, leaves_find, leaves_put}
 
 -- an answer of the host's is in its log
 abbrev pub IsLogged : List Entry → Answer → Type 0
@@ -63,6 +63,18 @@ asks_no_call course place (HostRequest.Head path limit) number fits = fits
 asks_no_call course place (HostRequest.Fetch key folder files) number fits = fits
 asks_no_call course place (HostRequest.Store key folder files) number fits = fits
 asks_no_call course place (HostRequest.Deliver plan) number fits = fits
+
+-- nor while one is put
+pub puts_no_call : (course : Course) (place : JobPlace) (call : HostRequest) (number : ℕ) → AsksOf course (Request.Host place call) (Phase.Putting number) → ⊥
+puts_no_call course place (HostRequest.Measure path) number fits = fits
+puts_no_call course place (HostRequest.Stage plan folder) number fits = fits
+puts_no_call course place (HostRequest.Start launch) number fits = fits
+puts_no_call course place HostRequest.Collect number fits = fits
+puts_no_call course place (HostRequest.Scan folder) number fits = fits
+puts_no_call course place (HostRequest.Head path limit) number fits = fits
+puts_no_call course place (HostRequest.Fetch key folder files) number fits = fits
+puts_no_call course place (HostRequest.Store key folder files) number fits = fits
+puts_no_call course place (HostRequest.Deliver plan) number fits = fits
 
 -- where a job is to be staged, nothing of the record
 pub stages_no_row : (course : Course) (place : JobPlace) (request : RecordRequest) (number : ℕ) → AsksOf course (Request.Record place request) (Phase.Staging number) → ⊥
@@ -122,6 +134,9 @@ module _ (given : Given) (old : Course) (entries : List Entry) (turn : Turn) (ne
   step_leaves asks (Phase.Finding number) answer (by_host place request its can) fits goes knows told bounded blames follows = absurd (asks_no_call old place request number fits)
   step_leaves asks (Phase.Finding number) answer (by_record place request its can) fits goes knows told bounded blames follows =
       leaves_find given.options entries given refl old number its turn new few (record { bounded = bounded; blames = blames }) follows
+  step_leaves asks (Phase.Putting number) answer (by_host place request its can) fits goes knows told bounded blames follows = absurd (puts_no_call old place request number fits)
+  step_leaves asks (Phase.Putting number) answer (by_record place request its can) fits goes knows told bounded blames follows =
+      leaves_put given.options entries given refl old number its turn new few (record { bounded = bounded; blames = blames }) follows
   step_leaves asks (Phase.Staging number) answer (by_host place request its (is_staged plan folder)) fits goes knows told bounded blames follows =
       turns_leave given.options entries given refl follows.staged number follows.next turn new few
       (known_still old follows.staged (ap (λ (p : Past). p.end) follows.past) follows.known knows)

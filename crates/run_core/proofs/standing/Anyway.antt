@@ -1,8 +1,8 @@
 -- Where memory runs out for what follows from an answer, the answer still makes a longer run.
-use Rattle.std.specs.Prelude.{Contains, bytes_eq, slice_get}
+use Rattle.std.specs.Prelude.{Contains, bytes_eq, slice_get, ◌≢◌}
 use Rattle.std.specs.List.{IsDistinct}
 use Rattle.std.specs.Map.{keys_of}
-use Rattle.std.proofs.Common.{◌≡◌, ◌∙◌, ◌⊎◌, inl, inr, ℕ, List, [], ◌∷◌, ◌++◌, reverse, Option, Some, None, Result, Ok, Err, refl, sym, ap}
+use Rattle.std.proofs.Common.{◌≡◌, ◌∙◌, ◌⊎◌, inl, inr, ℕ, List, [], ◌∷◌, ◌++◌, reverse, Option, Some, None, Result, Ok, Err, refl, sym, ap, Bool, true, false}
 use Rattle.std.proofs.lemmas.Option.{slice_get-get_or}
 use Rattle.command_line.specs.Launch.{IsLaunch, IsRefused}
 use Rattle.command_line.specs.declared.fault.BuildFault.{BuildFault}
@@ -33,9 +33,9 @@ use Rattle.run_rules.specs.declared.request.Pair.{Pair}
 use Rattle.run_rules.specs.declared.request.Request.{Request}
 use Rattle.run_rules.specs.declared.setting.Options.{Options}
 use Rattle.run_rules.specs.Allowed.{Allowed}
-use Rattle.run_rules.specs.Answers.{MayAnswer, by_host, by_record, is_found, is_refused}
+use Rattle.run_rules.specs.Answers.{MayAnswer, by_host, by_record, is_found, is_refused, is_put}
 use Rattle.run_rules.specs.CollectsOn.{CollectsOn, reads_on as reads_more, collects, collects_none, left_of}
-use Rattle.run_rules.specs.Events.{Event, Work, Started, Progress, file_measured, job_staged, job_started, child_exited, job_succeeded, job_failed, job_failed_for_now, result_delivered, host_failed, collect_failed, job_at, nothing_due, input_heads_due, number_at, scan_due, output_heads_due, start_due, row_found, no_row, find_failed}
+use Rattle.run_rules.specs.Events.{Event, Work, Started, Progress, file_measured, job_staged, job_started, child_exited, job_succeeded, job_failed, job_failed_for_now, result_delivered, host_failed, collect_failed, job_at, nothing_due, input_heads_due, number_at, scan_due, output_heads_due, start_due, row_found, no_row, find_failed, row_at, row_differs, put_due, put_failed, is_reusable}
 use Rattle.run_rules.specs.Folders.{runtime_of}
 use Rattle.run_rules.specs.Plans.{InForce}
 use Rattle.run_rules.specs.Run.{Goes}
@@ -43,9 +43,9 @@ use Rattle.run_rules.proofs.events.Grows.{goes_on as grows_by}
 use Rattle.run_rules.proofs.events.Planned.{marks_after}
 use Rattle.run_rules.specs.Scene.{Scene}
 use Rattle.run_rules.specs.StartsOn.{StartsOn, reads_on, has_launch, has_no_launch, has_no_contents}
-use Rattle.run_rules.specs.Steps.{Steps, progress_with, measures_file, stages, reads_input, starts, exits_well, exits_for_now, exits_badly, scans, reads_output, delivers, loses_collect, call_fails, finds_none, finds, finds_wrong, find_fails}
+use Rattle.run_rules.specs.Steps.{Steps, progress_with, measures_file, stages, reads_input, starts, exits_well, exits_for_now, exits_badly, scans, reads_output, delivers, loses_collect, call_fails, finds_none, finds, finds_wrong, find_fails, puts, put_fails}
 use Rattle.run_rules.proofs.events.Places.{IsJob}
-use Rattle.job_key.specs.Key.{Key}
+use Rattle.job_key.specs.Key.{Key, key}
 use Rattle.job_reuse.specs.Sound.{IsSound}
 use Rattle.job_rows.specs.declared.refusal.RecordRefusal.TheVariants.{NotARecord}
 use Rattle.job_rows.specs.declared.row.Row.{Row}
@@ -63,9 +63,12 @@ use Rattle.run_core.specs.inner.Course.{known_in}
 use Rattle.run_core.specs.inner.Due.{call_for, work_of}
 use Rattle.run_core.specs.inner.Follows.{AsksOf}
 use Rattle.run_core.specs.inner.Keeps.{Reflects}
-use Rattle.run_core.specs.inner.Standing.{HasStarted, IsAt, IsWorking, Runs, collecting, delivering, ended, measuring, staging, working, finding}
+use Rattle.run_core.specs.inner.Standing.{HasStarted, IsAt, IsWorking, Runs, collecting, delivering, ended, measuring, staging, working, finding, putting}
 use Rattle.run_core.proofs.events.Reflecting.{FliesThere, flies_there, known_there}
 use Rattle.run_core.specs.inner.JobStates.{state_at}
+use Rattle.job_reuse.specs.Laws.{OutputsAreTheSameOrNot}
+use Rattle.job_reuse.specs.Rows.{made_row}
+use Rattle.run_rules.specs.Keeps.{Keeps, AgreesWith, keeps as is_kept, keeps_none, differs}
 
 pub record GoesOn (s : Scene) (t : List Pair) : Type 0 where
   pub happened : Progress
@@ -79,10 +82,10 @@ record SomeStart (options : Options) (place : JobPlace) (job : Job) (number : �
   starts : StartsOn options place job number staged read todo work more
 
 -- a job's outputs, or what is read for them, whatever they are
-record SomeEnd (place : JobPlace) (job : Job) (started : Started) (millis : ℕ) (found : List Found) (read : Heads) (todo : List Name) : Type 0 where
+record SomeEnd (place : JobPlace) (job : Job) (row : Option Row) (started : Started) (millis : ℕ) (found : List Found) (read : Heads) (todo : List Name) : Type 0 where
   work : Work
   more : List Event
-  ends : CollectsOn place job started millis found read todo work more
+  ends : CollectsOn place job row started millis found read todo work more
 
 module _ (options : Options) (place : JobPlace) (job : Job) (number : ℕ) (launches : LaunchOrRefusal) (ids : IsDistinct bytes_eq (keys_of job.tool.inputs)) where
   launched : (staged : Fields) (read : Heads) (own : Fields) → with_contents job.tool.inputs staged read ≡ Ok own →
@@ -100,12 +103,33 @@ module _ (options : Options) (place : JobPlace) (job : Job) (number : ℕ) (laun
   a_start staged read [] = filled staged read (with_contents job.tool.inputs staged read) refl
   a_start staged read (path ∷ todo) = record { work = input_heads_due place staged (path ∷ todo) read; more = []; starts = reads_on path todo }
 
-module _ (place : JobPlace) (job : Job) (started : Started) (millis : ℕ) (found : List Found) (outputs : EveryFolderHasOutputsOrAFault) where
-  gathered : (read : Heads) (c : Collected) → IsCollected (left_of started found read) job.tool.outputs c → SomeEnd place job started millis found read []
-  gathered read (Ok its) is = record { work = nothing_due; more = job_succeeded place its ∷ []; ends = collects its is }
+-- what becomes of collected outputs, whatever it is
+record SomeKeeping (place : JobPlace) (job : Job) (row : Option Row) (millis : ℕ) (found : List Found) (outputs : Fields) : Type 0 where
+  work : Work
+  more : List Event
+  keeps : Keeps place job row millis found outputs work more
+
+module _ (place : JobPlace) (job : Job) (millis : ℕ) (found : List Found) (outputs : Fields) (same : OutputsAreTheSameOrNot) where
+  agreed : (row : Option Row) → is_reusable job ≡ true → AgreesWith outputs row → SomeKeeping place job row millis found outputs
+  agreed row reusable agrees = record { work = put_due place (made_row (key job.tool job.inputs) outputs found millis false); more = job_succeeded place outputs ∷ []; keeps = is_kept reusable agrees }
+
+  compared : (row : Row) → is_reusable job ≡ true → (row.outputs ≡ outputs) ⊎ (row.outputs ≢ outputs) → SomeKeeping place job (Some row) millis found outputs
+  compared row reusable (inl alike) = agreed (Some row) reusable alike
+  compared row reusable (inr other) = record { work = nothing_due; more = row_differs place outputs ∷ []; keeps = differs row reusable refl other }
+
+  a_keeping : (row : Option Row) (reusable : Bool) → is_reusable job ≡ reusable → SomeKeeping place job row millis found outputs
+  a_keeping row false once = record { work = nothing_due; more = job_succeeded place outputs ∷ []; keeps = keeps_none once }
+  a_keeping None true reusable = agreed None reusable tt
+  a_keeping (Some row) true reusable = compared row reusable (same row.outputs outputs)
+
+module _ (place : JobPlace) (job : Job) (row : Option Row) (started : Started) (millis : ℕ) (found : List Found) (outputs : EveryFolderHasOutputsOrAFault) (same : OutputsAreTheSameOrNot) where
+  gathered : (read : Heads) (c : Collected) → IsCollected (left_of started found read) job.tool.outputs c → SomeEnd place job row started millis found read []
+  gathered read (Ok its) is =
+      let some : SomeKeeping place job row millis found its = a_keeping place job millis found its same row (is_reusable job) refl in
+      record { work = some.work; more = some.more; ends = collects its some.work some.more is some.keeps }
   gathered read (Err fault) is = record { work = nothing_due; more = job_failed place (Cause.Collect (CollectCause.Output fault)) ∷ []; ends = collects_none fault is }
 
-  an_end : (read : Heads) (todo : List Name) → SomeEnd place job started millis found read todo
+  an_end : (read : Heads) (todo : List Name) → SomeEnd place job row started millis found read todo
   an_end read [] = let its = outputs (left_of started found read) job.tool.outputs in gathered read its.0 its.1
   an_end read (name ∷ todo) = record { work = output_heads_due place millis found (name ∷ todo) read; more = []; ends = reads_more name todo }
 
@@ -134,6 +158,7 @@ no_collect options folder (start_due place inputs launch) is = cc
 no_collect options folder (scan_due place millis) is = cc
 no_collect options folder (output_heads_due place millis found [] read) is = cc
 no_collect options folder (output_heads_due place millis found (name ∷ todo) read) is = cc
+no_collect options folder (put_due place row) is = cc
 
 some_there : (jobs : List Job) (number : ℕ) (job : Job) → IsJob jobs number job → slice_get jobs number ≡ Some job
 some_there jobs number job it = slice_get-get_or jobs number job it.within ∙ ap Some it.is
@@ -177,7 +202,8 @@ module _ (s : Scene) (t : List Pair) (f : Progress) (marks : List Mark) (course 
         GoesOn s (t ++ noted (Request.Host job.place (HostRequest.Scan folder)) (Answer.Host (HostAnswer.Listed found)) ∷ [])
     scan_anyway folder millis found kept due has allowed =
         let wants = can.heads (listing_of found) has.started.inputs job.tool.outputs in
-        let its : SomeEnd job.place job has.started millis found [] wants.0 = an_end job.place job has.started millis found can.outputs [] wants.0 in
+        let its : SomeEnd job.place job (row_at f.events job.place) has.started millis found [] wants.0 =
+        an_end job.place job (row_at f.events job.place) has.started millis found can.outputs can.same [] wants.0 in
         goes_with _ its.work its.more allowed (scans job.place folder millis found job has.started wants.0 its.work its.more due at_place has.at wants.1 its.ends)
 
     read_anyway : (path : Name) (limit : ℕ) (bytes : List ℕ) (kept : Kept) (reading : Reading) → IsNext (reverse reading.left) → HasStarted f.events job.place kept →
@@ -185,8 +211,8 @@ module _ (s : Scene) (t : List Pair) (f : Progress) (marks : List Mark) (course 
         Allowed s f marks (Request.Host job.place (HostRequest.Head path limit)) →
         GoesOn s (t ++ noted (Request.Host job.place (HostRequest.Head path limit)) (Answer.Host (HostAnswer.FirstBytes bytes)) ∷ [])
     read_anyway path limit bytes kept reading next has due allowed =
-        let its : SomeEnd job.place job has.started reading.millis reading.found (with_value next.name bytes reading.heads) next.rest =
-        an_end job.place job has.started reading.millis reading.found can.outputs (with_value next.name bytes reading.heads) next.rest in
+        let its : SomeEnd job.place job (row_at f.events job.place) has.started reading.millis reading.found (with_value next.name bytes reading.heads) next.rest =
+        an_end job.place job (row_at f.events job.place) has.started reading.millis reading.found can.outputs can.same (with_value next.name bytes reading.heads) next.rest in
         goes_with _ its.work its.more allowed
         (reads_output job.place path limit bytes reading.millis reading.found next.name next.rest reading.heads job has.started its.work its.more
         (due ∙ ap (λ (todo : List Name). output_heads_due job.place reading.millis reading.found todo reading.heads) next.is) at_place has.at its.ends)
@@ -249,6 +275,9 @@ module _ (s : Scene) (t : List Pair) (f : Progress) (marks : List Mark) (course 
       row_anyway job its row (known_there s f.events course None number job next.it reflects) (can.rows job.tool row can.row) allowed
   at_goes_on can (finding number job reflects next) fits (by_record place request answer (is_refused its refusal)) allowed =
       goes_with _ nothing_due (find_failed job.place refusal ∷ []) allowed (find_fails job.place _ refusal)
+  at_goes_on can (putting number job row reflects it due) fits (by_record place request answer (is_put its)) allowed = goes_with _ nothing_due [] allowed (puts job.place row)
+  at_goes_on can (putting number job row reflects it due) fits (by_record place request answer (is_refused its refusal)) allowed =
+      goes_with _ nothing_due (put_failed job.place refusal ∷ []) allowed (put_fails job.place row refusal)
   at_goes_on can (staging number job plan reflects is_staging) fits (by_host place request answer (is_staged its folder)) allowed =
       let start : SomeStart s.options job.place job folder plan.value [] (heads_wanted job.tool.inputs plan.value) =
       a_start s.options job.place job folder can.launches (can.ids job (some_there (known_in course.known) number job is_staging.it)) plan.value []
@@ -265,7 +294,7 @@ module _ (s : Scene) (t : List Pair) (f : Progress) (marks : List Mark) (course 
       goes_with _ nothing_due (result_delivered plan ∷ []) allowed (delivers [] plan)
   at_goes_on can (delivering plan reflects may going all) fits (by_host place request answer (has_failed call)) allowed =
       fails_anyway [] (HostRequest.Deliver plan) (λ other. cc) allowed
-  at_goes_on can (ended end so) fits may allowed = elim may [ ]
+  at_goes_on can (ended end so noted) fits may allowed = elim may [ ]
 
 -- the transcript goes on by the answer
 pub goes_anyway : (s : Scene) (t : List Pair) (course : Course) (turn : Turn) (answer : Answer) → CanGoOn course (job_in turn.phase) answer → (r : Runs s t course turn) →

@@ -11,11 +11,13 @@ use Rattle.run_core.specs.declared.state.Flight.{Flight}
 use Rattle.run_core.specs.declared.job_states.JobState.{JobState}
 use Rattle.run_core.specs.declared.state.Kept.{Kept}
 use Rattle.run_core.specs.inner.Attempts.{IsBounded}
-use Rattle.run_core.specs.inner.Course.{Past, TakesOut, with_answer, with_end, with_giving_up, with_staging, with_start}
+use Rattle.run_core.specs.inner.Course.{Past, TakesOut, with_answer, with_end, with_giving_up, with_staging, with_start, with_note}
 use Rattle.run_core.specs.inner.Standing.{BlamesSoFar, SettlesRightly}
 use Rattle.run_core.proofs.standing.Tries.{gave_up_before, gave_up_once_more, gave_up_staged, length_before, tries_before, tries_given_up, tries_staged}
 use Rattle.run_core.specs.inner.JobStates.{waits_in}
 use Rattle.run_core.proofs.States.{given_up_length, staged_few}
+use Rattle.run_rules.specs.declared.request.RecordAnswer.{RecordAnswer}
+use Rattle.run_rules.specs.declared.outcome.Note.{Note}
 
 pub record Books (options : Options) (entries : List Entry) (past : Past) : Type 0 where
   pub bounded : IsBounded options past
@@ -53,8 +55,15 @@ module _ (options : Options) (entries : List Entry) (past : Past) where
       })
 
   -- the row of a job was looked for
-  pub books_looked : (number : ℕ) → Books options entries past → Books options entries (with_answer number None past)
-  books_looked number books = record {
+  pub books_looked : (number : ℕ) (answer : RecordAnswer) → Books options entries past → Books options entries (with_answer number answer None past)
+  books_looked number answer books = record {
+    bounded = record { jobs = books.bounded.jobs; retries = books.bounded.retries; folders = books.bounded.folders };
+    blames = record { settled = books.blames.settled };
+  }
+
+  -- something was noted
+  pub books_noted : (note : Note) → Books options entries past → Books options entries (with_note note past)
+  books_noted note books = record {
     bounded = record { jobs = books.bounded.jobs; retries = books.bounded.retries; folders = books.bounded.folders };
     blames = record { settled = books.blames.settled };
   }

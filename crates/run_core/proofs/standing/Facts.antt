@@ -25,7 +25,7 @@ use Rattle.run_core.specs.inner.Course.{Past, known_in, past_of}
 use Rattle.run_core.specs.inner.Due.{call_for, work_of}
 use Rattle.run_core.specs.inner.Keeps.{Reflects}
 use Rattle.run_core.specs.inner.Knows.{IsKnown}
-use Rattle.run_core.specs.inner.Standing.{IsAt, Runs, collecting, delivering, ended, measuring, staging, working, finding}
+use Rattle.run_core.specs.inner.Standing.{IsAt, Runs, collecting, delivering, ended, measuring, staging, working, finding, putting}
 use Rattle.run_core.proofs.standing.Anyway.{IsNext, input_next, output_next}
 use Rattle.run_core.proofs.standing.Few.{few_unfolded}
 use Rattle.run_core.proofs.standing.Fewer.{HasLast, LooksAtSome}
@@ -70,50 +70,55 @@ module _ (s : Scene) where
         let few : length (known_in course.known) ≤ MOST_VERTICES =
         known_few (s.walker (measures f.events)) (resolved f.events) course.known (reflects.knows next.going) in
         (next.left, omega (arith, next.it.within, few))
+    looks_at (putting number job row reflects it due) = tt
     looks_at (staging number job plan reflects is_staging) = tt
     looks_at (working number job call phase reflects w) = works_on_some s.options _ (past_of course) number call phase w.calls.due
     looks_at (collecting reflects may) = tt
     looks_at (delivering plan reflects may going all) =
         sym reflects.keeps.books.flights.their_tickets ∙ ap (λ (flying : List Flight). keys_of flying) may.landed
-    looks_at (ended end so) = tt
+    looks_at (ended end so noted) = tt
 
     knows_at : {marks : List Mark} {turn : Turn} → IsAt s f marks course turn → turn.asks ≢ Request.Finished → MayKnow course turn.phase
     knows_at (measuring found which rest path m is f_is none past) asks = tt
     knows_at (finding number job reflects next) asks = knows_by f.events course None reflects
+    knows_at (putting number job row reflects it due) asks = knows_by f.events course None reflects
     knows_at (staging number job plan reflects is_staging) asks = knows_by f.events course None reflects
     knows_at (working number job call phase reflects w) asks = knows_by f.events course (Some number) reflects
     knows_at (collecting reflects may) asks = knows_by f.events course None reflects
     knows_at (delivering plan reflects may going all) asks = knows_by f.events course None reflects
-    knows_at (ended end so) asks = absurd (asks refl)
+    knows_at (ended end so noted) asks = absurd (asks refl)
 
     apart_at : {marks : List Mark} {turn : Turn} → IsAt s f marks course turn → turn.asks ≢ Request.Finished → IsDistinct nat_eq course.tickets.items
     apart_at (measuring found which rest path m is f_is none past) asks =
         subst (λ (p : Past). IsDistinct nat_eq p.tickets) (sym past) nothing_apart
     apart_at (finding number job reflects next) asks = apart_by f.events course None reflects
+    apart_at (putting number job row reflects it due) asks = apart_by f.events course None reflects
     apart_at (staging number job plan reflects is_staging) asks = apart_by f.events course None reflects
     apart_at (working number job call phase reflects w) asks = apart_by f.events course (Some number) reflects
     apart_at (collecting reflects may) asks = apart_by f.events course None reflects
     apart_at (delivering plan reflects may going all) asks = apart_by f.events course None reflects
-    apart_at (ended end so) asks = absurd (asks refl)
+    apart_at (ended end so noted) asks = absurd (asks refl)
 
     going_at : {marks : List Mark} {turn : Turn} → IsAt s f marks course turn → turn.phase ≡ Phase.Draining → ⊥
     going_at (measuring found which rest path m is f_is none past) drains = cc
     going_at (finding number job reflects next) drains = cc
+    going_at (putting number job row reflects it due) drains = cc
     going_at (staging number job plan reflects is_staging) drains = cc
     going_at (working number job call phase reflects w) drains = cc
     going_at (collecting reflects may) drains = cc
     going_at (delivering plan reflects may going all) drains = cc
-    going_at (ended end so) drains = cc
+    going_at (ended end so noted) drains = cc
 
     few_at : {marks : List Mark} {turn : Turn} → IsAt s f marks course turn → FewKnown turn course
     few_at (measuring found which rest path m is f_is none past) number at = absurd cc
     few_at (finding its_number job reflects next) number at = absurd cc
+    few_at (putting its_number job row reflects it due) number at = absurd cc
     few_at (staging its_number job plan reflects is_staging) number at =
         known_few (s.walker (measures f.events)) (resolved f.events) course.known (reflects.knows is_staging.going)
     few_at (working its_number job call phase reflects w) number at = absurd cc
     few_at (collecting reflects may) number at = absurd cc
     few_at (delivering plan reflects may going all) number at = absurd cc
-    few_at (ended end so) number at = absurd cc
+    few_at (ended end so noted) number at = absurd cc
 
 module _ (s : Scene) (t : List Pair) (course : Course) (turn : Turn) (r : Runs s t course turn) where
   pub looks_at_some : LooksAtSome (past_of course) turn.phase

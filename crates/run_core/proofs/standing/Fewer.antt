@@ -8,7 +8,7 @@ use Rattle.proc_host.specs.declared.call.HostFault.{HostFault}
 use Rattle.proc_host.specs.declared.child.ChildEnd.{ChildEnd}
 use Rattle.cwl_process.specs.declared.tool.Tool.{Tool}
 use Rattle.job_graph.specs.Unfold.{or_else}
-use Rattle.job_graph.specs.Words.{Name}
+use Rattle.job_graph.specs.Words.{Name, JobPlace}
 use Rattle.run_rules.specs.Answers.{MayAnswer, by_host, by_record}
 use Rattle.run_rules.specs.declared.outcome.Outcome.{Outcome}
 use Rattle.run_rules.specs.declared.outcome.RunFault.{RunFault}
@@ -28,16 +28,17 @@ use Rattle.run_core.specs.declared.state.Phase.{Phase}
 use Rattle.run_core.specs.declared.state.Reading.{Reading}
 use Rattle.run_core.specs.declared.state.Turn.{Turn}
 use Rattle.run_core.specs.inner.Attempts.{StaysBounded, answers_left, many_files, weight_of, weight_of_past}
-use Rattle.run_core.specs.inner.Course.{Past, past_of, with_end, with_answer}
+use Rattle.run_core.specs.inner.Course.{Past, past_of, with_end, with_answer, place_at, known_in}
 use Rattle.run_core.specs.inner.Due.{Starts}
 use Rattle.run_core.specs.inner.Follows.{AsksOf, FollowsFrom}
 use Rattle.run_core.specs.inner.Measures.{MeasuresOn, all_measured, measures}
-use Rattle.run_core.specs.inner.Picks.{AfterEnd, AfterFault, AfterInputHead, AfterOutputHead, Turns, badly, for_now, well, Picks}
+use Rattle.run_core.specs.inner.Picks.{AfterEnd, AfterFault, AfterInputHead, AfterOutputHead, Turns, badly, for_now, well, Picks, AfterPut, noted_by}
 use Rattle.run_core.specs.inner.Turns.{PutsNext, its_turn, no_turn}
-use Rattle.run_core.proofs.standing.Answered.{asks_none, known_still, asks_no_call}
+use Rattle.run_core.proofs.standing.Answered.{asks_none, known_still, asks_no_call, puts_no_call}
 use Rattle.run_core.proofs.standing.Leaving.{KnowsSome, MayKnow}
 use Rattle.run_core.proofs.standing.Looked.{calls_at_most, collects_by_lists, collects_by_names, starts_at_most, weight_next}
 use Rattle.run_core.proofs.standing.Weights.{landing_falls, picks_few, picks_last, picks_settled, staging_falls, start_rises, temporary_few, turns_few, unfolded_same, answer_falls}
+use Rattle.run_rules.specs.declared.request.RecordAnswer.{RecordAnswer}
 
 -- a list whose last item comes next
 pub record HasLast (left : List Name) : Type 0 where
@@ -128,17 +129,31 @@ module _ (given : Given) (old : Course) where
   two_lower : (a w b : ℕ) → a ≤ w + 2 → w + 2 ≤ b → a < b + 2
   two_lower a w b few falls = omega (arith, few, falls)
 
-  answer_fewer : (number : ℕ) (refusal : Option RecordRefusal) (noted : Course) (turn : Turn) (new : Course) → old.looked_up ≤ number → number + 1 ≤ MOST_VERTICES →
-      past_of noted ≡ with_answer number refusal (past_of old) → Picks given noted turn new → Fewer turn new 2
-  answer_fewer number None noted turn new left within past picks =
+  answer_fewer : (number : ℕ) (answer : RecordAnswer) (refusal : Option RecordRefusal) (noted : Course) (turn : Turn) (new : Course) → old.looked_up ≤ number → number + 1 ≤ MOST_VERTICES →
+      past_of noted ≡ with_answer number answer refusal (past_of old) → Picks given noted turn new → Fewer turn new 2
+  answer_fewer number answer None noted turn new left within past picks =
       two_lower (answers_left given.options (past_of new) turn.phase) (weight_of_past given.options (past_of noted)) Before (picks_few given.options given noted turn new picks)
       (subst (λ (p : Past). weight_of_past given.options p + 2 ≤ weight_of_past given.options (past_of old)) (sym past)
-      (answer_falls given.options (past_of old) number left within))
-  answer_fewer number (Some refusal) noted turn new left within past picks =
+      (answer_falls given.options (past_of old) number answer left within))
+  answer_fewer number answer (Some refusal) noted turn new left within past picks =
       let over : IsSome noted.end = subst (λ (p : Past). IsSome p.end) (sym past) (settled_by old.end (Err (RunFault.Record refusal))) in
       below (answers_left given.options (past_of new) turn.phase) Before 1 2
       (subst (λ w. answers_left given.options (past_of new) turn.phase ≤ w + 1) (ap (weight_of_past given.options) past)
       (picks_settled given.options given noted turn new over picks)) (omega arith)
+
+  -- A row was put
+
+  put_same : (place : JobPlace) (answer : RecordAnswer) (past : Past) → weight_of_past given.options (noted_by place answer past) ≡ weight_of_past given.options past
+  put_same place (RecordAnswer.Found row) past = refl
+  put_same place RecordAnswer.Done past = refl
+  put_same place (RecordAnswer.Refused refusal) past = refl
+
+  put_fewer : (number : ℕ) (answer : RecordAnswer) (turn : Turn) (new : Course) → AfterPut given old number answer turn new → Fewer turn new 3
+  put_fewer number answer turn new after =
+      below (answers_left given.options (past_of new) turn.phase) Before 2 3
+      (subst (λ w. answers_left given.options (past_of new) turn.phase ≤ w + 2)
+      (ap (weight_of_past given.options) after.past ∙ put_same (place_at (known_in old.known) number) answer (past_of old))
+      (picks_few given.options given after.noted turn new after.picks)) (omega arith)
 
   -- Measuring
 
@@ -181,11 +196,11 @@ module _ (given : Given) (old : Course) where
         (starts_at_most after.site filling.staged _ (reverse last.rest) after.next starts) (omega (arith, shorter, turned)) after.turns
 
     output_fewer : (number : ℕ) (kept : Kept) (reading : Reading) (bytes : List ℕ) → HasLast reading.left → AfterOutputHead given old number kept reading bytes turn new →
-        Fewer turn new (2 + length reading.left)
+        Fewer turn new (3 + length reading.left)
     output_fewer number kept reading bytes last after =
         let shorter : length reading.left ≡ length last.rest + 1 = one_longer reading.left last.rest last.name last.is in
         let turned : length (reverse last.rest) ≡ length last.rest = turned_long last.rest in
-        turns_fewer number after.next (2 + length (reverse last.rest)) (2 + length reading.left) (omega arith)
+        turns_fewer number after.next (3 + length (reverse last.rest)) (3 + length reading.left) (omega arith)
         (collects_by_names after.site kept reading.millis reading.found _ (reverse last.rest) after.next (after.collects.each last.rest last.name last.is))
         (omega (arith, shorter, turned)) after.turns
 
@@ -214,7 +229,9 @@ module _ (given : Given) (old : Course) where
         fault_fewer (fault_of call) turn new (2 + length measuring.left) (omega arith) follows
     step_fewer asks (Phase.Finding number) answer (by_host place request its can) fits goes knows bounded some follows = absurd (asks_no_call old place request number fits)
     step_fewer asks (Phase.Finding number) answer (by_record place request its can) fits goes knows bounded some follows =
-        answer_fewer number follows.refusal follows.noted turn new some.0 some.1 follows.past follows.picks
+        answer_fewer number its follows.refusal follows.noted turn new some.0 some.1 follows.past follows.picks
+    step_fewer asks (Phase.Putting number) answer (by_host place request its can) fits goes knows bounded some follows = absurd (puts_no_call old place request number fits)
+    step_fewer asks (Phase.Putting number) answer (by_record place request its can) fits goes knows bounded some follows = put_fewer number its turn new follows
     step_fewer asks (Phase.Staging number) answer (by_host place request its (is_staged plan folder)) fits goes knows bounded some follows =
         below_staging (answers_left given.options (past_of new) turn.phase) (weight_of_past given.options (past_of follows.staged)) Before
         (turns_few given.options given follows.staged number follows.next turn new (2 * many_files + 6) (omega arith)
@@ -242,7 +259,7 @@ module _ (given : Given) (old : Course) where
     step_fewer asks (Phase.Working number (JobPhase.Reading kept reading)) answer (by_host place request its (is_read path limit bytes short)) fits goes knows bounded some follows =
         output_fewer knows turn new number kept reading bytes some follows
     step_fewer asks (Phase.Working number (JobPhase.Reading kept reading)) answer (by_host place request its (has_failed call)) fits goes knows bounded some follows =
-        fault_fewer (fault_of call) turn new (2 + length reading.left) (omega arith) follows
+        fault_fewer (fault_of call) turn new (3 + length reading.left) (omega arith) follows
     step_fewer asks Phase.Collecting answer (by_host place request its (has_ended ending flies)) fits goes knows bounded some follows =
         end_fewer knows turn new follows.landed follows.flight follows.job.tool ending
         (known_still old follows.landed (ap (λ (p : Past). p.end) follows.taken.is) follows.known knows)

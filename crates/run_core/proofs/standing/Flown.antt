@@ -25,14 +25,15 @@ use Rattle.run_core.specs.declared.state.JobPhase.{JobPhase}
 use Rattle.run_core.specs.declared.state.Measuring.{Measuring}
 use Rattle.run_core.specs.declared.state.Phase.{Phase}
 use Rattle.run_core.specs.declared.state.Turn.{Turn}
-use Rattle.run_core.specs.inner.Course.{GivesUp, Past, TakesOut, again, known_in, past_of, too_often, with_answer}
+use Rattle.run_core.specs.inner.Course.{GivesUp, Past, TakesOut, again, known_in, past_of, too_often, with_answer, place_at}
 use Rattle.run_core.specs.inner.Follows.{AsksOf, FollowsFrom, IsLeftAfter}
 use Rattle.run_core.specs.inner.Knows.{IsUnfolded, fails as unfold_fails, knows as unfold_knows}
 use Rattle.run_core.specs.inner.Measures.{MeasuresOn, all_measured, measures}
-use Rattle.run_core.specs.inner.Picks.{AfterEnd, AfterFault, AfterTemporary, Picks, Turns, asks, badly, drains, ends_so, fails, for_now, gives, gives_late, has_result, stages, waits_for_one, well, AfterFind, finds}
-use Rattle.run_core.proofs.standing.Answered.{asks_none, known_still, asks_no_call}
+use Rattle.run_core.specs.inner.Picks.{AfterEnd, AfterFault, AfterTemporary, Picks, Turns, asks, badly, drains, ends_so, fails, for_now, gives, gives_late, has_result, stages, waits_for_one, well, AfterFind, finds, AfterPut, PutsOrPicks, noted_by, mismatches}
+use Rattle.run_core.proofs.standing.Answered.{asks_none, known_still, asks_no_call, puts_no_call}
 use Rattle.run_core.proofs.standing.Leaving.{KnowsSome, MayKnow, learns_by}
 use Rattle.run_core.proofs.standing.Tickets.{one_less}
+use Rattle.job_rows.specs.declared.row.Row.{Row}
 
 -- those that fly once this is asked next: after a failed collect none, and nothing is asked
 pub data FliesAfter (old : List ℕ) (next : Request) : Answer → List ℕ → Type 0 where
@@ -50,7 +51,7 @@ lost_collect old new next place call fits none ends = absurd fits
 module _ (given : Given) where
   picks_fly : (old : Course) (turn : Turn) (new : Course) → Picks given old turn new → new.tickets.items ≡ old.tickets.items
   picks_fly old turn new (drains its_new settled flying same known) = same_tickets (past_of new) (past_of old) same
-  picks_fly old turn new (ends_so end its_new is none cleared known) = cleared ∙ sym none
+  picks_fly old turn new (ends_so end its_new is none cleared known same_notes) = cleared ∙ sym none
   picks_fly old turn new (finds number its_turn its_new going is_next finding same known) = same_tickets (past_of new) (past_of old) same
   picks_fly old turn new (stages number its_turn its_new going looked slot lowest staging same known) = same_tickets (past_of new) (past_of old) same
   picks_fly old turn new (waits_for_one its_new going looked flying none same known) = same_tickets (past_of new) (past_of old) same
@@ -60,15 +61,20 @@ module _ (given : Given) where
   unfolded_fly walks learned old new (unfold_knows kept its_new knows known same) = same_tickets (past_of new) (past_of old) same
   unfolded_fly walks learned old new (unfold_fails fault its_new is known same) = ap (λ (p : Past). p.tickets) same
 
+  given_fly : (place : JobPlace) (over : Course) (number : ℕ) (row : Option Row) (turn : Turn) (new : Course) → PutsOrPicks given place over number row turn new → new.tickets.items ≡ over.tickets.items
+  given_fly place over number None turn new picks = picks_fly over turn new picks
+  given_fly place over number (Some row) turn new put = same_tickets (past_of new) (past_of over) put.past
+
   turns_fly : (old : Course) (number : ℕ) (next : JobNext) (turn : Turn) (new : Course) → (old.end ≡ None → KnowsSome old) → Turns given old number next turn new →
       new.tickets.items ≡ old.tickets.items
   turns_fly old number next turn new knows (asks call phase its_new same known) = same_tickets (past_of new) (past_of old) same
   turns_fly old number next turn new knows (fails cause failed its_turn its_new is known picks) = picks_fly failed turn new picks ∙ ap (λ (p : Past). p.tickets) is
-  turns_fly old number next turn new knows (gives_late outputs late its_turn its_new settled same known picks) =
-      picks_fly late turn new picks ∙ same_tickets (past_of late) (past_of old) same
-  turns_fly old number next turn new knows (gives outputs learned its_turn its_new going learns picks) =
+  turns_fly old number next turn new knows (gives_late outputs row late its_turn its_new settled same known picks) =
+      given_fly (place_at (known_in old.known) number) late number row turn new picks ∙ same_tickets (past_of late) (past_of old) same
+  turns_fly old number next turn new knows (mismatches outputs failed its_turn its_new is known picks) = picks_fly failed turn new picks ∙ ap (λ (p : Past). p.tickets) is
+  turns_fly old number next turn new knows (gives outputs row learned its_turn its_new going learns picks) =
       let some : KnowsSome old = knows going in
-      picks_fly learned turn new picks
+      given_fly (place_at (known_in old.known) number) learned number row turn new picks
       ∙ unfolded_fly some.walks _ old learned (learns_by some.walks some.learned _ old learned old.known refl some.is learns)
 
   gave_up_fly : (past : Past) (jobs : List Job) (number retries : ℕ) {new : Past} → GivesUp jobs number retries past new → new.tickets ≡ past.tickets
@@ -82,13 +88,22 @@ module _ (given : Given) where
   fault_fly : (old : Course) (fault : HostFault) (turn : Turn) (new : Course) → AfterFault given old fault turn new → new.tickets.items ≡ old.tickets.items
   fault_fly old fault turn new after = picks_fly after.settled turn new after.picks ∙ ap (λ (p : Past). p.tickets) after.past
 
-  answer_fly : (number : ℕ) (refusal : Option RecordRefusal) (past : Past) → (with_answer number refusal past).tickets ≡ past.tickets
-  answer_fly number None past = refl
-  answer_fly number (Some refusal) past = refl
+  answer_fly : (number : ℕ) (answer : RecordAnswer) (refusal : Option RecordRefusal) (past : Past) → (with_answer number answer refusal past).tickets ≡ past.tickets
+  answer_fly number answer None past = refl
+  answer_fly number answer (Some refusal) past = refl
+
+  note_fly : (place : JobPlace) (answer : RecordAnswer) (past : Past) → (noted_by place answer past).tickets ≡ past.tickets
+  note_fly place (RecordAnswer.Found row) past = refl
+  note_fly place RecordAnswer.Done past = refl
+  note_fly place (RecordAnswer.Refused refusal) past = refl
+
+  put_fly : (old : Course) (number : ℕ) (answer : RecordAnswer) (turn : Turn) (new : Course) → AfterPut given old number answer turn new → new.tickets.items ≡ old.tickets.items
+  put_fly old number answer turn new after =
+      picks_fly after.noted turn new after.picks ∙ ap (λ (p : Past). p.tickets) after.past ∙ note_fly (place_at (known_in old.known) number) answer (past_of old)
 
   find_fly : (old : Course) (number : ℕ) (answer : RecordAnswer) (turn : Turn) (new : Course) → AfterFind given old number answer turn new → new.tickets.items ≡ old.tickets.items
   find_fly old number answer turn new after =
-      picks_fly after.noted turn new after.picks ∙ ap (λ (p : Past). p.tickets) after.past ∙ answer_fly number after.refusal (past_of old)
+      picks_fly after.noted turn new after.picks ∙ ap (λ (p : Past). p.tickets) after.past ∙ answer_fly number answer after.refusal (past_of old)
 
   pub measures_fly : (old : Course) (measuring : Measuring) (turn : Turn) (new : Course) → MeasuresOn given old measuring turn new → new.tickets.items ≡ old.tickets.items
   measures_fly old measuring turn new (all_measured known its_turn its_new none unfolded picks) = picks_fly known turn new picks ∙ unfolded_fly _ [] old known unfolded
@@ -115,6 +130,8 @@ module _ (given : Given) where
     step_flies it (Phase.Measuring measuring) answer (by_host place request its (has_failed call)) fits goes knows follows = flies_on _ _ (fault_fly old _ turn new follows)
     step_flies it (Phase.Finding number) answer (by_host place request its can) fits goes knows follows = absurd (asks_no_call old place request number fits)
     step_flies it (Phase.Finding number) answer (by_record place request its can) fits goes knows follows = flies_on _ _ (find_fly old number its turn new follows)
+    step_flies it (Phase.Putting number) answer (by_host place request its can) fits goes knows follows = absurd (puts_no_call old place request number fits)
+    step_flies it (Phase.Putting number) answer (by_record place request its can) fits goes knows follows = flies_on _ _ (put_fly old number its turn new follows)
     step_flies it (Phase.Staging number) answer (by_host place request its (is_staged plan folder)) fits goes knows follows =
         flies_on _ _ (turns_fly follows.staged number follows.next turn new (known_still old follows.staged (ap (λ (p : Past). p.end) follows.past) follows.known knows) follows.turns
         ∙ ap (λ (p : Past). p.tickets) follows.past)

@@ -19,11 +19,15 @@ use Rattle.run_core.specs.declared.state.JobNext.{JobNext}
 use Rattle.run_core.specs.declared.state.Phase.{Phase}
 use Rattle.run_core.specs.declared.state.Turn.{Turn}
 use Rattle.run_core.specs.inner.Attempts.{StaysBounded}
-use Rattle.run_core.specs.inner.Course.{GivesUp, Past, again, known_in, past_of, too_often, with_answer}
+use Rattle.run_core.specs.inner.Course.{GivesUp, Past, again, known_in, past_of, too_often, with_answer, failure_by, place_at, put_note}
 use Rattle.run_core.specs.inner.Knows.{IsKnown, IsUnfolded, Learns, end_by, fails as unfold_fails, knows as unfold_knows}
-use Rattle.run_core.specs.inner.Picks.{AfterTemporary, Delivers, Picks, Stages, Turns, asks, delivers, drains, ends_so, fails, gives, gives_late, has_result, stages, succeeds_at_once, waits_for_one, AfterFind, Finds, finds}
+use Rattle.run_core.specs.inner.Picks.{AfterTemporary, Delivers, Picks, Stages, Turns, asks, delivers, drains, ends_so, fails, gives, gives_late, has_result, stages, succeeds_at_once, waits_for_one, AfterFind, Finds, finds, AfterPut, PutsOrPicks, noted_by, mismatches}
 use Rattle.run_core.specs.inner.Standing.{Blames, SettlesRightly}
-use Rattle.run_core.proofs.standing.Books.{Books, BooksAt, books_end, books_given_up, books_waiting, books_looked}
+use Rattle.run_core.proofs.standing.Books.{Books, BooksAt, books_end, books_given_up, books_waiting, books_looked, books_noted}
+use Rattle.job_rows.specs.declared.row.Row.{Row}
+use Rattle.run_rules.specs.declared.outcome.Cause.{Cause}
+use Rattle.job_graph.specs.Words.{JobPlace}
+use Rattle.run_core.specs.inner.FoundRows.{row_in}
 
 -- with this turn and this course
 pub record Leaves (options : Options) (entries : List Entry) (turn : Turn) (new : Course) : Type 0 where
@@ -51,6 +55,7 @@ rightly : (entries : List Entry) (end : Result Outcome RunFault) → SettlesRigh
 rightly entries (Ok report) settles = tt
 rightly entries (Err (RunFault.Host fault running)) settles = settles
 rightly entries (Err (RunFault.Record refusal)) settles = tt
+rightly entries (Err (RunFault.Mismatch place)) settles = tt
 rightly entries (Err RunFault.TooManyJobs) settles = tt
 rightly entries (Err RunFault.OutOfMemory) settles = absurd settles
 
@@ -107,7 +112,7 @@ module _ (options : Options) (entries : List Entry) where
     picks_leave old turn new few books (drains its_new settled flying same known) =
         let now : Books options entries (past_of new) = books_course new old same books in
         record { bounded = now.bounded; blames = now.blames; not_lost = λ lost. cc; goes = λ drains. cc }
-    picks_leave old turn new few books (ends_so end its_new is none cleared known) = leaves_end end turn new refl (books.blames.settled end is)
+    picks_leave old turn new few books (ends_so end its_new is none cleared known same_notes) = leaves_end end turn new refl (books.blames.settled end is)
     picks_leave old turn new few books (finds number its_turn its_new going is_next finding same known) = leaves_finding number old new turn finding (books_course new old same books)
     picks_leave old turn new few books (stages number its_turn its_new going looked slot lowest staging same known) =
         let phase : turn.phase ≡ Phase.Staging number = ap (λ (t : Turn). t.phase) staging.is in
@@ -138,14 +143,40 @@ module _ (options : Options) (entries : List Entry) where
 
     -- The record has answered
 
-    books_answered : (past : Past) (number : ℕ) (refusal : Option RecordRefusal) → Books options entries past → Books options entries (with_answer number refusal past)
-    books_answered past number None books = books_looked options entries past number books
-    books_answered past number (Some refusal) books = books_end options entries past (Err (RunFault.Record refusal)) tt books
+    books_answered : (past : Past) (number : ℕ) (answer : RecordAnswer) (refusal : Option RecordRefusal) → Books options entries past →
+        Books options entries (with_answer number answer refusal past)
+    books_answered past number answer None books = books_looked options entries past number answer books
+    books_answered past number answer (Some refusal) books = books_end options entries past (Err (RunFault.Record refusal)) tt books
 
     pub leaves_find : (old : Course) (number : ℕ) (answer : RecordAnswer) (turn : Turn) (new : Course) → FewKnown turn new → Books options entries (past_of old) →
         AfterFind given old number answer turn new → Leaves options entries turn new
     leaves_find old number answer turn new few books after =
-        picks_leave after.noted turn new few (books_at (past_of after.noted) _ after.past (books_answered (past_of old) number after.refusal books)) after.picks
+        picks_leave after.noted turn new few (books_at (past_of after.noted) _ after.past (books_answered (past_of old) number answer after.refusal books)) after.picks
+
+    books_put : (past : Past) (place : JobPlace) (answer : RecordAnswer) → Books options entries past → Books options entries (noted_by place answer past)
+    books_put past place (RecordAnswer.Found row) books = books
+    books_put past place RecordAnswer.Done books = books
+    books_put past place (RecordAnswer.Refused refusal) books = books_noted options entries past (put_note place refusal) books
+
+    pub leaves_put : (old : Course) (number : ℕ) (answer : RecordAnswer) (turn : Turn) (new : Course) → FewKnown turn new → Books options entries (past_of old) →
+        AfterPut given old number answer turn new → Leaves options entries turn new
+    leaves_put old number answer turn new few books after =
+        picks_leave after.noted turn new few
+        (books_at (past_of after.noted) _ after.past (books_put (past_of old) (place_at (known_in old.known) number) answer books)) after.picks
+
+    -- a job's outputs are there
+    leaves_given : (place : JobPlace) (over : Course) (number : ℕ) (row : Option Row) (turn : Turn) (new : Course) → FewKnown turn new → Books options entries (past_of over) →
+        PutsOrPicks given place over number row turn new → Leaves options entries turn new
+    leaves_given place over number None turn new few books picks = picks_leave over turn new few books picks
+    leaves_given place over number (Some row) turn new few books put =
+        let now : Books options entries (past_of new) = books_course new over put.past books in
+        subst (λ (t : Turn). Leaves options entries t new) (sym put.is)
+        (record { bounded = now.bounded; blames = now.blames; not_lost = λ lost. cc; goes = λ drains. cc })
+
+    -- what a job that gives nothing settles blames nobody
+    failure_settles : (row : Option Row) (place : JobPlace) (cause : Cause) → SettlesRightly entries (failure_by row place cause)
+    failure_settles None place cause = tt
+    failure_settles (Some row) place cause = tt
 
     -- A job goes on
 
@@ -161,10 +192,13 @@ module _ (options : Options) (entries : List Entry) where
         let now : Books options entries (past_of new) = books_course new old same books in
         record { bounded = now.bounded; blames = now.blames; not_lost = λ lost. cc; goes = λ drains. cc }
     turns_leave old number next turn new few knows books (fails cause failed its_turn its_new is known picks) =
-        picks_leave failed turn new few (books_at (past_of failed) _ is (books_end options entries (past_of old) _ tt books)) picks
-    turns_leave old number next turn new few knows books (gives_late outputs late its_turn its_new settled same known picks) =
-        picks_leave late turn new few (books_course late old same books) picks
-    turns_leave old number next turn new few knows books (gives outputs learned its_turn its_new going learns picks) =
+        picks_leave failed turn new few (books_at (past_of failed) _ is (books_end options entries (past_of old) _
+        (failure_settles (row_in old.rows number) (place_at (known_in old.known) number) cause) books)) picks
+    turns_leave old number next turn new few knows books (gives_late outputs row late its_turn its_new settled same known picks) =
+        leaves_given (place_at (known_in old.known) number) late number row turn new few (books_course late old same books) picks
+    turns_leave old number next turn new few knows books (gives outputs row learned its_turn its_new going learns picks) =
         let some : KnowsSome old = knows going in
-        picks_leave learned turn new few
+        leaves_given (place_at (known_in old.known) number) learned number row turn new few
         (books_unfolded some.walks _ old learned (learns_by some.walks some.learned _ old learned old.known refl some.is learns) books) picks
+    turns_leave old number next turn new few knows books (mismatches outputs failed its_turn its_new is known picks) =
+        picks_leave failed turn new few (books_at (past_of failed) _ is (books_end options entries (past_of old) _ tt books)) picks

@@ -1,5 +1,5 @@
 -- How many files the open work on a job still looks at, by its rule.
-use Rattle.std.proofs.Common.{◌≡◌, ℕ, ◌+◌, ◌*◌, ◌≤◌, List, [], length, reverse, None, refl, ap, arith}
+use Rattle.std.proofs.Common.{◌≡◌, ℕ, ◌+◌, ◌*◌, ◌≤◌, List, [], length, reverse, None, refl, ap, arith, Option}
 use Rattle.std.proofs.lemmas.List.{length-reverse}
 use Rattle.collected_outputs.specs.Contents.{Heads}
 use Rattle.proc_host.specs.declared.call.HostRequest.{HostRequest}
@@ -16,12 +16,16 @@ use Rattle.run_core.specs.declared.state.JobPhase.{JobPhase}
 use Rattle.run_core.specs.declared.state.Kept.{Kept}
 use Rattle.run_core.specs.inner.Attempts.{many_files, weight_of_job}
 use Rattle.run_core.specs.inner.Due.{CallsNext, Collects, FitsCall, IsKept, Starts, work_of}
+use Rattle.job_rows.specs.declared.row.Row.{Row}
+use Rattle.run_rules.specs.Keeps.{Keeps, keeps, keeps_none, differs}
+use Rattle.std.specs.Prelude.{option_copied}
 
 -- the weight of a job that goes on; of what comes next where it does not
 abbrev pub weight_next : JobNext → ℕ
 weight_next (JobNext.Asks call phase) = weight_of_job phase
 weight_next (JobNext.Fails cause) = 2
-weight_next (JobNext.Gives outputs) = 2
+weight_next (JobNext.Gives outputs row) = 3
+weight_next (JobNext.Differs outputs) = 2
 
 -- Before it is started
 
@@ -48,7 +52,8 @@ many_at_most call (JobPhase.Reading kept reading) fits = omega (arith, fits)
 pub calls_at_most : (options : Options) (folder : ℕ) (next : JobNext) → CallsNext options folder next → weight_next next ≤ 2 * many_files + 6
 calls_at_most options folder (JobNext.Asks call phase) calls = many_at_most call phase calls.fits
 calls_at_most options folder (JobNext.Fails cause) calls = omega arith
-calls_at_most options folder (JobNext.Gives outputs) calls = omega arith
+calls_at_most options folder (JobNext.Gives outputs row) calls = omega arith
+calls_at_most options folder (JobNext.Differs outputs) calls = omega arith
 
 phase_at_most : (call : HostRequest) (phase : JobPhase) (todo : List Name) → FitsCall call phase → length (inputs_left (work_of [] call phase)) ≤ length todo →
     weight_of_job phase ≤ many_files + 6 + length todo
@@ -61,18 +66,24 @@ phase_at_most call (JobPhase.Reading kept reading) todo fits few = omega (arith,
 pub starts_at_most : (site : Site) (staged : Fields) (read : Heads) (todo : List Name) (next : JobNext) → Starts site staged read todo next →
     weight_next next ≤ many_files + 6 + length todo
 starts_at_most site staged read todo (JobNext.Asks call phase) starts =
-    phase_at_most call phase todo starts.calls.fits (starts_left site.options.now [] _ site.folder staged read (starts.on [] []))
+    phase_at_most call phase todo starts.calls.fits (starts_left site.options.now [] _ site.folder staged read (starts.on []))
 starts_at_most site staged read todo (JobNext.Fails cause) starts = omega arith
-starts_at_most site staged read todo (JobNext.Gives outputs) starts = omega arith
+starts_at_most site staged read todo (JobNext.Gives outputs row) starts = omega arith
+starts_at_most site staged read todo (JobNext.Differs outputs) starts = omega arith
 
 -- Once its child has ended
 
-module _ (place : JobPlace) (job : Job) (started : Started) (millis : ℕ) (found : List Found) (read : Heads) where
+module _ (place : JobPlace) (job : Job) (row : Option Row) (started : Started) (millis : ℕ) (found : List Found) (read : Heads) where
+  kept_tells : {outputs : Fields} {work : Work} {more : List Event} → Keeps place job row millis found outputs work more → more ≡ [] → ⊥
+  kept_tells (keeps_none once) none = cc
+  kept_tells (keeps reusable agrees) none = cc
+  kept_tells (differs other reusable is differ) none = cc
+
   -- where nothing has happened, more is read
-  reads_still : {todo : List Name} {work : Work} {more : List Event} → CollectsOn place job started millis found read todo work more → more ≡ [] →
+  reads_still : {todo : List Name} {work : Work} {more : List Event} → CollectsOn place job row started millis found read todo work more → more ≡ [] →
       work ≡ output_heads_due place millis found todo read
   reads_still (reads_more name more) none = refl
-  reads_still (collects outputs is) none = absurd cc
+  reads_still (collects outputs work more is kept) none = absurd (kept_tells kept none)
   reads_still (collects_none fault is) none = absurd cc
 
 abbrev outputs_left : Work → List Name
@@ -80,7 +91,7 @@ outputs_left (output_heads_due place millis found todo read) = todo
 outputs_left work = []
 
 pub record IsLight (phase : JobPhase) (todo : List Name) : Type 0 where
-  pub by_names : weight_of_job phase ≤ 2 + length todo
+  pub by_names : weight_of_job phase ≤ 3 + length todo
   pub by_lists : weight_of_job phase ≤ many_files + 2
 
 light : (call : HostRequest) (phase : JobPhase) (millis : ℕ) (found : List Found) (todo : List Name) (read : Heads) →
@@ -107,16 +118,18 @@ collects_light : (site : Site) (kept : Kept) (millis : ℕ) (found : List Found)
     Collects site kept millis found read todo (JobNext.Asks call phase) → IsLight phase todo
 collects_light site kept millis found read todo call phase it =
     light call phase millis found todo read
-    (reads_still [] _ (some_start kept) millis found read (it.on [] [] (some_start kept) (kept_so kept)) refl) it.calls.fits
+    (reads_still [] _ (option_copied site.row) (some_start kept) millis found read (it.on [] (some_start kept) (kept_so kept)) refl) it.calls.fits
 
 pub collects_by_names : (site : Site) (kept : Kept) (millis : ℕ) (found : List Found) (read : Heads) (todo : List Name) (next : JobNext) → Collects site kept millis found read todo next →
-    weight_next next ≤ 2 + length todo
+    weight_next next ≤ 3 + length todo
 collects_by_names site kept millis found read todo (JobNext.Asks call phase) it = (collects_light site kept millis found read todo call phase it).by_names
 collects_by_names site kept millis found read todo (JobNext.Fails cause) it = omega arith
-collects_by_names site kept millis found read todo (JobNext.Gives outputs) it = omega arith
+collects_by_names site kept millis found read todo (JobNext.Gives outputs row) it = omega arith
+collects_by_names site kept millis found read todo (JobNext.Differs outputs) it = omega arith
 
 pub collects_by_lists : (site : Site) (kept : Kept) (millis : ℕ) (found : List Found) (read : Heads) (todo : List Name) (next : JobNext) → Collects site kept millis found read todo next →
     weight_next next ≤ many_files + 2
 collects_by_lists site kept millis found read todo (JobNext.Asks call phase) it = (collects_light site kept millis found read todo call phase it).by_lists
 collects_by_lists site kept millis found read todo (JobNext.Fails cause) it = omega arith
-collects_by_lists site kept millis found read todo (JobNext.Gives outputs) it = omega arith
+collects_by_lists site kept millis found read todo (JobNext.Gives outputs row) it = omega arith
+collects_by_lists site kept millis found read todo (JobNext.Differs outputs) it = omega arith

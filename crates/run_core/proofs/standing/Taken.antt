@@ -126,6 +126,7 @@ module _ (entries more : List Entry) (answer : HostAnswer) (is : logged_answers 
   settles_more (Ok report) settles = tt
   settles_more (Err (RunFault.Host fault running)) settles = blame_more fault running settles
   settles_more (Err (RunFault.Record refusal)) settles = tt
+  settles_more (Err (RunFault.Mismatch place)) settles = tt
   settles_more (Err RunFault.TooManyJobs) settles = tt
   settles_more (Err RunFault.OutOfMemory) settles = absurd settles
 
@@ -133,6 +134,7 @@ module _ (entries more : List Entry) (answer : HostAnswer) (is : logged_answers 
   ends_more (Ok report) blames = tt
   ends_more (Err (RunFault.Host fault running)) blames = blame_more fault running blames
   ends_more (Err (RunFault.Record refusal)) blames = tt
+  ends_more (Err (RunFault.Mismatch place)) blames = tt
   ends_more (Err RunFault.TooManyJobs) blames = tt
   ends_more (Err RunFault.OutOfMemory) blames = tt
 
@@ -191,6 +193,7 @@ some_weight_of_job (JobPhase.Reading kept reading) = omega arith
 pub some_weight : (phase : Phase) → 0 < weight_of phase
 some_weight (Phase.Measuring measuring) = omega arith
 some_weight (Phase.Finding number) = omega arith
+some_weight (Phase.Putting number) = omega arith
 some_weight (Phase.Staging number) = omega arith
 some_weight (Phase.Working number phase) = some_weight_of_job phase
 some_weight Phase.Collecting = omega arith

@@ -1,7 +1,7 @@
 -- Each choice of what comes next leaves few answers.
 use Rattle.std.specs.Prelude.{◌-◌, ◌*◌, IsSome}
 use Rattle.std.specs.List.{remove}
-use Rattle.std.proofs.Common.{◌≡◌, ℕ, ◌+◌, ◌≤◌, List, [], ◌∷◌, ◌++◌, length, true, false, Option, Some, None, refl, sym, ap, subst, arith, length-append}
+use Rattle.std.proofs.Common.{◌≡◌, ℕ, ◌+◌, ◌≤◌, List, [], ◌∷◌, ◌++◌, length, true, false, Option, Some, None, refl, sym, ap, subst, arith, length-append, ◌∙◌}
 use Rattle.std.proofs.lemmas.List.Edits.{length-remove}
 use Rattle.std.proofs.lemmas.Nat.{mul-le}
 use Rattle.std.proofs.lemmas.Option.{slice_get_within}
@@ -17,12 +17,15 @@ use Rattle.run_core.specs.declared.state.Kept.{Kept}
 use Rattle.run_core.specs.declared.state.Phase.{Phase}
 use Rattle.run_core.specs.declared.state.Turn.{Turn}
 use Rattle.run_core.specs.inner.Attempts.{IsBounded, answers_left, many_files, most_stagings, tries_of, weight_of_past}
-use Rattle.run_core.specs.inner.Course.{GivesUp, Past, TakesOut, again, known_in, past_of, too_often, with_staging, with_start, with_answer}
+use Rattle.run_core.specs.inner.Course.{GivesUp, Past, TakesOut, again, known_in, past_of, too_often, with_staging, with_start, with_answer, place_at}
 use Rattle.run_core.specs.inner.Knows.{IsUnfolded, fails as unfold_fails, knows as unfold_knows}
-use Rattle.run_core.specs.inner.Picks.{AfterTemporary, Delivers, Picks, Stages, Turns, asks, delivers, drains, ends_so, fails, gives, gives_late, has_result, stages, succeeds_at_once, waits_for_one, Finds, finds}
+use Rattle.run_core.specs.inner.Picks.{AfterTemporary, Delivers, Picks, Stages, Turns, asks, delivers, drains, ends_so, fails, gives, gives_late, has_result, stages, succeeds_at_once, waits_for_one, Finds, finds, PutsOrPicks, mismatches}
 use Rattle.run_core.proofs.standing.Leaving.{KnowsSome, learns_by}
 use Rattle.run_core.proofs.standing.Looked.{weight_next}
 use Rattle.run_core.proofs.standing.Tries.{tries_at_most}
+use Rattle.run_rules.specs.declared.request.RecordAnswer.{RecordAnswer}
+use Rattle.job_rows.specs.declared.row.Row.{Row}
+use Rattle.job_graph.specs.Words.{JobPlace}
 
 least : (w : ℕ) → 0 ≤ w
 least w = omega arith
@@ -91,9 +94,9 @@ landing_falls options ticket flight old new taken =
 one_row_less : (most before number jobs : ℕ) → before ≤ number → number + 1 ≤ most → (most - (number + 1)) * 2 + jobs + 2 ≤ (most - before) * 2 + jobs
 one_row_less most before number jobs left within = omega (arith, left, within)
 
-pub answer_falls : (options : Options) (past : Past) (number : ℕ) → past.looked_up ≤ number → number + 1 ≤ MOST_VERTICES →
-    weight_of_past options (with_answer number None past) + 2 ≤ weight_of_past options past
-answer_falls options past number left within =
+pub answer_falls : (options : Options) (past : Past) (number : ℕ) (answer : RecordAnswer) → past.looked_up ≤ number → number + 1 ≤ MOST_VERTICES →
+    weight_of_past options (with_answer number answer None past) + 2 ≤ weight_of_past options past
+answer_falls options past number answer left within =
     one_row_less MOST_VERTICES past.looked_up number ((most_stagings options - past.folders) * (2 * many_files + 8) + length past.tickets * (many_files + 3)) left within
 
 -- What comes next
@@ -133,7 +136,7 @@ module _ (options : Options) (given : Given) where
 
   pub picks_few : (old : Course) (turn : Turn) (new : Course) → Picks given old turn new → answers_left options (past_of new) turn.phase ≤ Before old + 2
   picks_few old turn new (drains its_new settled flying same known) = raised (answers_left options (past_of new) Phase.Collecting) (Before old) (at_collect old new same)
-  picks_few old turn new (ends_so end its_new is none cleared known) = least (Before old + 2)
+  picks_few old turn new (ends_so end its_new is none cleared known same_notes) = least (Before old + 2)
   picks_few old turn new (finds number its_turn its_new going is_next finding same known) = at_find number old new turn finding same
   picks_few old turn new (stages number its_turn its_new going looked slot lowest staging same known) = at_staging number old new turn staging same
   picks_few old turn new (waits_for_one its_new going looked flying none same known) = raised (answers_left options (past_of new) Phase.Collecting) (Before old) (at_collect old new same)
@@ -142,7 +145,7 @@ module _ (options : Options) (given : Given) where
   -- once the end is settled
   pub picks_settled : (old : Course) (turn : Turn) (new : Course) → IsSome old.end → Picks given old turn new → answers_left options (past_of new) turn.phase ≤ Before old + 1
   picks_settled old turn new over (drains its_new settled flying same known) = at_collect old new same
-  picks_settled old turn new over (ends_so end its_new is none cleared known) = least (Before old + 1)
+  picks_settled old turn new over (ends_so end its_new is none cleared known same_notes) = least (Before old + 1)
   picks_settled old turn new over (finds number its_turn its_new going is_next finding same known) = absurd (none_some old.end over going)
   picks_settled old turn new over (stages number its_turn its_new going looked slot lowest staging same known) = absurd (none_some old.end over going)
   picks_settled old turn new over (waits_for_one its_new going looked flying none same known) = absurd (none_some old.end over going)
@@ -152,7 +155,7 @@ module _ (options : Options) (given : Given) where
   pub picks_last : (old : Course) (turn : Turn) (new : Course) → IsSome old.end → old.tickets.items ≡ [] → Picks given old turn new →
       answers_left options (past_of new) turn.phase ≤ 0
   picks_last old turn new over empty (drains its_new settled flying same known) = absurd (flying empty)
-  picks_last old turn new over empty (ends_so end its_new is none cleared known) = least 0
+  picks_last old turn new over empty (ends_so end its_new is none cleared known same_notes) = least 0
   picks_last old turn new over empty (finds number its_turn its_new going is_next finding same known) = absurd (none_some old.end over going)
   picks_last old turn new over empty (stages number its_turn its_new going looked slot lowest staging same known) = absurd (none_some old.end over going)
   picks_last old turn new over empty (waits_for_one its_new going looked flying none same known) = absurd (none_some old.end over going)
@@ -173,6 +176,17 @@ module _ (options : Options) (given : Given) where
       subst (λ w. answers_left options (past_of new) turn.phase ≤ w + most) same
       (two_of (answers_left options (past_of new) turn.phase) (Before one) most two (picks_few one turn new picks))
 
+  -- a job's outputs are there: its row is put next, if one is made of it
+  given_from : (place : JobPlace) (one old : Course) (number : ℕ) (row : Option Row) (turn : Turn) (new : Course) (most : ℕ) → weight_of_past options (past_of one) ≡ Before old → 2 ≤ most → 3 ≤ most →
+      PutsOrPicks given place one number row turn new → answers_left options (past_of new) turn.phase ≤ Before old + most
+  given_from place one old number None turn new most same two three picks = picks_from one old turn new most same two picks
+  given_from place one old number (Some row) turn new most same two three put =
+      subst (λ (t : Turn). answers_left options (past_of new) t.phase ≤ Before old + most) (sym put.is)
+      (three_of (weight_of_past options (past_of new)) (Before old) most three (ap (weight_of_past options) put.past ∙ same))
+    where
+      three_of : (a b most : ℕ) → 3 ≤ most → a ≡ b → a + 3 ≤ b + most
+      three_of a b most three is = omega (arith, three, is)
+
   pub turns_few : (old : Course) (number : ℕ) (next : JobNext) (turn : Turn) (new : Course) (most : ℕ) → 2 ≤ most → weight_next next ≤ most →
       (old.end ≡ None → KnowsSome old) → Turns given old number next turn new → answers_left options (past_of new) turn.phase ≤ Before old + most
   turns_few old number next turn new most two few knows (asks call phase its_new same known) =
@@ -183,12 +197,14 @@ module _ (options : Options) (given : Given) where
       added w a b less = omega (arith, less)
   turns_few old number next turn new most two few knows (fails cause failed its_turn its_new is known picks) =
       picks_from failed old turn new most (ap (weight_of_past options) is) two picks
-  turns_few old number next turn new most two few knows (gives_late outputs late its_turn its_new settled same known picks) =
-      picks_from late old turn new most (ap (weight_of_past options) same) two picks
-  turns_few old number next turn new most two few knows (gives outputs learned its_turn its_new going learns picks) =
+  turns_few old number next turn new most two few knows (gives_late outputs row late its_turn its_new settled same known picks) =
+      given_from (place_at (known_in old.known) number) late old number row turn new most (ap (weight_of_past options) same) two few picks
+  turns_few old number next turn new most two few knows (gives outputs row learned its_turn its_new going learns picks) =
       let some : KnowsSome old = knows going in
-      picks_from learned old turn new most
-      (unfolded_same some.walks _ old learned (learns_by some.walks some.learned _ old learned old.known refl some.is learns)) two picks
+      given_from (place_at (known_in old.known) number) learned old number row turn new most
+      (unfolded_same some.walks _ old learned (learns_by some.walks some.learned _ old learned old.known refl some.is learns)) two few picks
+  turns_few old number next turn new most two few knows (mismatches outputs failed its_turn its_new is known picks) =
+      picks_from failed old turn new most (ap (weight_of_past options) is) two picks
 
   gave_up_same : (past : Past) (jobs : List Job) (number retries : ℕ) {new : Past} → GivesUp jobs number retries past new →
       weight_of_past options new ≡ weight_of_past options past

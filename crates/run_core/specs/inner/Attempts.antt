@@ -43,11 +43,12 @@ abbrev pub weight_of_job : JobPhase → ℕ
 weight_of_job (JobPhase.Filling filling) = many_files + 6 + length filling.left
 weight_of_job (JobPhase.Starting kept) = many_files + 6
 weight_of_job (JobPhase.Scanning kept millis) = many_files + 3
-weight_of_job (JobPhase.Reading kept reading) = 2 + length reading.left
+weight_of_job (JobPhase.Reading kept reading) = 3 + length reading.left
 
 abbrev pub weight_of : Phase → ℕ
 weight_of (Phase.Measuring measuring) = 2 + length measuring.left
 weight_of (Phase.Finding job) = 2
+weight_of (Phase.Putting job) = 3
 weight_of (Phase.Staging job) = 2
 weight_of (Phase.Working job phase) = weight_of_job phase
 weight_of phase = 1

@@ -3,6 +3,11 @@ use Rattle.std.specs.Prelude.{Ok, Err, ◌≡◌, ◌<◌, ◌≤◌, ℕ, ◌+�
 use Rattle.std.specs.List.{remove, zip}
 use Rattle.job_graph.specs.declared.unfolding.Unfolding.{Unfolding}
 use Rattle.job_rows.specs.declared.refusal.RecordRefusal.{RecordRefusal}
+use Rattle.job_rows.specs.declared.row.Row.{Row}
+use Rattle.run_rules.specs.declared.outcome.Cause.{Cause}
+use Rattle.run_rules.specs.declared.outcome.Note.{Note}
+use Rattle.run_rules.specs.declared.outcome.NoteKind.{NoteKind}
+use Rattle.run_rules.specs.declared.request.RecordAnswer.{RecordAnswer}
 use Rattle.run_rules.specs.declared.outcome.Outcome.{Outcome}
 use Rattle.run_rules.specs.declared.outcome.RunFault.{RunFault}
 use Rattle.job_graph.specs.Jobs.{Job}
@@ -12,6 +17,7 @@ use Rattle.run_core.specs.declared.state.Course.{Course}
 use Rattle.run_core.specs.declared.state.Flight.{Flight}
 use Rattle.run_core.specs.declared.job_states.JobState.{JobState}
 use Rattle.run_core.specs.declared.state.Kept.{Kept}
+use Rattle.run_core.specs.inner.FoundRows.{row_in, rows_after}
 use Rattle.run_core.specs.inner.JobStates.{given_up_in, staged_in}
 
 -- the known jobs, by number
@@ -26,6 +32,8 @@ pub record Past : Type 0 where
   pub jobs : List JobState
   pub folders : ℕ
   pub looked_up : ℕ
+  pub rows : List (Option Row)
+  pub notes : List Note
   pub end : Option (Result Outcome RunFault)
 
 abbrev pub past_of : Course → Past
@@ -35,11 +43,13 @@ past_of course = record {
   jobs = course.jobs;
   folders = course.folders;
   looked_up = course.looked_up;
+  rows = course.rows;
+  notes = course.notes.items;
   end = course.end;
 }
 
 abbrev pub nothing_past : Past
-nothing_past = record { tickets = []; flights = []; jobs = []; folders = 0; looked_up = 0; end = None }
+nothing_past = record { tickets = []; flights = []; jobs = []; folders = 0; looked_up = 0; rows = []; notes = []; end = None }
 
 -- the place of the job of a number
 abbrev pub place_at : List Job → ℕ → JobPlace
@@ -59,10 +69,26 @@ number_in (job ∷ jobs) (state ∷ states) place = cond (is_same_place job.plac
 abbrev pub with_end : Result Outcome RunFault → Past → Past
 with_end end past = record past { end = or_else past.end (Some end) }
 
--- the row of the job of a number was looked for, or there is a refusal that settles the end
-abbrev pub with_answer : ℕ → Option RecordRefusal → Past → Past
-with_answer number None past = record past { looked_up = number + 1 }
-with_answer number (Some refusal) past = with_end (Err (RunFault.Record refusal)) past
+-- the record has told this of the job of a number, or there is a refusal that settles the end
+abbrev pub with_answer : ℕ → RecordAnswer → Option RecordRefusal → Past → Past
+with_answer number answer None past = record past { looked_up = number + 1; rows = rows_after number answer past.rows }
+with_answer number answer (Some refusal) past = with_end (Err (RunFault.Record refusal)) past
+
+-- this went wrong, and the end stays
+abbrev pub with_note : Note → Past → Past
+with_note note past = record past { notes = past.notes ++ note ∷ [] }
+
+-- the record refused to keep the row of the job at a place
+abbrev pub put_note : JobPlace → RecordRefusal → Note
+put_note place refusal = record { place = place; kind = NoteKind.Put refusal }
+
+-- the end by a job that gives no outputs: a mismatch where a row was found for it
+abbrev pub failure_by : Option Row → JobPlace → Cause → Result Outcome RunFault
+failure_by None place cause = Ok (Outcome.PermanentFail place cause)
+failure_by (Some row) place cause = Err (RunFault.Mismatch place)
+
+abbrev pub failure_in : Past → ℕ → JobPlace → Cause → Result Outcome RunFault
+failure_in past number place cause = failure_by (row_in past.rows number) place cause
 
 abbrev pub with_staging : ℕ → Past → Past
 with_staging number past = record past { folders = past.folders + 1; jobs = staged_in number (past.folders + 1) past.jobs }

@@ -1,5 +1,5 @@
 -- What the open work on one job is, as the rules of a run have it: what its phase and its call stand for, and what may come next.
-use Rattle.std.specs.Prelude.{◌≡◌, ◌<◌, ◌^◌, ℕ, List, [], ◌∷◌, ◌++◌, Option, Some, None, Ok, Err, length, reverse, unwrap_or}
+use Rattle.std.specs.Prelude.{◌≡◌, ◌<◌, ◌^◌, ℕ, List, [], ◌∷◌, ◌++◌, Option, Some, None, Ok, Err, length, reverse, unwrap_or, ◌≢◌, option_copied}
 use Rattle.collected_outputs.specs.Collected.{IsCollected}
 use Rattle.collected_outputs.specs.HeadsWanted.{AreHeadsWanted, limit_of}
 use Rattle.collected_outputs.specs.Listing.{listing_of}
@@ -20,7 +20,7 @@ use Rattle.run_rules.specs.declared.setting.Options.{Options}
 use Rattle.job_graph.specs.Words.{Name, Fields, JobPlace}
 use Rattle.collected_outputs.specs.Contents.{Heads}
 use Rattle.run_rules.specs.CollectsOn.{CollectsOn}
-use Rattle.run_rules.specs.Events.{Event, job_failed, job_succeeded, Work, nothing_due, input_heads_due, start_due, scan_due, output_heads_due, Started}
+use Rattle.run_rules.specs.Events.{Event, job_failed, job_succeeded, Work, nothing_due, input_heads_due, start_due, scan_due, output_heads_due, Started, row_differs, put_due}
 use Rattle.run_rules.specs.Folders.{out_folder, runtime_of}
 use Rattle.job_graph.specs.Jobs.{Job}
 use Rattle.run_rules.specs.StartsOn.{StartsOn}
@@ -30,6 +30,8 @@ use Rattle.run_core.specs.declared.state.JobNext.{JobNext}
 use Rattle.run_core.specs.declared.state.JobPhase.{JobPhase}
 use Rattle.run_core.specs.declared.state.Kept.{Kept}
 use Rattle.run_core.specs.declared.state.Reading.{Reading}
+use Rattle.job_rows.specs.declared.row.Row.{Row}
+use Rattle.run_rules.specs.Keeps.{Keeps}
 
 -- the work on the job at a place that a call and a phase stand for
 abbrev pub work_of : JobPlace → HostRequest → JobPhase → Work
@@ -49,16 +51,20 @@ call_for options folder (scan_due place millis) = Some (HostRequest.Scan (out_fo
 call_for options folder (output_heads_due place millis found [] read) = None
 call_for options folder (output_heads_due place millis found (name ∷ todo) read) =
     Some (HostRequest.Head (path_in (out_folder options.work folder) name) (limit_of name))
+call_for options folder (put_due place row) = None
 
 abbrev pub work_next : JobPlace → JobNext → Work
 work_next place (JobNext.Asks call phase) = work_of place call phase
 work_next place (JobNext.Fails cause) = nothing_due
-work_next place (JobNext.Gives outputs) = nothing_due
+work_next place (JobNext.Gives outputs None) = nothing_due
+work_next place (JobNext.Gives outputs (Some row)) = put_due place row
+work_next place (JobNext.Differs outputs) = nothing_due
 
 abbrev pub events_next : JobPlace → JobNext → List Event
 events_next place (JobNext.Asks call phase) = []
 events_next place (JobNext.Fails cause) = job_failed place cause ∷ []
-events_next place (JobNext.Gives outputs) = job_succeeded place outputs ∷ []
+events_next place (JobNext.Gives outputs row) = job_succeeded place outputs ∷ []
+events_next place (JobNext.Differs outputs) = row_differs place outputs ∷ []
 
 -- what is kept of a job's child is what it was started by
 pub record IsKept (kept : Kept) (started : Started) : Type 0 where
@@ -95,29 +101,33 @@ pub record Calls (options : Options) (folder : ℕ) (call : HostRequest) (phase 
 
 abbrev pub CallsNext : Options → ℕ → JobNext → Type 0
 CallsNext options folder (JobNext.Asks call phase) = Calls options folder call phase
-CallsNext options folder (JobNext.Fails cause) = Unit {0}
-CallsNext options folder (JobNext.Gives outputs) = Unit {0}
+CallsNext options folder next = Unit {0}
+
+-- nothing more is asked for the job before its outputs are there, or why there are none
+abbrev pub AsksNothing : JobNext → Type 0
+AsksNothing (JobNext.Asks call phase) = ⊥
+AsksNothing next = Unit {0}
 
 -- what is kept of the job stays where more is read
 abbrev pub KeepsStill : Kept → JobNext → Type 0
 KeepsStill kept (JobNext.Asks call (JobPhase.Reading now reading)) = now ≡ kept
 KeepsStill kept next = Unit {0}
 
--- a job of the site's tool
-abbrev pub job_at_site : Site → JobPlace → Fields → Job
-job_at_site site place inputs = record { place = place; tool = site.tool.now; inputs = inputs }
+-- the job of a site
+abbrev pub job_at_site : Site → JobPlace → Job
+job_at_site site place = record { place = place; tool = site.tool.now; inputs = site.inputs.now }
 
 -- the staged job goes on so, where these first bytes of its inputs were read and those of these paths are not
 pub record Starts (site : Site) (staged : Fields) (read : Heads) (todo : List Name) (next : JobNext) : Type 0 where
-  pub on : (place : JobPlace) (inputs : Fields) →
-      StartsOn site.options.now place (job_at_site site place inputs) site.folder staged read todo (work_next place next) (events_next place next)
+  pub on : (place : JobPlace) →
+      StartsOn site.options.now place (job_at_site site place) site.folder staged read todo (work_next place next) (events_next place next)
   pub calls : CallsNext site.options.now site.folder next
 
 -- the job whose child ended well after so long goes on so, where this was found, these first bytes were read and those of these names are
 -- not
 pub record Collects (site : Site) (kept : Kept) (millis : ℕ) (found : List Found) (read : Heads) (todo : List Name) (next : JobNext) : Type 0 where
-  pub on : (place : JobPlace) (inputs : Fields) (started : Started) → IsKept kept started →
-      CollectsOn place (job_at_site site place inputs) started millis found read todo (work_next place next) (events_next place next)
+  pub on : (place : JobPlace) (started : Started) → IsKept kept started →
+      CollectsOn place (job_at_site site place) (option_copied site.row) started millis found read todo (work_next place next) (events_next place next)
   pub calls : CallsNext site.options.now site.folder next
   pub keeps : KeepsStill kept next
 
@@ -147,8 +157,19 @@ pub record CollectsFirst (site : Site) (kept : Kept) (millis : ℕ) (found : Lis
   pub are : AreHeadsWanted (listing_of found) kept.inputs site.tool.now.outputs wanted
   pub on : Collects site kept millis found [] wanted next
 
+-- a row was found that has other outputs
+abbrev pub DiffersAt : Option Row → Fields → Type 0
+DiffersAt None outputs = ⊥
+DiffersAt (Some row) outputs = row.outputs ≢ outputs
+
+-- the collected outputs of the job at this site are kept so
+pub record KeepsAt (site : Site) (millis : ℕ) (found : List Found) (outputs : Fields) (next : JobNext) : Type 0 where
+  pub on : (place : JobPlace) → Keeps place (job_at_site site place) (option_copied site.row) millis found outputs (work_next place next) (events_next place next)
+  pub asks_nothing : AsksNothing next
+
 -- the outputs are collected, or there is a cause why there are none
-pub data Gathers (site : Site) (kept : Kept) (found : List Found) (read : Heads) : JobNext → Type 0 where
-  gives : (outputs : Fields) → IsCollected (left_by kept found read) site.tool.now.outputs (Ok outputs) → Gathers site kept found read (JobNext.Gives outputs)
+pub data Gathers (site : Site) (kept : Kept) (millis : ℕ) (found : List Found) (read : Heads) : JobNext → Type 0 where
+  gives : (outputs : Fields) (next : JobNext) → IsCollected (left_by kept found read) site.tool.now.outputs (Ok outputs) → KeepsAt site millis found outputs next →
+      Gathers site kept millis found read next
   gives_none : (fault : OutputFault) → IsCollected (left_by kept found read) site.tool.now.outputs (Err fault) →
-      Gathers site kept found read (JobNext.Fails (Cause.Collect (CollectCause.Output fault)))
+      Gathers site kept millis found read (JobNext.Fails (Cause.Collect (CollectCause.Output fault)))

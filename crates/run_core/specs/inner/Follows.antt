@@ -20,7 +20,7 @@ use Rattle.run_core.specs.declared.state.Phase.{Phase}
 use Rattle.run_core.specs.declared.state.Turn.{Turn}
 use Rattle.run_core.specs.inner.Course.{Past, known_in, past_of}
 use Rattle.run_core.specs.inner.Measures.{TakesMeasure}
-use Rattle.run_core.specs.inner.Picks.{AfterChild, AfterFault, AfterFind, AfterInputHead, AfterListing, AfterOutputHead, AfterStaging, AfterStart}
+use Rattle.run_core.specs.inner.Picks.{AfterChild, AfterFault, AfterFind, AfterInputHead, AfterListing, AfterOutputHead, AfterStaging, AfterStart, AfterPut}
 use Rattle.run_core.specs.inner.Standing.{pairs_ahead}
 use Rattle.run_core.specs.inner.Turn.{ends, lost_after, succeeds}
 
@@ -44,6 +44,7 @@ pub record CanStage (course : Course) (job : ℕ) : Type 0 where
 abbrev pub AsksOf : Course → Request → Phase → Type 0
 AsksOf course (Request.Host place (HostRequest.Measure path)) (Phase.Measuring measuring) = Unit {0}
 AsksOf course (Request.Record place (RecordRequest.Find key)) (Phase.Finding job) = job < length (known_in course.known)
+AsksOf course (Request.Record place (RecordRequest.Put row)) (Phase.Putting job) = job < length (known_in course.known)
 AsksOf course (Request.Host place (HostRequest.Stage plan folder)) (Phase.Staging job) = CanStage course job
 AsksOf course (Request.Host place (HostRequest.Head path limit)) (Phase.Working job (JobPhase.Filling filling)) = job < length course.jobs
 AsksOf course (Request.Host place (HostRequest.Start launch)) (Phase.Working job (JobPhase.Starting kept)) = job < length course.jobs
@@ -65,7 +66,7 @@ pub record Drains (old : Course) (ending : ChildEnd) (turn : Turn) (new : Course
 
 -- a call failed; after a failed collect nobody waits for the children in flight any more
 abbrev pub AfterFailure : Given → Course → Phase → HostFault → Turn → Course → Type 0
-AfterFailure given old Phase.Collecting fault turn new = (turn ≡ ends (Err (RunFault.Host fault old.tickets.items))) × (new.known ≡ old.known) × (new.tickets.items ≡ [])
+AfterFailure given old Phase.Collecting fault turn new = (turn ≡ ends (Err (RunFault.Host fault old.tickets.items))) × (new.known ≡ old.known) × (new.tickets.items ≡ []) × ((past_of new).notes ≡ (past_of old).notes)
 AfterFailure given old Phase.Draining fault turn new = (turn ≡ ends (Err RunFault.OutOfMemory)) × (new.tickets.items ≡ [])
 AfterFailure given old phase fault turn new = AfterFault given old fault turn new
 
@@ -90,13 +91,14 @@ FollowsIn given old (Phase.Delivering outputs) HostAnswer.Done asks turn new = (
 FollowsIn given old phase answer asks turn new = ⊥
 
 -- what follows from an answer of the record's
-abbrev pub FollowsFind : Given → Course → Phase → RecordAnswer → Turn → Course → Type 0
-FollowsFind given old (Phase.Finding number) answer turn new = AfterFind given old number answer turn new
-FollowsFind given old phase answer turn new = ⊥
+abbrev pub FollowsRecord : Given → Course → Phase → RecordAnswer → Turn → Course → Type 0
+FollowsRecord given old (Phase.Finding number) answer turn new = AfterFind given old number answer turn new
+FollowsRecord given old (Phase.Putting number) answer turn new = AfterPut given old number answer turn new
+FollowsRecord given old phase answer turn new = ⊥
 
 abbrev pub FollowsFrom : Given → Course → Turn → Answer → Turn → Course → Type 0
 FollowsFrom given old before (Answer.Host answer) turn new = FollowsIn given old before.phase answer before.asks turn new
-FollowsFrom given old before (Answer.Record answer) turn new = FollowsFind given old before.phase answer turn new
+FollowsFrom given old before (Answer.Record answer) turn new = FollowsRecord given old before.phase answer turn new
 
 -- an answer to what the open work on a job waits for
 abbrev pub AnswersWork : JobPhase → HostAnswer → Type 0
@@ -106,16 +108,23 @@ AnswersWork (JobPhase.Scanning kept millis) (HostAnswer.Listed found) = Unit {0}
 AnswersWork (JobPhase.Reading kept reading) (HostAnswer.FirstBytes bytes) = Unit {0}
 AnswersWork work answer = ⊥
 
--- the row of a known job is looked for
-abbrev pub IsFinding : Course → Phase → Type 0
-IsFinding course (Phase.Finding number) = number < length (known_in course.known)
-IsFinding course phase = ⊥
-
 -- an answer that a find can have
 abbrev pub IsOfAFind : RecordAnswer → Type 0
 IsOfAFind (RecordAnswer.Found row) = Unit {0}
 IsOfAFind (RecordAnswer.Refused refusal) = Unit {0}
 IsOfAFind RecordAnswer.Done = ⊥
+
+-- and a put
+abbrev pub IsOfAPut : RecordAnswer → Type 0
+IsOfAPut RecordAnswer.Done = Unit {0}
+IsOfAPut (RecordAnswer.Refused refusal) = Unit {0}
+IsOfAPut (RecordAnswer.Found row) = ⊥
+
+-- the row of a known job is looked for, or put, and the record can answer so
+abbrev pub WaitsForRecord : Course → Phase → RecordAnswer → Type 0
+WaitsForRecord course (Phase.Finding number) answer = (number < length (known_in course.known)) × IsOfAFind answer
+WaitsForRecord course (Phase.Putting number) answer = (number < length (known_in course.known)) × IsOfAPut answer
+WaitsForRecord course phase answer = ⊥
 
 abbrev pub IsStaging : Request → Type 0
 IsStaging (Request.Host place (HostRequest.Stage plan folder)) = Unit {0}

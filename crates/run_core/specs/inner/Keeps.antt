@@ -3,8 +3,8 @@ use Rattle.std.specs.Prelude.{◌≡◌, ◌≤◌, ◌+◌, ℕ, true, false, L
 use Rattle.std.specs.List.{list_any}
 use Rattle.job_graph.specs.Jobs.{Job}
 use Rattle.run_rules.specs.End.{is_lost_collect, settled}
-use Rattle.run_rules.specs.Events.{Event, Started, are_measured, delivered_at, measures, resolved, started_at, unfolding_at}
-use Rattle.run_rules.specs.Reports.{outcome_of}
+use Rattle.run_rules.specs.Events.{Event, Started, are_measured, delivered_at, measures, resolved, started_at, unfolding_at, row_at}
+use Rattle.run_rules.specs.Reports.{outcome_of, notes_of}
 use Rattle.run_rules.specs.Scene.{Scene}
 use Rattle.run_rules.proofs.events.Course.{Course as Books, Keeps as AreKept}
 use Rattle.run_rules.proofs.events.Known.{IsFront}
@@ -17,6 +17,8 @@ use Rattle.run_core.specs.inner.Course.{Past, known_in, past_of}
 use Rattle.run_core.specs.inner.Due.{IsKept}
 use Rattle.run_core.specs.inner.JobStates.{state_at, waits_in}
 use Rattle.run_core.specs.inner.Knows.{IsKnown}
+use Rattle.job_rows.specs.declared.row.Row.{Row}
+use Rattle.run_core.specs.inner.FoundRows.{row_in}
 
 abbrev pub numbers_of : List Flight → List ℕ
 numbers_of flights = map (λ flight. flight.job) flights
@@ -60,6 +62,11 @@ pub record Keeps (s : Scene) (es : List Event) (jobs : List Job) (past : Past) (
   pub front : IsFront jobs (unfolding_at s es).jobs
   pub end : past.end ≡ option_map outcome_of (settled s es)
 
+-- the rows that were found are kept by the numbers of their jobs, which were looked for
+pub record AreFound (jobs : List Job) (es : List Event) (rows : List (Option Row)) (looked_up : ℕ) : Type 0 where
+  pub few : length rows ≤ looked_up
+  pub each : (n : ℕ) (job : Job) → IsJob jobs n job → row_at es job.place ≡ row_in rows n
+
 -- a course is what has happened, with the number of the job that is worked on: no collect has failed, nothing was delivered, and unless
 -- the end is settled each input file is measured and all is known by the rules
 pub record Reflects (s : Scene) (es : List Event) (course : Course) (at_work : Option ℕ) : Type 0 where
@@ -69,3 +76,5 @@ pub record Reflects (s : Scene) (es : List Event) (course : Course) (at_work : O
   pub collects : list_any is_lost_collect es ≡ false
   pub undelivered : delivered_at es ≡ None
   pub looks : LooksUp (known_in course.known) es course.looked_up
+  pub rows : AreFound (known_in course.known) es course.rows course.looked_up
+  pub notes : course.notes.items ≡ notes_of es

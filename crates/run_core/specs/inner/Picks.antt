@@ -1,5 +1,5 @@
 -- What the machine turns to where nothing is due, and after each answer. That all this makes a run are laws above it.
-use Rattle.std.specs.Prelude.{◌≡◌, ◌≢◌, ◌≤◌, ◌<◌, ◌+◌, ℕ, true, false, List, [], Option, Some, None, Result, Err, IsSome, length, slice_get}
+use Rattle.std.specs.Prelude.{◌≡◌, ◌≢◌, ◌≤◌, ◌<◌, ◌+◌, ℕ, true, false, List, [], Option, Some, None, Result, Err, IsSome, length, slice_get, option_copied}
 use Rattle.cwl_process.specs.declared.tool.Tool.{Tool}
 use Rattle.input_files.specs.Contents.{heads_wanted}
 use Rattle.proc_host.specs.declared.call.HostFault.{HostFault}
@@ -40,11 +40,12 @@ use Rattle.run_core.specs.declared.state.Kept.{Kept}
 use Rattle.run_core.specs.declared.state.Phase.{Phase}
 use Rattle.run_core.specs.declared.state.Reading.{Reading}
 use Rattle.run_core.specs.declared.state.Turn.{Turn}
-use Rattle.run_core.specs.inner.Course.{GivesUp, TakesOut, known_in, number_in, past_of, place_at, with_answer, with_end, with_staging, with_start}
+use Rattle.run_core.specs.inner.Course.{GivesUp, TakesOut, known_in, number_in, past_of, place_at, with_answer, with_end, with_staging, with_start, failure_in, put_note, with_note, Past}
 use Rattle.run_core.specs.inner.Due.{CollectsFirst, CollectsPast, Scans, Starts, StartsPast}
 use Rattle.run_core.specs.inner.JobStates.{IsLowest, NoneWaits}
 use Rattle.run_core.specs.inner.Knows.{Learns, outputs_in}
-use Rattle.run_core.specs.inner.Turn.{collects, ends, permanent, root_asks, succeeds, works}
+use Rattle.run_core.specs.inner.Turn.{collects, ends, root_asks, succeeds, works, puts}
+use Rattle.run_core.specs.inner.FoundRows.{row_in}
 
 -- the folder that has the outputs of the job at a place
 abbrev pub folder_in : Options → Course → JobPlace → Name
@@ -117,7 +118,7 @@ pub record MayBeNext (given : Given) (course : Course) (number : ℕ) : Type 0 w
 pub data Picks (given : Given) (old : Course) : Turn → Course → Type 0 where
   drains : (new : Course) → IsSome old.end → old.tickets.items ≢ [] → past_of new ≡ past_of old → new.known ≡ old.known → Picks given old collects new
   ends_so : (end : Result Outcome RunFault) (new : Course) → old.end ≡ Some end → old.tickets.items ≡ [] → new.tickets.items ≡ [] → new.known ≡ old.known →
-      Picks given old (ends end) new
+      (past_of new).notes ≡ (past_of old).notes → Picks given old (ends end) new
   finds : (number : ℕ) (turn : Turn) (new : Course) → old.end ≡ None → IsNextToFind old number → Finds old number turn → past_of new ≡ past_of old →
       new.known ≡ old.known → Picks given old turn new
   stages : (number : ℕ) (turn : Turn) (new : Course) → old.end ≡ None → NoneToFind old → length old.tickets.items < given.options.slots →
@@ -127,25 +128,41 @@ pub data Picks (given : Given) (old : Course) : Turn → Course → Type 0 where
   has_result : (turn : Turn) (new : Course) → old.end ≡ None → NoneToFind old → old.tickets.items ≡ [] → NoneToStage given old → Delivers given old turn →
       past_of new ≡ past_of old → new.known ≡ old.known → Picks given old turn new
 
+-- the row of the job of a number, which is at this place, is put
+pub record Puts (place : JobPlace) (old : Course) (number : ℕ) (row : Row) (turn : Turn) (new : Course) : Type 0 where
+  pub is : turn ≡ puts place number row
+  pub past : past_of new ≡ past_of old
+  pub known : new.known ≡ old.known
+
+-- where there is one, and else nothing is due
+abbrev pub PutsOrPicks : Given → JobPlace → Course → ℕ → Option Row → Turn → Course → Type 0
+PutsOrPicks given place old number None turn new = Picks given old turn new
+PutsOrPicks given place old number (Some row) turn new = Puts place old number row turn new
+
 -- a job goes on, or it has failed, or its outputs are there
 pub data Turns (given : Given) (old : Course) (number : ℕ) : JobNext → Turn → Course → Type 0 where
   asks : (call : HostRequest) (phase : JobPhase) (new : Course) → past_of new ≡ past_of old → new.known ≡ old.known →
       Turns given old number (JobNext.Asks call phase) (works (place_at (known_in old.known) number) number call phase) new
   fails : (cause : Cause) (failed : Course) (turn : Turn) (new : Course) →
-      past_of failed ≡ with_end (permanent (place_at (known_in old.known) number) cause) (past_of old) → failed.known ≡ old.known →
+      past_of failed ≡ with_end (failure_in (past_of old) number (place_at (known_in old.known) number) cause) (past_of old) → failed.known ≡ old.known →
       Picks given failed turn new → Turns given old number (JobNext.Fails cause) turn new
   -- an end that is settled stays, and nothing more is learned
-  gives_late : (outputs : Fields) (same : Course) (turn : Turn) (new : Course) → IsSome old.end → past_of same ≡ past_of old → same.known ≡ old.known →
-      Picks given same turn new → Turns given old number (JobNext.Gives outputs) turn new
-  gives : (outputs : Fields) (learned : Course) (turn : Turn) (new : Course) → old.end ≡ None →
+  gives_late : (outputs : Fields) (row : Option Row) (same : Course) (turn : Turn) (new : Course) → IsSome old.end → past_of same ≡ past_of old → same.known ≡ old.known →
+      PutsOrPicks given (place_at (known_in old.known) number) same number row turn new → Turns given old number (JobNext.Gives outputs row) turn new
+  gives : (outputs : Fields) (row : Option Row) (learned : Course) (turn : Turn) (new : Course) → old.end ≡ None →
       Learns (record { place = place_at (known_in old.known) number; outputs = outputs }) old learned →
-      Picks given learned turn new → Turns given old number (JobNext.Gives outputs) turn new
+      PutsOrPicks given (place_at (known_in old.known) number) learned number row turn new → Turns given old number (JobNext.Gives outputs row) turn new
+  mismatches : (outputs : Fields) (failed : Course) (turn : Turn) (new : Course) →
+      past_of failed ≡ with_end (Err (RunFault.Mismatch (place_at (known_in old.known) number))) (past_of old) → failed.known ≡ old.known →
+      Picks given failed turn new → Turns given old number (JobNext.Differs outputs) turn new
 
 -- a job in the folders that it was staged in last
 pub record IsSite (given : Given) (course : Course) (number : ℕ) (site : Site) : Type 0 where
   pub job : Job
   pub known : slice_get (known_in course.known) number ≡ Some job
   pub tool : site.tool.now ≡ job.tool
+  pub inputs : site.inputs.now ≡ job.inputs
+  pub row : option_copied site.row ≡ row_in course.rows number
   pub state : JobState
   pub staged : slice_get course.jobs number ≡ Some state
   pub folder : site.folder ≡ state.folder
@@ -235,7 +252,18 @@ pub record AfterFind (given : Given) (old : Course) (number : ℕ) (answer : Rec
   pub refusal : Option RecordRefusal
   pub tells : Tells job.tool answer refusal
   pub noted : Course
-  pub past : past_of noted ≡ with_answer number refusal (past_of old)
+  pub past : past_of noted ≡ with_answer number answer refusal (past_of old)
+  pub known : noted.known ≡ old.known
+  pub picks : Picks given noted turn new
+
+-- the record has answered whether the row of the job of a number is kept
+abbrev pub noted_by : JobPlace → RecordAnswer → Past → Past
+noted_by place (RecordAnswer.Refused refusal) past = with_note (put_note place refusal) past
+noted_by place answer past = past
+
+pub record AfterPut (given : Given) (old : Course) (number : ℕ) (answer : RecordAnswer) (turn : Turn) (new : Course) : Type 0 where
+  pub noted : Course
+  pub past : past_of noted ≡ noted_by (place_at (known_in old.known) number) answer (past_of old)
   pub known : noted.known ≡ old.known
   pub picks : Picks given noted turn new
 

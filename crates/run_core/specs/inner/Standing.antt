@@ -18,9 +18,9 @@ use Rattle.run_rules.specs.Blame.{BlamesRightly, IsToBlame}
 use Rattle.run_rules.specs.Delivered.{located}
 use Rattle.run_rules.specs.End.{End}
 use Rattle.run_rules.specs.EndsSo.{EndsSo}
-use Rattle.run_rules.specs.Events.{Event, Progress, Started, is_reusable, nothing_due, started_at}
+use Rattle.run_rules.specs.Events.{Event, Progress, Started, is_reusable, nothing_due, started_at, put_due}
 use Rattle.run_rules.specs.Plans.{InForce}
-use Rattle.run_rules.specs.Reports.{AreWaits, outcome_of}
+use Rattle.run_rules.specs.Reports.{AreWaits, outcome_of, notes_of}
 use Rattle.run_rules.specs.Run.{Goes}
 use Rattle.run_rules.specs.Scene.{Scene}
 use Rattle.run_rules.proofs.events.Places.{IsJob}
@@ -34,8 +34,9 @@ use Rattle.run_core.specs.inner.Course.{Past, known_in, nothing_past, past_of}
 use Rattle.run_core.specs.inner.Due.{Calls, IsKept, work_of}
 use Rattle.run_core.specs.inner.Keeps.{Reflects}
 use Rattle.run_core.specs.inner.Measured.{IsMeasuring, measured_by}
-use Rattle.run_core.specs.inner.Turn.{collects, ends, waits, works}
+use Rattle.run_core.specs.inner.Turn.{collects, ends, waits, works, puts}
 use Rattle.run_core.specs.inner.JobStates.{IsLowest, NoneWaits, state_at}
+use Rattle.job_rows.specs.declared.row.Row.{Row}
 
 -- what is kept of the child of a job that has ended well
 pub record HasStarted (es : List Event) (place : JobPlace) (kept : Kept) : Type 0 where
@@ -79,6 +80,8 @@ pub data IsAt (s : Scene) (f : Progress) (marks : List Mark) (course : Course) :
       past_of course ≡ nothing_past → IsAt s f marks course (waits (HostRequest.Measure path) (Phase.Measuring measuring))
   finding : (number : ℕ) (job : Job) → Reflects s f.events course None → FindsNext s f course number job →
       IsAt s f marks course (record { asks = Request.Record job.place (RecordRequest.Find (key job.tool job.inputs)); phase = Phase.Finding number })
+  putting : (number : ℕ) (job : Job) (row : Row) → Reflects s f.events course None → IsJob (known_in course.known) number job → f.work ≡ put_due job.place row →
+      IsAt s f marks course (puts job.place number row)
   staging : (number : ℕ) (job : Job) (plan : StagePlan) → Reflects s f.events course None → IsStaging s f marks course number job plan →
       IsAt s f marks course (record { asks = Request.Host job.place (HostRequest.Stage plan (course.folders + 1)); phase = Phase.Staging number })
   working : (number : ℕ) (job : Job) (call : HostRequest) (phase : JobPhase) → Reflects s f.events course (Some number) →
@@ -88,7 +91,7 @@ pub data IsAt (s : Scene) (f : Progress) (marks : List Mark) (course : Course) :
   delivering : (plan : StagePlan) → Reflects s f.events course None → MayDeliver s f marks [] plan → course.end ≡ None →
       NoneWaits course.jobs (length (known_in course.known)) →
       IsAt s f marks course (waits (HostRequest.Deliver plan) (Phase.Delivering (located plan.value)))
-  ended : (end : End) → EndsSo s f marks end → IsAt s f marks course (ends (outcome_of end))
+  ended : (end : End) → EndsSo s f marks end → (past_of course).notes ≡ notes_of f.events → IsAt s f marks course (ends (outcome_of end))
 
 -- a run so far, and where the machine is in it
 pub record Runs (s : Scene) (t : List Pair) (course : Course) (turn : Turn) : Type 0 where
@@ -118,6 +121,7 @@ abbrev pub SettlesRightly : List Entry → Result Outcome RunFault → Type 0
 SettlesRightly entries (Ok report) = Unit {0}
 SettlesRightly entries (Err (RunFault.Host fault running)) = IsToBlame entries fault running
 SettlesRightly entries (Err (RunFault.Record refusal)) = Unit {0}
+SettlesRightly entries (Err (RunFault.Mismatch place)) = Unit {0}
 SettlesRightly entries (Err RunFault.TooManyJobs) = Unit {0}
 SettlesRightly entries (Err RunFault.OutOfMemory) = ⊥
 

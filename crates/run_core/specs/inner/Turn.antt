@@ -11,6 +11,8 @@ use Rattle.run_core.specs.declared.state.JobPhase.{JobPhase}
 use Rattle.run_core.specs.declared.state.Phase.{Phase}
 use Rattle.run_core.specs.declared.state.Turn.{Turn}
 use Rattle.run_core.specs.inner.Course.{Past}
+use Rattle.job_rows.specs.declared.row.Row.{Row}
+use Rattle.run_rules.specs.declared.request.RecordRequest.{RecordRequest}
 
 abbrev pub root_asks : HostRequest → Request
 root_asks call = Request.Host [] call
@@ -33,6 +35,10 @@ succeeds outputs = ends (Ok (Outcome.Success outputs))
 
 abbrev pub works : JobPlace → ℕ → HostRequest → JobPhase → Turn
 works place number call phase = record { asks = Request.Host place call; phase = Phase.Working number phase }
+
+-- the row of the job at a place is put
+abbrev pub puts : JobPlace → ℕ → Row → Turn
+puts place number row = record { asks = Request.Record place (RecordRequest.Put row); phase = Phase.Putting number }
 
 abbrev pub permanent : JobPlace → Cause → Result Outcome RunFault
 permanent place cause = Ok (Outcome.PermanentFail place cause)

@@ -2,7 +2,7 @@
 use Rattle.std.specs.Prelude.{◌||◌}
 use Rattle.std.proofs.Common.{◌≡◌, ◌∙◌, ◌+◌, ℕ, suc, Bool, true, false, cond, List, [], ◌∷◌, ◌++◌, length, filter, fold, refl, sym, ap, arith, append_assoc, append-nil}
 use Rattle.job_graph.specs.Words.{JobPlace}
-use Rattle.run_rules.specs.Events.{Event, file_measured, job_staged, job_started, child_exited, job_succeeded, job_failed, job_failed_for_now, result_delivered, host_failed, collect_failed, row_found, no_row, find_failed, brings, flight_after, in_flight, is_at_hand, is_staging, number_at, number_if}
+use Rattle.run_rules.specs.Events.{Event, file_measured, job_staged, job_started, child_exited, job_succeeded, job_failed, job_failed_for_now, result_delivered, host_failed, collect_failed, row_found, no_row, find_failed, put_failed, row_differs, brings, flight_after, in_flight, is_at_hand, is_staging, number_at, number_if}
 use Rattle.run_rules.specs.End.{gives_up}
 use Rattle.run_rules.proofs.events.Flights.{Flight}
 use Rattle.run_rules.proofs.events.Readings.{gave_up_after, in_flight_after, is_at_hand_after, number_after, stagings_after}
@@ -69,6 +69,8 @@ is_aside collect_failed = true
 is_aside (row_found place row) = true
 is_aside (no_row place) = true
 is_aside (find_failed place refusal) = true
+is_aside (put_failed place refusal) = true
+is_aside (row_differs place outputs) = true
 is_aside _ = false
 
 pub nothing_read : (r : Readings) (e : Event) → is_aside e ≡ true → reads_after r e ≡ r
@@ -85,3 +87,5 @@ nothing_read r collect_failed aside = refl
 nothing_read r (row_found place row) aside = refl
 nothing_read r (no_row place) aside = refl
 nothing_read r (find_failed place refusal) aside = refl
+nothing_read r (put_failed place refusal) aside = refl
+nothing_read r (row_differs place outputs) aside = refl

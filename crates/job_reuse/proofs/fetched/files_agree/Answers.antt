@@ -1,4 +1,4 @@
-use Rattle.std.proofs.Common.{◌↔◌, true, false, IsTrue, All, Contains, sym, subst}
+use Rattle.std.proofs.Common.{◌↔◌, true, IsTrue, All, Contains, sym, subst}
 use Rattle.job_reuse.specs.Rows.{AreTheSame}
 use Rattle.job_reuse.proofs.Among.{none_same, same_by}
 use Rattle.job_reuse.proofs.fetched.files_agree.Goals as goal

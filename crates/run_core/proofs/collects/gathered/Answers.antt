@@ -9,6 +9,7 @@ use Rattle.staging.specs.declared.found.Found.{Found}
 use Rattle.run_core.specs.declared.state.JobNext.{JobNext}
 use Rattle.run_core.specs.declared.state.Kept.{Kept}
 use Rattle.run_core.specs.inner.Due.{Gathers, gives, gives_none, left_by}
+use Rattle.run_core.proofs.Lists.{if_ok}
 use Rattle.run_core.proofs.collects.gathered.Goals as goal
 
 abbrev left_as : Kept → List Found → Heads → List ℕ → List ℕ → Left
@@ -27,7 +28,9 @@ returns-in-Ok c =
     ≡ left_by c.args.kept.now c.args.reading.now.found c.args.reading.now.heads =
     left_is c.args.kept.now c.args.reading.now.found c.as_slice-found.result.now c.args.reading.now.heads c.name_or_empty.result.now c.name_or_empty-2.result.now
     c.as_slice-found.ensures c.name_or_empty.ensures c.name_or_empty-2.ensures in
-    gives c.in-Ok.outputs (subst (λ (left : Left). IsCollected left c.args.site.tool.now.outputs (Ok c.in-Ok.outputs)) same c.in-Ok.ensures.ok)
+    if_ok c.kept.result
+    (λ next keeps. gives c.in-Ok.outputs next (subst (λ (left : Left). IsCollected left c.args.site.tool.now.outputs (Ok c.in-Ok.outputs)) same c.in-Ok.ensures.ok) keeps)
+    c.kept.ensures
 
 pub returns-in-Err-Refused : goal.returns-in-Err-Refused
 returns-in-Err-Refused c =
@@ -35,8 +38,8 @@ returns-in-Err-Refused c =
     ≡ left_by c.args.kept.now c.args.reading.now.found c.args.reading.now.heads =
     left_is c.args.kept.now c.args.reading.now.found c.as_slice-found.result.now c.args.reading.now.heads c.name_or_empty.result.now c.name_or_empty-2.result.now
     c.as_slice-found.ensures c.name_or_empty.ensures c.name_or_empty-2.ensures in
-    subst (λ (x : JobNext). Gathers c.args.site c.args.kept.now c.args.reading.now.found c.args.reading.now.heads x) (sym c.failing.ensures)
-    (gives_none c.in-Err-Refused.fault
+    subst (λ (x : JobNext). Gathers c.args.site c.args.kept.now c.args.reading.now.millis c.args.reading.now.found c.args.reading.now.heads x) (sym c.failing.ensures)
+    (rw c.in-Err-Refused.field-0-is (gives_none c.in-Err-Refused.fault
     (subst (λ (left : Left). IsCollected left c.args.site.tool.now.outputs (Err c.in-Err-Refused.fault)) same
     (subst (λ (e : CollectError). IsFault (left_as c.args.kept.now c.as_slice-found.result.now c.args.reading.now.heads c.name_or_empty.result.now c.name_or_empty-2.result.now) c.args.site.tool.now.outputs e)
-    c.in-Err-Refused.field-0-is c.in-Err-Refused.ensures.err)))
+    c.in-Err-Refused.field-0-is c.in-Err-Refused.ensures.err))))

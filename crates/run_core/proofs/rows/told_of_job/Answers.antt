@@ -11,8 +11,8 @@ returns-clause-is c =
       refusal = c.in_ok-refusal.refusal;
       tells = c.in_ok-refusal.ensures;
       noted = c.note_answer.new.course;
-      past = c.note_answer.ensures.past;
-      known = c.note_answer.ensures.known;
+      past = c.in_ok-note_answer.ensures.past;
+      known = c.in_ok-note_answer.ensures.known;
       picks = picked;
     })
     c.pick.ensures.is

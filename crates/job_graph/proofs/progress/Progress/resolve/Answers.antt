@@ -8,18 +8,18 @@ use Rattle.job_graph.proofs.progress.Progress.resolve.Goals as goal
 
 pub returns-then-is_open-clause-resolves : goal.returns-then-is_open-clause-resolves
 returns-then-is_open-clause-resolves c =
-    λ walks learned knows. knows_open walks learned c.args.self.now c.args.resolved c.push.new.self knows c.in_ok-push.ensures.ok c.see_ids.ensures
+    λ walks learned knows. knows_open walks learned c.args.self.now c.args.resolved c.push.new.self c.requires knows c.in_ok-push.ensures.ok
     (ap (λ (known : List KnownJob). is_one_open (map resolved_of c.args.self.now.facts.learned) c.args.resolved.at.place (jobs_in known)) (sym c.as_slice.ensures.value)
     ∙ sym c.is_one_open-is_open.ensures ∙ c.if-is_open.true)
 
 pub returns-in-Ok-clause-resolves : goal.returns-in-Ok-clause-resolves
 returns-in-Ok-clause-resolves c =
-    λ walks learned knows. knows_more walks learned c.args.self.now c.unfold.new.self c.args.resolved c.push.new.self knows c.in_ok-push.ensures.ok c.in-Ok.ensures
+    λ walks learned knows. knows_more walks learned c.args.self.now c.unfold.new.self c.args.resolved c.push.new.self c.requires knows c.in_ok-push.ensures.ok c.in-Ok.ensures
 
 pub returns-in-Err-clause-resolves : goal.returns-in-Err-clause-resolves
 returns-in-Err-clause-resolves c =
     λ walks learned knows. (
-      blames_more walks learned c.args.self.now c.unfold.new.self c.args.resolved c.push.new.self c.in-Err.error knows c.in_ok-push.ensures.ok c.in-Err.ensures,
+      blames_more walks learned c.args.self.now c.unfold.new.self c.args.resolved c.push.new.self c.in-Err.error c.requires knows c.in_ok-push.ensures.ok c.in-Err.ensures,
       knows_still walks learned c.args.self.now c.unfold.new.self c.push.new.self c.pop.new.self c.in-Err.error knows
           (popped c.args.self.now.facts.learned c.unfold.new.self.facts.learned c.pop.new.self c.args.resolved c.pop.result (c.unfold.ensures.learned ∙ c.in_ok-push.ensures.ok) c.pop.ensures)
           c.in-Err.ensures,

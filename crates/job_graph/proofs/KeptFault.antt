@@ -21,6 +21,8 @@ follows_still walks learned held fault follows = record {
   fault = follows.fault;
   result = follows.result;
   outs = follows.outs;
+  apart = follows.apart;
+  kept = follows.kept;
 }
 
 pub same_kept : (old mid new : Progress) (error told : UnfoldError) → IsOfOneProcess old mid → Keeps mid error new told → IsOfOneProcess old new

@@ -1,0 +1,55 @@
+-- Two jobs, one of which has a row: what it comes to where the job gives what the row has, and where it gives something else or nothing.
+use Rattle.std.proofs.Common.{◌≡◌, true, List, [], ◌∷◌, ◌++◌, Some, refl, None}
+use Rattle.std.specs.Prelude.{codes, false}
+use Rattle.cwl_value.specs.declared.value.Value as value
+use Rattle.job_reuse.specs.Rows.{made_row}
+use Rattle.job_rows.specs.declared.refusal.RecordRefusal.TheVariants.{Store}
+use Rattle.job_rows.specs.declared.row.Row.{Row}
+use Rattle.run_rules.specs.declared.outcome.Cause.{Cause}
+use Rattle.run_rules.specs.declared.outcome.NoteKind.{NoteKind}
+use Rattle.run_rules.specs.End.{fails_temporarily, mismatches, fails_permanently, settled}
+use Rattle.run_rules.specs.EndsSo.{EndsSo, fails}
+use Rattle.run_rules.specs.Events.{Event, child_exited, job_staged, job_started, job_failed, job_failed_for_now, job_succeeded, no_row, nothing_due, put_due, put_failed, row_differs, row_found}
+use Rattle.run_rules.specs.Keeps.{Keeps, keeps, differs}
+use Rattle.run_rules.specs.Reports.{notes_of}
+use Rattle.run_rules.proofs.TwoJobs.{a, at, b, badly, its_key, its_row, job, launch, s}
+use Rattle.plan_checker.specs.declared.plan.Mark.TheVariants.{Compute}
+
+-- a row with an output that the job does not give
+abbrev other_row : Row
+other_row = made_row its_key ((codes "n", value.Bool true) ∷ []) [] 1000 false
+
+abbrev other_found : List Event
+other_found = row_found a other_row ∷ no_row b ∷ job_staged a 1 ∷ job_started a [] (launch 1) 1 ∷ child_exited 1 ∷ []
+
+abbrev same_found : List Event
+same_found = row_found a its_row ∷ no_row b ∷ job_staged a 1 ∷ job_started a [] (launch 1) 1 ∷ child_exited 1 ∷ []
+
+-- other outputs are kept nowhere, and end the run
+they_differ : Keeps a (job a) (Some other_row) 1000 [] [] nothing_due (row_differs a [] ∷ [])
+they_differ = differs other_row refl refl (λ same. cc)
+
+it_mismatches : EndsSo s (at (other_found ++ row_differs a [] ∷ [])) (Compute ∷ Compute ∷ []) (mismatches a)
+it_mismatches = fails _ refl refl refl refl
+
+-- so does a permanent failure, and a temporary one does not
+none_is_other_too : EndsSo s (at (same_found ++ job_failed a (Cause.Exit badly) ∷ [])) (Compute ∷ Compute ∷ []) (mismatches a)
+none_is_other_too = fails _ refl refl refl refl
+
+a_signal_is_no_mismatch : EndsSo s (at (same_found ++ job_failed_for_now a ∷ [])) (Compute ∷ Compute ∷ []) (fails_temporarily a)
+a_signal_is_no_mismatch = fails _ refl refl refl refl
+
+-- the first failure counts
+b_failed_before : EndsSo s (at (other_found ++ job_failed b (Cause.Exit badly) ∷ row_differs a [] ∷ [])) (Compute ∷ Compute ∷ []) (fails_permanently b (Cause.Exit badly))
+b_failed_before = fails _ refl refl refl refl
+
+-- the same outputs are put again, with what they took this time
+they_agree : Keeps a (job a) (Some its_row) 7 [] [] (put_due a (made_row its_key [] [] 7 false)) (job_succeeded a [] ∷ [])
+they_agree = keeps refl refl
+
+-- a row that is refused is noted, and settles nothing
+it_is_noted : notes_of (same_found ++ job_succeeded a [] ∷ put_failed a Store ∷ []) ≡ record { place = a; kind = NoteKind.Put Store } ∷ []
+it_is_noted = refl
+
+it_settles_nothing : settled s (same_found ++ job_succeeded a [] ∷ put_failed a Store ∷ []) ≡ None
+it_settles_nothing = refl
