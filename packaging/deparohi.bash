@@ -10,6 +10,10 @@ _deparohi() {
         mapfile -t COMPREPLY < <(compgen -d -- "$word")
         return
         ;;
+    --record)
+        mapfile -t COMPREPLY < <(compgen -f -- "$word")
+        return
+        ;;
     --slots | --retries | --forget)
         COMPREPLY=()
         return
@@ -20,7 +24,7 @@ _deparohi() {
         return
     fi
     case $command in
-    run) every="--work --outdir --slots --retries --verbose --progress --keep --keep-failed $every" ;;
+    run) every="--work --outdir --slots --retries --record --verbose --progress --keep --keep-failed $every" ;;
     record) every="--forget $every" ;;
     help) every="" ;;
     esac

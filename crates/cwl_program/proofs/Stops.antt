@@ -1,5 +1,5 @@
 -- What is wrong before anything is run ends the program.
-use Rattle.std.proofs.Common.{◌≡◌, ◌≢◌, ◌≤◌, ◌∙◌, ap, ℕ, true, List, length, Option, Some, None, subst, sym, Result, Ok, Err, IfOk, IfErr, OnErr}
+use Rattle.std.proofs.Common.{◌≡◌, ◌≢◌, ◌≤◌, ◌∙◌, ap, ℕ, true, List, [], length, Option, Some, None, subst, sym, Result, Ok, Err, IfOk, IfErr, OnErr}
 use Rattle.std.proofs.lemmas.Result.{IfOk-weaker}
 use Rattle.std.specs.declared.alloc.AllocError.{AllocError}
 use Rattle.clap.specs.Words.{Text}
@@ -15,15 +15,17 @@ use Rattle.cwl_value.specs.declared.value.Value.{Value}
 use Rattle.cwl_value.specs.declared.value.Value.TheVariants as values
 use Rattle.file_values.specs.Resolved.{resolved}
 use Rattle.job_graph.specs.Words.{Fields}
+use Rattle.job_record.specs.declared.fault.RecordFault.{RecordFault}
 use Rattle.process_machine.specs.declared.trouble.Hindrance.{Hindrance}
 use Rattle.run_facts.specs.Holding.{can_hold_files}
 use Rattle.run_facts.specs.declared.made_by.WorkTrouble.{WorkTrouble}
+use Rattle.run_rules.specs.Recorded.{Line}
 use Rattle.run_rules.specs.declared.setting.Options.{Options}
 use Rattle.cwl_program.specs.Demo as demo
 use Rattle.cwl_program.specs.Leaving.{left_of}
 use Rattle.cwl_program.specs.RunWords.{RunWish}
 use Rattle.cwl_program.specs.Paths.{IsAt, from_root}
-use Rattle.cwl_program.specs.Runs.{IsAsked, IsInputsText, IsInputsUnread, IsInputsUrl, IsNamedInputs, IsNamedProcess, IsNoInputs, IsNoProcess, IsRan, IsRead, IsReady, IsRunExit, document_unread, document_wrong, inputs_unread, inputs_wrong, lost, no_inputs, no_outdir, no_process, no_work, runs, stops}
+use Rattle.cwl_program.specs.Runs.{IsAsked, IsEndOfRun, IsInputsText, IsInputsUnread, IsInputsUrl, IsNamedInputs, IsNamedProcess, IsNoInputs, IsNoProcess, IsRanOver, IsRead, IsReady, IsRunExit, document_unread, document_wrong, inputs_unread, inputs_wrong, lost, no_inputs, no_outdir, no_process, no_record, no_work, runs, stops}
 use Rattle.cwl_program.specs.Certificates.{IsCheck, unread}
 use Rattle.cwl_program.specs.Sources.{IsAbsent, IsAccepted, IsDocumentStop, IsInputs, IsInputsStop, IsOfDocuments, bad_document, no_object, too_many}
 use Rattle.cwl_program.specs.Stops.{IsStop, IsUnread}
@@ -32,7 +34,7 @@ use Rattle.cwl_program.specs.declared.exit.Exit.TheVariants as exits
 use Rattle.cwl_program.specs.declared.exit.Fault.TheVariants as faults
 use Rattle.cwl_program.specs.declared.exit.Refusal.TheVariants as refusals
 use Rattle.document_links.specs.declared.fault.LinkFault.TheVariants as link_faults
-use Rattle.cwl_program.specs.declared.run.Given.{Given}
+use Rattle.cwl_program.specs.declared.given.Given.{Given}
 use Rattle.cwl_program.specs.declared.run_end.RunEnd.{RunEnd}
 use Rattle.cwl_program.specs.declared.stop.Stop.{Stop}
 use Rattle.cwl_program.specs.declared.stop.Stop.TheVariants.{Early, OutOfMemory}
@@ -138,21 +140,33 @@ run_ends_so IsEnd stop (Ok end) is same gone =
 
 pub without_folder : (words : RunWish) (path : Text) (answer : Result RunEnd AllocError)
     → IfOk answer (λ end. end.exit ≡ exits.Fault faults.Folder) → IfOk answer (λ end. end.left ≡ None)
-    → IfOk answer (λ end. IsRunExit words path end.exit end.left)
-without_folder words path answer is gone = ends_as (IsRunExit words path) _ answer lost is gone
+    → IfOk answer (λ end. IsEndOfRun words path end.exit end.left)
+without_folder words path answer is gone = ends_as (IsEndOfRun words path) _ answer ([], lost) is gone
 
 pub without_process : (here : Text) (words : RunWish) (path : Text) (stop : Stop) (answer : Result RunEnd AllocError)
     → IsStop (IsNoProcess here words) stop → IfOk answer (λ end. stop ≡ Early end.exit) → IfOk answer (λ end. end.left ≡ None)
-    → IfOk answer (λ end. IsRunExit words path end.exit end.left)
+    → IfOk answer (λ end. IsEndOfRun words path end.exit end.left)
 without_process here words path stop answer is same gone =
-    run_ends_so (IsRunExit words path) stop answer (stop_so _ _ (λ exit end. stops here (no_process end)) stop is) same gone
+    run_ends_so (IsEndOfRun words path) stop answer (stop_so _ _ (λ exit end. ([], stops here (no_process end))) stop is) same gone
 
 pub without_inputs : (here : Text) (words : RunWish) (path : Text) (process : Process) (stop : Stop) (answer : Result RunEnd AllocError)
     → IsNamedProcess here words process → IsStop (IsNoInputs here words) stop
     → IfOk answer (λ end. stop ≡ Early end.exit) → IfOk answer (λ end. end.left ≡ None)
-    → IfOk answer (λ end. IsRunExit words path end.exit end.left)
+    → IfOk answer (λ end. IsEndOfRun words path end.exit end.left)
 without_inputs here words path process stop answer named is same gone =
-    run_ends_so (IsRunExit words path) stop answer (stop_so _ _ (λ exit end. stops here (no_inputs process named end)) stop is) same gone
+    run_ends_so (IsEndOfRun words path) stop answer (stop_so _ _ (λ exit end. ([], stops here (no_inputs process named end))) stop is) same gone
+
+pub without_record : (here : Text) (words : RunWish) (path : Text) (given : Given) (file : Text) (fault : RecordFault) (answer : Result RunEnd AllocError)
+    → IsReady here words given → words.record_file ≡ Some file
+    → IfOk answer (λ end. end.exit ≡ exits.Fault (faults.Unopened file fault)) → IfOk answer (λ end. end.left ≡ None)
+    → IfOk answer (λ end. IsEndOfRun words path end.exit end.left)
+without_record here words path given file fault answer ready named is gone =
+    ends_as (IsEndOfRun words path) _ answer ([], stops here (no_record given file fault ready named)) is gone
+
+-- a run whose record has these lines is one whose record has some
+pub some_lines : (words : RunWish) (path : Text) (lines : List Line) (answer : Result RunEnd AllocError)
+    → IfOk answer (λ end. IsRunExit words path lines end.exit end.left) → IfOk answer (λ end. IsEndOfRun words path end.exit end.left)
+some_lines words path lines answer is = IfOk-weaker answer _ _ (λ end e. (lines, e)) is
 
 -- a folder of the run is in the way, for some reason
 hindered : {Why : Type 0} (IsEnd : Exit → Option Text → Type 0) (exit_for : Why → Exit) (answer : Result RunEnd AllocError)
@@ -161,22 +175,29 @@ hindered : {Why : Type 0} (IsEnd : Exit → Option Text → Type 0) (exit_for : 
 hindered IsEnd exit_for (Err error) is same gone = tt
 hindered IsEnd exit_for (Ok end) is same gone = ends_as IsEnd (exit_for same.0) (Ok end) (is same.0) same.1 gone
 
-pub without_work : (here : Text) (words : RunWish) (path : Text) (given : Given) (work : Text) (answer : Result RunEnd AllocError)
-    → IsReady here words given → work ≡ from_root here words.work
+-- the record was not asked
+unasked : (words : RunWish) (path : Text) (lines : List Line) (exit : Exit) → lines ≡ [] → IsRunExit words path [] exit None
+    → IsRunExit words path lines exit None
+unasked words path lines exit fresh is = subst (λ (l : List Line). IsRunExit words path l exit None) (sym fresh) is
+
+pub without_work : (here : Text) (words : RunWish) (path : Text) (given : Given) (work : Text) (lines : List Line) (answer : Result RunEnd AllocError)
+    → lines ≡ [] → IsReady here words given → work ≡ from_root here words.work
     → IfOk answer (λ end. (why : WorkTrouble) × (end.exit ≡ exits.Fault (faults.Work work why))) → IfOk answer (λ end. end.left ≡ None)
-    → IfOk answer (λ end. IsRunExit words path end.exit end.left)
-without_work here words path given work answer ready named is gone =
-    hindered (IsRunExit words path) (λ why. exits.Fault (faults.Work work why)) answer
-    (λ why. subst (λ (w : Text). IsRunExit words path (exits.Fault (faults.Work w why)) None) (sym named) (stops here (no_work given why ready)))
+    → IfOk answer (λ end. IsRunExit words path lines end.exit end.left)
+without_work here words path given work lines answer fresh ready named is gone =
+    hindered (IsRunExit words path lines) (λ why. exits.Fault (faults.Work work why)) answer
+    (λ why. unasked words path lines _ fresh
+    (subst (λ (w : Text). IsRunExit words path [] (exits.Fault (faults.Work w why)) None) (sym named) (stops here (no_work given why ready))))
     is gone
 
-pub without_outdir : (here : Text) (words : RunWish) (path : Text) (given : Given) (outdir : Text) (answer : Result RunEnd AllocError)
-    → IsReady here words given → can_hold_files given.process ≡ true → outdir ≡ from_root here words.outdir
+pub without_outdir : (here : Text) (words : RunWish) (path : Text) (given : Given) (outdir : Text) (lines : List Line) (answer : Result RunEnd AllocError)
+    → lines ≡ [] → IsReady here words given → can_hold_files given.process ≡ true → outdir ≡ from_root here words.outdir
     → IfOk answer (λ end. (why : Hindrance) × (end.exit ≡ exits.Fault (faults.Outdir outdir why))) → IfOk answer (λ end. end.left ≡ None)
-    → IfOk answer (λ end. IsRunExit words path end.exit end.left)
-without_outdir here words path given outdir answer ready holds named is gone =
-    hindered (IsRunExit words path) (λ why. exits.Fault (faults.Outdir outdir why)) answer
-    (λ why. subst (λ (o : Text). IsRunExit words path (exits.Fault (faults.Outdir o why)) None) (sym named) (stops here (no_outdir given why ready holds)))
+    → IfOk answer (λ end. IsRunExit words path lines end.exit end.left)
+without_outdir here words path given outdir lines answer fresh ready holds named is gone =
+    hindered (IsRunExit words path lines) (λ why. exits.Fault (faults.Outdir outdir why)) answer
+    (λ why. unasked words path lines _ fresh
+    (subst (λ (o : Text). IsRunExit words path [] (exits.Fault (faults.Outdir o why)) None) (sym named) (stops here (no_outdir given why ready holds))))
     is gone
 
 -- a run's end, with what was noted of it
@@ -194,14 +215,14 @@ bare_so IsEnd told (Err error) is same gone = tt
 bare_so IsEnd told (Ok end) is same gone = (subst (λ (t : Result Exit AllocError). IfOk t IsEnd) same is, gone)
 
 -- a run's end, with the work folder where it stays
-pub leaves_so : (here : Text) (words : RunWish) (path : Text) (given : Given) (options : Options) (work : Text) (exit : Exit) (answer : Result RunEnd AllocError)
-    → IsReady here words given → IsAsked here words path options → IsRan given.process given.inputs options exit
+pub leaves_so : (here : Text) (words : RunWish) (path : Text) (given : Given) (options : Options) (lines : List Line) (work : Text) (exit : Exit) (answer : Result RunEnd AllocError)
+    → IsReady here words given → IsAsked here words path options → IsRanOver given.process given.inputs options lines exit
     → work ≡ from_root here words.work → IfOk answer (λ end. end.exit ≡ exit) → IfOk answer (λ end. end.left ≡ left_of words exit work)
-    → IfOk answer (λ end. IsRunExit words path end.exit end.left)
-leaves_so here words path given options work exit (Err error) ready asked is named same left = tt
-leaves_so here words path given options work exit (Ok end) ready asked is named same left =
-    subst (λ (l : Option Text). IsRunExit words path end.exit l) (sym (left ∙ ap (left_of words exit) named))
-    (subst (λ (e : Exit). IsRunExit words path e (left_of words exit (from_root here words.work))) (sym same) (runs here given options ready asked is))
+    → IfOk answer (λ end. IsRunExit words path lines end.exit end.left)
+leaves_so here words path given options lines work exit (Err error) ready asked is named same left = tt
+leaves_so here words path given options lines work exit (Ok end) ready asked is named same left =
+    subst (λ (l : Option Text). IsRunExit words path lines end.exit l) (sym (left ∙ ap (left_of words exit) named))
+    (subst (λ (e : Exit). IsRunExit words path lines e (left_of words exit (from_root here words.work))) (sym same) (runs here given options ready asked is))
 
 pub demo_without_process : (path : Text) (stop : Stop) (answer : Result Exit AllocError)
     → IsStop demo.IsNoDemoProcess stop → IfOk answer (λ exit. stop ≡ Early exit) → IfOk answer (demo.IsDemoExit path)

@@ -20,8 +20,8 @@ named_rule id = record (new_rule id) { long = Some id; action = Some Set; value_
 abbrev pub numbered_rule : Text → ℕ → ℕ → Rule
 numbered_rule id least most = record (named_rule id) { parser = Some (Unsigned least most) }
 
--- `run` with its two folders alone, with its two numbers, with what it tells of its jobs, with whether its work folder stays, with the
--- options of each command, with its document, and with the input object too
+-- `run` with its two folders alone, with its two numbers, with its record, with what it tells of its jobs, with whether its work folder
+-- stays, with the options of each command, with its document, and with the input object too
 abbrev pub with_folders : App
 with_folders = with_rule (with_rule (new_app (codes "run")) (named_rule (codes "work"))) (named_rule (codes "outdir"))
 
@@ -31,8 +31,11 @@ with_slots = with_rule with_folders (numbered_rule (codes "slots") 1 64)
 abbrev pub with_numbers : App
 with_numbers = with_rule with_slots (numbered_rule (codes "retries") 0 10)
 
+abbrev pub with_record : App
+with_record = with_rule with_numbers (named_rule (codes "record"))
+
 abbrev pub with_verbose : App
-with_verbose = with_rule with_numbers (flag_rule (codes "verbose"))
+with_verbose = with_rule with_record (flag_rule (codes "verbose"))
 
 abbrev pub with_progress : App
 with_progress = with_rule with_verbose (flag_rule (codes "progress"))
@@ -59,8 +62,9 @@ telling_in rows =
     else if is_wanted (codes "progress") rows then OneLine
     else Nothing
 
--- the document, the input object's file where one is named, the two folders, the texts of the two numbers that are given, whether the
--- work folder is to stay, and whether it is to stay after a failure, how to tell of the jobs, and whether to say in words what went wrong
+-- the document, the input object's file where one is named, the two folders, the texts of the two numbers that are given, the record's file
+-- where one is named, whether the work folder is to stay, and whether it is to stay after a failure, how to tell of the jobs, and whether
+-- to say in words what went wrong
 pub record RunWish : Type 0 where
   pub document : Text
   pub inputs : Option Text
@@ -68,6 +72,7 @@ pub record RunWish : Type 0 where
   pub outdir : Text
   pub slots : Option Text
   pub retries : Option Text
+  pub record_file : Option Text
   pub keep : Bool
   pub keep_failed : Bool
   pub telling : Telling
@@ -82,6 +87,7 @@ run_wish rows = record {
   outdir = unwrap_or (first_of (codes "outdir") rows) (codes ".");
   slots = first_of (codes "slots") rows;
   retries = first_of (codes "retries") rows;
+  record_file = first_of (codes "record") rows;
   keep = is_given (codes "keep") rows;
   keep_failed = is_given (codes "keep-failed") rows;
   telling = telling_in rows;
@@ -96,6 +102,7 @@ wish_of_run words = record {
   outdir = words.outdir.now;
   slots = option_map (λ s. s.now) words.slots;
   retries = option_map (λ s. s.now) words.retries;
+  record_file = option_map (λ s. s.now) words.record_file;
   keep = words.keep;
   keep_failed = words.keep_failed;
   telling = words.telling;

@@ -11,6 +11,7 @@ use Rattle.cwl_value.specs.declared.value.Value.TheVariants as values
 use Rattle.cwl_value.specs.declared.place.Segment.{Segment}
 use Rattle.proc_host.specs.declared.call.Entry.{Entry}
 use Rattle.job_graph.specs.Words.{Fields}
+use Rattle.job_record.specs.declared.fault.RecordFault.{RecordFault}
 use Rattle.run_rules.specs.declared.outcome.Outcome.{Outcome}
 use Rattle.run_rules.specs.declared.outcome.Outcome.TheVariants as outcomes
 use Rattle.run_rules.specs.declared.outcome.Report.{Report}
@@ -34,8 +35,8 @@ use Rattle.cwl_program.specs.declared.exit.Exit.{Exit}
 use Rattle.cwl_program.specs.declared.exit.Exit.TheVariants as exits
 use Rattle.cwl_program.specs.declared.exit.Fault.{Fault}
 use Rattle.cwl_program.specs.declared.exit.Fault.TheVariants as faults
-use Rattle.cwl_program.specs.declared.run.Given.{Given}
-use Rattle.cwl_program.specs.declared.run.Places.{Places}
+use Rattle.cwl_program.specs.declared.given.Given.{Given}
+use Rattle.cwl_program.specs.declared.given.Places.{Places}
 
 -- the place of a job as JSON text, as `"main/step[0]"`, where what a terminal would not show is escaped
 abbrev pub place_json : List Segment → List ℕ
@@ -59,11 +60,15 @@ abbrev pub run_exit : (log : List Entry) → Result Report RunFault → Exit
 run_exit log (Ok report) = outcome_exit report.outcome
 run_exit log (Err fault) = fault_exit log fault
 
--- the logs of a host and of a fresh record gained a run of this process on these inputs, where a fault is the host's only if a call of it
--- failed so, and the program ends as that run
-pub data IsRan (process : Process) (inputs : Fields) (options : Options) : Exit → Type 0 where
-  ran : (before after : List Entry) (lines : List Line) (result : Result Report RunFault) → RunsOn before after [] lines process inputs options result →
-      IfErr result (IsHostsFault before after) → IsRan process inputs options (run_exit after result)
+-- the log of a host, and that of a record of which nothing was asked before, gained a run of this process on these inputs, where a fault is
+-- the host's only if a call of it failed so, and the program ends as that run; the record's log has these lines then
+pub data IsRanOver (process : Process) (inputs : Fields) (options : Options) (lines : List Line) : Exit → Type 0 where
+  ran : (before after : List Entry) (result : Result Report RunFault) → RunsOn before after [] lines process inputs options result →
+      IfErr result (IsHostsFault before after) → IsRanOver process inputs options lines (run_exit after result)
+
+-- with some lines of the record
+abbrev pub IsRan : (process : Process) (inputs : Fields) (options : Options) → Exit → Type 0
+IsRan process inputs options exit = (lines : List Line) × IsRanOver process inputs options lines exit
 
 -- ---- what the words of `run` name, for a program that is called in the folder `here`
 
@@ -111,11 +116,13 @@ pub data IsNoInputs (here : Text) (words : RunWish) : Exit → Type 0 where
   inputs_wrong : {exit : Exit} (bytes : List ℕ) (base : Parts) → IsInputsText words.inputs bytes → IsInputsUrl here words base →
       IsInputsStop bytes base exit → IsNoInputs here words exit
 
--- there is nothing to run: the document is looked at first, then the inputs, then the work folder is made, and last the output folder is
--- looked at, where an output can be or hold a File or Directory
+-- there is nothing to run: the document is looked at first, then the inputs, then the record is opened where one is named, then the work
+-- folder is made, and last the output folder is looked at, where an output can be or hold a File or Directory
 pub data IsStopExit (here : Text) (words : RunWish) : Exit → Type 0 where
   no_process : {exit : Exit} → IsNoProcess here words exit → IsStopExit here words exit
   no_inputs : {exit : Exit} (process : Process) → IsNamedProcess here words process → IsNoInputs here words exit → IsStopExit here words exit
+  no_record : (given : Given) (file : Text) (fault : RecordFault) → IsReady here words given → words.record_file ≡ Some file →
+      IsStopExit here words (exits.Fault (faults.Unopened file fault))
   no_work : (given : Given) (why : WorkTrouble) → IsReady here words given →
       IsStopExit here words (exits.Fault (faults.Work (from_root here words.work) why))
   no_outdir : (given : Given) (why : Hindrance) → IsReady here words given → can_hold_files given.process ≡ true →
@@ -140,10 +147,16 @@ pub record IsAsked (here : Text) (words : RunWish) (path : Text) (options : Opti
   pub rate : options.rate ≡ 100000
   pub keep : options.keep ≡ false
 
--- a run of the named process on the named inputs, or nothing to run; and the work folder, where it stays
-pub data IsRunExit (words : RunWish) (path : Text) : Exit → (left : Option Text) → Type 0 where
-  runs : {exit : Exit} (here : Text) (given : Given) (options : Options) → IsReady here words given → IsAsked here words path options →
-      IsRan given.process given.inputs options exit → IsRunExit words path exit (left_of words exit (from_root here words.work))
-  stops : {exit : Exit} (here : Text) → IsStopExit here words exit → IsRunExit words path exit None
+-- a run of the named process on the named inputs, or nothing to run; the work folder, where it stays; and the lines that the log of the
+-- record has then, of which nothing was asked before
+pub data IsRunExit (words : RunWish) (path : Text) : (lines : List Line) → Exit → (left : Option Text) → Type 0 where
+  runs : {exit : Exit} {lines : List Line} (here : Text) (given : Given) (options : Options) → IsReady here words given →
+      IsAsked here words path options → IsRanOver given.process given.inputs options lines exit →
+      IsRunExit words path lines exit (left_of words exit (from_root here words.work))
+  stops : {exit : Exit} (here : Text) → IsStopExit here words exit → IsRunExit words path [] exit None
   -- the folder that the program is called in can't be told
-  lost : IsRunExit words path (exits.Fault faults.Folder) None
+  lost : IsRunExit words path [] (exits.Fault faults.Folder) None
+
+-- with some lines of the record
+abbrev pub IsEndOfRun : (words : RunWish) (path : Text) → Exit → (left : Option Text) → Type 0
+IsEndOfRun words path exit left = (lines : List Line) × IsRunExit words path lines exit left

@@ -11,7 +11,7 @@ use Rattle.cwl_program.specs.Certificates.{IsCheck}
 use Rattle.cwl_program.specs.CommandLine.{Asks, command_line, wish_of}
 use Rattle.cwl_program.specs.Demo.{IsDemoExit}
 use Rattle.cwl_program.specs.RunWords.{wish_of_run}
-use Rattle.cwl_program.specs.Runs.{IsRunExit}
+use Rattle.cwl_program.specs.Runs.{IsEndOfRun}
 use Rattle.cwl_program.specs.Status.{status_of}
 use Rattle.cwl_program.specs.Visible.{visible}
 use Rattle.cwl_program.specs.Words.{name_of, word_of, refusal_code}
@@ -50,7 +50,7 @@ pub data IsRecordExit : Exit → Type 0 where
 abbrev pub IsEndOf : (path : Text) → Choice → Exit → (left : Option Text) → Type 0
 IsEndOf path (Demo explains) exit left = IsDemoExit path exit × (left ≡ None)
 IsEndOf path (Check file explains) exit left = IsCheck file.now exit × (left ≡ None)
-IsEndOf path (Run words) exit left = IsRunExit (wish_of_run words) path exit left
+IsEndOf path (Run words) exit left = IsEndOfRun (wish_of_run words) path exit left
 IsEndOf path (Record words) exit left = IsRecordExit exit × (left ≡ None)
 
 -- whether the choice asks for words on what went wrong

@@ -5,6 +5,7 @@ use Rattle.workflow_check.specs.Codes.{code_of as rule_code}
 use Rattle.cwl_value.specs.Codes.{code_of as value_code}
 use Rattle.file_values.specs.Codes.{code_of as file_code}
 use Rattle.job_rows.specs.Log.{code_of as record_code}
+use Rattle.job_record.specs.Log.{code_of as opening_code}
 use Rattle.plan_checker.specs.declared.broken.Broken.{Broken}
 use Rattle.plan_checker.specs.declared.broken.Broken.TheVariants as rules
 use Rattle.proc_host.specs.Faults.{code_of as host_code}
@@ -36,6 +37,7 @@ refusal_code (refusals.Certificate line) = codes "X1"
 abbrev pub word_of : Fault → List ℕ
 word_of (faults.Host fault name) = host_code fault
 word_of (faults.Record refusal) = record_code refusal
+word_of (faults.Unopened file fault) = opening_code fault
 word_of faults.Folder = codes "input"
 word_of (faults.Unread name why) = codes "input"
 word_of faults.NoObject = codes "input"

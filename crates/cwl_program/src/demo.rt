@@ -8,10 +8,10 @@ ghost use Rattle.cwl_program.specs.Stops.{IsStop};
 
 use crate::documents::accepted_of;
 use crate::exit::Exit;
+use crate::given::Given;
 use crate::inputs::inputs_at;
 use crate::paths::base_of;
 use crate::report::exit_of_run;
-use crate::run::Given;
 use crate::stop::{Stop, stopped};
 use cwl_value::Value;
 use document_links::{Docs, Process};

@@ -6,6 +6,7 @@ ghost use Rattle.cwl_program.specs.Words.{name_of, word_of, refusal_code};
 use cwl_value::ValueRefusal;
 use document_links::LinkFault;
 use file_values::FileFault;
+use job_record::RecordFault;
 use job_rows::RecordRefusal;
 use plain_data::Text;
 use plan_checker::Broken;
@@ -60,6 +61,8 @@ pub enum Fault {
     Host(HostFault, Option<Text>),
     /// The record of jobs refused a command.
     Record(RecordRefusal),
+    /// The record of the file of this name can't be opened, and why.
+    Unopened(Text, RecordFault),
     /// The folder that the program is called in can't be told.
     Folder,
     /// The file of this name can't be read, and why.
@@ -111,6 +114,7 @@ impl Fault {
         match self {
             Fault::Host(fault, _) => fault.code(),
             Fault::Record(refusal) => refusal.code(),
+            Fault::Unopened(_, fault) => fault.code(),
             Fault::Folder | Fault::Unread(_, _) | Fault::NoObject => "input",
             Fault::Work(_, _) => "work",
             Fault::Outdir(_, _) => "H9",

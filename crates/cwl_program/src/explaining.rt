@@ -10,7 +10,7 @@ use plain_data::Text;
 use plan_checker::Broken;
 use proc_host::HostFault;
 use process_machine::Hindrance;
-use record_program::Ending;
+use record_program::{Ending, fault_words as record_words};
 use run_core::{Cause, CollectCause};
 use run_facts::WorkTrouble;
 use std::alloc::{AllocError, Global};
@@ -46,7 +46,7 @@ fn explain_ending<E: Write>(alloc: Global, ending: &Ending, err: &mut E) -> io::
             "the file is not there, is a folder, or can't be looked at",
             err,
         ),
-        Ending::Record(fault) => put_words(alloc, format!(in alloc; "{fault}")?.as_str(), err),
+        Ending::Record(fault) => put_words(alloc, record_words(alloc, *fault)?.as_str(), err),
     }
 }
 
@@ -219,6 +219,10 @@ fn fault_words(alloc: Global, fault: &Fault) -> Result<String, AllocError> {
     match fault {
         Fault::Host(fault, name) => call_words(alloc, host_words(*fault), name.as_ref()),
         Fault::Record(refusal) => format!(in alloc; "{refusal}"),
+        Fault::Unopened(file, fault) => {
+            let why = record_words(alloc, *fault)?;
+            format!(in alloc; "{file}: {why}")
+        }
         Fault::Folder => {
             String::from_str(
                 alloc,

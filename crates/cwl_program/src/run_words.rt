@@ -1,7 +1,7 @@
 ghost use Rattle.std.specs.Prelude.{◌≡◌, ◌≤◌, IfOk, IfErr, Some, false, option_map};
 ghost use Rattle.clap.specs.Words.{app_of, found_of, kind_of, rows_of, rule_of};
 ghost use Rattle.cwl_program.specs.Flags.{IsLocal};
-ghost use Rattle.cwl_program.specs.RunWords.{IsChosen, named_rule, numbered_rule, placed_rule, run_command, run_wish, telling_in, wish_of_run, with_document, with_folders, with_keep, with_keep_failed, with_numbers, with_options, with_progress, with_slots, with_verbose};
+ghost use Rattle.cwl_program.specs.RunWords.{IsChosen, named_rule, numbered_rule, placed_rule, run_command, run_wish, telling_in, wish_of_run, with_document, with_folders, with_keep, with_keep_failed, with_numbers, with_options, with_progress, with_record, with_slots, with_verbose};
 
 use crate::flags::{flag, is_given, is_wanted, with_flags};
 use crate::telling::Telling;
@@ -25,6 +25,9 @@ const SLOTS_HELP: &str = "How many jobs may run side by side, from 1 to 64 [1]";
 const RETRIES_HELP: &str =
     "How often a job that fails temporarily is started again, from 0 to 10 [0]";
 
+const RECORD_HELP: &str =
+    "The file of a record, made where it is absent, which keeps what each job gives and ends a run that gives something else; no job is loaded yet";
+
 const VERBOSE_HELP: &str =
     "Tell of each job as it starts and ends, and show what the commands say on standard error";
 
@@ -46,6 +49,8 @@ pub struct RunWords<'a> {
     pub outdir: &'a str,
     pub slots: Option<&'a str>,
     pub retries: Option<&'a str>,
+    /// The file of the record that is asked for the jobs; without it the record ends with the run.
+    pub record_file: Option<&'a str>,
     /// Whether the work folder is to stay, and whether it is to stay after a failure.
     pub keep: bool,
     pub keep_failed: bool,
@@ -128,6 +133,17 @@ fn numbers_command<'a>(alloc: Global) -> Result<Command<'a>, Error>
     Ok(command)
 }
 
+// And with its record.
+fn record_command<'a>(alloc: Global) -> Result<Command<'a>, Error>
+    ensures ok { IfOk result (λ command. app_of command ≡ with_record) }
+    ensures local { IfOk result IsLocal }
+    ensures err { IfErr result (λ e. kind_of e ≡ ErrorKind.OutOfMemory) }
+{
+    let record = named(alloc, "record", "FILE", RECORD_HELP);
+    let command = numbers_command(alloc)?.arg(record)?;
+    Ok(command)
+}
+
 // And with the lines on its jobs.
 fn verbose_command<'a>(alloc: Global) -> Result<Command<'a>, Error>
     ensures ok { IfOk result (λ command. app_of command ≡ with_verbose) }
@@ -135,7 +151,7 @@ fn verbose_command<'a>(alloc: Global) -> Result<Command<'a>, Error>
     ensures err { IfErr result (λ e. kind_of e ≡ ErrorKind.OutOfMemory) }
 {
     let verbose = flag(alloc, "verbose", VERBOSE_HELP);
-    let command = numbers_command(alloc)?.arg(verbose)?;
+    let command = record_command(alloc)?.arg(verbose)?;
     Ok(command)
 }
 
@@ -220,6 +236,7 @@ pub fn run_words<'a>(words: &ArgMatches<'a>) -> RunWords<'a>
         outdir: words.get_str("outdir").unwrap_or("."),
         slots: words.get_str("slots"),
         retries: words.get_str("retries"),
+        record_file: words.get_str("record"),
         keep: is_given(words, "keep"),
         keep_failed: is_given(words, "keep-failed"),
         telling: telling_of(words),

@@ -1,10 +1,11 @@
 //! The record of a file.
-ghost use Rattle.std.specs.Prelude.{◌≡◌, false};
+ghost use Rattle.std.specs.Prelude.{◌≡◌, [], false, IfOk};
 ghost use Rattle.record_program.specs.Endings.{IsEnding, Says};
 
 use crate::ending::Ending;
 use crate::store::shown;
 use job_record::{JobRecord, RecordFault};
+use job_rows::Record;
 use sqlite::{Alter, Connection, Error, FileStore};
 use sqlite_resolve::CompileError;
 use sqlite_std_file::File;
@@ -19,15 +20,62 @@ const META: &str = "SELECT value FROM meta WHERE name = 'version'";
 
 /// A runtime whose files may hold records.
 pub trait Records {
+    /// The record of a file, as a run asks it.
+    type Kept: Record + Drop;
+
     /// Forgets the rows of a file's record whose key has the SHA-1 `forget`, where one is given, and returns how that and the
     /// rows that are left end the command.
     fn record_ending(&self, file: &str, forget: Option<&str>) -> Ending
         ensures { IsEnding result };
+
+    /// Opens the record of a file. Makes one where nothing is there, and in a database that has neither of its tables. Nothing
+    /// else is changed by a refusal. Nobody else can open it until it is closed.
+    fn open_record(&self, file: &str) -> Result<Self::Kept, RecordFault>
+        ensures { IfOk result (λ kept. Self.Kept.log kept ≡ []) };
+
+    /// Closes a record in good order, so that the file alone holds it. Where that can't be done its log stays beside the file,
+    /// and no row is lost.
+    fn close_record(&self, kept: Self::Kept);
 }
 
 impl Records for HostRuntime {
+    type Kept = JobRecord<FileStore<File>>;
+
     fn record_ending(&self, file: &str, forget: Option<&str>) -> Ending {
         ending_of(self, file, forget)
+    }
+
+    fn open_record(&self, file: &str) -> Result<JobRecord<FileStore<File>>, RecordFault> {
+        opened(self, file)
+    }
+
+    fn close_record(&self, kept: JobRecord<FileStore<File>>) {
+        let _closed = kept.into_connection().close();
+    }
+}
+
+fn opened(rt: &HostRuntime, file: &str) -> Result<JobRecord<FileStore<File>>, RecordFault>
+    ensures { IfOk result (λ kept. kept.log.items ≡ []) }
+{
+    match Connection::open(rt, file) {
+        Ok(conn) => opened_in(rt.alloc(), conn),
+        Err(error) => Err(RecordFault::Store(error)),
+    }
+}
+
+fn opened_in(
+    alloc: Global,
+    conn: Connection<FileStore<File>>,
+) -> Result<JobRecord<FileStore<File>>, RecordFault>
+    requires { conn.in_transaction ≡ false }
+    ensures { IfOk result (λ kept. kept.log.items ≡ []) }
+{
+    match JobRecord::open_record(alloc, conn) {
+        Ok(record) => Ok(record),
+        Err((fault, conn)) => {
+            let _closed = conn.close();
+            Err(fault)
+        }
     }
 }
 

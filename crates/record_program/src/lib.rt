@@ -1,9 +1,10 @@
-//! Shows the record of jobs that a file holds, and forgets rows of it: all of `deparohi record` but its words.
+//! Shows the record of jobs that a file holds, and forgets rows of it: all of `deparohi record` but its words. And opens
+//! that record for a run.
 //!
-//! `Records` is what the program asks: how the command ends on a file. `main_run` is the command over two writers. It opens the
-//! file, forgets the rows whose key has a given SHA-1, and prints a line for each row that is left.
+//! `Records` is what the program asks: how the command ends on a file, and the record of a file for a run. `main_run` is the command
+//! over two writers. It opens the file, forgets the rows whose key has a given SHA-1, and prints a line for each row that is left.
 //! `ended` says from the rows alone what is printed (`specs/Lines.antt`), and `keys_with` which keys have the sum. A file
-//! that holds no record is refused and left as it is: nothing is made of it.
+//! that holds no record is refused and left as it is: the command makes nothing of it. For a run a record is made where there is none.
 #![tactic(auto)]
 
 mod ending;
@@ -11,9 +12,11 @@ mod file;
 mod keys;
 mod lines;
 mod store;
+mod words;
 
 pub use ending::Ending;
 pub use file::{Records, main_run};
 pub use keys::keys_with;
 pub use lines::rows_text;
 pub use store::{ended, shown};
+pub use words::fault_words;

@@ -6,6 +6,8 @@ mod listing;
 mod paths;
 mod place;
 mod program;
+mod shell;
+mod steps;
 
 use crate::machine::place::{made, removed};
 use row_io::{Row, RowFault};
@@ -28,6 +30,7 @@ fn told_in(rt: &HostRuntime, row: &Row, place: &str) -> Result<String, RowFault>
         "measure" | "scan" | "head" => paths::told_of(rt, row, place),
         "remove" => paths::removed_of(rt, row, place),
         "main_run_on_files" => program::told_of(rt, row, place),
+        "main_runs_on_files" => steps::told_of(rt, row, place),
         _ => Err(RowFault::UnknownCall),
     }
 }

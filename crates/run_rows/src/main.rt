@@ -49,7 +49,7 @@ impl Answers for Calls<'_> {
             "child" | "children" | "stage" | "deliver" => machine::told_of(self.0, row),
             "archive" => machine::told_of(self.0, row),
             "measure" | "scan" | "head" | "remove" => machine::told_of(self.0, row),
-            "main_run_on_files" => machine::told_of(self.0, row),
+            "main_run_on_files" | "main_runs_on_files" => machine::told_of(self.0, row),
             _ => Err(RowFault::UnknownCall),
         }
     }

@@ -1,5 +1,6 @@
 use crate::machine::listing::{put_fault, put_listing};
-use crate::machine::place::{below, done, prepared};
+use crate::machine::place::{below, prepared};
+use crate::machine::shell::put_said;
 use crate::script::listing_of;
 use plain_data::{Items, Text};
 use proc_host::{Host, HostError};
@@ -8,8 +9,7 @@ use row_io::{AnswerText, Row, RowFault};
 use serde_json::Value as Json;
 use staging::Found;
 use std::alloc::Global;
-use std::process::{Command, Stdio};
-use std::{mem, str};
+use std::mem;
 
 /// What a row's steps answer, one after the other, of a host that keeps its archive in the row's `archive`, where the row has one.
 ///
@@ -119,43 +119,6 @@ fn put_fetched(outcome: Result<Items<Found>, HostError>, out: &mut AnswerText) {
     match outcome {
         Ok(found) => put_listing(out, found.as_slice()),
         Err(error) => put_fault(out, error),
-    }
-}
-
-// What a script of the shell writes in the row's folder.
-fn put_said(
-    rt: &HostRuntime,
-    script: &str,
-    place: &str,
-    out: &mut AnswerText,
-) -> Result<(), RowFault> {
-    let mut shell = Command::new(rt.alloc(), "/bin/sh")?;
-    let said = said_by(rt, &mut shell, script, place);
-    mem::drop(shell);
-    let said = said?;
-    match str::from_utf8(said.as_slice()) {
-        Ok(text) => out.put_quoted(text),
-        Err(_) => out.fail(RowFault::BadArgument),
-    }
-    Ok(())
-}
-
-fn said_by(
-    rt: &HostRuntime,
-    shell: &mut Command,
-    script: &str,
-    place: &str,
-) -> Result<Vec<u8>, RowFault> {
-    shell.arg("-c")?;
-    shell.arg(script)?;
-    shell.current_dir(place)?;
-    shell.stdin(Stdio::null());
-    shell.stderr(Stdio::inherit());
-    let output = done(shell.output(rt))?;
-    if output.status.success() {
-        Ok(output.stdout)
-    } else {
-        Err(RowFault::BadArgument)
     }
 }
 

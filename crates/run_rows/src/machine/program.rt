@@ -3,16 +3,15 @@ use crate::machine::place::{below, done, machine, prepared};
 use cwl_program::main_run;
 use plain_data::Text;
 use row_io::{AnswerText, Row, RowFault, json_text};
+use serde_json::Value as Json;
 use std::alloc::{AllocError, Global};
 use std::{fs, str};
 
 /// What the program answers and writes for a document and its inputs, and what the row's folder holds then beside them.
 pub fn told_of(rt: &HostRuntime, row: &Row, place: &str) -> Result<String, RowFault> {
-    prepared(rt, row, place)?;
-    written(rt, row, "document", place)?;
-    written(rt, row, "inputs", place)?;
+    put_files(rt, row, place)?;
     let mut out = AnswerText::new(rt.alloc());
-    run(rt, row, place, &mut out)?;
+    put_run(rt, row.list("words")?, place, Shown::Whole, &mut out)?;
     unwritten(rt, "document", place)?;
     unwritten(rt, "inputs", place)?;
     out.put(",\"found\":");
@@ -21,8 +20,31 @@ pub fn told_of(rt: &HostRuntime, row: &Row, place: &str) -> Result<String, RowFa
     out.finish()
 }
 
-fn run(rt: &HostRuntime, row: &Row, place: &str, out: &mut AnswerText) -> Result<(), RowFault> {
-    let words = words_of(rt.alloc(), row, place)?;
+/// Puts the document and the inputs of a row into its folder, which the row's script prepares.
+pub fn put_files(rt: &HostRuntime, row: &Row, place: &str) -> Result<(), RowFault> {
+    prepared(rt, row, place)?;
+    written(rt, row, "document", place)?;
+    written(rt, row, "inputs", place)
+}
+
+/// How the output of the program is shown.
+#[derive(Clone, Copy)]
+pub enum Shown {
+    /// As it is.
+    Whole,
+    /// As the rows of a record, with `_` for what each cost.
+    Rows,
+}
+
+/// Adds what the program answers and writes for these words, and leaves the object open.
+pub fn put_run(
+    rt: &HostRuntime,
+    words: &[Json],
+    place: &str,
+    shown: Shown,
+    out: &mut AnswerText,
+) -> Result<(), RowFault> {
+    let words = words_of(rt.alloc(), words, place)?;
     let mut printed = Vec::new(rt.alloc());
     let mut told = Vec::new(rt.alloc());
     let status = main_run(
@@ -35,9 +57,22 @@ fn run(rt: &HostRuntime, row: &Row, place: &str, out: &mut AnswerText) -> Result
     out.put("{\"status\":");
     out.put_natural(status as u64);
     out.put(",\"out\":");
-    put_shown(rt.alloc(), out, printed.as_slice(), place)?;
+    put_printed(rt.alloc(), out, printed.as_slice(), place, shown)?;
     out.put(",\"err\":");
     put_told(rt.alloc(), out, told.as_slice(), place)
+}
+
+fn put_printed(
+    alloc: Global,
+    out: &mut AnswerText,
+    bytes: &[u8],
+    place: &str,
+    shown: Shown,
+) -> Result<(), RowFault> {
+    match shown {
+        Shown::Whole => put_shown(alloc, out, bytes, place),
+        Shown::Rows => put_rows(alloc, out, bytes),
+    }
 }
 
 // Adds what is in the row's folder.
@@ -68,9 +103,9 @@ fn unwritten(rt: &HostRuntime, argument: &str, place: &str) -> Result<(), RowFau
 }
 
 // The words of the row, where `@` means its folder.
-fn words_of(alloc: Global, row: &Row, place: &str) -> Result<Vec<String>, RowFault> {
+fn words_of(alloc: Global, list: &[Json], place: &str) -> Result<Vec<String>, RowFault> {
     let mut words = Vec::new(alloc);
-    for word in row.list("words")? {
+    for word in list {
         let word = word.as_str().ok_or(RowFault::BadArgument)?;
         words.push(replaced(alloc, word, "@", place)?)?;
     }
@@ -89,6 +124,36 @@ fn put_shown(
         Err(_) => return Err(RowFault::BadArgument),
     }
     Ok(())
+}
+
+// Adds the rows of a record.
+fn put_rows(alloc: Global, out: &mut AnswerText, bytes: &[u8]) -> Result<(), RowFault> {
+    match str::from_utf8(bytes) {
+        Ok(text) => out.put_quoted(without_costs(alloc, text)?.as_str()),
+        Err(_) => return Err(RowFault::BadArgument),
+    }
+    Ok(())
+}
+
+// A text in which each line has `_` for its second word.
+fn without_costs(alloc: Global, text: &str) -> Result<String, AllocError> {
+    let mut whole = String::new(alloc);
+    for line in text.lines() {
+        add_row(&mut whole, line)?;
+    }
+    Ok(whole)
+}
+
+fn add_row(whole: &mut String, line: &str) -> Result<(), AllocError> {
+    let mut count = 0_usize;
+    for word in line.split(' ') {
+        if count > 0 {
+            whole.push_str(" ")?;
+        }
+        whole.push_str(if count == 1 { "_" } else { word })?;
+        count = count.saturating_add(1);
+    }
+    whole.push_str("\n")
 }
 
 // The same, with `_` for how long a child ran.

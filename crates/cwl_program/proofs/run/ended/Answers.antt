@@ -1,9 +1,0 @@
-use Rattle.cwl_program.specs.Runs.{IsRan, ran}
-use Rattle.cwl_program.proofs.Stops.{noted_so}
-use Rattle.cwl_program.proofs.run.ended.Goals as goal
-
-pub returns : goal.returns
-returns g c =
-    noted_so (IsRan c.args.given.now.process c.args.given.now.inputs c.args.options) _ c.exit_of_run-exit.result _
-    (rw c.log.ensures at c.exit_of_run-exit.ensures) c.noted-end.ensures
-    (ran _ _ _ _ (rw c.new-rows.ensures at c.run-report.ensures.run) c.run-report.ensures.fault)

@@ -1,0 +1,120 @@
+//! A run in its folders.
+ghost use Rattle.std.specs.Prelude.{◌≡◌, [], IfOk};
+ghost use Rattle.run_core.specs.Limits.{IsWithinLimits};
+ghost use Rattle.cwl_program.specs.RunWords.{wish_of_run};
+ghost use Rattle.cwl_program.specs.Runs.{AreNamed, IsAsked, IsReady, IsRunExit};
+ghost use Rattle.cwl_program.specs.Tells.{IsRunTold};
+
+use crate::given::{Call, Given, Places};
+use crate::on_machine::with_options;
+use crate::outdir::{outdir_for, without_outdir};
+use crate::run_end::RunEnd;
+use crate::run_words::{retries_of, slots_of};
+use crate::work_folder::{leave, mark_made, without_work};
+use job_rows::Record;
+use plain_data::Text;
+use process_machine::World;
+use run_core::Options;
+use std::alloc::{AllocError, Global};
+use std::fs;
+use std::io::Write;
+use std::process::Stdio;
+
+/// Makes the work folder, runs over a record of which nothing was asked, and removes the folder where that is possible, unless it is to stay.
+pub fn on_disk<R: World, K: Record, E: Write>(
+    rt: &R,
+    given: &Given,
+    places: &Places,
+    call: &Call<'_>,
+    rows: &mut K,
+    err: &mut E,
+) -> Result<RunEnd, AllocError>
+where
+    R::File: Into<Stdio>,
+    requires ready { IsReady call.now.here.now (wish_of_run call.now.words.now) given.now }
+    requires named { AreNamed call.now.here.now (wish_of_run call.now.words.now) places.now }
+    requires fresh { K.log rows.old ≡ [] }
+    ensures told { IsRunTold call.now.words.now.telling (E.contents err.old) (E.contents err.new) }
+    ensures end { IfOk result (λ end. IsRunExit (wish_of_run call.now.words.now) call.now.path.now
+        (K.log rows.new) end.exit end.left) }
+{
+    match fs::create_dir(rt, places.work.as_str()) {
+        Ok(()) => {
+            mark_made(rt, &places.work);
+            let end = in_work(rt, given, places, call, rows, err);
+            leave(rt, &places.work, call.words, &end);
+            end
+        }
+        Err(error) => without_work(rt, error.kind(), &places.work),
+    }
+}
+
+/// Runs where the output folder can be used. One that was made, and into which nothing was delivered, is removed again.
+fn in_work<R: World, K: Record, E: Write>(
+    rt: &R,
+    given: &Given,
+    places: &Places,
+    call: &Call<'_>,
+    rows: &mut K,
+    err: &mut E,
+) -> Result<RunEnd, AllocError>
+where
+    R::File: Into<Stdio>,
+    requires ready { IsReady call.now.here.now (wish_of_run call.now.words.now) given.now }
+    requires named { AreNamed call.now.here.now (wish_of_run call.now.words.now) places.now }
+    requires fresh { K.log rows.old ≡ [] }
+    ensures told { IsRunTold call.now.words.now.telling (E.contents err.old) (E.contents err.new) }
+    ensures end { IfOk result (λ end. IsRunExit (wish_of_run call.now.words.now) call.now.path.now
+        (K.log rows.new) end.exit end.left) }
+{
+    match outdir_for(rt, &given.process, &places.outdir) {
+        Ok(is_new) => {
+            let end = in_folders(rt, given, places, call, rows, err);
+            if is_new {
+                let _removed = fs::remove_dir(rt, places.outdir.as_str());
+            }
+            end
+        }
+        Err(trouble) => without_outdir(rt.alloc(), trouble, &places.outdir),
+    }
+}
+
+fn in_folders<R: World, K: Record, E: Write>(
+    rt: &R,
+    given: &Given,
+    places: &Places,
+    call: &Call<'_>,
+    rows: &mut K,
+    err: &mut E,
+) -> Result<RunEnd, AllocError>
+where
+    R::File: Into<Stdio>,
+    requires ready { IsReady call.now.here.now (wish_of_run call.now.words.now) given.now }
+    requires named { AreNamed call.now.here.now (wish_of_run call.now.words.now) places.now }
+    requires fresh { K.log rows.old ≡ [] }
+    ensures told { IsRunTold call.now.words.now.telling (E.contents err.old) (E.contents err.new) }
+    ensures end { IfOk result (λ end. IsRunExit (wish_of_run call.now.words.now) call.now.path.now
+        (K.log rows.new) end.exit end.left) }
+{
+    let options = options_of(rt.alloc(), places, call)?;
+    let end = with_options(rt, given, options, places, call.words, rows, err)?;
+    end.leaving(rt.alloc(), call.words, &places.work)
+}
+
+fn options_of(alloc: Global, places: &Places, call: &Call<'_>) -> Result<Options, AllocError>
+    requires { AreNamed call.now.here.now (wish_of_run call.now.words.now) places.now }
+    ensures limits { IfOk result IsWithinLimits }
+    ensures asked { IfOk result (IsAsked call.now.here.now (wish_of_run call.now.words.now)
+        call.now.path.now) }
+{
+    Ok(Options {
+        work: places.work.copied(alloc)?,
+        outdir: places.outdir.copied(alloc)?,
+        path_env: Text::from_text(alloc, call.path)?,
+        slots: slots_of(call.words),
+        retries: retries_of(call.words),
+        base: 1,
+        rate: 100_000,
+        keep: false,
+    })
+}

@@ -1,0 +1,37 @@
+//! What a run is given.
+
+use crate::run_words::RunWords;
+use cwl_value::Value;
+use document_links::Process;
+use plain_data::{Keyed, Text};
+use std::alloc::{AllocError, Global};
+
+/// What the program was called with: the folder that it is in, the words of `run`, and `PATH`.
+#[derive(Drop)]
+pub struct Call<'a> {
+    pub here: &'a str,
+    pub words: &'a RunWords<'a>,
+    pub path: &'a str,
+}
+
+/// What is run: an accepted process, and its input object.
+#[derive(Drop)]
+pub struct Given {
+    pub process: Process,
+    pub inputs: Keyed<Value>,
+}
+
+/// Where a run has its folders.
+#[derive(Drop)]
+pub struct Places {
+    pub work: Text,
+    pub outdir: Text,
+}
+
+impl Places {
+    pub fn clone_in(&self, alloc: Global) -> Result<Places, AllocError> {
+        let work = self.work.copied(alloc)?;
+        let outdir = self.outdir.copied(alloc)?;
+        Ok(Places { work, outdir })
+    }
+}

@@ -1,0 +1,179 @@
+//! A run over real processes and files, and a record.
+ghost use Rattle.std.specs.Prelude.{◌≡◌, [], None, Ok, IfOk};
+ghost use Rattle.run_core.specs.Limits.{IsWithinLimits};
+ghost use Rattle.workflow_check.specs.Checked.{fault_in};
+ghost use Rattle.cwl_program.specs.Runs.{IsRanOver};
+ghost use Rattle.cwl_program.specs.Tells.{IsRunTold};
+
+use crate::exit::Exit;
+use crate::given::{Given, Places};
+use crate::notes::notes_on;
+use crate::report::exit_of_run;
+use crate::run_end::RunEnd;
+use crate::run_words::RunWords;
+use crate::starts::Starts;
+use crate::telling::{Teller, Telling};
+use job_rows::Record;
+use plain_data::Keyed;
+use process_machine::{Machine, World};
+use run_core::Options;
+use std::alloc::AllocError;
+use std::io::Write;
+use std::mem;
+use std::process::Stdio;
+use workflow_engine::{Unwatched, Watch, run};
+
+/// Runs on a machine that works in these places, and asks a record of which nothing was asked.
+pub fn with_options<R: World, K: Record, E: Write>(
+    rt: &R,
+    given: &Given,
+    options: Options,
+    places: &Places,
+    words: &RunWords,
+    rows: &mut K,
+    err: &mut E,
+) -> Result<RunEnd, AllocError>
+where
+    R::File: Into<Stdio>,
+    requires accepted { fault_in given.now.process ≡ None }
+    requires limits { IsWithinLimits options }
+    requires fresh { K.log rows.old ≡ [] }
+    ensures told { IsRunTold words.now.telling (E.contents err.old) (E.contents err.new) }
+    ensures exit { IfOk result (λ end. IsRanOver given.now.process given.now.inputs options
+        (K.log rows.new) end.exit) }
+{
+    match machine_of(rt, places, words.keep) {
+        Ok(host) => told_of(rt, host, given, options, words.telling, rows, err),
+        Err(error) => {
+            mem::drop(options);
+            Err(error)
+        }
+    }
+}
+
+fn machine_of<R: World>(rt: &R, places: &Places, keep: bool) -> Result<Machine<R>, AllocError>
+    ensures { IfOk result (λ host. host.running ≡ []) }
+{
+    let places = places.clone_in(rt.alloc())?;
+    Ok(machine_at(rt.clone()?, places, keep))
+}
+
+fn machine_at<R: World>(rt: R, places: Places, keep: bool) -> Machine<R>
+    ensures { result.running ≡ [] }
+{
+    let Places { work, outdir } = places;
+    let mut host = Machine::new(rt, work, None, outdir);
+    if keep {
+        host.keep_folders();
+    }
+    host
+}
+
+/// Runs, and tells of the jobs as they start and end. Where each has lines, the messages of the children are shown too.
+fn told_of<R: World, K: Record, E: Write>(
+    rt: &R,
+    mut host: Machine<R>,
+    given: &Given,
+    options: Options,
+    telling: Telling,
+    rows: &mut K,
+    err: &mut E,
+) -> Result<RunEnd, AllocError>
+where
+    R::File: Into<Stdio>,
+    requires idle { host.running ≡ [] }
+    requires accepted { fault_in given.now.process ≡ None }
+    requires limits { IsWithinLimits options }
+    requires fresh { K.log rows.old ≡ [] }
+    ensures told { IsRunTold telling (E.contents err.old) (E.contents err.new) }
+    ensures exit { IfOk result (λ end. IsRanOver given.now.process given.now.inputs options
+        (K.log rows.new) end.exit) }
+{
+    match telling {
+        Telling::Nothing => ended(rt, host, given, options, &mut Unwatched, rows),
+        Telling::Lines => {
+            host.show_messages();
+            let teller = Teller::new(rt.alloc(), err, telling);
+            told_by(rt, host, given, options, teller, rows)
+        }
+        Telling::OneLine => {
+            let teller = Teller::new(rt.alloc(), err, telling);
+            told_by(rt, host, given, options, teller, rows)
+        }
+    }
+}
+
+fn told_by<R: World, K: Record, E: Write>(
+    rt: &R,
+    host: Machine<R>,
+    given: &Given,
+    options: Options,
+    mut teller: Teller<'_, E>,
+    rows: &mut K,
+) -> Result<RunEnd, AllocError>
+where
+    R::File: Into<Stdio>,
+    requires idle { host.running ≡ [] }
+    requires accepted { fault_in given.now.process ≡ None }
+    requires limits { IsWithinLimits options }
+    requires fresh { K.log rows.old ≡ [] }
+    ensures { IfOk result (λ end. IsRanOver given.now.process given.now.inputs options
+        (K.log rows.new) end.exit) }
+{
+    let end = ended(rt, host, given, options, &mut teller, rows);
+    teller.finish();
+    mem::drop(teller);
+    end
+}
+
+fn ended<R: World, K: Record, W: Watch>(
+    rt: &R,
+    mut host: Machine<R>,
+    given: &Given,
+    options: Options,
+    watcher: &mut W,
+    rows: &mut K,
+) -> Result<RunEnd, AllocError>
+where
+    R::File: Into<Stdio>,
+    requires idle { host.running ≡ [] }
+    requires accepted { fault_in given.now.process ≡ None }
+    requires limits { IsWithinLimits options }
+    requires fresh { K.log rows.old ≡ [] }
+    ensures { IfOk result (λ end. IsRanOver given.now.process given.now.inputs options
+        (K.log rows.new) end.exit) }
+{
+    let mut starts = Starts::new(rt.alloc(), watcher);
+    let report = run(
+        rt.alloc(),
+        &mut host,
+        rows,
+        &given.process,
+        &given.inputs,
+        options,
+        &mut starts,
+    );
+    let exit = exit_of_run(rt.alloc(), host.log(), report);
+    let end = noted(rt, &host, starts.tickets(), exit);
+    mem::drop(starts);
+    mem::drop(host);
+    end
+}
+
+/// Adds what is told of a failure.
+fn noted<R: World>(
+    rt: &R,
+    host: &Machine<R>,
+    tickets: &Keyed<u64>,
+    exit: Result<Exit, AllocError>,
+) -> Result<RunEnd, AllocError>
+    ensures { IfOk result (λ end. exit ≡ Ok end.exit) }
+{
+    let exit = exit?;
+    let notes = notes_on(rt, host, tickets, &exit);
+    Ok(RunEnd {
+        exit,
+        left: None,
+        notes,
+    })
+}

@@ -1,0 +1,104 @@
+//! The record that a run asks.
+ghost use Rattle.std.specs.Prelude.{◌≡◌, None, Some, IfOk};
+ghost use Rattle.cwl_program.specs.RunWords.{wish_of_run};
+ghost use Rattle.cwl_program.specs.Runs.{AreNamed, IsEndOfRun, IsReady};
+ghost use Rattle.cwl_program.specs.Tells.{IsRunTold};
+
+use crate::exit::{Exit, Fault};
+use crate::folders::on_disk;
+use crate::given::{Call, Given, Places};
+use crate::run_end::RunEnd;
+use job_record::RecordFault;
+use job_rows::MemoryRecord;
+use plain_data::Text;
+use process_machine::World;
+use record_program::Records;
+use std::alloc::{AllocError, Global};
+use std::io::Write;
+use std::mem;
+use std::process::Stdio;
+
+/// Runs over the record that the words name, or over one that is kept in memory alone and ends with the run.
+pub fn with_record<R: World + Records, E: Write>(
+    rt: &R,
+    given: &Given,
+    places: &Places,
+    call: &Call<'_>,
+    err: &mut E,
+) -> Result<RunEnd, AllocError>
+where
+    R::File: Into<Stdio>,
+    requires ready { IsReady call.now.here.now (wish_of_run call.now.words.now) given.now }
+    requires named { AreNamed call.now.here.now (wish_of_run call.now.words.now) places.now }
+    ensures told { IsRunTold call.now.words.now.telling (E.contents err.old) (E.contents err.new) }
+    ensures end { IfOk result (λ end. IsEndOfRun (wish_of_run call.now.words.now) call.now.path.now
+        end.exit end.left) }
+{
+    match call.words.record_file {
+        None => in_memory(rt, given, places, call, err),
+        Some(file) => in_file(rt, given, places, call, file, err),
+    }
+}
+
+fn in_memory<R: World, E: Write>(
+    rt: &R,
+    given: &Given,
+    places: &Places,
+    call: &Call<'_>,
+    err: &mut E,
+) -> Result<RunEnd, AllocError>
+where
+    R::File: Into<Stdio>,
+    requires ready { IsReady call.now.here.now (wish_of_run call.now.words.now) given.now }
+    requires named { AreNamed call.now.here.now (wish_of_run call.now.words.now) places.now }
+    ensures told { IsRunTold call.now.words.now.telling (E.contents err.old) (E.contents err.new) }
+    ensures end { IfOk result (λ end. IsEndOfRun (wish_of_run call.now.words.now) call.now.path.now
+        end.exit end.left) }
+{
+    let mut rows = MemoryRecord::new(rt.alloc());
+    let end = on_disk(rt, given, places, call, &mut rows, err);
+    mem::drop(rows);
+    end
+}
+
+/// Holds the record of the file that is named until the run has ended.
+fn in_file<R: World + Records, E: Write>(
+    rt: &R,
+    given: &Given,
+    places: &Places,
+    call: &Call<'_>,
+    file: &str,
+    err: &mut E,
+) -> Result<RunEnd, AllocError>
+where
+    R::File: Into<Stdio>,
+    requires ready { IsReady call.now.here.now (wish_of_run call.now.words.now) given.now }
+    requires named { AreNamed call.now.here.now (wish_of_run call.now.words.now) places.now }
+    requires file { (wish_of_run call.now.words.now).record_file ≡ Some file.now }
+    ensures told { IsRunTold call.now.words.now.telling (E.contents err.old) (E.contents err.new) }
+    ensures end { IfOk result (λ end. IsEndOfRun (wish_of_run call.now.words.now) call.now.path.now
+        end.exit end.left) }
+{
+    match rt.open_record(file) {
+        Ok(mut rows) => {
+            let end = on_disk(rt, given, places, call, &mut rows, err);
+            rt.close_record(rows);
+            end
+        }
+        Err(fault) => without_record(rt.alloc(), fault, file),
+    }
+}
+
+/// The end of a program that can't open the record of this file.
+fn without_record(alloc: Global, fault: RecordFault, file: &str) -> Result<RunEnd, AllocError>
+    ensures exit { IfOk result (λ end. end.exit ≡ Exit.Fault (Fault.Unopened file.now fault)) }
+    ensures left { IfOk result (λ end. end.left ≡ None) }
+{
+    match fault {
+        RecordFault::OutOfMemory => Err(AllocError),
+        fault => {
+            let fault = Fault::Unopened(Text::from_text(alloc, file)?, fault);
+            Ok(RunEnd::bare(alloc, Exit::Fault(fault)))
+        }
+    }
+}
