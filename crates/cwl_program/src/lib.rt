@@ -8,6 +8,7 @@
 //! jobs while it goes on where the words want it.
 #![tactic(auto)]
 
+mod advice;
 mod certificate;
 mod command;
 mod demo;
@@ -19,6 +20,7 @@ mod failed_call;
 mod flags;
 mod folders;
 mod given;
+mod input_notes;
 mod inputs;
 mod laws;
 mod notes;
@@ -34,12 +36,14 @@ mod run_record;
 mod run_words;
 mod search;
 mod shell_words;
+mod start_notes;
 mod starts;
 mod stop;
 mod telling;
 mod terminal;
 mod visible;
 mod work_folder;
+mod wrong_form;
 
 pub use entry::{main_run, program};
 pub use laws::{line_is_one_command, text_is_one_word};

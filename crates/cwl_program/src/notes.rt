@@ -1,26 +1,35 @@
-//! What is told of the job that failed, and of the result that could not be delivered.
+//! What is told of the job or the input that failed, and of the result that could not be delivered.
 
 use crate::exit::{Exit, Fault};
 use crate::explaining::hindrance_words;
+use crate::given::Given;
+use crate::input_notes::{misfit_lines, missing_lines};
 use crate::shell_words::line_of;
+use crate::start_notes::{add_listing, start_lines};
 use crate::telling::ending;
 use command_line::Launch;
+use job_graph::Cause as NoValue;
 use plain_data::{Keyed, Text};
 use proc_host::{ChildEnd, Entry, HostFault};
 use process_machine::{Machine, World, last_lines, messages_file};
-use run_core::Cause;
+use run_core::{Cause, CollectCause};
 use run_facts::{end_of, launch_with, moves_in};
 use std::alloc::{AllocError, Global};
 
-/// Returns lines on what failed. Of a job they have its command, how it ended, and the last that it said; of a delivery the result that is
-/// lacking, why, and where it lies. Where memory runs out there are none.
+/// The place of the process itself, as JSON text.
+const ROOT: &str = "\"main\"";
+
+/// Returns lines on what failed. Of a job they have its command, how it ended, the last that it said, and what it left where an output
+/// is lacking; of an input of the process its value or file; of a command that can't be started where it was looked for; of a delivery the
+/// result that is lacking, why, and where it lies. Where memory runs out there are none.
 pub fn notes_on<R: World>(
     rt: &R,
     host: &Machine<R>,
+    given: &Given,
     tickets: &Keyed<u64>,
     exit: &Exit,
 ) -> Vec<String> {
-    match lines_on(rt, host, tickets, exit) {
+    match lines_on(rt, host, given, tickets, exit) {
         Ok(lines) => lines,
         Err(AllocError) => Vec::new(rt.alloc()),
     }
@@ -29,15 +38,36 @@ pub fn notes_on<R: World>(
 fn lines_on<R: World>(
     rt: &R,
     host: &Machine<R>,
+    given: &Given,
     tickets: &Keyed<u64>,
     exit: &Exit,
 ) -> Result<Vec<String>, AllocError> {
     match exit {
+        Exit::Permanent(place, Cause::Equation(cause)) if place.as_str() == ROOT => {
+            value_lines(rt.alloc(), host.log(), given, cause)
+        }
+        Exit::Permanent(place, Cause::Collect(CollectCause::Output(_))) => {
+            output_lines(rt, host.log(), tickets.get(place.as_str()))
+        }
         Exit::Permanent(place, Cause::Exit(_) | Cause::Collect(_)) | Exit::Temporary(place) => {
             job_lines(rt, host.log(), tickets.get(place.as_str()))
         }
+        Exit::Fault(Fault::Host(HostFault::Start, _)) => start_lines(rt.alloc(), host.log()),
         Exit::Fault(Fault::Host(HostFault::Deliver, _)) => delivery_lines(rt.alloc(), host),
         _ => Ok(Vec::new(rt.alloc())),
+    }
+}
+
+fn value_lines(
+    alloc: Global,
+    log: &[Entry],
+    given: &Given,
+    cause: &NoValue,
+) -> Result<Vec<String>, AllocError> {
+    match cause {
+        NoValue::Kind(input) => misfit_lines(alloc, given, input),
+        NoValue::Missing(input) => missing_lines(alloc, log, given, input),
+        _ => Ok(Vec::new(alloc)),
     }
 }
 
@@ -55,6 +85,20 @@ fn job_lines<R: World>(
         (Some(launch), Some(end)) => child_lines(rt, launch, &end),
         _ => Ok(Vec::new(rt.alloc())),
     }
+}
+
+// The same, and what the job left.
+fn output_lines<R: World>(
+    rt: &R,
+    log: &[Entry],
+    ticket: Option<&u64>,
+) -> Result<Vec<String>, AllocError> {
+    let mut lines = job_lines(rt, log, ticket)?;
+    match ticket {
+        Some(ticket) => add_listing(rt.alloc(), log, *ticket, &mut lines)?,
+        None => {}
+    }
+    Ok(lines)
 }
 
 fn child_lines<R: World>(

@@ -154,7 +154,7 @@ where
         &mut starts,
     );
     let exit = exit_of_run(rt.alloc(), host.log(), report);
-    let end = noted(rt, &host, starts.tickets(), exit);
+    let end = noted(rt, &host, given, starts.tickets(), exit);
     mem::drop(starts);
     mem::drop(host);
     end
@@ -164,13 +164,14 @@ where
 fn noted<R: World>(
     rt: &R,
     host: &Machine<R>,
+    given: &Given,
     tickets: &Keyed<u64>,
     exit: Result<Exit, AllocError>,
 ) -> Result<RunEnd, AllocError>
     ensures { IfOk result (λ end. exit ≡ Ok end.exit) }
 {
     let exit = exit?;
-    let notes = notes_on(rt, host, tickets, &exit);
+    let notes = notes_on(rt, host, given, tickets, &exit);
     Ok(RunEnd {
         exit,
         left: None,

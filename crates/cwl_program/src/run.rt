@@ -91,7 +91,7 @@ where
 {
     match process_of(rt, call) {
         Ok(process) => on_process(rt, process, call, err),
-        Err(stop) => stopped_run(rt.alloc(), stop),
+        Err(stop) => stopped_run(rt, stop, call.words.inputs),
     }
 }
 
@@ -158,7 +158,7 @@ where
         }
         Err(stop) => {
             mem::drop(process);
-            stopped_run(rt.alloc(), stop)
+            stopped_run(rt, stop, call.words.inputs)
         }
     }
 }

@@ -131,6 +131,14 @@ impl Search {
     }
 }
 
+/// The path that a URL names, where it names one.
+pub fn path_at(alloc: Global, url: &Text) -> Result<Option<Text>, AllocError> {
+    match url_of(alloc, url)? {
+        Some(base) => path_of(alloc, url, &base),
+        None => Ok(None),
+    }
+}
+
 fn url_of(alloc: Global, text: &Text) -> Result<Option<Url>, AllocError> {
     match Url::parse(alloc, text.as_str()) {
         Ok(url) => Ok(Some(url)),

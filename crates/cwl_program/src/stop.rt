@@ -3,10 +3,12 @@ ghost use Rattle.std.specs.Prelude.{◌≡◌, None, IfOk, OnErr};
 ghost use Rattle.cwl_program.specs.Stops.{IsTrouble, IsCause, IsStop, IsUnread};
 ghost use Rattle.cwl_program.specs.declared.stop.Stop.TheVariants.{OutOfMemory};
 
+use crate::advice::advice_on;
 use crate::exit::{Exit, Fault, Unreadable};
 use crate::reading::NoBytes;
 use crate::run_end::RunEnd;
 use plain_data::Text;
+use process_machine::World;
 use std::alloc::{AllocError, Global};
 
 /// Why there is nothing to run.
@@ -36,14 +38,26 @@ pub fn stopped(stop: Stop) -> Result<Exit, AllocError>
     }
 }
 
-/// The same end, as that of a run which left nothing.
-pub fn stopped_run(alloc: Global, stop: Stop) -> Result<RunEnd, AllocError>
+/// The same end, as that of a run on inputs of this name, which left nothing, with what would do.
+pub fn stopped_run<R: World>(rt: &R, stop: Stop, inputs: Option<&str>) -> Result<RunEnd, AllocError>
     ensures exit { IfOk result (λ end. stop ≡ Stop.Early end.exit) }
     ensures left { IfOk result (λ end. end.left ≡ None) }
 {
     match stop {
-        Stop::Early(exit) => Ok(RunEnd::bare(alloc, exit)),
+        Stop::Early(exit) => Ok(advised(rt, exit, inputs)),
         Stop::OutOfMemory => Err(AllocError),
+    }
+}
+
+fn advised<R: World>(rt: &R, exit: Exit, inputs: Option<&str>) -> RunEnd
+    ensures exit { result.exit ≡ exit }
+    ensures left { result.left ≡ None }
+{
+    let notes = advice_on(rt, &exit, inputs);
+    RunEnd {
+        exit,
+        left: None,
+        notes,
     }
 }
 

@@ -1,0 +1,99 @@
+//! What would do where a document or an input object is refused.
+
+use crate::exit::{Exit, Refusal};
+use crate::reading::bytes_of_file;
+use crate::search::path_at;
+use crate::wrong_form::form_lines;
+use cwl_value::{FileField, ValueRefusal};
+use document_links::LinkFault;
+use document_table::{Cause, DocumentFault};
+use plain_data::Text;
+use process_machine::World;
+use run_facts::words_for;
+use std::alloc::{AllocError, Global};
+
+const NOT_MET: &str =
+    "what is not met can't be required: in `hints` in place of `requirements` it is ignored";
+
+const LITERAL: &str =
+    "a File or Directory is given by its `location` or `path`; one of `contents` or `listing` alone is not taken";
+
+/// Returns lines on a refusal: where a text is no JSON and what it looks like, and what would do. The inputs have this name. Where memory
+/// runs out there are none.
+pub fn advice_on<R: World>(rt: &R, exit: &Exit, inputs: Option<&str>) -> Vec<String> {
+    match lines_on(rt, exit, inputs) {
+        Ok(lines) => lines,
+        Err(AllocError) => Vec::new(rt.alloc()),
+    }
+}
+
+fn lines_on<R: World>(
+    rt: &R,
+    exit: &Exit,
+    inputs: Option<&str>,
+) -> Result<Vec<String>, AllocError> {
+    match exit {
+        Exit::Refused(Refusal::Document(LinkFault::Document(url, fault))) => {
+            document_lines(rt, url, fault)
+        }
+        Exit::Refused(Refusal::Inputs(refusal)) => inputs_lines(rt, *refusal, inputs),
+        _ => Ok(Vec::new(rt.alloc())),
+    }
+}
+
+fn document_lines<R: World>(
+    rt: &R,
+    url: &Text,
+    fault: &DocumentFault,
+) -> Result<Vec<String>, AllocError> {
+    match path_at(rt.alloc(), url)? {
+        Some(path) => fault_lines(rt, path.as_str(), fault),
+        None => Ok(Vec::new(rt.alloc())),
+    }
+}
+
+fn fault_lines<R: World>(
+    rt: &R,
+    path: &str,
+    fault: &DocumentFault,
+) -> Result<Vec<String>, AllocError> {
+    match fault.cause {
+        Cause::NotJson => text_lines(rt, path),
+        Cause::WrongForm => match bytes_of_file(rt, path) {
+            Ok(bytes) => form_lines(rt.alloc(), bytes.as_slice(), fault.outward.as_slice()),
+            Err(_) => Ok(Vec::new(rt.alloc())),
+        },
+        Cause::UnknownRequirement => line(rt.alloc(), NOT_MET),
+        _ => Ok(Vec::new(rt.alloc())),
+    }
+}
+
+fn inputs_lines<R: World>(
+    rt: &R,
+    refusal: ValueRefusal,
+    inputs: Option<&str>,
+) -> Result<Vec<String>, AllocError> {
+    match (refusal, inputs) {
+        (ValueRefusal::NotJson, Some(file)) => text_lines(rt, file),
+        (ValueRefusal::BadFile(FileField::Location), _) => line(rt.alloc(), LITERAL),
+        _ => Ok(Vec::new(rt.alloc())),
+    }
+}
+
+// What the text of a file looks like that is no JSON.
+fn text_lines<R: World>(rt: &R, path: &str) -> Result<Vec<String>, AllocError> {
+    match bytes_of_file(rt, path) {
+        Ok(bytes) => line(
+            rt.alloc(),
+            words_for(rt.alloc(), bytes.as_slice())?.as_str(),
+        ),
+        Err(_) => Ok(Vec::new(rt.alloc())),
+    }
+}
+
+/// One line.
+pub fn line(alloc: Global, words: &str) -> Result<Vec<String>, AllocError> {
+    let mut lines = Vec::new(alloc);
+    lines.push(String::from_str(alloc, words)?)?;
+    Ok(lines)
+}
