@@ -1,6 +1,6 @@
 -- What becomes of collected outputs, by what was tested.
 use Rattle.std.specs.Prelude.{not, option_copied, ◌≢◌}
-use Rattle.std.proofs.Common.{◌≡◌, ◌∙◌, ◌↔◌, ◌⊎◌, IsTrue, inl, inr, ℕ, Bool, true, false, List, Option, Some, None, refl, sym, ap, subst}
+use Rattle.std.proofs.Common.{◌≡◌, ◌∙◌, ◌↔◌, ◌⊎◌, IsTrue, inl, inr, ℕ, Bool, true, false, List, [], ◌∷◌, Option, Some, None, refl, sym, ap, subst}
 use Rattle.cwl_process.specs.Acting.{reuse_of}
 use Rattle.job_graph.specs.Words.{Fields, JobPlace}
 use Rattle.job_key.specs.Key.{key}
@@ -8,11 +8,11 @@ use Rattle.job_reuse.specs.Laws.{OutputsAreTheSameOrNot}
 use Rattle.job_reuse.specs.Rows.{made_row}
 use Rattle.job_rows.specs.declared.row.Row.{Row}
 use Rattle.staging.specs.declared.found.Found.{Found}
-use Rattle.run_rules.specs.Events.{job_succeeded}
+use Rattle.run_rules.specs.Events.{job_repeated, job_succeeded, put_due}
 use Rattle.run_rules.specs.Keeps.{AgreesWith, Keeps, differs, keeps, keeps_none}
 use Rattle.run_core.specs.declared.site.Site.{Site}
 use Rattle.run_core.specs.declared.state.JobNext.{JobNext}
-use Rattle.run_core.specs.inner.Due.{DiffersAt, KeepsAt, events_next, job_at_site, work_next}
+use Rattle.run_core.specs.inner.Due.{DiffersAt, KeepsAt, events_next, job_at_site, told_in, work_next}
 
 module _ (site : Site) (millis : ℕ) (found : List Found) (outputs : Fields) (reusable : Bool) (its : reusable ≡ reuse_of site.tool.now.asked) where
   pub kept_none : reusable ≡ false → KeepsAt site millis found outputs (JobNext.Gives outputs None)
@@ -37,11 +37,23 @@ module _ (site : Site) (millis : ℕ) (found : List Found) (outputs : Fields) (r
       | inr other ↦ absurd (never other)
     ]
 
+    abbrev its_made : Row
+    its_made = made_row (key site.tool.now site.inputs.now) outputs found millis false
+
+    told : (before : Option Row) → option_copied site.row ≡ before → AgreesWith outputs before → KeepsAt site millis found outputs (told_in before outputs its_made)
+    told None is agrees = record {
+      on = λ place. subst (λ (row : Option Row). Keeps place (job_at_site site place) row millis found outputs (put_due place its_made) (job_succeeded place outputs ∷ [])) (sym is)
+          (keeps may agrees);
+      asks_nothing = tt;
+    }
+    told (Some before) is agrees = record {
+      on = λ place. subst (λ (row : Option Row). Keeps place (job_at_site site place) row millis found outputs (put_due place its_made) (job_repeated place ∷ [])) (sym is)
+          (keeps may agrees);
+      asks_nothing = tt;
+    }
+
     pub kept_row : OutputsAreTheSameOrNot → (other : Bool) → IsTrue other ↔ DiffersAt (option_copied site.row) outputs → other ≡ false → (row : Row) →
-        row ≡ made_row (key site.tool.now site.inputs.now) outputs found millis false → KeepsAt site millis found outputs (JobNext.Gives outputs (Some row))
+        row ≡ made_row (key site.tool.now site.inputs.now) outputs found millis false → KeepsAt site millis found outputs (told_in (option_copied site.row) outputs row)
     kept_row same_or_not other tells is row made =
-        subst (λ (its_row : Row). KeepsAt site millis found outputs (JobNext.Gives outputs (Some its_row))) (sym made)
-        (record {
-          on = λ place. keeps may (alike same_or_not (option_copied site.row) (λ differ. let never : true ≡ false = sym (tells.1 differ) ∙ is in cc));
-          asks_nothing = tt;
-        })
+        subst (λ (its_row : Row). KeepsAt site millis found outputs (told_in (option_copied site.row) outputs its_row)) (sym made)
+        (told (option_copied site.row) refl (alike same_or_not (option_copied site.row) (λ differ. let never : true ≡ false = sym (tells.1 differ) ∙ is in cc)))

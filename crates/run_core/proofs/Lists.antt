@@ -8,6 +8,11 @@ pub if_ok : {X E : Type 0} {P Q : X → Type 0} (result : Result X E) → ((x : 
 if_ok (Ok x) gives holds = gives x holds
 if_ok (Err error) gives holds = tt
 
+-- and where nothing is given
+pub where_ok : {X E : Type 0} {P Q : Type 0} (result : Result X E) → (P → Q) → OnOk result P → OnOk result Q
+where_ok (Ok x) leads holds = leads holds
+where_ok (Err error) leads holds = tt
+
 -- a list of none
 pub none_in : {X : Type 0} (xs : List X) → length xs < 1 → xs ≡ []
 none_in [] none = refl

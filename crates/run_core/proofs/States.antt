@@ -6,7 +6,7 @@ use Rattle.std.proofs.lemmas.Bool.{cases_lt}
 use Rattle.std.proofs.lemmas.List.{get_or_append_left}
 use Rattle.std.proofs.lemmas.Option.{get_or_from_slice_get}
 use Rattle.run_core.specs.declared.job_states.JobState.{JobState}
-use Rattle.run_core.specs.inner.JobStates.{NoneWaits, given_up_in, staged_in, state_at, untouched, waits_in}
+use Rattle.run_core.specs.inner.JobStates.{NoneWaits, brought_in, given_up_in, staged_in, state_at, untouched, waits_in}
 
 pub staged_set : (states : List JobState) (number folder : ℕ) (state : JobState) → slice_get states number ≡ Some state →
     staged_in number folder states ≡ set states number (record state { waits = false; folder = folder })
@@ -62,6 +62,19 @@ given_up_length [] zero = refl
 given_up_length [] (suc number) = refl
 given_up_length (x ∷ states) zero = refl
 given_up_length (x ∷ states) (suc number) = ap suc (given_up_length states number)
+
+pub brought_length : (states : List JobState) (number : ℕ) → length (brought_in number states) ≡ length states
+brought_length [] zero = refl
+brought_length [] (suc number) = refl
+brought_length (x ∷ states) zero = refl
+brought_length (x ∷ states) (suc number) = ap suc (brought_length states number)
+
+pub brought_set : (states : List JobState) (number : ℕ) (state : JobState) → slice_get states number ≡ Some state →
+    brought_in number states ≡ set states number (record state { at_hand = true })
+brought_set [] number state there = absurd cc
+brought_set (x ∷ states) zero state there =
+    let same : x ≡ state = cc in ap (λ (s : JobState). record s { at_hand = true } ∷ states) same
+brought_set (x ∷ states) (suc number) state there = ap (λ (others : List JobState). x ∷ others) (brought_set states number state there)
 
 -- a job that doesn't wait was touched
 waits_past : (states : List JobState) (n : ℕ) → length states ≤ n → waits_in states n ≡ true

@@ -1,6 +1,6 @@
 -- What comes of a course where one more place is told to what is known, and where it is known first.
-use Rattle.std.specs.Prelude.{OnErr, slice_get}
-use Rattle.std.proofs.Common.{◌≡◌, ◌∙◌, ℕ, List, Option, Some, Result, Ok, Err, refl, sym, ap, subst}
+use Rattle.std.specs.Prelude.{IsSome, OnErr, slice_get}
+use Rattle.std.proofs.Common.{◌≡◌, ◌∙◌, ℕ, Bool, true, false, List, Option, Some, None, Result, Ok, Err, refl, sym, ap, subst}
 use Rattle.job_graph.specs.Jobs.{Job, Walker}
 use Rattle.job_graph.specs.Unfold.{Resolved, unfolded}
 use Rattle.job_graph.specs.Unfolding.{AnswersAlike, Blames, Learns as LearnsPlace}
@@ -14,7 +14,7 @@ use Rattle.run_rules.specs.declared.outcome.Outcome.{Outcome}
 use Rattle.run_rules.specs.declared.outcome.RunFault.{RunFault}
 use Rattle.run_core.specs.declared.state.Course.{Course}
 use Rattle.run_core.specs.inner.Course.{known_in, past_of, place_at, with_end}
-use Rattle.run_core.specs.inner.Knows.{IsTold, IsUnfolded, Learns, end_by, fails, knows}
+use Rattle.run_core.specs.inner.Knows.{IsTold, IsUnfolded, Learns, LearnsUnlessOver, end_by, fails, knows}
 use Rattle.run_core.proofs.Choosing.{place_there}
 
 -- out of memory before anything is told
@@ -37,6 +37,10 @@ told_place jobs number outputs job place known held told kept result there same 
     subst (λ (u : Unfolding). IsTold (record { place = place_at jobs number; outputs = outputs }) u (Some told) result) held_is
     (subst (λ (p : JobPlace). IsTold (record { place = p; outputs = outputs }) held (Some told) result) here
     (record { told = told; is = refl; learns = learns; alike = alike }))
+
+never_over : {T : Type 0} (o : Option T) → IsSome o → o ≡ None → ⊥
+never_over None some none = let never : false ≡ true = some in cc
+never_over (Some x) some none = let never : Some x ≡ None = none in cc
 
 pub knows_told : (one : Resolved) (old new : Course) (done : Unit {0}) → ((kept : Unfolding) → old.known ≡ Some kept → IsTold one kept new.known (Ok done)) →
     past_of new ≡ past_of old → Learns one old new
@@ -62,3 +66,11 @@ module _ (old : Course) (fault : UnfoldFault) (end : Result Outcome RunFault) (e
   fails_first walks learned new error blames refused settles same =
       fails fault new (subst (λ (e : UnfoldError). Blames (unfolded walks learned).fault e) refused blames) (ap known_in same)
       (settles ∙ ap (λ (e : Result Outcome RunFault). with_end e (past_of old)) ends)
+
+-- where the end is not settled
+pub unless_over : (one : Resolved) (old new : Course) → old.end ≡ None → Learns one old new → LearnsUnlessOver one old new
+unless_over one old new none learns = record {
+  settled = λ over. absurd (never_over old.end over none);
+  unlearned = λ over. absurd (never_over old.end over none);
+  learned = λ going. learns;
+}

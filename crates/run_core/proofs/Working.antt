@@ -88,12 +88,14 @@ calls_nothing options folder (JobNext.Asks call phase) none = absurd none
 calls_nothing options folder (JobNext.Fails cause) none = tt
 calls_nothing options folder (JobNext.Gives outputs row) none = tt
 calls_nothing options folder (JobNext.Differs outputs) none = tt
+calls_nothing options folder (JobNext.Repeats row) none = tt
 
 keeps_nothing : (kept : Kept) (next : JobNext) → AsksNothing next → KeepsStill kept next
 keeps_nothing kept (JobNext.Asks call phase) none = absurd none
 keeps_nothing kept (JobNext.Fails cause) none = tt
 keeps_nothing kept (JobNext.Gives outputs row) none = tt
 keeps_nothing kept (JobNext.Differs outputs) none = tt
+keeps_nothing kept (JobNext.Repeats row) none = tt
 
 pub collects_by : (site : Site) (kept : Kept) (millis : ℕ) (found : List Found) (read : Heads) (next : JobNext) → Gathers site kept millis found read next →
     Collects site kept millis found read [] next

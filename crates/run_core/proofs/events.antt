@@ -3,3 +3,5 @@ pub mod Kept
 pub mod Numbers
 pub mod Keeping
 pub mod Reflecting
+pub mod Learning
+pub mod Families

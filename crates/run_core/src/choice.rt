@@ -25,8 +25,8 @@ use std::alloc::{AllocError, Global};
 use std::mem;
 
 /// What comes next: after a failure the children in flight are waited for; else the row of a known job is looked for that
-/// was not; else the lowest job that waits is staged, where a slot is free; else a child in flight is waited for; and at last the
-/// result is delivered.
+/// was not; else the lowest job that waits and whose parents are at hand is staged, where a slot is free; else a child in
+/// flight is waited for; and at last the result is delivered.
 pub(crate) fn pick(
     alloc: Global,
     given: &Given<'_>,
@@ -65,7 +65,7 @@ fn settled(alloc: Global, course: &mut Course<'_>) -> Turn
     }
 }
 
-/// The lowest job that waits, where a slot is free.
+/// The lowest job that waits and whose parents are at hand, where a slot is free.
 fn next_to_stage(given: &Given<'_>, course: &mut Course<'_>) -> Option<usize>
     ensures same { course.new ≡ course.old }
     ensures found { MatchOption result (NoneToStage given.now course.old)
@@ -74,8 +74,7 @@ fn next_to_stage(given: &Given<'_>, course: &mut Course<'_>) -> Option<usize>
     if course.tickets.len() as u64 >= given.options.slots {
         return None;
     }
-    let count = known_in(&course.known).len();
-    course.jobs.first_waiting(count)
+    course.jobs.first_ready(known_in(&course.known))
 }
 
 /// The folders of a job are made, and its input files are copied there.

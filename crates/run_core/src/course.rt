@@ -1,9 +1,9 @@
 //! What the events of a run bring about.
 ghost use Rattle.std.specs.Prelude.{◌≡◌, ◌<◌, ◌≤◌, ◌+◌, ◌^◌, ◌∷◌, [], None, Some, Contains, IsSome, IfOk, OnErr, OnOk, length, map, slice_get, vec_len, vec_capacity};
 ghost use Rattle.job_graph.specs.declared.unfolding.Unfolding.{Unfolding as Held};
-ghost use Rattle.job_graph.specs.KnownJobs.{job_of as job_seen};
-ghost use Rattle.run_core.specs.inner.Course.{GivesUp, TakesOut, failure_in, known_in, nothing_past, past_of, place_at, put_note, with_answer, with_end, with_note, with_staging, with_start};
-ghost use Rattle.run_core.specs.inner.Knows.{IsTold, Learns, end_by};
+ghost use Rattle.job_graph.specs.KnownJobs.{job_of as job_seen, known_of};
+ghost use Rattle.run_core.specs.inner.Course.{GivesUp, TakesOut, failure_in, families_in, known_in, nothing_past, past_of, place_at, put_note, with_answer, with_end, with_note, with_staging, with_start};
+ghost use Rattle.run_core.specs.inner.Knows.{GivesAt, IsTold, LearnsUnlessOver, end_by};
 ghost use Rattle.run_core.specs.inner.Turn.{permanent};
 ghost use Rattle.run_rules.specs.declared.outcome.RunFault.{RunFault as Fault};
 ghost use Rattle.run_core.specs.inner.FoundRows.{rows_after};
@@ -40,7 +40,8 @@ pub(crate) fn at_first<'a>(alloc: Global) -> Course<'a>
 
 /// The jobs that are known, by number.
 pub(crate) fn known_in<'s, 'a>(known: &'s Option<Unfolding<'a>>) -> &'s [KnownJob<'a>]
-    ensures { map (λ one. job_seen one.job) result.now ≡ known_in known.now }
+    ensures jobs { map (λ one. job_seen one.job) result.now ≡ known_in known.now }
+    ensures families { map known_of result.now ≡ families_in known.now }
 {
     match known {
         None => &[],
@@ -198,21 +199,34 @@ pub(crate) fn note_giving_up(
     Ok(())
 }
 
-/// The job gives these outputs: more is known, unless the end is settled.
+/// The job gives these outputs: they are at hand, and more is known, unless the end is settled.
 pub(crate) fn note_success(
     alloc: Global,
     course: &mut Course<'_>,
     number: usize,
     outputs: Keyed<Value>,
 ) -> Result<(), AllocError>
+    requires number { number < length (known_in course.old.known) }
+    requires staged { number < length course.old.jobs }
+    ensures given { OnOk result (GivesAt number outputs course.old course.new) }
+    ensures tickets { course.new.tickets.items ≡ course.old.tickets.items }
+    ensures folders { course.new.folders ≡ course.old.folders }
+{
+    course.jobs.bring(number);
+    note_outputs(alloc, course, number, outputs)
+}
+
+/// These are the outputs of the job: more is known, unless the end is settled.
+pub(crate) fn note_outputs(
+    alloc: Global,
+    course: &mut Course<'_>,
+    number: usize,
+    outputs: Keyed<Value>,
+) -> Result<(), AllocError>
     requires { number < length (known_in course.old.known) }
-    ensures settled { OnOk result (IsSome course.old.end → past_of course.new
-        ≡ past_of course.old) }
-    ensures unlearned { OnOk result (IsSome course.old.end → course.new.known ≡ course.old.known) }
-    ensures learned { OnOk result (course.old.end ≡ None
-        → Learns (record { place = place_at (known_in course.old.known) number; outputs = outputs })
+    ensures learned { OnOk result (LearnsUnlessOver
+        (record { place = place_at (known_in course.old.known) number; outputs = outputs })
         course.old course.new) }
-    ensures err { OnErr result (past_of course.new ≡ past_of course.old) }
     ensures tickets { course.new.tickets.items ≡ course.old.tickets.items }
     ensures folders { course.new.folders ≡ course.old.folders }
 {

@@ -1,15 +1,20 @@
 //! What has become of each job.
-ghost use Rattle.std.specs.Prelude.{◌≡◌, ◌<◌, ◌+◌, ◌^◌, ℕ, [], OnOk, MatchOption, length};
-ghost use Rattle.run_core.specs.inner.JobStates.{IsLowest, NoneWaits, given_up_in, staged_in, state_at};
+ghost use Rattle.std.specs.Prelude.{◌≡◌, ◌<◌, ◌≤◌, ◌+◌, ◌^◌, ℕ, [], OnOk, MatchOption, length, map};
+ghost use Rattle.std.specs.List.{list_all};
+ghost use Rattle.job_graph.specs.KnownJobs.{known_of};
+ghost use Rattle.run_core.specs.inner.JobStates.{IsLowest, NoneReady, NoneWaits, brought_in, given_up_in, is_there, staged_in, state_at, waits_in};
 
+use job_graph::KnownJob;
 use std::alloc::{AllocError, Global};
 use std::marker::Model;
 
 /// What has become of a job.
 #[derive(Drop)]
 pub(crate) struct JobState {
-    /// Whether it may be staged: it never was, or it failed temporarily and may be tried again.
+    /// Whether it is still to be staged: it never was, or it failed temporarily and may be tried again.
     pub waits: bool,
+    /// Whether its outputs are at hand.
+    pub at_hand: bool,
     /// The number of the folders that it was staged in last; 0 where it never was.
     pub folder: u64,
     /// How often it failed temporarily.
@@ -66,18 +71,17 @@ impl JobStates {
         self.states[number].gave_up
     }
 
-    /// The lowest job of the first so many that waits.
-    pub(crate) fn first_waiting(&mut self, count: usize) -> Option<usize>
+    /// The lowest of the known jobs that waits and whose parents are at hand.
+    pub(crate) fn first_ready(&mut self, known: &[KnownJob<'_>]) -> Option<usize>
         ensures same { self.new ≡ self.old }
-        ensures found { MatchOption result (NoneWaits self.old count) (IsLowest self.old count) }
+        ensures found { MatchOption result
+            (NoneReady (map known_of known.now) self.old (length known.now))
+            (IsLowest (map known_of known.now) self.old) }
     {
         while self.lowest < self.states.len() && !self.states[self.lowest].waits {
             self.lowest += 1;
         }
-        if self.lowest < count {
-            return Some(self.lowest);
-        }
-        None
+        first_ready(self.states.as_slice(), self.lowest, known)
     }
 
     /// The job has these folders, and waits no more.
@@ -89,6 +93,14 @@ impl JobStates {
         state.waits = false;
         state.folder = folder;
         Ok(())
+    }
+
+    /// The outputs of the job are at hand.
+    pub(crate) fn bring(&mut self, number: usize)
+        requires { number < length self.old }
+        ensures { self.new ≡ brought_in number self.old }
+    {
+        self.states[number].at_hand = true;
     }
 
     /// The job failed temporarily once more, and waits again.
@@ -114,10 +126,56 @@ impl JobStates {
         while self.states.len() <= number {
             self.states.push(JobState {
                 waits: true,
+                at_hand: false,
                 folder: 0,
                 gave_up: 0,
             })?;
         }
         Ok(())
+    }
+}
+
+/// The first of the known jobs, from a number on, that waits and whose parents are at hand; below that number none waits.
+fn first_ready(states: &[JobState], from: usize, known: &[KnownJob<'_>]) -> Option<usize>
+    requires { NoneWaits states.now from }
+    ensures { MatchOption result
+        (NoneReady (map known_of known.now) states.now (length known.now))
+        (IsLowest (map known_of known.now) states.now) }
+{
+    for number in from..known.len() {
+        if waits(states, number) && are_there(states, known[number].parents.as_slice()) {
+            return Some(number);
+        }
+    }
+    None
+}
+
+fn waits(states: &[JobState], number: usize) -> bool
+    ensures { result ≡ waits_in states.now number }
+{
+    match states.get(number) {
+        Some(state) => state.waits,
+        None => true,
+    }
+}
+
+/// Whether the outputs of the jobs of these numbers are at hand.
+fn are_there(states: &[JobState], jobs: &[usize]) -> bool
+    ensures { result ≡ list_all (is_there states.now) jobs.now }
+{
+    for job in jobs {
+        if !is_there(states, *job) {
+            return false;
+        }
+    }
+    true
+}
+
+fn is_there(states: &[JobState], number: usize) -> bool
+    ensures { result ≡ is_there states.now number }
+{
+    match states.get(number) {
+        Some(state) => state.at_hand,
+        None => false,
     }
 }

@@ -2,7 +2,7 @@
 ghost use Rattle.std.specs.Prelude.{◌≡◌, ◌↔◌, false, IsTrue, IfOk, option_copied};
 ghost use Rattle.job_key.specs.Key.{key as its_key};
 ghost use Rattle.job_reuse.specs.Rows.{made_row};
-ghost use Rattle.run_core.specs.inner.Due.{DiffersAt, KeepsAt};
+ghost use Rattle.run_core.specs.inner.Due.{DiffersAt, KeepsAt, told_in};
 
 use crate::site::Site;
 use crate::state::{JobNext, Reading};
@@ -32,10 +32,23 @@ pub(crate) fn kept(
         return Ok(JobNext::Differs(outputs));
     }
     match row_for(alloc, site, reading, &outputs) {
-        Ok(row) => Ok(JobNext::Gives(outputs, Some(row))),
+        Ok(row) => Ok(given(site.row, outputs, row)),
         Err(error) => {
             mem::drop(outputs);
             Err(error)
+        }
+    }
+}
+
+/// The outputs are told, unless a row was found that has told them.
+fn given(found: Option<&Row>, outputs: Keyed<Value>, row: Row) -> JobNext
+    ensures { result ≡ told_in (option_copied found.entry) outputs row }
+{
+    match found {
+        None => JobNext::Gives(outputs, Some(row)),
+        Some(_) => {
+            mem::drop(outputs);
+            JobNext::Repeats(row)
         }
     }
 }

@@ -2,14 +2,15 @@
 ghost use Rattle.std.specs.Prelude.{◌≡◌, ◌<◌, ◌+◌, ◌^◌, Some, IfOk, OnErr, OnOk, length};
 ghost use Rattle.run_core.specs.inner.Course.{known_in, past_of, place_at};
 ghost use Rattle.run_core.specs.inner.Follows.{FollowsRecord, IsOfAFind, IsOfAPut, IsReady, WaitsForRecord};
-ghost use Rattle.run_core.specs.inner.Picks.{AfterFind, AfterPut, Tells, noted_by};
+ghost use Rattle.run_core.specs.inner.Picks.{AfterFind, AfterPut, LearnsRow, Tells, noted_by};
 ghost use Rattle.run_rules.specs.declared.request.RecordAnswer.{RecordAnswer as Told};
 
 use crate::RecordAnswer;
 use crate::choice::pick;
-use crate::course::{job_of, note_answer, note_refused_row};
+use crate::course::{job_of, note_answer, note_outputs, note_refused_row};
 use crate::state::{Course, Given, Phase, Turn};
 use cwl_process::Tool;
+use cwl_value::copy_fields;
 use job_reuse::row_is_sound;
 use job_rows::{RecordRefusal, Row};
 use std::alloc::{AllocError, Global};
@@ -52,7 +53,30 @@ fn told_of_job(
 {
     let refusal = refusal_of(alloc, job_of(course, number).tool, answer)?;
     note_answer(alloc, course, number, answer, refusal)?;
+    learn_row(alloc, course, number, answer)?;
     pick(alloc, given, course)
+}
+
+/// Tells what is known of the outputs of the row that was found, if one was, unless the end is settled.
+fn learn_row(
+    alloc: Global,
+    course: &mut Course<'_>,
+    number: usize,
+    answer: &RecordAnswer,
+) -> Result<(), AllocError>
+    requires { number < length (known_in course.old.known) }
+    ensures learned { OnOk result (LearnsRow (place_at (known_in course.old.known) number)
+        answer.now course.old course.new) }
+    ensures flying { course.new.tickets.items ≡ course.old.tickets.items }
+    ensures folders { course.new.folders ≡ course.old.folders }
+{
+    match answer {
+        RecordAnswer::Found(Some(row)) => {
+            let outputs = copy_fields(alloc, &row.outputs)?;
+            note_outputs(alloc, course, number, outputs)
+        }
+        _ => Ok(()),
+    }
 }
 
 /// The record has answered whether the row of this job is kept.

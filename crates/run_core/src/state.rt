@@ -86,6 +86,8 @@ pub(crate) enum JobNext {
     Gives(Keyed<Value>, Option<Row>),
     /// It was to give what its row has, and these outputs are others.
     Differs(Keyed<Value>),
+    /// It gives what its row has, and this row is put.
+    Repeats(Row),
 }
 
 /// What the machine waits for.

@@ -156,6 +156,7 @@ fn turn_of(
 ) -> Result<Turn, AllocError>
     requires folders { course.old.folders + 1 < 2 ^ 64 }
     requires number { number < length (known_in course.old.known) }
+    requires staged { number < length course.old.jobs }
     ensures is { IfOk result (λ turn. Turns given.now course.old number next turn course.new) }
     ensures flying { OnErr result (course.new.tickets.items ≡ course.old.tickets.items) }
 {
@@ -173,7 +174,28 @@ fn turn_of(
             note_mismatch(alloc, course, number)?;
             pick(alloc, given, course)
         }
+        JobNext::Repeats(row) => repeated(alloc, given, course, number, row),
     }
+}
+
+/// A job gives what its row has, and the row is put next.
+fn repeated(
+    alloc: Global,
+    given: &Given<'_>,
+    course: &mut Course<'_>,
+    number: usize,
+    row: Row,
+) -> Result<Turn, AllocError>
+    requires number { number < length (known_in course.old.known) }
+    requires staged { number < length course.old.jobs }
+    ensures is { IfOk result (λ turn. Turns given.now course.old number (Next.Repeats row) turn
+        course.new) }
+    ensures flying { OnErr result (course.new.tickets.items ≡ course.old.tickets.items) }
+{
+    let _run = given;
+    let turn = putting(alloc, &job_of(course, number).place, number, row)?;
+    course.jobs.bring(number);
+    Ok(turn)
 }
 
 /// A job's outputs are there: its row is put next, if one is made of it.
@@ -187,6 +209,7 @@ fn gave(
 ) -> Result<Turn, AllocError>
     requires folders { course.old.folders + 1 < 2 ^ 64 }
     requires number { number < length (known_in course.old.known) }
+    requires staged { number < length course.old.jobs }
     ensures is { IfOk result (λ turn. Turns given.now course.old number (Next.Gives outputs row)
         turn course.new) }
     ensures flying { OnErr result (course.new.tickets.items ≡ course.old.tickets.items) }
@@ -209,7 +232,8 @@ fn gave_row(
     outputs: Keyed<Value>,
     row: Row,
 ) -> Result<Turn, AllocError>
-    requires { number < length (known_in course.old.known) }
+    requires number { number < length (known_in course.old.known) }
+    requires staged { number < length course.old.jobs }
     ensures is { IfOk result (λ turn. Turns given.now course.old number
         (Next.Gives outputs (Some row)) turn course.new) }
     ensures flying { OnErr result (course.new.tickets.items ≡ course.old.tickets.items) }

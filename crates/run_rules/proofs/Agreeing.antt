@@ -9,9 +9,9 @@ use Rattle.job_graph.specs.Unfold.{Resolved, Unfolded, is_at, outputs_at, unfold
 use Rattle.job_graph.specs.Words.{Fields, JobPlace, is_same_place}
 use Rattle.job_key.specs.Key.{key}
 use Rattle.run_rules.specs.Scene.{Scene}
-use Rattle.run_rules.specs.Events.{Event, file_measured, job_staged, job_started, child_exited, job_succeeded, job_failed, job_failed_for_now, result_delivered, host_failed, collect_failed, row_found, no_row, find_failed, put_failed, row_differs, measures, are_measured, resolved, resolves, job_at}
+use Rattle.run_rules.specs.Events.{Event, file_measured, job_staged, job_started, child_exited, job_succeeded, job_failed, job_failed_for_now, result_delivered, host_failed, collect_failed, row_found, no_row, find_failed, put_failed, row_differs, job_repeated, measures, are_measured, resolved, resolves, job_at}
 use Rattle.run_rules.specs.Honest.{AgreesAt, AgreesFrom}
-use Rattle.run_rules.proofs.Measuring.{FitsAt, Fits, resolved_more, resolved_success}
+use Rattle.run_rules.proofs.Measuring.{FitsAt, Fits, resolved_more, resolved_one}
 use Rattle.run_rules.proofs.Places.{same_place}
 use Rattle.run_rules.proofs.Staying.{stays_one, unfolding_if}
 
@@ -47,24 +47,28 @@ module _ (s : Scene) (world : World) where
       given_still es e fits place outputs (given place outputs (sym (ap (λ (known : List Resolved). outputs_at known place) (resolved_more es e none)) ∙ is))
 
   -- a place that was resolved before, or the one that is resolved now
-  by_success : (es : List Event) (at : JobPlace) (found : Fields) → FitsAt s es (job_succeeded at found) → AgreesAt s world es (job_succeeded at found) → AreGiven es →
+  by_resolving : (es : List Event) (e : Event) (at : JobPlace) (found : Fields) → FitsAt s es e → IsGiven es at found → AreGiven es →
       (place : JobPlace) (outputs : Fields) (earlier : Option Resolved) (now : Bool) → find (is_of_place place) (resolved es) ≡ earlier → is_same_place at place ≡ now →
-      outputs_in (option_or earlier (cond now (Some (record { place = at; outputs = found })) None)) ≡ Some outputs → IsGiven (es ++ job_succeeded at found ∷ []) place outputs
-  by_success es at found fits agrees given place outputs (Some r) now before same is =
-      given_still es (job_succeeded at found) fits place outputs (given place outputs (ap outputs_in before ∙ is))
-  by_success es at found fits agrees given place outputs None true before same is =
-      let its : IsGiven es at found = record { job = fits.job; known = fits.known; gives = agrees fits.job fits.known } in
+      outputs_in (option_or earlier (cond now (Some (record { place = at; outputs = found })) None)) ≡ Some outputs → IsGiven (es ++ e ∷ []) place outputs
+  by_resolving es e at found fits its given place outputs (Some r) now before same is =
+      given_still es e fits place outputs (given place outputs (ap outputs_in before ∙ is))
+  by_resolving es e at found fits its given place outputs None true before same is =
       let here : at ≡ place = same_place at place same in
       let are : found ≡ outputs = ap (λ (o : Option Fields). unwrap_or o outputs) is in
-      subst (λ (p : JobPlace). IsGiven (es ++ job_succeeded at found ∷ []) p outputs) here
-      (subst (λ (o : Fields). IsGiven (es ++ job_succeeded at found ∷ []) at o) are (given_still es (job_succeeded at found) fits at found its))
-  by_success es at found fits agrees given place outputs None false before same is = absurd cc
+      subst (λ (p : JobPlace). IsGiven (es ++ e ∷ []) p outputs) here
+      (subst (λ (o : Fields). IsGiven (es ++ e ∷ []) at o) are (given_still es e fits at found its))
+  by_resolving es e at found fits its given place outputs None false before same is = absurd cc
+
+  given_more : (es : List Event) (e : Event) (at : JobPlace) (found : Fields) → FitsAt s es e → resolves e ≡ Some (record { place = at; outputs = found }) →
+      IsGiven es at found → AreGiven es → AreGiven (es ++ e ∷ [])
+  given_more es e at found fits resolving its given place outputs is =
+      by_resolving es e at found fits its given place outputs (find (is_of_place place) (resolved es)) (is_same_place at place) refl refl
+      (ap outputs_in (sym (find-append (is_of_place place) (resolved es) (record { place = at; outputs = found } ∷ [])))
+      ∙ ap (λ (known : List Resolved). outputs_at known place) (sym (resolved_one es e (record { place = at; outputs = found }) resolving)) ∙ is)
 
   pub given_one : (es : List Event) (e : Event) → FitsAt s es e → AgreesAt s world es e → AreGiven es → AreGiven (es ++ e ∷ [])
-  given_one es (job_succeeded at found) fits agrees given = λ place outputs is.
-      by_success es at found fits agrees given place outputs (find (is_of_place place) (resolved es)) (is_same_place at place) refl refl
-      (ap outputs_in (sym (find-append (is_of_place place) (resolved es) (record { place = at; outputs = found } ∷ [])))
-      ∙ ap (λ (known : List Resolved). outputs_at known place) (sym (resolved_success es at found)) ∙ is)
+  given_one es (job_succeeded at found) fits agrees given =
+      given_more es (job_succeeded at found) at found fits refl (record { job = fits.job; known = fits.known; gives = agrees fits.job fits.known }) given
   given_one es (file_measured path measure) fits agrees given = quietly es (file_measured path measure) fits refl given
   given_one es (job_staged at number) fits agrees given = quietly es (job_staged at number) fits refl given
   given_one es (job_started at inputs launch ticket) fits agrees given = quietly es (job_started at inputs launch ticket) fits refl given
@@ -74,11 +78,13 @@ module _ (s : Scene) (world : World) where
   given_one es (result_delivered plan) fits agrees given = quietly es (result_delivered plan) fits refl given
   given_one es (host_failed at fault) fits agrees given = quietly es (host_failed at fault) fits refl given
   given_one es collect_failed fits agrees given = quietly es collect_failed fits refl given
-  given_one es (row_found at row) fits agrees given = quietly es (row_found at row) fits refl given
+  given_one es (row_found at row) fits agrees given =
+      given_more es (row_found at row) at row.outputs fits refl (record { job = fits.job; known = fits.known; gives = agrees fits.job fits.known }) given
   given_one es (no_row at) fits agrees given = quietly es (no_row at) fits refl given
   given_one es (find_failed at refusal) fits agrees given = quietly es (find_failed at refusal) fits refl given
   given_one es (put_failed at refusal) fits agrees given = quietly es (put_failed at refusal) fits refl given
   given_one es (row_differs at outputs) fits agrees given = quietly es (row_differs at outputs) fits refl given
+  given_one es (job_repeated at) fits agrees given = quietly es (job_repeated at) fits refl given
 
   pub given_first : AreGiven []
   given_first place outputs is = absurd cc

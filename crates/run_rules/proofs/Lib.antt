@@ -5,6 +5,7 @@ pub mod Few
 pub mod TranscriptTells
 pub mod Measuring
 pub mod Named
+pub mod Makers
 pub mod Rising
 pub mod Places
 pub mod Staying

@@ -13,14 +13,14 @@ use Rattle.job_graph.specs.Jobs.{Job}
 use Rattle.job_graph.specs.Unfold.{Resolved, Unfolded, is_at, nothing_known, unfolded}
 use Rattle.job_graph.specs.Words.{Name, Fields, JobPlace}
 use Rattle.run_rules.specs.Scene.{Scene}
-use Rattle.run_rules.specs.Events.{Event, file_measured, job_staged, job_started, child_exited, job_succeeded, job_failed, job_failed_for_now, result_delivered, host_failed, collect_failed, row_found, no_row, find_failed, put_failed, row_differs, Work, Progress, Started, measures, measures_after, measures_path, is_measured, are_measured, resolves, resolved, unfolding_at, job_at, row_at}
+use Rattle.run_rules.specs.Events.{Event, file_measured, job_staged, job_started, child_exited, job_succeeded, job_failed, job_failed_for_now, result_delivered, host_failed, collect_failed, row_found, no_row, find_failed, put_failed, row_differs, job_repeated, Work, Progress, Started, measures, measures_after, measures_path, is_measured, are_measured, resolves, resolved, unfolding_at, job_at, row_at}
 use Rattle.run_rules.specs.StartsOn.{StartsOn, reads_on as starts_reading, has_launch, has_no_launch, has_no_contents}
 use Rattle.run_rules.specs.CollectsOn.{CollectsOn, reads_on as collects_reading, collects, collects_none}
 use Rattle.run_rules.specs.Steps.{Steps, measures_file, stages, reads_input, starts, exits_well, exits_for_now, exits_badly, scans, reads_output, delivers, loses_collect, call_fails, finds_none, finds, finds_wrong, find_fails, puts, put_fails}
 use Rattle.plan_checker.specs.declared.plan.Mark.{Mark}
 use Rattle.run_rules.specs.Allowed.{Allowed}
 use Rattle.run_rules.specs.Run.{Goes, begins, asks}
-use Rattle.run_rules.specs.Keeps.{Keeps, keeps, keeps_none, differs}
+use Rattle.run_rules.specs.Keeps.{Keeps, keeps, keeps_none, differs, told_of}
 use Rattle.job_rows.specs.declared.row.Row.{Row}
 
 pub left_true : (a b : Bool) → (a && b) ≡ true → a ≡ true
@@ -63,12 +63,11 @@ cons_then : (o : Option Resolved) (known more : List Resolved) → cons_option o
 cons_then None known more = refl
 cons_then (Some r) known more = refl
 
-pub resolved_success : (es : List Event) (place : JobPlace) (outputs : Fields) →
-    resolved (es ++ job_succeeded place outputs ∷ []) ≡ resolved es ++ record { place = place; outputs = outputs } ∷ []
-resolved_success [] place outputs = refl
-resolved_success (x ∷ es) place outputs =
-    ap (λ (rest : List Resolved). cons_option (resolves x) rest) (resolved_success es place outputs)
-    ∙ cons_then (resolves x) (resolved es) (record { place = place; outputs = outputs } ∷ [])
+pub resolved_one : (es : List Event) (e : Event) (r : Resolved) → resolves e ≡ Some r → resolved (es ++ e ∷ []) ≡ resolved es ++ r ∷ []
+resolved_one [] e r is = ap (λ (o : Option Resolved). cons_option o []) is
+resolved_one (x ∷ es) e r is =
+    ap (λ (rest : List Resolved). cons_option (resolves x) rest) (resolved_one es e r is)
+    ∙ cons_then (resolves x) (resolved es) (r ∷ [])
 
 one_same : (p : Name) (es : List Event) (e : Event) → measures_path p e ≡ false → is_measured (es ++ e ∷ []) p ≡ is_measured es p
 one_same p [] e none = ap (λ (b : Bool). b || false) none
@@ -101,6 +100,12 @@ module _ (s : Scene) where
     pub found : row_at es place ≡ Some row
     pub other : row.outputs ≢ outputs
 
+  -- a job is known there, and a row was found
+  pub record HasRow (es : List Event) (place : JobPlace) : Type 0 where
+    pub its : IsKnownAt es place
+    pub row : Row
+    pub found : row_at es place ≡ Some row
+
   -- a measure comes before all is measured, and an end of a job, or its row, where the job is known
   abbrev pub FitsAt : List Event → Event → Type 0
   FitsAt es (file_measured path measure) = are_measured s es ≡ true → ⊥
@@ -108,6 +113,7 @@ module _ (s : Scene) where
   FitsAt es (job_failed place cause) = IsKnownAt es place
   FitsAt es (row_found place row) = IsKnownAt es place
   FitsAt es (row_differs place outputs) = Differs es place outputs
+  FitsAt es (job_repeated place) = HasRow es place
   FitsAt es _ = Unit {0}
 
   abbrev pub Fits : List Event → List Event → Type 0
@@ -135,6 +141,7 @@ module _ (s : Scene) where
   same_measures es (find_failed place refusal) fits all = refl
   same_measures es (put_failed place refusal) fits all = refl
   same_measures es (row_differs place outputs) fits all = refl
+  same_measures es (job_repeated place) fits all = refl
 
   -- so what is measured by then is measured at the end
   pub measures_stay : (es later : List Event) → Fits es later → are_measured s es ≡ true → fold measures_after (measures es) later ≡ measures es
@@ -164,10 +171,14 @@ module _ (s : Scene) where
   starts_fit es place job known (has_no_launch inputs fault with_them is) = (known, tt)
   starts_fit es place job known (has_no_contents fault is) = (known, tt)
 
+  told_fits : (es : List Event) (place : JobPlace) (outputs : Fields) (row : Option Row) → row_at es place ≡ row → IsKnownAt es place → FitsAt es (told_of place outputs row)
+  told_fits es place outputs None found known = known
+  told_fits es place outputs (Some row) found known = record { its = known; row = row; found = found }
+
   keeps_fit : (es : List Event) (place : JobPlace) (job : Job) {millis : ℕ} {found : List Found} {outputs : Fields} {work : Work} {more : List Event} →
       IsKnownAt es place → Keeps place job (row_at es place) millis found outputs work more → Fits es more
   keeps_fit es place job known (keeps_none once) = (known, tt)
-  keeps_fit es place job known (keeps reusable agrees) = (known, tt)
+  keeps_fit es place job {outputs = outputs} known (keeps reusable agrees) = (told_fits es place outputs (row_at es place) refl known, tt)
   keeps_fit es place job known (differs row reusable found other) = (record { its = known; row = row; found = found; other = other }, tt)
 
   collects_fit : (es : List Event) (place : JobPlace) (job : Job) {started : Started} {millis : ℕ} {found : List Found} {read : Heads} {todo : List Name} {work : Work} {more : List Event} →

@@ -9,7 +9,7 @@ use Rattle.run_rules.specs.declared.outcome.Cause.{Cause}
 use Rattle.run_rules.specs.declared.outcome.NoteKind.{NoteKind}
 use Rattle.run_rules.specs.End.{fails_temporarily, mismatches, fails_permanently, settled}
 use Rattle.run_rules.specs.EndsSo.{EndsSo, fails}
-use Rattle.run_rules.specs.Events.{Event, child_exited, job_staged, job_started, job_failed, job_failed_for_now, job_succeeded, no_row, nothing_due, put_due, put_failed, row_differs, row_found}
+use Rattle.run_rules.specs.Events.{Event, child_exited, job_staged, job_started, job_failed, job_failed_for_now, job_repeated, no_row, nothing_due, put_due, put_failed, row_differs, row_found, is_at_hand, resolved}
 use Rattle.run_rules.specs.Keeps.{Keeps, keeps, differs}
 use Rattle.run_rules.specs.Reports.{notes_of}
 use Rattle.run_rules.proofs.TwoJobs.{a, at, b, badly, its_key, its_row, job, launch, s}
@@ -43,13 +43,26 @@ a_signal_is_no_mismatch = fails _ refl refl refl refl
 b_failed_before : EndsSo s (at (other_found ++ job_failed b (Cause.Exit badly) ∷ row_differs a [] ∷ [])) (Compute ∷ Compute ∷ []) (fails_permanently b (Cause.Exit badly))
 b_failed_before = fails _ refl refl refl refl
 
+-- what the row has is known at once, and is at hand only once the job has given it again
+it_is_known : resolved same_found ≡ record { place = a; outputs = [] } ∷ []
+it_is_known = refl
+
+it_is_away : is_at_hand same_found a ≡ false
+it_is_away = refl
+
+it_is_there : is_at_hand (same_found ++ job_repeated a ∷ []) a ≡ true
+it_is_there = refl
+
+it_is_known_once : resolved (same_found ++ job_repeated a ∷ []) ≡ resolved same_found
+it_is_known_once = refl
+
 -- the same outputs are put again, with what they took this time
-they_agree : Keeps a (job a) (Some its_row) 7 [] [] (put_due a (made_row its_key [] [] 7 false)) (job_succeeded a [] ∷ [])
+they_agree : Keeps a (job a) (Some its_row) 7 [] [] (put_due a (made_row its_key [] [] 7 false)) (job_repeated a ∷ [])
 they_agree = keeps refl refl
 
 -- a row that is refused is noted, and settles nothing
-it_is_noted : notes_of (same_found ++ job_succeeded a [] ∷ put_failed a Store ∷ []) ≡ record { place = a; kind = NoteKind.Put Store } ∷ []
+it_is_noted : notes_of (same_found ++ job_repeated a ∷ put_failed a Store ∷ []) ≡ record { place = a; kind = NoteKind.Put Store } ∷ []
 it_is_noted = refl
 
-it_settles_nothing : settled s (same_found ++ job_succeeded a [] ∷ put_failed a Store ∷ []) ≡ None
+it_settles_nothing : settled s (same_found ++ job_repeated a ∷ put_failed a Store ∷ []) ≡ None
 it_settles_nothing = refl

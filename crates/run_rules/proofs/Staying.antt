@@ -6,10 +6,10 @@ use Rattle.std.proofs.lemmas.List.Folds.{find-append}
 use Rattle.input_files.specs.Measured.{Measures}
 use Rattle.job_graph.specs.Jobs.{Job, Walker}
 use Rattle.job_graph.specs.Unfold.{Resolved, Unfolded, is_at, is_known, job_met, jobs_after, met_after, nothing_known, unfolded, with_job}
-use Rattle.job_graph.specs.Words.{Fields, JobPlace}
+use Rattle.job_graph.specs.Words.{Name, Fields, JobPlace}
 use Rattle.run_rules.specs.Scene.{Scene}
-use Rattle.run_rules.specs.Events.{Event, file_measured, job_staged, job_started, child_exited, job_succeeded, job_failed, job_failed_for_now, result_delivered, host_failed, collect_failed, row_found, no_row, find_failed, put_failed, row_differs, measures, are_measured, resolved, unfolding_at, job_at}
-use Rattle.run_rules.proofs.Measuring.{FitsAt, Fits, known_as_before, all_same, measures_more, resolved_success}
+use Rattle.run_rules.specs.Events.{Event, file_measured, job_staged, job_started, child_exited, job_succeeded, job_failed, job_failed_for_now, result_delivered, host_failed, collect_failed, row_found, no_row, find_failed, put_failed, row_differs, job_repeated, measures, measures_after, measures_path, are_measured, resolved, resolves, unfolding_at, job_at}
+use Rattle.run_rules.proofs.Measuring.{FitsAt, Fits, known_as_before, all_same, measures_more, resolved_one}
 
 abbrev known_if : Bool → Unfolded → Unfolded
 known_if measured known = cond measured known nothing_known
@@ -45,30 +45,28 @@ module _ (s : Scene) where
       job_at s es place ≡ Some job → job_at s (es ++ e ∷ []) place ≡ Some job
   quietly es place job e same is = ap (λ (u : Unfolded). find (is_at place) u.jobs) same ∙ is
 
-  -- after a success
-  pub after_success : (es : List Event) (at : JobPlace) (outputs : Fields) → are_measured s es ≡ true →
-      unfolding_at s (es ++ job_succeeded at outputs ∷ []) ≡ unfolded (s.walker (measures es)) (resolved es ++ record { place = at; outputs = outputs } ∷ [])
-  after_success es at outputs all =
-      let e : Event = job_succeeded at outputs in
-      let still : are_measured s (es ++ e ∷ []) ≡ true = all_same s.paths es e (λ p. refl) ∙ all in
+  -- after an event that resolves a place
+  after_resolving : (es : List Event) (e : Event) (r : Resolved) → ((p : Name) → measures_path p e ≡ false) → measures_after (measures es) e ≡ measures es →
+      resolves e ≡ Some r → are_measured s es ≡ true → unfolding_at s (es ++ e ∷ []) ≡ unfolded (s.walker (measures es)) (resolved es ++ r ∷ [])
+  after_resolving es e r no_path same is all =
+      let still : are_measured s (es ++ e ∷ []) ≡ true = all_same s.paths es e no_path ∙ all in
       unfolding_if (es ++ e ∷ []) still
-      ∙ ap (λ (m : Measures). unfolded (s.walker m) (resolved (es ++ e ∷ []))) (measures_more es e)
-      ∙ ap (λ (known : List Resolved). unfolded (s.walker (measures es)) known) (resolved_success es at outputs)
+      ∙ ap (λ (m : Measures). unfolded (s.walker m) (resolved (es ++ e ∷ []))) (measures_more es e ∙ same)
+      ∙ ap (λ (known : List Resolved). unfolded (s.walker (measures es)) known) (resolved_one es e r is)
 
-  by_success : (es : List Event) (place : JobPlace) (job : Job) (at : JobPlace) (outputs : Fields) → job_at s es place ≡ Some job →
-      job_at s (es ++ job_succeeded at outputs ∷ []) place ≡ Some job
-  by_success es place job at outputs is =
+  by_resolving : (es : List Event) (place : JobPlace) (job : Job) (e : Event) (r : Resolved) → ((p : Name) → measures_path p e ≡ false) →
+      measures_after (measures es) e ≡ measures es → resolves e ≡ Some r → job_at s es place ≡ Some job → job_at s (es ++ e ∷ []) place ≡ Some job
+  by_resolving es place job e r no_path same resolving is =
       let all : are_measured s es ≡ true = measured_if_known es place job is in
       let walks : Walker = s.walker (measures es) in
-      let r : Resolved = record { place = at; outputs = outputs } in
-      ap (λ (u : Unfolded). find (is_at place) u.jobs) (after_success es at outputs all)
+      ap (λ (u : Unfolded). find (is_at place) u.jobs) (after_resolving es e r no_path same resolving all)
       ∙ ap (λ (known : List Resolved). find (is_at place) (jobs_after walks known)) (reverse-append (resolved es) (r ∷ []))
       ∙ found_still (is_at place) job (unfolded walks (resolved es)).jobs (filter_map job_met (met_after walks (r ∷ reverse (resolved es))))
       (sym (ap (λ (u : Unfolded). find (is_at place) u.jobs) (unfolding_if es all)) ∙ is)
 
   pub stays_one : (es : List Event) (place : JobPlace) (job : Job) (e : Event) → FitsAt s es e → job_at s es place ≡ Some job → job_at s (es ++ e ∷ []) place ≡ Some job
   stays_one es place job (file_measured path measure) fits is = absurd (fits (measured_if_known es place job is))
-  stays_one es place job (job_succeeded at outputs) fits is = by_success es place job at outputs is
+  stays_one es place job (job_succeeded at outputs) fits is = by_resolving es place job (job_succeeded at outputs) (record { place = at; outputs = outputs }) (λ p. refl) refl refl is
   stays_one es place job (job_staged at number) fits is = quietly es place job _ (known_as_before s es (job_staged at number) (λ p. refl) refl refl) is
   stays_one es place job (job_started at inputs launch ticket) fits is = quietly es place job _ (known_as_before s es (job_started at inputs launch ticket) (λ p. refl) refl refl) is
   stays_one es place job (child_exited ticket) fits is = quietly es place job _ (known_as_before s es (child_exited ticket) (λ p. refl) refl refl) is
@@ -77,11 +75,12 @@ module _ (s : Scene) where
   stays_one es place job (result_delivered plan) fits is = quietly es place job _ (known_as_before s es (result_delivered plan) (λ p. refl) refl refl) is
   stays_one es place job (host_failed at fault) fits is = quietly es place job _ (known_as_before s es (host_failed at fault) (λ p. refl) refl refl) is
   stays_one es place job collect_failed fits is = quietly es place job _ (known_as_before s es collect_failed (λ p. refl) refl refl) is
-  stays_one es place job (row_found at row) fits is = quietly es place job _ (known_as_before s es (row_found at row) (λ p. refl) refl refl) is
+  stays_one es place job (row_found at row) fits is = by_resolving es place job (row_found at row) (record { place = at; outputs = row.outputs }) (λ p. refl) refl refl is
   stays_one es place job (no_row at) fits is = quietly es place job _ (known_as_before s es (no_row at) (λ p. refl) refl refl) is
   stays_one es place job (find_failed at refusal) fits is = quietly es place job _ (known_as_before s es (find_failed at refusal) (λ p. refl) refl refl) is
   stays_one es place job (put_failed at refusal) fits is = quietly es place job _ (known_as_before s es (put_failed at refusal) (λ p. refl) refl refl) is
   stays_one es place job (row_differs at outputs) fits is = quietly es place job _ (known_as_before s es (row_differs at outputs) (λ p. refl) refl refl) is
+  stays_one es place job (job_repeated at) fits is = quietly es place job _ (known_as_before s es (job_repeated at) (λ p. refl) refl refl) is
 
   pub stays_known : (es later : List Event) (place : JobPlace) (job : Job) → Fits s es later → job_at s es place ≡ Some job → job_at s (es ++ later) place ≡ Some job
   stays_known es [] place job fits is = subst (λ (x : List Event). job_at s x place ≡ Some job) (sym (append-nil es)) is

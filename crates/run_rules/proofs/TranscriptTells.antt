@@ -1,6 +1,6 @@
 -- What has happened in a run, its transcript tells, of each job.
 use Rattle.std.specs.Prelude.{Contains}
-use Rattle.std.proofs.Common.{◌≡◌, ◌∙◌, ◌⊎◌, inl, inr, ℕ, zero, suc, ◌==◌, Bool, not, List, [], ◌∷◌, ◌++◌, filter, fold, Some, refl, sym, subst, arith, Option}
+use Rattle.std.proofs.Common.{◌≡◌, ◌∙◌, ◌⊎◌, inl, inr, ℕ, zero, suc, ◌==◌, Bool, true, false, not, List, [], ◌∷◌, ◌++◌, filter, fold, Some, None, refl, sym, ap, subst, arith, Option}
 use Rattle.std.proofs.lemmas.List.{append_assoc}
 use Rattle.std.proofs.lemmas.List.Elements.{Contains-append_left, Contains-append_cases, Contains-push, Contains-push_cases, All-contains, All-filter, All-contains_itself}
 use Rattle.std.proofs.lemmas.List.Sums.{fold-append}
@@ -21,15 +21,15 @@ use Rattle.collected_outputs.specs.Contents.{Heads}
 use Rattle.job_graph.specs.Jobs.{Job}
 use Rattle.job_graph.specs.Words.{Name, Fields, JobPlace}
 use Rattle.run_rules.specs.Scene.{Scene}
-use Rattle.run_rules.specs.Events.{Event, file_measured, job_staged, job_started, child_exited, job_succeeded, job_failed, job_failed_for_now, result_delivered, host_failed, collect_failed, row_found, no_row, find_failed, put_failed, Work, nothing_due, input_heads_due, start_due, scan_due, output_heads_due, Progress, Started, flight_after, in_flight, job_at, put_due}
+use Rattle.run_rules.specs.Events.{Event, file_measured, job_staged, job_started, child_exited, job_succeeded, job_failed, job_failed_for_now, result_delivered, host_failed, collect_failed, row_found, no_row, find_failed, put_failed, job_repeated, Work, nothing_due, input_heads_due, start_due, scan_due, output_heads_due, Progress, Started, flight_after, in_flight, job_at, put_due}
 use Rattle.run_rules.specs.StartsOn.{StartsOn, reads_on as starts_reading, has_launch, has_no_launch, has_no_contents}
 use Rattle.run_rules.specs.CollectsOn.{CollectsOn, reads_on as collects_reading, collects, collects_none}
 use Rattle.run_rules.specs.Steps.{Steps, measures_file, stages, reads_input, starts, exits_well, exits_for_now, exits_badly, scans, reads_output, delivers, loses_collect, call_fails, call, progress_with, finds_none, finds, finds_wrong, find_fails, puts, put_fails}
 use Rattle.plan_checker.specs.declared.plan.Mark.{Mark}
 use Rattle.run_rules.specs.Allowed.{Allowed, due_in}
 use Rattle.run_rules.specs.Run.{Goes, begins, asks}
-use Rattle.run_rules.specs.RanWell.{RanWell}
-use Rattle.run_rules.specs.Keeps.{Keeps, keeps, keeps_none, differs}
+use Rattle.run_rules.specs.RanWell.{RanWell, HadRow}
+use Rattle.run_rules.specs.Keeps.{Keeps, keeps, keeps_none, differs, told_of}
 use Rattle.job_rows.specs.declared.row.Row.{Row}
 
 pub none_in : {X : Type 0} (x : X) → Contains [] x → ⊥
@@ -58,6 +58,18 @@ not_first : {X : Type 0} (x y : X) (xs : List X) → Contains (x ∷ xs) y → (
 not_first x y xs (zero, within, is) other = absurd (other is)
 not_first x y xs (suc k, within, is) other = (k, omega (arith, within), is)
 
+-- neither a success nor a row that was found
+abbrev is_other : Event → Bool
+is_other (job_succeeded place outputs) = false
+is_other (row_found place row) = false
+is_other _ = true
+
+other_than_success : (e : Event) (place : JobPlace) (outputs : Fields) → is_other e ≡ true → e ≡ job_succeeded place outputs → ⊥
+other_than_success e place outputs other is = let never : true ≡ false = sym other ∙ ap is_other is in cc
+
+other_than_row : (e : Event) (place : JobPlace) (row : Row) → is_other e ≡ true → e ≡ row_found place row → ⊥
+other_than_row e place row other is = let never : true ≡ false = sym other ∙ ap is_other is in cc
+
 -- What is told, where the jobs at a place have these exit codes
 
 module _ (codes : JobPlace → ExitCodes) where
@@ -67,17 +79,19 @@ module _ (codes : JobPlace → ExitCodes) where
   WorkTold t (output_heads_due place millis found todo read) = RanWell t place (codes place)
   WorkTold t _ = Unit {0}
 
-  -- and the children in flight were started, and each job that succeeded ran well
+  -- and the children in flight were started, each job that succeeded ran well, and the record had each row that was found
   pub record Knows (t : List Pair) (f : Progress) : Type 0 where
     pub flights : (x : Flight) → Contains (in_flight f.events) x → WasStarted t x
     pub work : WorkTold t f.work
     pub success : (place : JobPlace) (outputs : Fields) → Contains f.events (job_succeeded place outputs) → RanWell t place (codes place)
+    pub rows : (place : JobPlace) (row : Row) → Contains f.events (row_found place row) → HadRow t place
 
   -- what a step may bring about, where this was told
   record IsTold (t : List Pair) (flying : List Flight) (work : Work) (new : List Event) : Type 0 where
     pub flights : (x : Flight) → Contains (fold flight_after flying new) x → Contains flying x ⊎ WasStarted t x
     pub next : WorkTold t work
     pub success : (place : JobPlace) (outputs : Fields) → Contains new (job_succeeded place outputs) → RanWell t place (codes place)
+    pub rows : (place : JobPlace) (row : Row) → Contains new (row_found place row) → HadRow t place
 
   later : (t : List Pair) (f : Progress) (work : Work) (new : List Event) → Knows t f → IsTold t (in_flight f.events) work new → Knows t (progress_with f work new)
   later t f work new knows told = record {
@@ -89,6 +103,10 @@ module _ (codes : JobPlace → ExitCodes) where
     success = λ place outputs there. elim (Contains-append_cases f.events new (job_succeeded place outputs) there) [
       | inl before ↦ knows.success place outputs before
       | inr now ↦ told.success place outputs now
+    ];
+    rows = λ place row there. elim (Contains-append_cases f.events new (row_found place row) there) [
+      | inl before ↦ knows.rows place row before
+      | inr now ↦ told.rows place row now
     ];
   }
 
@@ -114,6 +132,7 @@ module _ (codes : JobPlace → ExitCodes) where
       flights = λ x there. let was : WasStarted t x = knows.flights x there in record { launch = was.launch; there = still _ was.there };
       work = work_still f.work knows.work;
       success = λ place outputs there. ran_still place (knows.success place outputs there);
+      rows = λ place row there. let had : HadRow t place = knows.rows place row there in record { key = had.key; row = had.row; found = still _ had.found };
     }
 
   -- Each kind of step
@@ -135,19 +154,23 @@ module _ (codes : JobPlace → ExitCodes) where
     abbrev flying : List Flight
     flying = in_flight f.events
 
-    quiet_one : (e : Event) → fold flight_after flying (e ∷ []) ≡ flying → ((place : JobPlace) (outputs : Fields) → e ≡ job_succeeded place outputs → ⊥) →
-        IsTold t flying nothing_due (e ∷ [])
-    quiet_one e stays no_success = record {
+    quiet_after : (e : Event) (work : Work) → WorkTold t work → fold flight_after flying (e ∷ []) ≡ flying → is_other e ≡ true → IsTold t flying work (e ∷ [])
+    quiet_after e work told stays other = record {
       flights = λ x there. inl (subst (λ (xs : List Flight). Contains xs x) stays there);
-      next = tt;
-      success = λ place outputs there. absurd (no_success place outputs (only_in e _ there));
+      next = told;
+      success = λ place outputs there. absurd (other_than_success e place outputs other (only_in e _ there));
+      rows = λ place row there. absurd (other_than_row e place row other (only_in e _ there));
     }
+
+    quiet_one : (e : Event) → fold flight_after flying (e ∷ []) ≡ flying → is_other e ≡ true → IsTold t flying nothing_due (e ∷ [])
+    quiet_one e stays other = quiet_after e nothing_due tt stays other
 
     no_event : (work : Work) → WorkTold t work → IsTold t flying work []
     no_event work told = record {
       flights = λ x there. inl there;
       next = told;
       success = λ place outputs there. absurd (none_in _ there);
+      rows = λ place row there. absurd (none_in _ there);
     }
 
     -- a child of this job's ended well
@@ -168,13 +191,17 @@ module _ (codes : JobPlace → ExitCodes) where
     landed ticket x there = was_there (λ (y : Flight). not (y.0 == ticket)) flying x there
 
     exits : (ticket : ℕ) (e : Event) → fold flight_after flying (child_exited ticket ∷ e ∷ []) ≡ filter (λ (y : Flight). not (y.0 == ticket)) flying →
-        ((place : JobPlace) (outputs : Fields) → e ≡ job_succeeded place outputs → ⊥) → IsTold t flying nothing_due (child_exited ticket ∷ e ∷ [])
-    exits ticket e stays no_success = record {
+        is_other e ≡ true → IsTold t flying nothing_due (child_exited ticket ∷ e ∷ [])
+    exits ticket e stays other = record {
       flights = λ x there. inl (landed ticket x (subst (λ (xs : List Flight). Contains xs x) stays there));
       next = tt;
       success = λ place outputs there. elim (either_in (child_exited ticket) e _ there) [
         | inl first ↦ absurd cc
-        | inr second ↦ absurd (no_success place outputs second)
+        | inr second ↦ absurd (other_than_success e place outputs other second)
+      ];
+      rows = λ place row there. elim (either_in (child_exited ticket) e _ there) [
+        | inl first ↦ absurd cc
+        | inr second ↦ absurd (other_than_row e place row other second)
       ];
     }
 
@@ -184,14 +211,15 @@ module _ (codes : JobPlace → ExitCodes) where
       flights = told.flights;
       next = told.next;
       success = λ at outputs there. told.success at outputs (not_first (job_staged place number) (job_succeeded at outputs) more there (λ is. cc));
+      rows = λ at row there. told.rows at row (not_first (job_staged place number) (row_found at row) more there (λ is. cc));
     }
 
     starts_told : {place : JobPlace} {job : Job} {number : ℕ} {its_inputs : Fields} {read : Heads} {todo : List Name} {work : Work} {more : List Event} →
         StartsOn s.options place job number its_inputs read todo work more → IsTold t flying work more
     starts_told (starts_reading path rest) = no_event _ tt
     starts_told (has_launch inputs launch with_them is) = no_event _ tt
-    starts_told (has_no_launch inputs fault with_them is) = quiet_one _ refl (λ at outputs same. cc)
-    starts_told (has_no_contents fault is) = quiet_one _ refl (λ at outputs same. cc)
+    starts_told (has_no_launch inputs fault with_them is) = quiet_one _ refl refl
+    starts_told (has_no_contents fault is) = quiet_one _ refl refl
 
     -- outputs that were collected are those of a job that ran well
     one_success : (place : JobPlace) (outputs : Fields) (work : Work) → WorkTold t work → RanWell t place (codes place) →
@@ -201,22 +229,28 @@ module _ (codes : JobPlace → ExitCodes) where
       next = told;
       success = λ at others there. let same : job_succeeded place outputs ≡ job_succeeded at others = only_in _ _ there in
           let here : place ≡ at = cc in subst (λ (p : JobPlace). RanWell t p (codes p)) here its;
+      rows = λ at row there. let never : job_succeeded place outputs ≡ row_found at row = only_in _ _ there in absurd cc;
     }
+
+    one_told : (place : JobPlace) (outputs : Fields) (row : Option Row) (work : Work) → WorkTold t work → RanWell t place (codes place) →
+        IsTold t flying work (told_of place outputs row ∷ [])
+    one_told place outputs None work told its = one_success place outputs work told its
+    one_told place outputs (Some row) work told its = quiet_after (job_repeated place) work told refl refl
 
     keeps_told : {place : JobPlace} {job : Job} {row : Option Row} {millis : ℕ} {found : List Found} {outputs : Fields} {work : Work} {more : List Event} →
         RanWell t place (codes place) → Keeps place job row millis found outputs work more → IsTold t flying work more
     keeps_told its (keeps_none once) = one_success _ _ nothing_due tt its
-    keeps_told its (keeps reusable agrees) = one_success _ _ _ tt its
-    keeps_told its (differs other reusable found differ) = quiet_one _ refl (λ at outputs same. cc)
+    keeps_told {row = row} its (keeps reusable agrees) = one_told _ _ row _ tt its
+    keeps_told its (differs other reusable found differ) = quiet_one _ refl refl
 
     collects_told : {place : JobPlace} {job : Job} {row : Option Row} {started : Started} {millis : ℕ} {found : List Found} {read : Heads} {todo : List Name} {work : Work} {more : List Event} →
         RanWell t place (codes place) → CollectsOn place job row started millis found read todo work more → IsTold t flying work more
     collects_told its (collects_reading name rest) = no_event _ its
     collects_told its (collects outputs work more is kept) = keeps_told its kept
-    collects_told its (collects_none fault is) = quiet_one _ refl (λ at outputs same. cc)
+    collects_told its (collects_none fault is) = quiet_one _ refl refl
 
     step_told : {p : Pair} {work : Work} {new : List Event} → Contains t p → Allowed s f marks p.request → Steps s f p work new → IsTold t flying work new
-    step_told now may (measures_file path measure) = quiet_one (file_measured path measure) refl (λ at outputs is. cc)
+    step_told now may (measures_file path measure) = quiet_one (file_measured path measure) refl refl
     step_told now may (stages place plan number job work more known on) = staged place number work more (starts_told on)
     step_told now may (reads_input place path limit bytes its_inputs todo read job work more is known on) = starts_told on
     step_told now may (starts place inputs launch ticket is) = record {
@@ -226,27 +260,35 @@ module _ (codes : JobPlace → ExitCodes) where
       ];
       next = tt;
       success = λ at outputs there. let never : job_started place inputs launch ticket ≡ job_succeeded at outputs = only_in _ _ there in absurd cc;
+      rows = λ at row there. let never : job_started place inputs launch ticket ≡ row_found at row = only_in _ _ there in absurd cc;
     }
     step_told now may (exits_well place e job there known well) = record {
       flights = λ x in_air. inl (landed e.ticket x in_air);
       next = ran place e job there known well now;
       success = λ at outputs in_new. let never : child_exited e.ticket ≡ job_succeeded at outputs = only_in _ _ in_new in absurd cc;
+      rows = λ at row in_new. let never : child_exited e.ticket ≡ row_found at row = only_in _ _ in_new in absurd cc;
     }
-    step_told now may (exits_for_now place e job there known class) = exits e.ticket (job_failed_for_now place) refl (λ at outputs is. cc)
-    step_told now may (exits_badly place e job there known class) = exits e.ticket (job_failed place (Cause.Exit e.code)) refl (λ at outputs is. cc)
+    step_told now may (exits_for_now place e job there known class) = exits e.ticket (job_failed_for_now place) refl refl
+    step_told now may (exits_badly place e job there known class) = exits e.ticket (job_failed place (Cause.Exit e.code)) refl refl
     step_told now may (scans place folder millis found job started wanted work more is known was wants on) =
         collects_told (scanned t s f.events f.work place folder knows.work may) on
     step_told now may (reads_output place path limit bytes millis found name todo read job started work more is known was on) =
         collects_told (subst (WorkTold t) is knows.work) on
-    step_told now may (delivers place plan) = quiet_one (result_delivered plan) refl (λ at outputs is. cc)
-    step_told now may loses_collect = quiet_one collect_failed refl (λ at outputs is. cc)
-    step_told now may (call_fails place request other) = quiet_one (host_failed place (fault_of request)) refl (λ at outputs is. cc)
-    step_told now may (finds_none place its_key) = quiet_one (no_row place) refl (λ at outputs is. cc)
-    step_told now may (finds place its_key row job known sound) = quiet_one (row_found place row) refl (λ at outputs is. cc)
-    step_told now may (finds_wrong place its_key row job known unsound) = quiet_one (find_failed place NotARecord) refl (λ at outputs is. cc)
-    step_told now may (find_fails place its_key refusal) = quiet_one (find_failed place refusal) refl (λ at outputs is. cc)
+    step_told now may (delivers place plan) = quiet_one (result_delivered plan) refl refl
+    step_told now may loses_collect = quiet_one collect_failed refl refl
+    step_told now may (call_fails place request other) = quiet_one (host_failed place (fault_of request)) refl refl
+    step_told now may (finds_none place its_key) = quiet_one (no_row place) refl refl
+    step_told now may (finds place its_key row job known sound) = record {
+      flights = λ x there. inl there;
+      next = tt;
+      success = λ at outputs there. let never : row_found place row ≡ job_succeeded at outputs = only_in _ _ there in absurd cc;
+      rows = λ at other there. let same : row_found place row ≡ row_found at other = only_in _ _ there in
+          let here : place ≡ at = cc in subst (HadRow t) here (record { key = its_key; row = row; found = now });
+    }
+    step_told now may (finds_wrong place its_key row job known unsound) = quiet_one (find_failed place NotARecord) refl refl
+    step_told now may (find_fails place its_key refusal) = quiet_one (find_failed place refusal) refl refl
     step_told now may (puts place row) = no_event nothing_due tt
-    step_told now may (put_fails place row refusal) = quiet_one (put_failed place refusal) refl (λ at outputs is. cc)
+    step_told now may (put_fails place row refusal) = quiet_one (put_failed place refusal) refl refl
 
   -- of a run whose events are the first of these, where the jobs that are known after any first events have these codes
   module _ (s : Scene) (all : List Event) (its_codes : (es rest : List Event) → es ++ rest ≡ all → (place : JobPlace) (job : Job) →
@@ -256,6 +298,7 @@ module _ (codes : JobPlace → ExitCodes) where
       flights = λ x there. absurd (none_in x there);
       work = tt;
       success = λ place outputs there. absurd (none_in _ there);
+      rows = λ place row there. absurd (none_in _ there);
     }
     knows (asks t f old p work new marks goes allowed steps plans) rest is =
         let front : f.events ++ (new ++ rest) ≡ all = sym (append_assoc f.events new rest) ∙ is in

@@ -170,7 +170,7 @@ may_stage = record {
   known = refl;
   computed = refl;
   not_held = refl;
-  parents = λ nothing parent made. let never : false ≡ true = made in absurd cc;
+  parents = λ parent is. let never : false ≡ true = is.made in absurd cc;
   slot = lit< tt;
   staged = copies_nothing 2;
   next_number = refl;

@@ -15,4 +15,7 @@ pub mod Lookups
 pub mod Planned
 pub mod Asks
 pub mod Turns
+pub mod AtHand
+pub mod Ready
+pub mod Staged
 pub mod Grows

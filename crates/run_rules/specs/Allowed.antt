@@ -11,7 +11,7 @@ use Rattle.job_key.specs.Key.{Key, key}
 use Rattle.run_rules.specs.declared.request.RecordRequest.{RecordRequest}
 use Rattle.run_rules.specs.declared.request.Request.{Request}
 use Rattle.job_graph.specs.Jobs.{Job}
-use Rattle.job_graph.specs.Made.{any_made, fields_moved}
+use Rattle.job_graph.specs.Made.{fields_moved}
 use Rattle.job_graph.specs.Words.{Name, Fields, JobPlace}
 use Rattle.run_rules.specs.Folders.{in_folder}
 use Rattle.run_rules.specs.Delivered.{any_file, source_place}
@@ -19,8 +19,9 @@ use Rattle.run_rules.specs.Events.{Event, Work, nothing_due, input_heads_due, st
 use Rattle.run_rules.specs.End.{settled, IsDelivery, is_lost_collect}
 use Rattle.plan_checker.specs.declared.plan.Mark.{Mark}
 use Rattle.plan_checker.specs.declared.plan.Mark.TheVariants.{Compute}
+use Rattle.run_rules.specs.Parents.{IsParent}
 use Rattle.run_rules.specs.Plans.{mark_at}
-use Rattle.run_rules.specs.Scene.{Scene, NothingWasMadeBefore}
+use Rattle.run_rules.specs.Scene.{Scene}
 
 module _ (s : Scene) where
   -- nothing is due, no collect has failed, and the end is not settled
@@ -51,16 +52,15 @@ module _ (s : Scene) where
     pub measured : are_measured s f.events ≡ true
     pub looked_up : are_looked_up s f.events ≡ true
 
-  -- a job is staged that the plan computes and that is not held, where a slot is free and the outputs of its parents are at hand, that is, of
-  -- each job that made a file in its inputs: its input files are copied to its own folder, those that its parents made from where these left
-  -- them
+  -- a job is staged that the plan computes and that is not held, where a slot is free and the outputs of its parents are at hand: its input
+  -- files are copied to its own folder, those that its parents made from where these left them
   pub record MayStage (f : Progress) (marks : List Mark) (place : JobPlace) (plan : StagePlan) (number : ℕ) : Type 0 where
     pub free : IsFree f
     pub job : Job
     pub known : job_at s f.events place ≡ Some job
     pub computed : mark_at s marks f.events place ≡ Compute
     pub not_held : is_held f.events place ≡ false
-    pub parents : NothingWasMadeBefore s → (parent : JobPlace) → any_made parent job.inputs ≡ true → is_at_hand f.events parent ≡ true
+    pub parents : (parent : Job) → IsParent (unfolding_at s f.events).jobs job parent → is_at_hand f.events parent.place ≡ true
     pub slot : length (in_flight f.events) < s.options.slots
     pub next_number : number ≡ length (filter is_staging f.events) + 1
     pub staged : IsPlan false (in_folder s.options.work number) (fields_moved (source_place (folder_at s f.events)) job.inputs) plan

@@ -50,6 +50,8 @@ pub data Event : Type 0 where
   find_failed : (place : JobPlace) (refusal : RecordRefusal) → Event
   -- the record refused to keep the row of the job at a place
   put_failed : (place : JobPlace) (refusal : RecordRefusal) → Event
+  -- the job's named outputs were collected, and are those of its row
+  job_repeated : (place : JobPlace) → Event
 
 -- the work that is due next
 pub data Work : Type 0 where
@@ -91,9 +93,10 @@ measures_path path _ = false
 abbrev pub is_measured : List Event → Name → Bool
 is_measured es path = list_any (measures_path path) es
 
--- the place that an event resolves, with its outputs
+-- the place that an event resolves, with its outputs: by the end of its job, or by its row
 abbrev pub resolves : Event → Option Resolved
 resolves (job_succeeded place outputs) = Some (record { place = place; outputs = outputs })
+resolves (row_found place row) = Some (record { place = place; outputs = row.outputs })
 resolves _ = None
 
 -- the resolved places in the order learned
@@ -117,6 +120,7 @@ tickets es = map (λ f. f.0) (in_flight es)
 -- whether an event brings the outputs of the job at a place
 abbrev pub brings : JobPlace → Event → Bool
 brings place (job_succeeded p outputs) = is_same_place p place
+brings place (job_repeated p) = is_same_place p place
 brings place _ = false
 
 -- its outputs were collected in this run

@@ -7,18 +7,23 @@ use Rattle.job_key.specs.Key.{key}
 use Rattle.job_reuse.specs.Rows.{made_row}
 use Rattle.job_rows.specs.declared.row.Row.{Row}
 use Rattle.staging.specs.declared.found.Found.{Found}
-use Rattle.run_rules.specs.Events.{Event, job_succeeded, row_differs, Work, nothing_due, put_due, is_reusable}
+use Rattle.run_rules.specs.Events.{Event, job_succeeded, row_differs, job_repeated, Work, nothing_due, put_due, is_reusable}
 
 -- no row was found, or one with these outputs
 abbrev pub AgreesWith : Fields → Option Row → Type 0
 AgreesWith outputs None = Unit {0}
 AgreesWith outputs (Some row) = row.outputs ≡ outputs
 
+-- what is told of collected outputs: a row that was found has told them before
+abbrev pub told_of : JobPlace → Fields → Option Row → Event
+told_of place outputs None = job_succeeded place outputs
+told_of place outputs (Some row) = job_repeated place
+
 -- of the job at a place, with this row where one was found, whose child ran for so long: this was found in its output folder, and these
 -- outputs were collected
 pub data Keeps (place : JobPlace) (job : Job) (row : Option Row) (millis : ℕ) (found : List Found) (outputs : Fields) : Work → List Event → Type 0 where
   keeps_none : is_reusable job ≡ false → Keeps place job row millis found outputs nothing_due (job_succeeded place outputs ∷ [])
   keeps : is_reusable job ≡ true → AgreesWith outputs row →
-      Keeps place job row millis found outputs (put_due place (made_row (key job.tool job.inputs) outputs found millis false)) (job_succeeded place outputs ∷ [])
+      Keeps place job row millis found outputs (put_due place (made_row (key job.tool job.inputs) outputs found millis false)) (told_of place outputs row ∷ [])
   differs : (other : Row) → is_reusable job ≡ true → row ≡ Some other → other.outputs ≢ outputs →
       Keeps place job row millis found outputs nothing_due (row_differs place outputs ∷ [])

@@ -9,6 +9,7 @@ pub mod Steps
 pub mod End
 pub mod EndsSo
 pub mod Plans
+pub mod Parents
 pub mod Allowed
 pub mod Run
 pub mod Honest

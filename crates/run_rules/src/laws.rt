@@ -21,8 +21,9 @@ ghost use Rattle.job_graph.specs.Apart.{ids_differ};
 ghost use Rattle.job_graph.specs.Equations.{walker};
 ghost use Rattle.job_graph.specs.Eval.{World};
 ghost use Rattle.job_graph.specs.Jobs.{Job};
+ghost use Rattle.job_graph.specs.Made.{any_made};
 ghost use Rattle.job_graph.specs.Unfold.{Resolved, too_many_jobs, unfolded};
-ghost use Rattle.job_graph.specs.Words.{Fields};
+ghost use Rattle.job_graph.specs.Words.{Fields, JobPlace};
 ghost use Rattle.run_rules.specs.Allowed.{Allowed};
 ghost use Rattle.run_rules.specs.Delivered.{located, object_of};
 ghost use Rattle.run_rules.specs.End.{End, succeeds_with};
@@ -31,21 +32,23 @@ ghost use Rattle.run_rules.specs.Events.{Event, Progress, measures, unfolding_at
 ghost use Rattle.run_rules.specs.Honest.{IsHonest, Means};
 ghost use Rattle.plan_checker.specs.declared.plan.Mark.{Mark};
 ghost use Rattle.run_rules.specs.Reports.{IsRight, report_of};
-ghost use Rattle.run_rules.specs.Run.{IsRun};
+ghost use Rattle.run_rules.specs.Parents.{HasParentAt};
+ghost use Rattle.run_rules.specs.Run.{IsRun, IsRunSoFar};
 ghost use Rattle.run_rules.specs.Scene.{NothingWasMadeBefore, Scene, scene_of};
-ghost use Rattle.run_rules.specs.RanWell.{RanWell};
+ghost use Rattle.run_rules.specs.RanWell.{HasOutputs};
 
 use job_graph::{
     failed_jobs_fail_eval, faults_fail_eval, known_jobs_agree, known_places_differ,
     results_are_eval, results_learned_each_job,
 };
 
-/// In a run that ends in success each known job ran well: a child was started for the job at its place, and it ended well.
-pub fn success_ran_each_job()
+/// In a run that ends in success the outputs of each known job came from a child that was started for the job at its place and
+/// ended well, or from a row that the record had of it.
+pub fn success_has_each_job()
     ensures { (setting : Setting) (t : List Pair) (outputs delivered : Fields)
         (run : IsRun setting t (succeeds_with outputs delivered)) (job : Job)
         → Contains (unfolding_at (scene_of setting) run.happened.events).jobs job
-        → RanWell t job.place job.tool.exit_codes }
+        → HasOutputs t job.place job.tool.exit_codes }
 {
     known_places_differ();
     results_learned_each_job();
@@ -107,8 +110,22 @@ pub fn delivery_keeps_the_value()
         ≡ object_of (fields_erased outputs) }
 {}
 
+/// Says that what made a File or Directory in the inputs of a known job is a parent of the job, that is, a job that was known
+/// before it; of each run before which nothing was made. So where jobs are staged, all that is in their inputs is at hand
+/// (`MayStage`).
+pub fn makers_are_parents()
+    ensures { (setting : Setting) (t : List Pair) (f : Progress) (marks : List Mark) (job : Job)
+        (maker : JobPlace)
+        → IsRunSoFar setting t f marks → NothingWasMadeBefore (scene_of setting)
+        → Contains (unfolding_at (scene_of setting) f.events).jobs job
+        → any_made maker job.inputs ≡ true
+        → HasParentAt (unfolding_at (scene_of setting) f.events).jobs job maker }
+{
+    known_places_differ();
+}
+
 /// Says that no file of a process that was read from documents, on inputs that were read from text, is said to be made by a
-/// job before any ran. So where jobs are staged, the outputs of their parents are at hand (`MayStage`).
+/// job before any ran.
 pub fn nothing_read_was_made_before()
     ensures { (bytes : List ℕ) (base : Parts) (docs : Documents) (process : Process)
         (text : List ℕ) (at : Parts) (read : Value) (inputs : Fields) (options : Options)

@@ -13,8 +13,8 @@ mod setting;
 
 pub use laws::{
     a_lone_tool_is_within_limits, an_honest_run_ends_rightly, an_honest_run_is_reported_rightly,
-    delivery_keeps_the_value, nothing_follows_the_end, nothing_read_was_made_before, one_end,
-    success_ran_each_job,
+    delivery_keeps_the_value, makers_are_parents, nothing_follows_the_end,
+    nothing_read_was_made_before, one_end, success_has_each_job,
 };
 pub use outcome::{Cause, CollectCause, Note, NoteKind, Outcome, PlanNote, Report, RunFault};
 pub use request::{Answer, Pair, RecordAnswer, RecordRequest, Request};

@@ -15,13 +15,13 @@ use Rattle.run_rules.specs.declared.outcome.Outcome.{Outcome}
 use Rattle.run_rules.specs.declared.outcome.RunFault.{RunFault}
 use Rattle.std.specs.Prelude.{Result}
 use Rattle.run_rules.specs.End.{End, fails_temporarily, gives_up, settled, settled_by, unfold_end}
-use Rattle.run_rules.specs.Events.{Event, child_exited, in_flight, job_failed_for_now, job_staged, job_started, job_succeeded, started_at, unfolding_at}
+use Rattle.run_rules.specs.Events.{Event, child_exited, in_flight, job_failed_for_now, job_staged, job_started, started_at, unfolding_at}
 use Rattle.run_rules.specs.Reports.{outcome_of}
 use Rattle.run_rules.specs.Scene.{Scene}
 use Rattle.run_rules.proofs.Places.{same_place}
-use Rattle.run_rules.proofs.events.Course.{Course as Books, Keeps as AreKept, keeps_at_first, keeps_succeeded}
+use Rattle.run_rules.proofs.events.Course.{Course as Books, Keeps as AreKept, keeps_at_first, keeps_learned}
 use Rattle.run_rules.proofs.events.Flights.{Flight as Flying, is_flying}
-use Rattle.run_rules.proofs.events.Known.{IsFront, front_itself, front_of_front, known_jobs_stay, numbered_still, teaches, unfolding_stays}
+use Rattle.run_rules.proofs.events.Known.{IsFront, front_itself, front_of_front, is_measure, known_jobs_stay, numbered_still, teaches, unfolding_stays}
 use Rattle.run_rules.proofs.events.Places.{AreApart, IsJob, one_job, same_itself}
 use Rattle.run_rules.proofs.events.Readings.{started_after}
 use Rattle.run_rules.proofs.events.Settled.{is_quiet, settled_for_now, settled_more, settled_quietly, settled_stays}
@@ -30,16 +30,28 @@ use Rattle.run_rules.proofs.events.Turns.{so_many}
 use Rattle.run_core.specs.declared.state.Flight.{Flight}
 use Rattle.run_core.specs.declared.job_states.JobState.{JobState}
 use Rattle.run_core.specs.declared.state.Kept.{Kept}
-use Rattle.run_core.specs.inner.Course.{Past, TakesOut, nothing_past, with_end, with_giving_up, with_staging, with_start, with_answer, with_note}
+use Rattle.run_core.specs.inner.Course.{Past, TakesOut, nothing_past, with_end, with_giving_up, with_staging, with_start, with_answer, with_hand, with_note}
 use Rattle.run_core.specs.inner.Due.{IsKept}
 use Rattle.run_core.specs.inner.Keeps.{Keeps, KeepsFlight, course_of, worked}
 use Rattle.run_core.specs.inner.Standing.{HasStarted}
-use Rattle.run_core.proofs.events.Kept.{Lands, counted_once_more, gave_up_staged, keeps_end, keeps_failing, keeps_giving_up, keeps_landing, keeps_staging, keeps_starting, once_more}
+use Rattle.run_core.proofs.events.Kept.{Lands, counted_once_more, gave_up_staged, keeps_end, keeps_failing, keeps_giving_up, keeps_landing, keeps_staging, keeps_starting, once_more, tries_with_hand}
 use Rattle.run_core.proofs.events.Numbers.{Flies, contains_before, flight_flies, state_there}
 use Rattle.run_core.specs.inner.JobStates.{given_up_in, state_at, waits_in}
-use Rattle.run_core.proofs.States.{given_up_length, staged_few}
+use Rattle.run_core.proofs.States.{brought_length, given_up_length, staged_few}
 use Rattle.run_rules.specs.declared.outcome.Note.{Note}
 use Rattle.run_rules.specs.declared.request.RecordAnswer.{RecordAnswer}
+
+-- what a place that is resolved leaves as it is
+pub record KeepsTheRest (past there : Past) : Type 0 where
+  pub few : length there.jobs ≡ length past.jobs
+  pub tries : (m : ℕ) → (state_at there.jobs m).gave_up ≡ (state_at past.jobs m).gave_up
+  pub tickets : there.tickets ≡ past.tickets
+  pub flights : there.flights ≡ past.flights
+  pub end : there.end ≡ past.end
+
+pub hand_keeps_the_rest : (past : Past) (n : ℕ) → n < length past.jobs → KeepsTheRest past (with_hand n past)
+hand_keeps_the_rest past n within =
+    record { few = brought_length past.jobs n; tries = λ m. sym (tries_with_hand past n within m); tickets = refl; flights = refl; end = refl }
 
 flights_still : (es es' : List Event) (jobs more : List Job) (flights : List Flight) → ((place : JobPlace) → started_at es' place ≡ started_at es place) → IsFront jobs more →
     ((flight : Flight) → Contains flights flight → KeepsFlight es jobs flight) → (flight : Flight) → Contains flights flight → KeepsFlight es' more flight
@@ -343,46 +355,55 @@ module _ (s : Scene) (es : List Event) (jobs : List Job) where
     end = k.end;
   }
 
-  -- a job's outputs were collected
-  module _ (past : Past) (n : ℕ) (job : Job) (outputs : Fields) (it : IsJob jobs n job) (k : Keeps s es jobs past (Some n)) (more : List Job) (leads : IsFront jobs more)
-      (apart : AreApart more) (front : IsFront more (unfolding_at s (es ++ job_succeeded job.place outputs ∷ [])).jobs) where
-    success_kept : AreKept more (reads_after (readings es) (job_succeeded job.place outputs)) (course_of past None k.gave_up)
-    success_kept = keeps_succeeded jobs (readings es) (course_of past (Some n) k.gave_up) k.books n job outputs more it refl leads apart
+  -- a place is resolved, and more may be known
+  module _ (past there : Past) (rest : KeepsTheRest past there) (at_work : Option ℕ) (e : Event) (k : Keeps s es jobs past at_work)
+      (started : (place : JobPlace) → started_at (es ++ e ∷ []) place ≡ started_at es place)
+      (kept : AreKept jobs (reads_after (readings es) e) (course_of there None k.gave_up)) (more : List Job) (leads : IsFront jobs more) (apart : AreApart more)
+      (front : IsFront more (unfolding_at s (es ++ e ∷ [])).jobs) where
+    more_kept : AreKept more (reads_after (readings es) e) (course_of there None k.gave_up)
+    more_kept = keeps_learned jobs (reads_after (readings es) e) (course_of there None k.gave_up) kept more refl leads apart
 
-    success_few : length past.jobs ≤ length more
-    success_few = let longer : length more ≡ length jobs + length leads.rest = ap length leads.is ∙ length-append jobs leads.rest in omega (arith, longer, k.few)
+    more_few : length there.jobs ≤ length more
+    more_few = let longer : length more ≡ length jobs + length leads.rest = ap length leads.is ∙ length-append jobs leads.rest in omega (arith, longer, rest.few, k.few)
 
-    success_flights : (flight : Flight) → Contains past.flights flight → KeepsFlight (es ++ job_succeeded job.place outputs ∷ []) more flight
-    success_flights = flights_still es (es ++ job_succeeded job.place outputs ∷ []) jobs more past.flights
-        (λ place. started_after es (job_succeeded job.place outputs ∷ []) place) leads k.flights
+    more_flights : (flight : Flight) → Contains there.flights flight → KeepsFlight (es ++ e ∷ []) more flight
+    more_flights =
+        subst (λ (flights : List Flight). (flight : Flight) → Contains flights flight → KeepsFlight (es ++ e ∷ []) more flight) (sym rest.flights)
+        (flights_still es (es ++ e ∷ []) jobs more past.flights started leads k.flights)
 
-    pub succeeded_keeps : settled s (es ++ job_succeeded job.place outputs ∷ []) ≡ settled s es → Keeps s (es ++ job_succeeded job.place outputs ∷ []) more past None
-    succeeded_keeps still = record {
+    more_retries : (m : ℕ) → (state_at there.jobs m).gave_up ≤ s.options.retries
+    more_retries m = subst (λ times. times ≤ s.options.retries) (sym (rest.tries m)) (k.retries m)
+
+    more_slots : length there.tickets + 0 ≤ s.options.slots
+    more_slots = subst (λ (tickets : List ℕ). length tickets + 0 ≤ s.options.slots) (sym rest.tickets) (idle_slots at_work (length past.tickets) s.options.slots k.slots)
+
+    pub learned_keeps : settled s (es ++ e ∷ []) ≡ settled s es → Keeps s (es ++ e ∷ []) more there None
+    learned_keeps still = record {
       gave_up = k.gave_up;
-      few = success_few;
-      books = books_after (job_succeeded job.place outputs) more (course_of past None k.gave_up) success_kept;
-      counts = k.counts;
-      retries = k.retries;
-      slots = idle_slots (Some n) (length past.tickets) s.options.slots k.slots;
-      flights = success_flights;
+      few = more_few;
+      books = books_after e more (course_of there None k.gave_up) more_kept;
+      counts = λ none m. k.counts (sym rest.end ∙ none) m ∙ sym (rest.tries m);
+      retries = more_retries;
+      slots = more_slots;
+      flights = more_flights;
       front = front;
-      end = k.end ∙ ap (option_map outcome_of) (sym still);
+      end = rest.end ∙ k.end ∙ ap (option_map outcome_of) (sym still);
     }
 
-    -- and an equation fails by them
-    pub success_fails_keeps : (end : End) → settled s es ≡ None → settled s (es ++ job_succeeded job.place outputs ∷ []) ≡ Some end →
-        Keeps s (es ++ job_succeeded job.place outputs ∷ []) more (with_end (outcome_of end) past) None
-    success_fails_keeps end none is = record {
+    -- and an equation fails by it
+    pub learned_fails_keeps : (end : End) → settled s es ≡ None → settled s (es ++ e ∷ []) ≡ Some end →
+        Keeps s (es ++ e ∷ []) more (with_end (outcome_of end) there) None
+    learned_fails_keeps end none is = record {
       gave_up = k.gave_up;
-      few = success_few;
-      books = books_after (job_succeeded job.place outputs) more (course_of (with_end (outcome_of end) past) None k.gave_up)
-          (keeps_end more (reads_after (readings es) (job_succeeded job.place outputs)) past None k.gave_up (outcome_of end) success_kept);
-      counts = λ still m. absurd (never_none past.end (outcome_of end) still);
-      retries = k.retries;
-      slots = idle_slots (Some n) (length past.tickets) s.options.slots k.slots;
-      flights = success_flights;
+      few = more_few;
+      books = books_after e more (course_of (with_end (outcome_of end) there) None k.gave_up)
+          (keeps_end more (reads_after (readings es) e) there None k.gave_up (outcome_of end) more_kept);
+      counts = λ still m. absurd (never_none there.end (outcome_of end) still);
+      retries = more_retries;
+      slots = more_slots;
+      flights = more_flights;
       front = front;
-      end = settles_by (settled s es) (settled s (es ++ job_succeeded job.place outputs ∷ [])) end past.end k.end (λ still. is)
+      end = settles_by (settled s es) (settled s (es ++ e ∷ [])) end there.end (rest.end ∙ k.end) (λ still. is)
           (λ old was. let never : None ≡ Some old = sym none ∙ was in absurd cc);
     }
 
@@ -416,7 +437,7 @@ module _ (s : Scene) (es : List Event) (jobs : List Job) where
   }
 
 -- known jobs that are the first of those of the rules still are
-pub front_late : (s : Scene) (es : List Event) (jobs : List Job) (place : JobPlace) (outputs : Fields) → IsFront jobs (unfolding_at s es).jobs →
-    IsFront jobs (unfolding_at s (es ++ job_succeeded place outputs ∷ [])).jobs
-front_late s es jobs place outputs leads =
-    front_of_front jobs (unfolding_at s es).jobs (unfolding_at s (es ++ job_succeeded place outputs ∷ [])).jobs leads (known_jobs_stay s es (job_succeeded place outputs) (λ all. refl))
+pub front_later : (s : Scene) (es : List Event) (jobs : List Job) (e : Event) → is_measure e ≡ false → IsFront jobs (unfolding_at s es).jobs →
+    IsFront jobs (unfolding_at s (es ++ e ∷ [])).jobs
+front_later s es jobs e none leads =
+    front_of_front jobs (unfolding_at s es).jobs (unfolding_at s (es ++ e ∷ [])).jobs leads (known_jobs_stay s es e (λ all. none))

@@ -13,17 +13,17 @@ use Rattle.run_rules.specs.declared.outcome.RunFault.{RunFault}
 use Rattle.job_graph.specs.Words.{Fields}
 use Rattle.job_graph.specs.Jobs.{Job}
 use Rattle.job_graph.specs.Unfold.{or_else}
-use Rattle.run_rules.specs.Events.{child_exited, job_failed_for_now, job_staged, job_started}
-use Rattle.run_rules.proofs.events.Course.{Keeps as AreKept, gives_over, keeps_gave_up, keeps_given_back, keeps_landed, keeps_staged, keeps_started, when_landed}
+use Rattle.run_rules.specs.Events.{child_exited, job_failed_for_now, job_repeated, job_staged, job_started}
+use Rattle.run_rules.proofs.events.Course.{Keeps as AreKept, gives_over, keeps_at_hand, keeps_gave_up, keeps_given_back, keeps_landed, keeps_staged, keeps_started, when_landed}
 use Rattle.run_rules.proofs.events.Places.{IsJob}
 use Rattle.run_rules.proofs.events.Tally.{Readings, reads_after}
 use Rattle.run_rules.proofs.events.Turns.{FliesAt, flies_taken, flight_of, tickets_left}
 use Rattle.run_core.specs.declared.state.Flight.{Flight}
 use Rattle.run_core.specs.declared.job_states.JobState.{JobState}
 use Rattle.run_core.specs.declared.state.Kept.{Kept}
-use Rattle.run_core.specs.inner.Course.{Past, TakesOut, with_end, with_giving_up, with_staging, with_start}
+use Rattle.run_core.specs.inner.Course.{Past, TakesOut, with_end, with_giving_up, with_hand, with_staging, with_start}
 use Rattle.run_core.specs.inner.Keeps.{course_of, numbers_of}
-use Rattle.run_core.specs.inner.JobStates.{given_up_in, staged_in, state_at, untouched, waits_in}
+use Rattle.run_core.specs.inner.JobStates.{brought_in, given_up_in, is_there, staged_in, state_at, untouched, waits_in}
 
 -- A job is staged
 
@@ -54,6 +54,11 @@ gave_up_if : (b : Bool) (folder : ℕ) (one other : JobState) → (b ≡ true �
 gave_up_if true folder one other same = ap (λ (state : JobState). state.gave_up) (same refl)
 gave_up_if false folder one other same = refl
 
+there_if : (b : Bool) (folder : ℕ) (one other : JobState) → (b ≡ true → one ≡ other) →
+    (cond b (record one { waits = false; folder = folder }) other).at_hand ≡ other.at_hand
+there_if true folder one other same = ap (λ (state : JobState). state.at_hand) (same refl)
+there_if false folder one other same = refl
+
 module _ (past : Past) (n : ℕ) where
   pub waits_staged : (m : ℕ) → waits_in (with_staging n past).jobs m ≡ cond (n == m) false (waits_in past.jobs m)
   waits_staged m =
@@ -70,6 +75,11 @@ module _ (past : Past) (n : ℕ) where
       ap (λ (state : JobState). state.gave_up) (state_staged past.jobs n (past.folders + 1) m)
       ∙ gave_up_if (n == m) (past.folders + 1) (state_at past.jobs n) (state_at past.jobs m) (λ same. ap (state_at past.jobs) (eqb-true n m same))
 
+  there_staged : (m : ℕ) → is_there (with_staging n past).jobs m ≡ is_there past.jobs m
+  there_staged m =
+      ap (λ (state : JobState). state.at_hand) (state_staged past.jobs n (past.folders + 1) m)
+      ∙ there_if (n == m) (past.folders + 1) (state_at past.jobs n) (state_at past.jobs m) (λ same. ap (state_at past.jobs) (eqb-true n m same))
+
 module _ (jobs : List Job) (r : Readings) (past : Past) (g : ℕ → ℕ) (n : ℕ) (job : Job) (it : IsJob jobs n job) where
   one_more : suc past.folders ≡ past.folders + 1
   one_more = omega arith
@@ -82,6 +92,7 @@ module _ (jobs : List Job) (r : Readings) (past : Past) (g : ℕ → ℕ) (n : �
         tickets = past.tickets;
         numbers = numbers_of past.flights;
         waits = λ m. sym (waits_staged past n m) i;
+        at_hand = λ m. sym (there_staged past n m) i;
         folder = λ m. sym (folder_staged past n m) i;
         gave_up = g;
         folders = one_more i;
@@ -161,6 +172,10 @@ folder_given_up : (b : Bool) (state : JobState) → state.folder ≡ (cond b (re
 folder_given_up true state = refl
 folder_given_up false state = refl
 
+there_given_up : (b : Bool) (state : JobState) → state.at_hand ≡ (cond b (record state { waits = true; gave_up = state.gave_up + 1 }) state).at_hand
+there_given_up true state = refl
+there_given_up false state = refl
+
 gave_up_given_up : (b : Bool) (state : JobState) → cond b (suc state.gave_up) state.gave_up ≡ (cond b (record state { waits = true; gave_up = state.gave_up + 1 }) state).gave_up
 gave_up_given_up true state = omega arith
 gave_up_given_up false state = refl
@@ -171,6 +186,9 @@ module _ (past : Past) (n : ℕ) (within : n < length past.jobs) where
 
   pub folder_kept : (m : ℕ) → (state_at past.jobs m).folder ≡ (state_at (with_giving_up n past).jobs m).folder
   folder_kept m = folder_given_up (n == m) (state_at past.jobs m) ∙ ap (λ (s : JobState). s.folder) (sym (state_given_up past.jobs n m within))
+
+  there_kept : (m : ℕ) → is_there past.jobs m ≡ is_there (with_giving_up n past).jobs m
+  there_kept m = there_given_up (n == m) (state_at past.jobs m) ∙ ap (λ (s : JobState). s.at_hand) (sym (state_given_up past.jobs n m within))
 
   pub counted_once_more : (m : ℕ) → cond (n == m) (suc (state_at past.jobs m).gave_up) (state_at past.jobs m).gave_up ≡ (state_at (with_giving_up n past).jobs m).gave_up
   counted_once_more m = gave_up_given_up (n == m) (state_at past.jobs m) ∙ ap (λ (s : JobState). s.gave_up) (sym (state_given_up past.jobs n m within))
@@ -191,6 +209,7 @@ module _ (jobs : List Job) (r : Readings) (past : Past) (g : ℕ → ℕ) (n : �
         tickets = past.tickets;
         numbers = numbers_of past.flights;
         waits = λ m. waits_again past n within m i;
+        at_hand = λ m. there_kept past n within m i;
         folder = λ m. folder_kept past n within m i;
         gave_up = once_more n g;
         folders = past.folders;
@@ -198,6 +217,58 @@ module _ (jobs : List Job) (r : Readings) (past : Past) (g : ℕ → ℕ) (n : �
         over = is_some past.end;
       })
       (keeps_given_back jobs (reads_after r (job_failed_for_now job.place)) (course_of past (Some n) (once_more n g)) keeps_failing n job it refl)
+
+-- Its outputs are at hand
+
+state_brought : (states : List JobState) (n m : ℕ) → n < length states →
+    state_at (brought_in n states) m ≡ cond (n == m) (record (state_at states m) { at_hand = true }) (state_at states m)
+state_brought [] n m within = absurd (omega (arith, within))
+state_brought (x ∷ states) zero zero within = refl
+state_brought (x ∷ states) zero (suc m) within = sym (ap (λ b. cond b (record (state_at states m) { at_hand = true }) (state_at states m)) (eqb-zero-suc m))
+state_brought (x ∷ states) (suc n) zero within = sym (ap (λ b. cond b (record x { at_hand = true }) x) (eqb-suc-zero n))
+state_brought (x ∷ states) (suc n) (suc m) within =
+    state_brought states n m (omega (arith, within))
+    ∙ sym (ap (λ b. cond b (record (state_at states m) { at_hand = true }) (state_at states m)) (eqb-suc-suc n m))
+
+waits_brought : (b : Bool) (state : JobState) → state.waits ≡ (cond b (record state { at_hand = true }) state).waits
+waits_brought true state = refl
+waits_brought false state = refl
+
+folder_brought : (b : Bool) (state : JobState) → state.folder ≡ (cond b (record state { at_hand = true }) state).folder
+folder_brought true state = refl
+folder_brought false state = refl
+
+there_brought : (b : Bool) (state : JobState) → cond b true state.at_hand ≡ (cond b (record state { at_hand = true }) state).at_hand
+there_brought true state = refl
+there_brought false state = refl
+
+tries_brought : (b : Bool) (state : JobState) → state.gave_up ≡ (cond b (record state { at_hand = true }) state).gave_up
+tries_brought true state = refl
+tries_brought false state = refl
+
+module _ (past : Past) (n : ℕ) (within : n < length past.jobs) where
+  by_state : {X : Type 0} (part : JobState → X) (m : ℕ) → part (cond (n == m) (record (state_at past.jobs m) { at_hand = true }) (state_at past.jobs m)) ≡ part (state_at (with_hand n past).jobs m)
+  by_state part m = ap part (sym (state_brought past.jobs n m within))
+
+  pub tries_with_hand : (m : ℕ) → (state_at past.jobs m).gave_up ≡ (state_at (with_hand n past).jobs m).gave_up
+  tries_with_hand m = tries_brought (n == m) (state_at past.jobs m) ∙ by_state (λ state. state.gave_up) m
+
+  pub keeps_bringing : (jobs : List Job) (r : Readings) (g : ℕ → ℕ) (job : Job) → IsJob jobs n job → AreKept jobs r (course_of past (Some n) g) →
+      AreKept jobs (reads_after r (job_repeated job.place)) (course_of (with_hand n past) None g)
+  keeps_bringing jobs r g job it k =
+      subst (AreKept jobs (reads_after r (job_repeated job.place)))
+      (λ i. record {
+        tickets = past.tickets;
+        numbers = numbers_of past.flights;
+        waits = λ m. (waits_brought (n == m) (state_at past.jobs m) ∙ by_state (λ state. state.waits) m) i;
+        at_hand = λ m. (there_brought (n == m) (state_at past.jobs m) ∙ by_state (λ state. state.at_hand) m) i;
+        folder = λ m. (folder_brought (n == m) (state_at past.jobs m) ∙ by_state (λ state. state.folder) m) i;
+        gave_up = g;
+        folders = past.folders;
+        at_work = None;
+        over = is_some past.end;
+      })
+      (keeps_at_hand jobs r (course_of past (Some n) g) k n job it refl)
 
 -- The end is settled
 

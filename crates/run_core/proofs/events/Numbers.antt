@@ -12,6 +12,7 @@ use Rattle.run_rules.proofs.Places.{same_place}
 use Rattle.run_rules.proofs.events.Course.{IsAt, Keeps as AreKept}
 use Rattle.run_rules.proofs.events.Flights.{Flight as Flying, is_flying}
 use Rattle.run_rules.proofs.events.Places.{IsFound, IsJob, found_is, same_itself}
+pub use Rattle.run_rules.proofs.events.Places.{HasJob, job_below, job_there, read_job}
 use Rattle.run_rules.proofs.events.Tally.{Readings}
 use Rattle.run_rules.proofs.events.Turns.{so_many}
 use Rattle.run_core.specs.declared.state.Flight.{Flight}
@@ -22,26 +23,8 @@ use Rattle.run_core.specs.inner.JobStates.{state_at}
 
 -- Where a job is
 
-pub job_there : (jobs : List Job) (n : ℕ) (job : Job) → slice_get jobs n ≡ Some job → IsJob jobs n job
-job_there jobs n job is = record { within = slice_get_within jobs n job is; is = get_or_from_slice_get jobs n job job is }
-
-pub read_job : (jobs : List Job) (n : ℕ) (job : Job) → IsJob jobs n job → slice_get jobs n ≡ Some job
-read_job jobs n job it = slice_get_read jobs (length jobs) n job refl it.within (sym it.is)
-
 pub place_there : (jobs : List Job) (n : ℕ) (job : Job) → IsJob jobs n job → place_at jobs n ≡ job.place
 place_there jobs n job it = ap (λ (o : Option Job). unwrap_or (option_map (λ (j : Job). j.place) o) []) (read_job jobs n job it)
-
--- the job of a number
-pub record HasJob (jobs : List Job) (n : ℕ) : Type 0 where
-  pub job : Job
-  pub it : IsJob jobs n job
-
-pub job_below : (jobs : List Job) (n : ℕ) → n < length jobs → HasJob jobs n
-job_below [] n within = absurd (omega (arith, within))
-job_below (x ∷ jobs) zero within = record { job = x; it = record { within = omega arith; is = refl } }
-job_below (x ∷ jobs) (suc n) within =
-    let later : HasJob jobs n = job_below jobs n (omega (arith, within)) in
-    record { job = later.job; it = record { within = omega (arith, later.it.within); is = later.it.is } }
 
 pub state_there : (states : List JobState) (n : ℕ) (state : JobState) → slice_get states n ≡ Some state → state_at states n ≡ state
 state_there states n state is = get_or_from_slice_get states n state _ is

@@ -11,17 +11,15 @@ use Rattle.job_graph.specs.declared.fault.UnfoldFault.{UnfoldFault}
 use Rattle.job_graph.specs.declared.unfolding.Unfolding.{Unfolding}
 use Rattle.staging.specs.declared.plan.StagePlan.{StagePlan}
 use Rattle.job_graph.specs.Jobs.{Job, Walker}
-use Rattle.job_graph.specs.Made.{any_made}
-use Rattle.job_graph.specs.Makers.{AreNamed, IsLearned}
 use Rattle.job_graph.specs.Unfold.{Fault, Resolved, Unfolded, outputs_at, unfolded}
 use Rattle.job_graph.specs.Words.{Fields, JobPlace, is_same_place}
 use Rattle.run_rules.specs.declared.outcome.Cause.{Cause}
 use Rattle.run_rules.specs.declared.outcome.Outcome.{Outcome}
 use Rattle.run_rules.specs.declared.outcome.RunFault.{RunFault}
 use Rattle.run_rules.specs.End.{End, beyond_limits, ended_by_host, fails_permanently, fault_end, is_lost_collect, settled, settled_by, ended_by_record, mismatches}
-use Rattle.run_rules.specs.Events.{Event, child_exited, delivered_at, delivered_if, in_flight, job_at, job_failed, job_failed_for_now, job_staged, job_started, job_succeeded, host_failed, measures, number_at, resolved, started_at, unfolding_at, find_failed, is_reusable, looks_up, no_row, row_found, started_if, Started, row_differs, put_failed, row_at}
+use Rattle.run_rules.specs.Events.{Event, child_exited, delivered_at, delivered_if, in_flight, job_at, job_failed, job_failed_for_now, job_staged, job_started, job_succeeded, host_failed, measures, number_at, resolved, started_at, unfolding_at, find_failed, is_reusable, looks_up, no_row, row_found, started_if, Started, row_differs, put_failed, row_at, job_repeated}
 use Rattle.run_rules.specs.Reports.{outcome_of, note_of, notes_of}
-use Rattle.run_rules.specs.Scene.{Scene, NothingWasMadeBefore}
+use Rattle.run_rules.specs.Scene.{Scene}
 use Rattle.run_rules.proofs.events.Known.{IsFront, found_still, front_itself, is_measure, measured_still, measures_stay, resolved_stay, teaches, unfolding_learns, numbered_still}
 use Rattle.run_rules.proofs.events.Places.{AreApart, IsJob, found_at}
 use Rattle.run_rules.proofs.events.Readings.{delivered_after, lost_after, resolved_after, started_after}
@@ -34,13 +32,15 @@ use Rattle.job_rows.specs.declared.row.Row.{Row}
 use Rattle.run_core.specs.declared.state.Course.{Course}
 use Rattle.run_core.specs.declared.state.Flight.{Flight}
 use Rattle.run_core.specs.declared.state.Kept.{Kept}
-use Rattle.run_core.specs.inner.Course.{GivesUp, Past, TakesOut, again, known_in, past_of, place_at, too_often, with_end, with_giving_up, with_staging, with_start, with_answer, failure_by, failure_in, put_note, with_note}
+use Rattle.run_core.specs.inner.Course.{GivesUp, Past, TakesOut, again, known_in, past_of, place_at, too_often, with_end, with_giving_up, with_staging, with_start, with_answer, with_hand, failure_by, failure_in, put_note, with_note}
 use Rattle.run_core.specs.inner.Due.{IsKept}
 use Rattle.run_core.specs.inner.Keeps.{Keeps, Reflects, course_of, numbers_of, AreFound}
 use Rattle.run_core.specs.inner.Knows.{IsKnown, IsUnfolded, Knows, Learns, end_by, fails, fault_of, knows}
 use Rattle.run_core.specs.inner.Standing.{HasStarted}
-use Rattle.run_core.proofs.events.Keeping.{HasLanded, failed_keeps, front_late, gave_up_keeps, landed_keeps, never_none, none_settled, staged_keeps, started_keeps, succeeded_keeps, success_fails_keeps, too_often_keeps, aside_keeps, looked_keeps, noted_keeps}
+use Rattle.run_core.proofs.events.Keeping.{HasLanded, failed_keeps, front_later, gave_up_keeps, hand_keeps_the_rest, landed_keeps, learned_keeps, never_none, none_settled, staged_keeps, started_keeps, too_often_keeps, aside_keeps, looked_keeps, noted_keeps}
+use Rattle.run_core.proofs.events.Kept.{keeps_bringing}
 use Rattle.run_core.proofs.events.Numbers.{place_there}
+use Rattle.run_core.proofs.States.{taken_within}
 use Rattle.run_core.specs.inner.JobStates.{state_at, waits_in}
 use Rattle.std.proofs.lemmas.List.Elements.{filter_map-append}
 use Rattle.run_rules.specs.declared.outcome.Note.{Note}
@@ -58,6 +58,7 @@ is_plain (job_failed_for_now place) = true
 is_plain (host_failed place fault) = true
 is_plain (find_failed place refusal) = true
 is_plain (row_differs place outputs) = true
+is_plain (job_repeated place) = true
 is_plain _ = false
 
 plain_teaches_nothing : (e : Event) → is_plain e ≡ true → teaches e ≡ false
@@ -69,6 +70,7 @@ plain_teaches_nothing (job_failed_for_now place) plain = refl
 plain_teaches_nothing (host_failed place fault) plain = refl
 plain_teaches_nothing (find_failed place refusal) plain = refl
 plain_teaches_nothing (row_differs place outputs) plain = refl
+plain_teaches_nothing (job_repeated place) plain = refl
 plain_teaches_nothing _ plain = absurd cc
 
 plain_measures_nothing : (e : Event) → is_plain e ≡ true → is_measure e ≡ false
@@ -80,6 +82,7 @@ plain_measures_nothing (job_failed_for_now place) plain = refl
 plain_measures_nothing (host_failed place fault) plain = refl
 plain_measures_nothing (find_failed place refusal) plain = refl
 plain_measures_nothing (row_differs place outputs) plain = refl
+plain_measures_nothing (job_repeated place) plain = refl
 plain_measures_nothing _ plain = absurd cc
 
 plain_loses_nothing : (e : Event) → is_plain e ≡ true → is_lost_collect e ≡ false
@@ -91,6 +94,7 @@ plain_loses_nothing (job_failed_for_now place) plain = refl
 plain_loses_nothing (host_failed place fault) plain = refl
 plain_loses_nothing (find_failed place refusal) plain = refl
 plain_loses_nothing (row_differs place outputs) plain = refl
+plain_loses_nothing (job_repeated place) plain = refl
 plain_loses_nothing _ plain = absurd cc
 
 plain_delivers_nothing : (e : Event) → is_plain e ≡ true → delivered_if None e ≡ None
@@ -102,6 +106,7 @@ plain_delivers_nothing (job_failed_for_now place) plain = refl
 plain_delivers_nothing (host_failed place fault) plain = refl
 plain_delivers_nothing (find_failed place refusal) plain = refl
 plain_delivers_nothing (row_differs place outputs) plain = refl
+plain_delivers_nothing (job_repeated place) plain = refl
 plain_delivers_nothing _ plain = absurd cc
 
 plain_tells_nothing : (e : Event) → is_plain e ≡ true → is_no_answer e ≡ true
@@ -113,6 +118,7 @@ plain_tells_nothing (job_failed_for_now place) plain = refl
 plain_tells_nothing (host_failed place fault) plain = refl
 plain_tells_nothing (find_failed place refusal) plain = refl
 plain_tells_nothing (row_differs place outputs) plain = refl
+plain_tells_nothing (job_repeated place) plain = refl
 plain_tells_nothing _ plain = absurd cc
 
 plain_notes_nothing : (e : Event) → is_plain e ≡ true → note_of e ≡ None
@@ -126,16 +132,16 @@ notes_more es e o is = filter_map-append note_of es (e ∷ []) ∙ ap (λ (n : O
 pub no_notes_more : (es : List Event) (e : Event) → note_of e ≡ None → notes_of (es ++ e ∷ []) ≡ notes_of es
 no_notes_more es e none = notes_more es e None none ∙ append-nil (notes_of es)
 
-one_test : (b : Bool) → b ≡ false → (b || false) ≡ false
+pub one_test : (b : Bool) → b ≡ false → (b || false) ≡ false
 one_test b is = ap (λ c. c || false) is
 
 -- an end that is there is not open
-not_open : {T : Type 0} (o : Option T) → IsSome o → o ≡ None → ⊥
+pub not_open : {T : Type 0} (o : Option T) → IsSome o → o ≡ None → ⊥
 not_open None some none = let never : false ≡ true = some in cc
 not_open (Some x) some none = let never : Some x ≡ None = none in cc
 
 -- what was settled stays
-settled_late : (kept : Option (Result Outcome RunFault)) (before after : Option End) → kept ≡ option_map outcome_of before → IsSome kept →
+pub settled_late : (kept : Option (Result Outcome RunFault)) (before after : Option End) → kept ≡ option_map outcome_of before → IsSome kept →
     ((old : End) → before ≡ Some old → after ≡ Some old) → after ≡ before
 settled_late kept None after is some stays = absurd (not_open kept some is)
 settled_late kept (Some old) after is some stays = stays old refl
@@ -158,15 +164,12 @@ pub unfolds_by : (o : Option Unfolding) (walks : Walker) (learned : List Resolve
 unfolds_by None walks learned one old new is known learns = absurd known
 unfolds_by (Some kept) walks learned one old new is known learns = learns walks learned kept is known
 
--- three laws of walks: known jobs are at different places; where each known job is resolved and no equation fails the result is there; and what made
--- a file in the inputs of a known job was learned
+-- two laws of walks: known jobs are at different places; and where each known job is resolved and no equation fails the result is there
 pub record Laws (s : Scene) : Type 0 where
   pub differ : (walks : Walker) (learned : List Resolved) → AreApart (unfolded walks learned).jobs
   pub results : (measures : Measures) (learned : List Resolved) → (unfolded (s.walker measures) learned).fault ≡ None →
       ((job : Job) → Contains (unfolded (s.walker measures) learned).jobs job → is_some (outputs_at learned job.place) ≡ true) →
       IsSome (unfolded (s.walker measures) learned).result
-  pub makers : NothingWasMadeBefore s → (measures : Measures) (learned : List Resolved) → AreNamed learned → (job : Job) →
-      Contains (unfolded (s.walker measures) learned).jobs job → (maker : JobPlace) → any_made maker job.inputs ≡ true → IsLearned learned maker
 
 -- the record's answer on the job at a place is an event that nothing else is read of
 pub record IsTold (place : JobPlace) (e : Event) : Type 0 where
@@ -179,9 +182,6 @@ pub record IsTold (place : JobPlace) (e : Event) : Type 0 where
   pub started : (last : Option Started) (at : JobPlace) → started_if at last e ≡ last
   pub tells : (at : JobPlace) → looks_up at e ≡ is_same_place place at
   pub notes : note_of e ≡ None
-
-pub row_is_told : (place : JobPlace) (row : Row) → IsTold place (row_found place row)
-row_is_told place row = record { aside = refl; quiet = refl; teaches = refl; measures = refl; collects = refl; delivers = refl; started = λ last at. refl; tells = λ at. refl; notes = refl }
 
 pub none_is_told : (place : JobPlace) → IsTold place (no_row place)
 none_is_told place = record { aside = refl; quiet = refl; teaches = refl; measures = refl; collects = refl; delivers = refl; started = λ last at. refl; tells = λ at. refl; notes = refl }
@@ -393,121 +393,16 @@ module _ (s : Scene) where
       (λ still. absurd (never_none old.end (Ok (Outcome.TemporaryFail job.place)) still)) r
       (too_often_keeps s es (known_in old.known) (past_of old) n job state it is often r.keeps)
 
-  -- outputs that come once the end is settled
-  pub late_reflects : (es : List Event) (old new : Course) (n : ℕ) (job : Job) (outputs : Fields) → IsJob (known_in old.known) n job → IsSome old.end →
-      past_of new ≡ past_of old → new.known ≡ old.known → Reflects s es old (Some n) → Reflects s (es ++ job_succeeded job.place outputs ∷ []) new None
-  late_reflects es old new n job outputs it over past known r =
-      let e : Event = job_succeeded job.place outputs in
-      let still : settled s (es ++ job_succeeded job.place outputs ∷ []) ≡ settled s es =
-      settled_late old.end (settled s es) (settled s (es ++ job_succeeded job.place outputs ∷ [])) r.keeps.end over
-      (λ end was. settled_stays s es (job_succeeded job.place outputs ∷ []) end was) in
-      record {
-        keeps = moved (es ++ job_succeeded job.place outputs ∷ []) (known_in old.known) (past_of old) None new (ap known_in known) past
-            (succeeded_keeps s es (known_in old.known) (past_of old) n job outputs it r.keeps (known_in old.known) (front_itself (known_in old.known)) r.keeps.books.apart
-            (front_late s es (known_in old.known) job.place outputs r.keeps.front) still);
-        measured = λ none. absurd (not_open old.end over (ap (λ (p : Past). p.end) (sym past) ∙ none));
-        knows = λ none. absurd (not_open old.end over (ap (λ (p : Past). p.end) (sym past) ∙ none));
-        collects = collects_after es (job_succeeded job.place outputs) r.collects refl;
-        undelivered = undelivered_after es (job_succeeded job.place outputs) r.undelivered refl;
-        looks = looks_moved (es ++ job_succeeded job.place outputs ∷ []) old new (ap known_in known) (ap (λ (p : Past). p.looked_up) past)
-            (still_looked_up (known_in old.known) es (job_succeeded job.place outputs ∷ []) old.looked_up refl r.looks);
-        rows = found_moved (es ++ job_succeeded job.place outputs ∷ []) old new (ap known_in known) (ap (λ (p : Past). p.rows) past) (ap (λ (p : Past). p.looked_up) past)
-            (rows_still (known_in old.known) es old.rows old.looked_up r.rows (job_succeeded job.place outputs ∷ []) refl);
-        notes = ap (λ (p : Past). p.notes) past ∙ r.notes ∙ sym (no_notes_more es (job_succeeded job.place outputs) refl);
-      }
-
-  -- outputs by which more is known, or an equation fails
-  module _ (laws : Laws s) (es : List Event) (old : Course) (n : ℕ) (job : Job) (outputs : Fields) (it : IsJob (known_in old.known) n job) (going : old.end ≡ None)
-      (r : Reflects s es old (Some n)) where
-    abbrev e : Event
-    e = job_succeeded job.place outputs
-
-    abbrev one : Resolved
-    one = record { place = job.place; outputs = outputs }
-
-    abbrev walks : Walker
-    walks = s.walker (measures es)
-
-    unsettled : settled s es ≡ None
-    unsettled = none_settled (settled s es) old.end r.keeps.end going
-
-    learned_is : unfolding_at s (es ++ e ∷ []) ≡ unfolded walks (resolved es ++ one ∷ [])
-    learned_is = unfolding_learns s es e one (r.measured going) refl refl
-
-    settled_then : (o : Option Fault) → (unfolded walks (resolved es ++ one ∷ [])).fault ≡ o → settled s (es ++ e ∷ []) ≡ fault_end o
-    settled_then o is = settled_more s es e unsettled ∙ ap (λ (u : Unfolded). fault_end u.fault) learned_is ∙ ap fault_end is
-
-    leads : IsFront (known_in old.known) (unfolding_at s (es ++ e ∷ [])).jobs
-    leads = front_late s es (known_in old.known) job.place outputs r.keeps.front
-
-    looks_then : (new : Course) → known_in new.known ≡ (unfolded walks (resolved es ++ one ∷ [])).jobs → (unfolding_at s (es ++ e ∷ [])).jobs ≡ known_in new.known →
-        LooksUp (known_in new.known) (es ++ e ∷ []) old.looked_up
-    looks_then new jobs whole =
-        more_looked_up (known_in old.known) (known_in new.known) (es ++ e ∷ []) old.looked_up (subst AreApart (sym jobs) (laws.differ walks (resolved es ++ one ∷ [])))
-        (subst (λ (js : List Job). IsFront (known_in old.known) js) whole leads)
-        (still_looked_up (known_in old.known) es (e ∷ []) old.looked_up refl r.looks)
-
-    learns_more : (kept : Unfolding) (new : Course) → Knows walks (resolved es ++ one ∷ []) kept → new.known ≡ Some kept → past_of new ≡ past_of old →
-        Reflects s (es ++ e ∷ []) new None
-    learns_more kept new k known past =
-        let jobs : known_in new.known ≡ (unfolded walks (resolved es ++ one ∷ [])).jobs = ap known_in known ∙ k.jobs in
-        let whole : (unfolding_at s (es ++ e ∷ [])).jobs ≡ known_in new.known = ap (λ (u : Unfolded). u.jobs) learned_is ∙ sym jobs in
-        record {
-          keeps = subst (λ (p : Past). Keeps s (es ++ e ∷ []) (known_in new.known) p None) (sym past)
-              (succeeded_keeps s es (known_in old.known) (past_of old) n job outputs it r.keeps (known_in new.known)
-              (subst (λ (js : List Job). IsFront (known_in old.known) js) whole leads)
-              (subst AreApart (sym jobs) (laws.differ walks (resolved es ++ one ∷ [])))
-              (subst (λ (js : List Job). IsFront (known_in new.known) js) (sym whole) (front_itself (known_in new.known)))
-              (settled_then None k.fault ∙ sym unsettled));
-          measured = λ still. measured_still s es (e ∷ []) (r.measured going);
-          knows = λ still. subst (λ (o : Option Unfolding). IsKnown (s.walker (measures (es ++ e ∷ []))) (resolved (es ++ e ∷ [])) o) (sym known)
-              (subst (λ (m : Measures). Knows (s.walker m) (resolved (es ++ e ∷ [])) kept) (sym (measures_stay es (e ∷ []) refl))
-              (subst (λ (learned : List Resolved). Knows walks learned kept) (sym (resolved_after es (e ∷ []))) k));
-          collects = collects_after es e r.collects refl;
-          undelivered = undelivered_after es e r.undelivered refl;
-          looks = subst (λ n. LooksUp (known_in new.known) (es ++ e ∷ []) n) (sym (ap (λ (p : Past). p.looked_up) past)) (looks_then new jobs whole);
-          rows = subst (λ (p : Past). AreFound (known_in new.known) (es ++ e ∷ []) p.rows p.looked_up) (sym past)
-              (more_found (known_in old.known) (es ++ e ∷ []) old.rows old.looked_up (rows_still (known_in old.known) es old.rows old.looked_up r.rows (e ∷ []) refl)
-              (known_in new.known) (subst (λ (js : List Job). IsFront (known_in old.known) js) whole leads)
-              (still_looked_up (known_in old.known) es (e ∷ []) old.looked_up refl r.looks) (looks_then new jobs whole));
-          notes = ap (λ (p : Past). p.notes) past ∙ r.notes ∙ sym (no_notes_more es e refl);
-        }
-
-    learns_fault : (fault : UnfoldFault) (new : Course) → (unfolded walks (resolved es ++ one ∷ [])).fault ≡ Some (fault_of fault) → known_in new.known ≡ known_in old.known →
-        past_of new ≡ with_end (end_by fault) (past_of old) → Reflects s (es ++ e ∷ []) new None
-    learns_fault fault new is known past = record {
-      keeps = moved (es ++ e ∷ []) (known_in old.known) (with_end (outcome_of (end_of fault)) (past_of old)) None new known
-          (past ∙ ap (λ (end : Result Outcome RunFault). with_end end (past_of old)) (sym (end_reported fault)))
-          (success_fails_keeps s es (known_in old.known) (past_of old) n job outputs it r.keeps (known_in old.known) (front_itself (known_in old.known)) r.keeps.books.apart leads
-          (end_of fault) unsettled (settled_then (Some (fault_of fault)) is ∙ fault_ends fault));
-      measured = λ still. absurd (never_none old.end (end_by fault) (ap (λ (p : Past). p.end) (sym past) ∙ still));
-      knows = λ still. absurd (never_none old.end (end_by fault) (ap (λ (p : Past). p.end) (sym past) ∙ still));
-      collects = collects_after es e r.collects refl;
-      undelivered = undelivered_after es e r.undelivered refl;
-      looks = looks_moved (es ++ e ∷ []) old new known (ap (λ (p : Past). p.looked_up) past)
-          (still_looked_up (known_in old.known) es (e ∷ []) old.looked_up refl r.looks);
-      rows = found_moved (es ++ e ∷ []) old new known (ap (λ (p : Past). p.rows) past) (ap (λ (p : Past). p.looked_up) past)
-          (rows_still (known_in old.known) es old.rows old.looked_up r.rows (e ∷ []) refl);
-      notes = ap (λ (p : Past). p.notes) past ∙ r.notes ∙ sym (no_notes_more es e refl);
-    }
-
-    learned_by : {new : Course} → IsUnfolded walks (resolved es ++ one ∷ []) old new → Reflects s (es ++ e ∷ []) new None
-    learned_by (knows kept new k known past) = learns_more kept new k known past
-    learned_by (fails fault new is known past) = learns_fault fault new is known past
-
-    -- and the job is known still
-    job_still : {new : Course} → IsUnfolded walks (resolved es ++ one ∷ []) old new → IsJob (known_in new.known) n job
-    job_still (knows kept new k known past) =
-        let jobs : known_in new.known ≡ (unfolded walks (resolved es ++ one ∷ [])).jobs = ap known_in known ∙ k.jobs in
-        let whole : (unfolding_at s (es ++ e ∷ [])).jobs ≡ known_in new.known = ap (λ (u : Unfolded). u.jobs) learned_is ∙ sym jobs in
-        numbered_still (known_in old.known) (known_in new.known) n job (subst (λ (js : List Job). IsFront (known_in old.known) js) whole leads) it
-    job_still (fails fault new is known past) = subst (λ (jobs : List Job). IsJob jobs n job) (sym known) it
-
-    pub learned_job : (new : Course) → Learns one old new → IsJob (known_in new.known) n job
-    learned_job new learns = job_still (unfolds_by old.known walks (resolved es) one old new refl (r.knows going) learns)
-
-    pub success_reflects : (new : Course) → Learns one old new → Reflects s (es ++ e ∷ []) new None
-    success_reflects new learns = learned_by (unfolds_by old.known walks (resolved es) one old new refl (r.knows going) learns)
+  -- outputs that are told already
+  pub repeated_reflects : (es : List Event) (old new : Course) (n : ℕ) (job : Job) → IsJob (known_in old.known) n job → past_of new ≡ with_hand n (past_of old) →
+      new.known ≡ old.known → Reflects s es old (Some n) → Reflects s (es ++ job_repeated job.place ∷ []) new None
+  repeated_reflects es old new n job it past known r =
+      let e : Event = job_repeated job.place in
+      let within : n < length old.jobs = taken_within old.jobs n (r.keeps.books.worked_on n refl) in
+      reflects_on es e old new (with_hand n (past_of old)) (Some n) None refl past known (record { looked_up = refl; rows = refl; notes = refl }) (λ still. still) r
+      (learned_keeps s es (known_in old.known) (past_of old) (with_hand n (past_of old)) (hand_keeps_the_rest (past_of old) n within) (Some n) e r.keeps
+      (λ place. started_after es (e ∷ []) place) (keeps_bringing (past_of old) n within (known_in old.known) (readings es) r.keeps.gave_up job it r.keeps.books)
+      (known_in old.known) (front_itself (known_in old.known)) r.keeps.books.apart (front_later s es (known_in old.known) e refl r.keeps.front) (settled_quietly s es (e ∷ []) refl))
 
   -- Jobs
 

@@ -25,7 +25,9 @@ use Rattle.run_rules.proofs.events.Flights.{is_flying}
 use Rattle.run_rules.proofs.events.Tally.{Readings, readings}
 use Rattle.run_rules.proofs.events.Places.{IsJob, number_is}
 use Rattle.run_rules.proofs.events.Planned.{jobs_in}
-use Rattle.run_rules.proofs.events.Turns.{lowest_first, so_many}
+use Rattle.run_rules.proofs.events.Ready.{AreParentsThere, NoneIsReady}
+use Rattle.run_rules.proofs.events.Staged.{lowest_first}
+use Rattle.run_rules.proofs.events.Turns.{so_many}
 use Rattle.job_key.specs.Key.{key}
 use Rattle.run_rules.specs.declared.request.RecordRequest.{RecordRequest}
 use Rattle.run_core.specs.declared.state.Course.{Course}
@@ -35,19 +37,20 @@ use Rattle.run_core.specs.declared.state.JobPhase.{JobPhase}
 use Rattle.run_core.specs.declared.state.Kept.{Kept}
 use Rattle.run_core.specs.declared.state.Phase.{Phase}
 use Rattle.run_core.specs.declared.state.Turn.{Turn}
-use Rattle.run_core.specs.inner.Course.{Past, known_in, nothing_past, past_of}
+use Rattle.run_core.specs.inner.Course.{Past, families_in, known_in, nothing_past, past_of}
 use Rattle.run_core.specs.inner.Due.{FitsCall, call_for, work_of}
 use Rattle.run_core.specs.inner.Follows.{AsksIn, AsksOf}
 use Rattle.run_core.specs.inner.Keeps.{Reflects, course_of}
 use Rattle.run_core.specs.Core.{IsFirst}
 use Rattle.run_core.specs.inner.Standing.{IsAt, IsStaging, Runs, collecting, delivering, ended, measuring, staging, working, finding, putting}
+use Rattle.run_core.proofs.events.Families.{ready_if}
 use Rattle.run_core.proofs.events.Numbers.{Flies, flight_flies, flights_as_many}
 use Rattle.run_core.proofs.events.Reflecting.{Laws, folder_there}
 use Rattle.run_core.proofs.going.Measured.{IsOf, may_measure}
 use Rattle.run_core.proofs.going.Picking.{all_known, all_kept}
 use Rattle.run_core.proofs.job_steps.Calls.{IsForJob, for_job, working_allowed}
 use Rattle.run_core.proofs.job_steps.Turns.{PicksAt}
-use Rattle.run_core.specs.inner.JobStates.{state_at, waits_in}
+use Rattle.run_core.specs.inner.JobStates.{is_ready, state_at, waits_in}
 use Rattle.run_core.proofs.States.{taken_within}
 use Rattle.run_rules.proofs.events.Asks.{due_when}
 
@@ -198,9 +201,16 @@ module _ (s : Scene) (given : Given) (its : IsOf s given) (laws : Laws s) (picks
       let books : AreKept (jobs_in s f) (readings f.events) (course_of (past_of course) None r.keeps.gave_up) = all_kept s f.events course None r st.going in
       let number : number_of job.place (jobs_in s f) ≡ n =
       number_is (jobs_in s f) books.apart n job (subst (λ (jobs : List Job). IsJob jobs n job) whole st.it) in
+      let none_before : NoneIsReady (jobs_in s f) (course_of (past_of course) None r.keeps.gave_up) n =
+      λ m other below it waits parents.
+      let there : IsJob (known_in course.known) m other = subst (λ (jobs : List Job). IsJob jobs m other) (sym whole) it in
+      let ready : is_ready (families_in course.known) course.jobs m ≡ true =
+      ready_if (known_in course.known) course.jobs m other there waits
+      (subst (λ (jobs : List Job). AreParentsThere jobs (course_of (past_of course) None r.keeps.gave_up) m other) (sym whole) parents) in
+      let never : true ≡ false = sym ready ∙ st.lowest.lowest m below in cc in
       λ other its folder may.
       let least : n ≤ number_of other (jobs_in s f) =
-      lowest_first s f marks (course_of (past_of course) None r.keeps.gave_up) books st.may.free n (ap is_some st.going) refl st.lowest.lowest other its folder may in
+      lowest_first s f marks (course_of (past_of course) None r.keeps.gave_up) books st.may.free n (ap is_some st.going) refl none_before other its folder may in
       omega (arith, number, least)
 
   first_at : (f : Progress) (marks : List Mark) (course : Course) {turn : Turn} → turn.asks ≢ Request.Finished → IsAt s f marks course turn → IsFirst s f marks turn.asks

@@ -27,7 +27,7 @@ use Rattle.run_rules.proofs.events.Planned.{jobs_in, marks_after}
 use Rattle.run_rules.proofs.events.Readings.{delivered_after, in_flight_after, number_after, started_after}
 use Rattle.run_rules.proofs.events.Settled.{settled_quietly}
 use Rattle.run_rules.proofs.events.Tally.{readings}
-use Rattle.run_rules.proofs.events.Turns.{busy_when_none_waits}
+use Rattle.run_rules.proofs.events.Staged.{busy_when_none_waits}
 use Rattle.run_rules.proofs.events.Lookups.{looked_up_as_before}
 use Rattle.std.specs.List.{list_all}
 use Rattle.run_core.specs.declared.state.Course.{Course}

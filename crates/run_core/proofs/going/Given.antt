@@ -1,17 +1,13 @@
 -- The run of what is given: it begins, and it goes on with each answer.
 use Rattle.std.specs.Prelude.{◌≤◌, ◌≢◌, ◌++◌, ◌∷◌}
 use Rattle.std.proofs.Common.{◌≡◌, true, List, [], None, refl}
-use Rattle.std.proofs.lemmas.Bool.{or_parts}
 use Rattle.document_links.specs.declared.process.Process.{out-Process}
 use Rattle.input_files.specs.Paths.{paths_of_fields}
 use Rattle.workflow_check.specs.Checked.{fault_in}
 use Rattle.job_graph.specs.Apart.{ids_differ}
-use Rattle.job_graph.specs.Made.{any_made, holds_made}
-use Rattle.job_graph.specs.Makers.{any_default}
 use Rattle.job_graph.specs.Paths.{root_adds}
 use Rattle.job_graph.proofs.laws_of_walks.Ended.{has_result}
 use Rattle.job_graph.proofs.laws_of_walks.Known.{known_distinct}
-use Rattle.job_graph.proofs.laws_of_walks.Makers.{maker_learned}
 use Rattle.run_rules.specs.declared.request.Answer.{Answer}
 use Rattle.run_rules.specs.declared.request.Pair.{Pair}
 use Rattle.run_rules.specs.declared.request.Request.{Request}
@@ -44,16 +40,11 @@ its_own given = record {
   once = once_each (paths_of_fields given.inputs.now ++ root_adds given.inputs.now (out-Process given.process.now));
 }
 
--- an accepted process has its result once each known job is resolved, and what made a known job's files was learned
+-- an accepted process has its result once each known job is resolved
 pub laws_of : (given : Given) → fault_in given.process.now ≡ None → ids_differ given.process.now ≡ true → Laws (scene_in given)
 laws_of given accepted ids = record {
   differ = known_distinct;
   results = λ measures learned none each. has_result given.process.now given.inputs.now measures learned accepted ids none each;
-  makers = λ nothing measures learned named job there maker made.
-      maker_learned given.process.now given.inputs.now measures learned
-      (λ place. (or_parts (any_made place given.inputs.now) (any_default (holds_made place) given.process.now) (nothing place)).0)
-      (λ place. (or_parts (any_made place given.inputs.now) (any_default (holds_made place) given.process.now) (nothing place)).1)
-      named job maker there made;
 }
 
 module _ (given : Given) (laws : Laws (scene_in given)) (some : 1 ≤ given.options.slots) where

@@ -121,7 +121,7 @@ module _ (s : Scene) (given : Given) (same : given.options ≡ s.options) (its :
         Runs s (t ++ record { request = before.asks; answer = answer } ∷ []) new turn
     answered (measuring found m rest path is left happened none nothing) (by_host place request answer can) follows =
         measure_by found m rest path is left happened none nothing can follows
-    answered (finding n job r next) (by_record place request answer can) follows = answer_goes_on s given picks t f marks goes old n job r next answer turn new follows
+    answered (finding n job r next) (by_record place request answer can) follows = answer_goes_on s given laws picks t f marks goes old n job r next answer turn new follows
     answered (putting n job row r it due) (by_record place request answer can) follows = put_goes_on s given picks t f marks goes old n job row r it due answer can turn new follows
     answered (staging n job plan r st) (by_host place request answer can) follows = stage_by n job plan r st can follows
     answered (working n job call phase r w) (by_host place request answer can) follows = work_by n job phase can r w follows

@@ -16,55 +16,42 @@ use Rattle.run_rules.specs.Allowed.{IsBusy, IsFree, IsOpen}
 use Rattle.run_rules.specs.Delivered.{any_file, located, source_place, sources}
 use Rattle.run_rules.specs.End.{End, settled, succeeds_with}
 use Rattle.run_rules.specs.EndsSo.{fails, no_file, succeeds}
-use Rattle.run_rules.specs.Events.{Event, Progress, in_flight, is_at_hand, job_succeeded, folder_at, measures, nothing_due, number_at, resolved, unfolding_at, are_looked_up, has_no_find, is_reusable}
+use Rattle.run_rules.specs.Events.{Event, Progress, in_flight, is_at_hand, folder_at, measures, nothing_due, number_at, resolved, unfolding_at, are_looked_up, has_no_find, is_reusable}
 use Rattle.run_rules.specs.Folders.{in_folder, out_folder}
 use Rattle.run_rules.specs.Plans.{InForce}
 use Rattle.run_rules.specs.Reports.{outcome_of}
 use Rattle.run_rules.specs.Run.{Goes}
 use Rattle.run_rules.specs.Scene.{Scene}
 use Rattle.run_rules.proofs.PlacesErased.{map_by_name}
-use Rattle.run_rules.proofs.Named.{learned_are_named, learned_is_at_hand}
-use Rattle.run_rules.proofs.events.Asks.{AreParentsAtHand, may_collect, may_collect_settled, may_deliver, may_find}
+use Rattle.run_rules.proofs.events.AtHand.{hand_is_resolved}
+use Rattle.run_rules.proofs.events.Asks.{may_collect, may_collect_settled, may_deliver, may_find}
 use Rattle.run_rules.proofs.events.Course.{Keeps as AreKept}
 use Rattle.run_rules.proofs.events.Flights.{Flight as Flying, is_flying}
 use Rattle.run_rules.proofs.events.Known.{unfolding_when}
 use Rattle.run_rules.proofs.events.Places.{IsJob, AreApart}
 use Rattle.run_rules.proofs.events.Planned.{jobs_in}
 use Rattle.run_rules.proofs.events.Tally.{readings}
-use Rattle.run_rules.proofs.events.Turns.{busy_when_none_waits, busy_when_taken, none_flies, waiting_may_stage}
+use Rattle.run_rules.proofs.events.Turns.{busy_when_taken, none_flies}
+use Rattle.run_rules.proofs.events.Ready.{AreParentsThere, NoneIsReady, none_waits}
+use Rattle.run_rules.proofs.events.Staged.{busy_when_none_ready, ready_may_stage}
 use Rattle.run_rules.proofs.events.Lookups.{all_looked_up}
 use Rattle.std.proofs.lemmas.Option.{slice_get-get_or}
 use Rattle.std.specs.List.{list_all}
 use Rattle.run_core.specs.declared.state.Course.{Course}
 use Rattle.run_core.specs.declared.state.Given.{Given}
 use Rattle.run_core.specs.declared.state.Turn.{Turn}
-use Rattle.run_core.specs.inner.Course.{known_in, number_in, past_of}
-use Rattle.run_core.specs.inner.JobStates.{IsLowest, NoneWaits}
+use Rattle.run_core.specs.inner.Course.{families_in, known_in, number_in, past_of}
+use Rattle.run_core.specs.inner.JobStates.{IsLowest, NoneReady, NoneWaits, is_ready}
 use Rattle.run_core.specs.inner.Keeps.{Reflects, course_of}
 use Rattle.run_core.specs.inner.Knows.{IsKnown, outputs_in}
-use Rattle.run_core.specs.inner.Picks.{Delivers, DeliversFiles, NoneToStage, Picks, Stages, delivers, drains, ends_so, has_result, none_waits, slots_full, sources_in, stages, succeeds_at_once, waits_for_one, Finds, IsNextToFind, NoneToFind, finds}
+use Rattle.run_core.specs.inner.Picks.{Delivers, DeliversFiles, NoneToStage, Picks, Stages, delivers, drains, ends_so, has_result, none_ready, slots_full, sources_in, stages, succeeds_at_once, waits_for_one, Finds, IsNextToFind, NoneToFind, finds}
 use Rattle.run_core.specs.inner.Standing.{IsAt, collecting, delivering, ended, staging, finding}
 use Rattle.run_core.specs.inner.Turn.{collects, ends}
 use Rattle.run_core.proofs.events.Keeping.{none_settled}
+use Rattle.run_core.proofs.events.Families.{as_many, ready_if, ready_parents, ready_waits}
 use Rattle.run_core.proofs.events.Numbers.{job_there, number_is_kept}
 use Rattle.run_core.proofs.events.Reflecting.{FliesThere, Laws, flies_there}
 use Rattle.run_core.proofs.going.Same.{at_same}
-
--- What is at hand is resolved
-
-resolved_by : (test : Bool) (p place : JobPlace) (outputs : Fields) (learned : List Resolved) (later : Bool) → is_same_place p place ≡ test → (is_same_place p place || later) ≡ true →
-    (later ≡ true → is_some (outputs_at learned place) ≡ true) → is_some (outputs_at (record { place = p; outputs = outputs } ∷ learned) place) ≡ true
-resolved_by true p place outputs learned later same at rest =
-    ap (λ b. is_some (option_map (λ (r : Resolved). r.outputs) (cond b (Some (record { place = p; outputs = outputs })) (find (λ r. is_same_place r.place place) learned)))) same
-resolved_by false p place outputs learned later differs at rest =
-    ap (λ b. is_some (option_map (λ (r : Resolved). r.outputs) (cond b (Some (record { place = p; outputs = outputs })) (find (λ r. is_same_place r.place place) learned)))) differs
-    ∙ rest (ap (λ b. b || later) (sym differs) ∙ at)
-
-hand_resolved : (es : List Event) (place : JobPlace) → is_at_hand es place ≡ true → is_some (outputs_at (resolved es) place) ≡ true
-hand_resolved [] place at = let never : false ≡ true = at in absurd cc
-hand_resolved (job_succeeded p outputs ∷ es) place at =
-    resolved_by (is_same_place p place) p place outputs (resolved es) (is_at_hand es place) refl at (hand_resolved es place)
-hand_resolved (e ∷ es) place at = hand_resolved es place at
 
 nor_flies : (flying : List Flying) (place : JobPlace) (at : Bool) → flying ≡ [] → (is_flying flying place || at) ≡ true → at ≡ true
 nor_flies flying place at none held = ap (λ (fs : List Flying). is_flying fs place || at) (sym none) ∙ held
@@ -175,27 +162,20 @@ module _ (s : Scene) (given : Given) (same : given.options ≡ s.options) where
       ∙ ap (λ (values : Fields). sources_in given.options course (last_by_name values)) (sym kept)
 
   module _ {t : List Pair} (f : Progress) (marks : List Mark) (goes : Goes s (InForce s) t f marks) (idle : f.work ≡ nothing_due) where
-    -- what made a known job's files is at hand
-    parents_there : Laws s → (course : Course) → Reflects s f.events course None → course.end ≡ None → (n : ℕ) (job : Job) → IsJob (known_in course.known) n job →
-        AreParentsAtHand s f job
-    parents_there laws course r going n job it nothing parent made =
-        let walks : Walker = s.walker (measures f.events) in
-        let there : Contains (unfolded walks (resolved f.events)).jobs job =
-        subst (λ (jobs : List Job). Contains jobs job) (known_jobs course.known walks (resolved f.events) (r.knows going)) (n, it.within, it.is) in
-        learned_is_at_hand f.events parent (laws.makers nothing (measures f.events) (resolved f.events) (learned_are_named s goes) job there parent made)
-
-    -- the lowest job that waits is staged
-    staged_next : Laws s → (course : Course) (n : ℕ) (turn : Turn) → Reflects s f.events course None → course.end ≡ None → NoneToFind course → length course.tickets.items < s.options.slots →
-        IsLowest course.jobs (length (known_in course.known)) n → Stages given course n turn → IsAt s f marks course turn
-    staged_next laws course n turn r going looked slot lowest st =
+    -- the lowest job that is ready is staged
+    staged_next : (course : Course) (n : ℕ) (turn : Turn) → Reflects s f.events course None → course.end ≡ None → NoneToFind course → length course.tickets.items < s.options.slots →
+        IsLowest (families_in course.known) course.jobs n → Stages given course n turn → IsAt s f marks course turn
+    staged_next course n turn r going looked slot lowest st =
         let it : IsJob (known_in course.known) n st.job = job_there (known_in course.known) n st.job st.known in
         let whole : known_in course.known ≡ jobs_in s f = all_known s f.events course None r going in
         subst (IsAt s f marks course) (sym st.is)
         (staging n st.job st.plan r (record {
           it = it;
-          may = waiting_may_stage s f marks (course_of (past_of course) None r.keeps.gave_up) (all_kept s f.events course None r going)
-              (is_free s f course None r idle going looked) n st.job st.plan goes (subst (λ (jobs : List Job). IsJob jobs n st.job) whole it) lowest.waits
-              (parents_there laws course r going n st.job it) slot
+          may = ready_may_stage s f marks (course_of (past_of course) None r.keeps.gave_up) (all_kept s f.events course None r going)
+              (is_free s f course None r idle going looked) n st.job st.plan goes (subst (λ (jobs : List Job). IsJob jobs n st.job) whole it)
+              (ready_waits (known_in course.known) course.jobs n st.job it lowest.ready)
+              (subst (λ (jobs : List Job). AreParentsThere jobs (course_of (past_of course) None r.keeps.gave_up) n st.job) whole
+              (ready_parents (known_in course.known) course.jobs n st.job it lowest.ready)) slot
               (plan_same f.events course None r n st);
           lowest = lowest;
           going = going;
@@ -243,14 +223,26 @@ module _ (s : Scene) (given : Given) (same : given.options ≡ s.options) where
         busy_if_full full =
             busy_when_taken s f marks (course_of (past_of course) None r.keeps.gave_up) (all_kept s f.events course None r going) (is_free s f course None r idle going looked) full
 
+        -- where no job is ready, none may be staged
+        none_is_ready : NoneReady (families_in course.known) course.jobs (length (families_in course.known)) →
+            NoneIsReady (known_in course.known) (course_of (past_of course) None r.keeps.gave_up) (length (known_in course.known))
+        none_is_ready none m job below it waits parents =
+            let many : length (families_in course.known) ≡ length (known_in course.known) = as_many [] (known_in course.known) in
+            let ready : is_ready (families_in course.known) course.jobs m ≡ true = ready_if (known_in course.known) course.jobs m job it waits parents in
+            let never : true ≡ false = sym ready ∙ none m (omega (arith, below, many)) in cc
+
+        busy_if_none_is_ready : NoneIsReady (known_in course.known) (course_of (past_of course) None r.keeps.gave_up) (length (known_in course.known)) → IsBusy s f marks
+        busy_if_none_is_ready none =
+            busy_when_none_ready s f marks (course_of (past_of course) None r.keeps.gave_up) (all_kept s f.events course None r going) (is_free s f course None r idle going looked)
+            (ap is_some going) refl
+            (subst (λ (jobs : List Job). NoneIsReady jobs (course_of (past_of course) None r.keeps.gave_up) (length jobs)) (all_known s f.events course None r going) none)
+
         pub busy_if_none_waits : NoneWaits course.jobs (length (known_in course.known)) → IsBusy s f marks
-        busy_if_none_waits none =
-            busy_when_none_waits s f marks (course_of (past_of course) None r.keeps.gave_up) (all_kept s f.events course None r going) (is_free s f course None r idle going looked)
-            (ap is_some going) refl (subst (λ (jobs : List Job). NoneWaits course.jobs (length jobs)) (all_known s f.events course None r going) none)
+        busy_if_none_waits none = busy_if_none_is_ready (λ m job below it waits parents. let never : true ≡ false = sym waits ∙ none m it.within in cc)
 
         busy_if : NoneToStage given course → IsBusy s f marks
         busy_if (slots_full full) = busy_if_full (subst (λ (o : Options). o.slots ≤ length course.tickets.items) same full)
-        busy_if (none_waits none) = busy_if_none_waits none
+        busy_if (none_ready none) = busy_if_none_is_ready (none_is_ready none)
 
         waited_for : course.tickets.items ≢ [] → NoneToStage given course → IsAt s f marks course collects
         waited_for flying none =
@@ -273,7 +265,7 @@ module _ (s : Scene) (given : Given) (same : given.options ≡ s.options) where
 
           each_resolved : (job : Job) → Contains (unfolded walks (resolved f.events)).jobs job → is_some (outputs_at (resolved f.events) job.place) ≡ true
           each_resolved job there =
-              hand_resolved f.events job.place
+              hand_is_resolved s goes job.place
               (at_hand there.0 job (subst (λ (jobs : List Job). IsJob jobs there.0 job) (sym whole) (record { within = there.1; is = there.2 })))
 
           pub record HasResult : Type 0 where
@@ -321,7 +313,9 @@ module _ (s : Scene) (given : Given) (same : given.options ≡ s.options) where
             let so_few : length course.tickets.items ≡ 0 = ap length none in
             let so_many : s.options.slots ≤ length course.tickets.items = subst (λ (o : Options). o.slots ≤ length course.tickets.items) same full in
             absurd (omega (arith, some, so_few, so_many))
-        result_there laws some none (none_waits all) d = delivered_by laws none all d
+        result_there laws some none (none_ready left) d =
+            delivered_by laws none
+            (none_waits (known_in course.known) (readings f.events) (course_of (past_of course) None r.keeps.gave_up) r.keeps.books (ap is_some going) refl none (none_is_ready left)) d
 
     module _ (laws : Laws s) (some : 1 ≤ s.options.slots) (old : Course) (r : Reflects s f.events old None) where
       pub picked : {turn : Turn} {new : Course} → Picks given old turn new → IsAt s f marks new turn
@@ -329,6 +323,6 @@ module _ (s : Scene) (given : Given) (same : given.options ≡ s.options) where
       picked (ends_so told new is none left known same_notes) = ended_so old r told is none new same_notes
       picked (finds number turn new going next f_is past known) = at_same s f marks old new past known (found_next old number turn r going next f_is)
       picked (stages number turn new going looked slot lowest st past known) =
-          at_same s f marks old new past known (staged_next laws old number turn r going looked (subst (λ (o : Options). length old.tickets.items < o.slots) same slot) lowest st)
+          at_same s f marks old new past known (staged_next old number turn r going looked (subst (λ (o : Options). length old.tickets.items < o.slots) same slot) lowest st)
       picked (waits_for_one new going looked flying none past known) = at_same s f marks old new past known (waited_for old r going looked flying none)
       picked (has_result turn new going looked none nothing d past known) = at_same s f marks old new past known (result_there old r going looked laws some none nothing d)

@@ -15,7 +15,8 @@ use Rattle.run_core.specs.declared.state.JobPhase.{JobPhase}
 use Rattle.run_core.specs.declared.job_states.JobState.{JobState}
 use Rattle.run_core.specs.declared.state.Phase.{Phase}
 use Rattle.run_core.specs.declared.state.Turn.{Turn}
-use Rattle.run_core.specs.inner.Course.{Past, known_in, past_of}
+use Rattle.job_graph.specs.Unfold.{Known}
+use Rattle.run_core.specs.inner.Course.{Past, families_in, known_in, past_of}
 use Rattle.run_core.specs.inner.Due.{Calls}
 use Rattle.run_core.specs.inner.Standing.{IsAt, IsStaging, IsWorking, Runs, collecting, delivering, ended, measuring, staging, working, FindsNext, finding, putting}
 use Rattle.run_core.proofs.events.Reflecting.{reflects_same}
@@ -34,10 +35,10 @@ module _ (s : Scene) (f : Progress) (marks : List Mark) (old new : Course) (past
   same_folders : old.folders ≡ new.folders
   same_folders = ap (λ (p : Past). p.folders) (sym past)
 
-  lowest_same : (n : ℕ) → IsLowest old.jobs (length (known_in old.known)) n → IsLowest new.jobs (length (known_in new.known)) n
+  lowest_same : (n : ℕ) → IsLowest (families_in old.known) old.jobs n → IsLowest (families_in new.known) new.jobs n
   lowest_same n lowest =
-      subst (λ (states : List JobState). IsLowest states (length (known_in new.known)) n) same_states
-      (subst (λ (jobs : List Job). IsLowest old.jobs (length jobs) n) same_jobs lowest)
+      subst (λ (states : List JobState). IsLowest (families_in new.known) states n) same_states
+      (subst (λ (families : List Known). IsLowest families old.jobs n) (ap families_in (sym known)) lowest)
 
   staging_same : (n : ℕ) (job : Job) (plan : StagePlan) → IsStaging s f marks old n job plan → IsStaging s f marks new n job plan
   staging_same n job plan st = record {

@@ -1,10 +1,14 @@
 -- The record has told what it has of a job: the run goes on, or the answer settles its end.
-use Rattle.std.proofs.Common.{◌≡◌, ℕ, List, [], ◌∷◌, ◌++◌, Option, Some, None, subst, sym, refl, append-nil, ◌∙◌, ap}
+use Rattle.std.specs.Prelude.{IsSome, Result, Err, is_some}
+use Rattle.std.proofs.Common.{◌≡◌, true, ℕ, List, [], ◌∷◌, ◌++◌, Option, Some, None, subst, sym, refl, append-nil, ◌∙◌, ap}
 use Rattle.plan_checker.specs.declared.plan.Mark.{Mark}
 use Rattle.job_graph.specs.Jobs.{Job}
 use Rattle.job_key.specs.Key.{key}
 use Rattle.job_rows.specs.declared.refusal.RecordRefusal.{RecordRefusal}
 use Rattle.job_rows.specs.declared.refusal.RecordRefusal.TheVariants.{NotARecord}
+use Rattle.job_graph.specs.Unfold.{or_else}
+use Rattle.run_rules.specs.declared.outcome.Outcome.{Outcome}
+use Rattle.run_rules.specs.declared.outcome.RunFault.{RunFault}
 use Rattle.run_rules.specs.declared.request.Pair.{Pair}
 use Rattle.run_rules.specs.declared.request.RecordAnswer.{RecordAnswer}
 use Rattle.run_rules.specs.declared.request.RecordRequest.{RecordRequest}
@@ -18,23 +22,24 @@ use Rattle.run_rules.proofs.events.Planned.{marks_after}
 use Rattle.run_core.specs.declared.state.Course.{Course}
 use Rattle.run_core.specs.declared.state.Given.{Given}
 use Rattle.run_core.specs.declared.state.Turn.{Turn}
-use Rattle.run_core.specs.inner.Course.{known_in, past_of, with_answer, with_note, put_note}
+use Rattle.run_core.specs.inner.Course.{Past, known_in, past_of, with_answer, with_end, with_note, put_note}
 use Rattle.run_core.specs.inner.Keeps.{Reflects}
-use Rattle.run_core.specs.inner.Picks.{AfterFind, Picks, Tells, has_none, has_row, has_wrong_row, refuses, AfterPut}
+use Rattle.run_core.specs.inner.Picks.{AfterFind, LearnsRow, Picks, Tells, has_none, has_row, has_wrong_row, refuses, AfterPut}
 use Rattle.run_core.specs.inner.Standing.{FindsNext, Runs}
 use Rattle.run_core.proofs.events.Numbers.{job_there, place_there}
-use Rattle.run_core.proofs.events.Reflecting.{answer_reflects, find_failed_reflects, known_there, none_is_told, row_is_told, put_failed_reflects, reflects_same}
+use Rattle.run_core.proofs.events.Learning.{row_teaches, taught}
+use Rattle.run_core.proofs.events.Reflecting.{Laws, answer_reflects, find_failed_reflects, known_there, none_is_told, put_failed_reflects, reflects_same}
 use Rattle.run_core.proofs.job_steps.Turns.{PicksAt}
 use Rattle.run_rules.proofs.events.Places.{one_job, IsJob}
-use Rattle.run_core.proofs.FoundRows.{no_row_found, row_is_found}
+use Rattle.run_core.proofs.FoundRows.{no_row_found}
 use Rattle.run_rules.specs.Answers.{CanTell, is_put, is_refused}
 use Rattle.run_rules.proofs.events.Asks.{due_when}
 use Rattle.run_rules.specs.declared.request.Request.{Request}
 use Rattle.job_rows.specs.declared.row.Row.{Row}
 use Rattle.job_graph.specs.Words.{JobPlace}
 
-module _ (s : Scene) (given : Given) (picks : PicksAt s given) (t : List Pair) (f : Progress) (marks : List Mark) (goes : Goes s (InForce s) t f marks) (old : Course) (n : ℕ) (job : Job)
-    (r : Reflects s f.events old None) (next : FindsNext s f old n job) where
+module _ (s : Scene) (given : Given) (laws : Laws s) (picks : PicksAt s given) (t : List Pair) (f : Progress) (marks : List Mark) (goes : Goes s (InForce s) t f marks) (old : Course) (n : ℕ)
+    (job : Job) (r : Reflects s f.events old None) (next : FindsNext s f old n job) where
   abbrev asked : RecordRequest
   asked = RecordRequest.Find (key job.tool job.inputs)
 
@@ -55,27 +60,36 @@ module _ (s : Scene) (given : Given) (picks : PicksAt s given) (t : List Pair) (
   known : job_at s f.events job.place ≡ Some job
   known = known_there s f.events old None n job next.it r
 
-  told_by : (noted : Course) (turn : Turn) (new : Course) {answer : RecordAnswer} {refusal : Option RecordRefusal} → Tells job.tool answer refusal →
-      past_of noted ≡ with_answer n answer refusal (past_of old) → noted.known ≡ old.known → Picks given noted turn new → Runs s (t ++ command job.place asked answer ∷ []) new turn
-  told_by noted turn new has_none past kept picked =
-      by_event (RecordAnswer.Found None) (no_row job.place) (finds_none job.place (key job.tool job.inputs)) noted
-      (answer_reflects s f.events old noted n job (no_row job.place) (none_is_told job.place) next.it next.left next.first (RecordAnswer.Found None)
-      (no_row_found (known_in old.known) f.events old.rows old.looked_up r.rows n job next.it r.keeps.books.apart next.left r.looks) past kept r) turn new picked
-  told_by noted turn new (has_row row sound) past kept picked =
-      by_event (RecordAnswer.Found (Some row)) (row_found job.place row) (finds job.place (key job.tool job.inputs) row job known sound) noted
-      (answer_reflects s f.events old noted n job (row_found job.place row) (row_is_told job.place row) next.it next.left next.first (RecordAnswer.Found (Some row))
-      (row_is_found (known_in old.known) f.events old.rows old.looked_up r.rows n job next.it r.keeps.books.apart next.left r.looks row) past kept r) turn new picked
-  told_by noted turn new (has_wrong_row row unsound) past kept picked =
-      by_event (RecordAnswer.Found (Some row)) (find_failed job.place NotARecord) (finds_wrong job.place (key job.tool job.inputs) row job known unsound) noted
-      (find_failed_reflects s f.events old noted None job.place NotARecord past kept r) turn new picked
-  told_by noted turn new (refuses refusal) past kept picked =
-      by_event (RecordAnswer.Refused refusal) (find_failed job.place refusal) (find_fails job.place (key job.tool job.inputs) refusal) noted
-      (find_failed_reflects s f.events old noted None job.place refusal past kept r) turn new picked
+  settled_by_it : (end : Option (Result Outcome RunFault)) (refusal : RecordRefusal) → is_some (or_else end (Some (Err (RunFault.Record refusal)))) ≡ true
+  settled_by_it None refusal = refl
+  settled_by_it (Some end) refusal = refl
+
+  settled_now : (noted : Course) (refusal : RecordRefusal) → past_of noted ≡ with_end (Err (RunFault.Record refusal)) (past_of old) → IsSome noted.end
+  settled_now noted refusal past = ap (λ (p : Past). is_some p.end) past ∙ settled_by_it old.end refusal
+
+  told_by : (noted learned : Course) (turn : Turn) (new : Course) {answer : RecordAnswer} {refusal : Option RecordRefusal} → Tells job.tool answer refusal →
+      past_of noted ≡ with_answer n answer refusal (past_of old) → noted.known ≡ old.known → LearnsRow job.place answer noted learned → Picks given learned turn new →
+      Runs s (t ++ command job.place asked answer ∷ []) new turn
+  told_by noted learned turn new has_none past kept learns picked =
+      by_event (RecordAnswer.Found None) (no_row job.place) (finds_none job.place (key job.tool job.inputs)) learned
+      (answer_reflects s f.events old learned n job (no_row job.place) (none_is_told job.place) next.it next.left next.first (RecordAnswer.Found None)
+      (no_row_found (known_in old.known) f.events old.rows old.looked_up r.rows n job next.it r.keeps.books.apart next.left r.looks) (learns.0 ∙ past) (learns.1 ∙ kept) r) turn new picked
+  told_by noted learned turn new (has_row row sound) past kept learns picked =
+      by_event (RecordAnswer.Found (Some row)) (row_found job.place row) (finds job.place (key job.tool job.inputs) row job known sound) learned
+      (taught s laws f.events old None (row_found job.place row) (record { place = job.place; outputs = row.outputs }) (with_answer n (RecordAnswer.Found (Some row)) None (past_of old)) r
+      (row_teaches s f.events old n job next.it row r next.left next.first) noted past kept learned learns) turn new picked
+  told_by noted learned turn new (has_wrong_row row unsound) past kept learns picked =
+      by_event (RecordAnswer.Found (Some row)) (find_failed job.place NotARecord) (finds_wrong job.place (key job.tool job.inputs) row job known unsound) learned
+      (find_failed_reflects s f.events old learned None job.place NotARecord (learns.settled (settled_now noted NotARecord past) ∙ past) (learns.unlearned (settled_now noted NotARecord past) ∙ kept) r) turn new picked
+  told_by noted learned turn new (refuses refusal) past kept learns picked =
+      by_event (RecordAnswer.Refused refusal) (find_failed job.place refusal) (find_fails job.place (key job.tool job.inputs) refusal) learned
+      (find_failed_reflects s f.events old learned None job.place refusal (learns.0 ∙ past) (learns.1 ∙ kept) r) turn new picked
 
   pub answer_goes_on : (answer : RecordAnswer) (turn : Turn) (new : Course) → AfterFind given old n answer turn new → Runs s (t ++ command job.place asked answer ∷ []) new turn
   answer_goes_on answer turn new after =
       let same : after.job ≡ job = one_job (known_in old.known) n n after.job job refl (job_there (known_in old.known) n after.job after.is_job) next.it in
-      told_by after.noted turn new (subst (λ (j : Job). Tells j.tool answer after.refusal) same after.tells) after.past after.known after.picks
+      told_by after.noted after.learned turn new (subst (λ (j : Job). Tells j.tool answer after.refusal) same after.tells) after.past after.known
+      (subst (λ (place : JobPlace). LearnsRow place answer after.noted after.learned) (place_there (known_in old.known) n job next.it) after.learns) after.picks
 
 -- The record has answered whether the row of a job is kept
 module _ (s : Scene) (given : Given) (picks : PicksAt s given) (t : List Pair) (f : Progress) (marks : List Mark) (goes : Goes s (InForce s) t f marks) (old : Course) (n : ℕ) (job : Job)

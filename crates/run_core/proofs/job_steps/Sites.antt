@@ -96,6 +96,7 @@ works_unstarted es options job folder staged read todo (JobNext.Asks call (JobPh
 works_unstarted es options job folder staged read todo (JobNext.Fails cause) on = tt
 works_unstarted es options job folder staged read todo (JobNext.Gives outputs row) on = tt
 works_unstarted es options job folder staged read todo (JobNext.Differs outputs) on = tt
+works_unstarted es options job folder staged read todo (JobNext.Repeats row) on = elim on [ ]
 
 -- outputs that are collected lead to no scan
 no_scan : {place at : JobPlace} {job : Job} {row : Option Row} {started : Started} {millis so_long : ℕ} {found : List Found} {read : Heads} {todo : List Name} →
@@ -112,3 +113,4 @@ works_started es job row kept started millis found read todo (JobNext.Asks call 
 works_started es job row kept started millis found read todo (JobNext.Fails cause) begun keeps on = tt
 works_started es job row kept started millis found read todo (JobNext.Gives outputs put) begun keeps on = tt
 works_started es job row kept started millis found read todo (JobNext.Differs outputs) begun keeps on = tt
+works_started es job row kept started millis found read todo (JobNext.Repeats put) begun keeps on = tt

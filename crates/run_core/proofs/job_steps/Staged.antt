@@ -27,6 +27,7 @@ use Rattle.run_core.specs.inner.Keeps.{Reflects}
 use Rattle.run_core.specs.inner.Picks.{AfterStaging}
 use Rattle.run_core.specs.inner.Standing.{IsStaging, Runs}
 use Rattle.run_core.proofs.events.Kept.{folder_staged}
+use Rattle.run_core.proofs.events.Families.{ready_waits}
 use Rattle.run_core.proofs.events.Reflecting.{Laws, known_there, staged_reflects}
 use Rattle.run_core.proofs.job_steps.Sites.{Fits, site_fits, starts_at, starts_call, works_unstarted}
 use Rattle.run_core.proofs.job_steps.Turns.{PicksAt, turns_at}
@@ -57,7 +58,7 @@ module _ (s : Scene) (given : Given) (same : given.options ≡ s.options) (laws 
         subst (λ (k : ℕ). Fits s.options k job after.site) folder_now (site_fits s.options given same after.staged n job after.site it_still after.is_site)
 
     staged_is : Reflects s (f.events ++ job_staged job.place folder ∷ []) after.staged (Some n)
-    staged_is = staged_reflects s f.events old after.staged n job is.it is.lowest.waits is.may.slot after.past after.known r
+    staged_is = staged_reflects s f.events old after.staged n job is.it (ready_waits (known_in old.known) old.jobs n job is.it is.lowest.ready) is.may.slot after.past after.known r
 
     its_starts : Starts after.site plan.value [] (heads_wanted job.tool.inputs plan.value) after.next
     its_starts = subst (λ (tool : Tool). Starts after.site plan.value [] (heads_wanted tool.inputs plan.value) after.next) fits.tool after.starts

@@ -34,6 +34,7 @@ use Rattle.run_core.specs.inner.Picks.{AfterEnd, AfterFault, badly, for_now, wel
 use Rattle.run_core.specs.inner.Standing.{Blames}
 use Rattle.run_core.proofs.standing.Books.{Books, books_end, books_landed, books_staged, books_start, books_unstaged}
 use Rattle.run_core.proofs.standing.Leaving.{FewKnown, KnowsSome, Leaves, MayKnow, books_course, books_unfolded, leaves_end, leaves_temporary, picks_leave, turns_leave, leaves_find, leaves_put}
+pub use Rattle.run_core.proofs.standing.Leaving.{known_still}
 
 -- an answer of the host's is in its log
 abbrev pub IsLogged : List Entry → Answer → Type 0
@@ -89,12 +90,6 @@ asks_no_row course place (RecordRequest.Find key) outcome fits = fits
 asks_no_row course place (RecordRequest.Put row) outcome fits = fits
 asks_no_row course place (RecordRequest.DropArchive key) outcome fits = fits
 
--- what was known is known still
-pub known_still : (old new : Course) → new.end ≡ old.end → new.known ≡ old.known → (old.end ≡ None → KnowsSome old) → new.end ≡ None → KnowsSome new
-known_still old new same known knows going =
-    let some : KnowsSome old = knows (sym same ∙ going) in
-    record { walks = some.walks; learned = some.learned; is = subst (λ (k : Option Unfolding). IsKnown some.walks some.learned k) (sym known) some.is }
-
 pub after_measure : (given : Given) (old : Course) (entries : List Entry) (turn : Turn) (new : Course) → FewKnown turn new → (measuring : Measuring) →
     Books given.options entries (past_of old) → MeasuresOn given old measuring turn new → Leaves given.options entries turn new
 after_measure given old entries turn new few measuring books (all_measured known its_turn its_new none unfolded picks) =
@@ -133,7 +128,7 @@ module _ (given : Given) (old : Course) (entries : List Entry) (turn : Turn) (ne
       after_fault (fault_of call) told (record { bounded = bounded; blames = blames }) follows
   step_leaves asks (Phase.Finding number) answer (by_host place request its can) fits goes knows told bounded blames follows = absurd (asks_no_call old place request number fits)
   step_leaves asks (Phase.Finding number) answer (by_record place request its can) fits goes knows told bounded blames follows =
-      leaves_find given.options entries given refl old number its turn new few (record { bounded = bounded; blames = blames }) follows
+      leaves_find given.options entries given refl old number its turn new few knows (record { bounded = bounded; blames = blames }) follows
   step_leaves asks (Phase.Putting number) answer (by_host place request its can) fits goes knows told bounded blames follows = absurd (puts_no_call old place request number fits)
   step_leaves asks (Phase.Putting number) answer (by_record place request its can) fits goes knows told bounded blames follows =
       leaves_put given.options entries given refl old number its turn new few (record { bounded = bounded; blames = blames }) follows

@@ -68,7 +68,7 @@ use Rattle.run_core.proofs.events.Reflecting.{FliesThere, flies_there, known_the
 use Rattle.run_core.specs.inner.JobStates.{state_at}
 use Rattle.job_reuse.specs.Laws.{OutputsAreTheSameOrNot}
 use Rattle.job_reuse.specs.Rows.{made_row}
-use Rattle.run_rules.specs.Keeps.{Keeps, AgreesWith, keeps as is_kept, keeps_none, differs}
+use Rattle.run_rules.specs.Keeps.{Keeps, AgreesWith, keeps as is_kept, keeps_none, differs, told_of}
 
 pub record GoesOn (s : Scene) (t : List Pair) : Type 0 where
   pub happened : Progress
@@ -111,7 +111,7 @@ record SomeKeeping (place : JobPlace) (job : Job) (row : Option Row) (millis : �
 
 module _ (place : JobPlace) (job : Job) (millis : ℕ) (found : List Found) (outputs : Fields) (same : OutputsAreTheSameOrNot) where
   agreed : (row : Option Row) → is_reusable job ≡ true → AgreesWith outputs row → SomeKeeping place job row millis found outputs
-  agreed row reusable agrees = record { work = put_due place (made_row (key job.tool job.inputs) outputs found millis false); more = job_succeeded place outputs ∷ []; keeps = is_kept reusable agrees }
+  agreed row reusable agrees = record { work = put_due place (made_row (key job.tool job.inputs) outputs found millis false); more = told_of place outputs row ∷ []; keeps = is_kept reusable agrees }
 
   compared : (row : Row) → is_reusable job ≡ true → (row.outputs ≡ outputs) ⊎ (row.outputs ≢ outputs) → SomeKeeping place job (Some row) millis found outputs
   compared row reusable (inl alike) = agreed (Some row) reusable alike

@@ -11,11 +11,11 @@ use Rattle.run_core.specs.declared.state.Flight.{Flight}
 use Rattle.run_core.specs.declared.job_states.JobState.{JobState}
 use Rattle.run_core.specs.declared.state.Kept.{Kept}
 use Rattle.run_core.specs.inner.Attempts.{IsBounded}
-use Rattle.run_core.specs.inner.Course.{Past, TakesOut, with_answer, with_end, with_giving_up, with_staging, with_start, with_note}
+use Rattle.run_core.specs.inner.Course.{Past, TakesOut, with_answer, with_end, with_giving_up, with_staging, with_start, with_note, with_hand}
 use Rattle.run_core.specs.inner.Standing.{BlamesSoFar, SettlesRightly}
-use Rattle.run_core.proofs.standing.Tries.{gave_up_before, gave_up_once_more, gave_up_staged, length_before, tries_before, tries_given_up, tries_staged}
+use Rattle.run_core.proofs.standing.Tries.{gave_up_before, gave_up_once_more, gave_up_staged, length_before, tries_before, tries_given_up, tries_staged, gave_up_brought, tries_brought}
 use Rattle.run_core.specs.inner.JobStates.{waits_in}
-use Rattle.run_core.proofs.States.{given_up_length, staged_few}
+use Rattle.run_core.proofs.States.{brought_length, given_up_length, staged_few}
 use Rattle.run_rules.specs.declared.request.RecordAnswer.{RecordAnswer}
 use Rattle.run_rules.specs.declared.outcome.Note.{Note}
 
@@ -99,6 +99,17 @@ module _ (options : Options) (entries : List Entry) (past : Past) where
       folders = omega (arith, tries_staged past.jobs number (past.folders + 1) waits, books.bounded.folders);
     };
     blames = books.blames;
+  }
+
+  -- The outputs of one are at hand
+  pub books_brought : (number : ℕ) → Books options entries past → Books options entries (with_hand number past)
+  books_brought number books = record {
+    bounded = record {
+      jobs = omega (arith, brought_length past.jobs number, books.bounded.jobs);
+      retries = gave_up_brought options.retries past.jobs number books.bounded.retries;
+      folders = omega (arith, tries_brought past.jobs number, books.bounded.folders);
+    };
+    blames = record { settled = books.blames.settled };
   }
 
   -- A job gave up

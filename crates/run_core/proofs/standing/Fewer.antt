@@ -32,12 +32,12 @@ use Rattle.run_core.specs.inner.Course.{Past, past_of, with_end, with_answer, pl
 use Rattle.run_core.specs.inner.Due.{Starts}
 use Rattle.run_core.specs.inner.Follows.{AsksOf, FollowsFrom}
 use Rattle.run_core.specs.inner.Measures.{MeasuresOn, all_measured, measures}
-use Rattle.run_core.specs.inner.Picks.{AfterEnd, AfterFault, AfterInputHead, AfterOutputHead, Turns, badly, for_now, well, Picks, AfterPut, noted_by}
+use Rattle.run_core.specs.inner.Picks.{AfterEnd, AfterFault, AfterInputHead, AfterOutputHead, Turns, badly, for_now, well, Picks, AfterPut, LearnsRow, noted_by}
 use Rattle.run_core.specs.inner.Turns.{PutsNext, its_turn, no_turn}
-use Rattle.run_core.proofs.standing.Answered.{asks_none, known_still, asks_no_call, puts_no_call}
-use Rattle.run_core.proofs.standing.Leaving.{KnowsSome, MayKnow}
+use Rattle.run_core.proofs.standing.Answered.{asks_none, asks_no_call, puts_no_call}
+use Rattle.run_core.proofs.standing.Leaving.{KnowsSome, MayKnow, known_still, row_unlearned}
 use Rattle.run_core.proofs.standing.Looked.{calls_at_most, collects_by_lists, collects_by_names, starts_at_most, weight_next}
-use Rattle.run_core.proofs.standing.Weights.{landing_falls, picks_few, picks_last, picks_settled, staging_falls, start_rises, temporary_few, turns_few, unfolded_same, answer_falls}
+use Rattle.run_core.proofs.standing.Weights.{landing_falls, picks_few, picks_last, picks_settled, staging_falls, start_rises, temporary_few, turns_few, unfolded_same, answer_falls, row_learned_same}
 use Rattle.run_rules.specs.declared.request.RecordAnswer.{RecordAnswer}
 
 -- a list whose last item comes next
@@ -129,17 +129,21 @@ module _ (given : Given) (old : Course) where
   two_lower : (a w b : ℕ) → a ≤ w + 2 → w + 2 ≤ b → a < b + 2
   two_lower a w b few falls = omega (arith, few, falls)
 
-  answer_fewer : (number : ℕ) (answer : RecordAnswer) (refusal : Option RecordRefusal) (noted : Course) (turn : Turn) (new : Course) → old.looked_up ≤ number → number + 1 ≤ MOST_VERTICES →
-      past_of noted ≡ with_answer number answer refusal (past_of old) → Picks given noted turn new → Fewer turn new 2
-  answer_fewer number answer None noted turn new left within past picks =
-      two_lower (answers_left given.options (past_of new) turn.phase) (weight_of_past given.options (past_of noted)) Before (picks_few given.options given noted turn new picks)
+  answer_fewer : (number : ℕ) (answer : RecordAnswer) (refusal : Option RecordRefusal) (noted learned : Course) (turn : Turn) (new : Course) → old.looked_up ≤ number →
+      number + 1 ≤ MOST_VERTICES → (old.end ≡ None → KnowsSome old) → past_of noted ≡ with_answer number answer refusal (past_of old) → noted.known ≡ old.known →
+      LearnsRow (place_at (known_in old.known) number) answer noted learned → Picks given learned turn new → Fewer turn new 2
+  answer_fewer number answer None noted learned turn new left within knows past known learns picks =
+      two_lower (answers_left given.options (past_of new) turn.phase) (weight_of_past given.options (past_of learned)) Before (picks_few given.options given learned turn new picks)
+      (subst (λ w. w + 2 ≤ weight_of_past given.options (past_of old))
+      (sym (row_learned_same given.options given (place_at (known_in old.known) number) answer noted learned (known_still old noted (ap (λ (p : Past). p.end) past) known knows) learns))
       (subst (λ (p : Past). weight_of_past given.options p + 2 ≤ weight_of_past given.options (past_of old)) (sym past)
-      (answer_falls given.options (past_of old) number answer left within))
-  answer_fewer number answer (Some refusal) noted turn new left within past picks =
+      (answer_falls given.options (past_of old) number answer left within)))
+  answer_fewer number answer (Some refusal) noted learned turn new left within knows past known learns picks =
       let over : IsSome noted.end = subst (λ (p : Past). IsSome p.end) (sym past) (settled_by old.end (Err (RunFault.Record refusal))) in
+      let same : past_of learned ≡ past_of noted = row_unlearned (place_at (known_in old.known) number) answer noted learned over learns in
       below (answers_left given.options (past_of new) turn.phase) Before 1 2
-      (subst (λ w. answers_left given.options (past_of new) turn.phase ≤ w + 1) (ap (weight_of_past given.options) past)
-      (picks_settled given.options given noted turn new over picks)) (omega arith)
+      (subst (λ w. answers_left given.options (past_of new) turn.phase ≤ w + 1) (ap (weight_of_past given.options) (same ∙ past))
+      (picks_settled given.options given learned turn new (subst (λ (p : Past). IsSome p.end) (sym same) over) picks)) (omega arith)
 
   -- A row was put
 
@@ -229,7 +233,7 @@ module _ (given : Given) (old : Course) where
         fault_fewer (fault_of call) turn new (2 + length measuring.left) (omega arith) follows
     step_fewer asks (Phase.Finding number) answer (by_host place request its can) fits goes knows bounded some follows = absurd (asks_no_call old place request number fits)
     step_fewer asks (Phase.Finding number) answer (by_record place request its can) fits goes knows bounded some follows =
-        answer_fewer number its follows.refusal follows.noted turn new some.0 some.1 follows.past follows.picks
+        answer_fewer number its follows.refusal follows.noted follows.learned turn new some.0 some.1 knows follows.past follows.known follows.learns follows.picks
     step_fewer asks (Phase.Putting number) answer (by_host place request its can) fits goes knows bounded some follows = absurd (puts_no_call old place request number fits)
     step_fewer asks (Phase.Putting number) answer (by_record place request its can) fits goes knows bounded some follows = put_fewer number its turn new follows
     step_fewer asks (Phase.Staging number) answer (by_host place request its (is_staged plan folder)) fits goes knows bounded some follows =

@@ -1,7 +1,7 @@
 -- The children in flight after each answer.
-use Rattle.std.specs.Prelude.{nat_eq}
+use Rattle.std.specs.Prelude.{nat_eq, is_some}
 use Rattle.std.specs.List.{IsDistinct}
-use Rattle.std.proofs.Common.{◌≡◌, ◌∙◌, ℕ, List, [], None, refl, sym, ap, Option, Some}
+use Rattle.std.proofs.Common.{◌≡◌, ◌∙◌, ℕ, Bool, true, false, List, [], None, refl, sym, ap, Option, Some}
 use Rattle.proc_host.specs.Answers.{fault_of, is_measured, is_staged, is_started, has_ended, is_listed, is_read, is_delivered, has_failed}
 use Rattle.proc_host.specs.Tickets.{without}
 use Rattle.proc_host.specs.declared.call.HostAnswer.{HostAnswer}
@@ -27,11 +27,11 @@ use Rattle.run_core.specs.declared.state.Phase.{Phase}
 use Rattle.run_core.specs.declared.state.Turn.{Turn}
 use Rattle.run_core.specs.inner.Course.{GivesUp, Past, TakesOut, again, known_in, past_of, too_often, with_answer, place_at}
 use Rattle.run_core.specs.inner.Follows.{AsksOf, FollowsFrom, IsLeftAfter}
-use Rattle.run_core.specs.inner.Knows.{IsUnfolded, fails as unfold_fails, knows as unfold_knows}
+use Rattle.run_core.specs.inner.Knows.{IsUnfolded, LearnsUnlessOver, fails as unfold_fails, knows as unfold_knows}
 use Rattle.run_core.specs.inner.Measures.{MeasuresOn, all_measured, measures}
-use Rattle.run_core.specs.inner.Picks.{AfterEnd, AfterFault, AfterTemporary, Picks, Turns, asks, badly, drains, ends_so, fails, for_now, gives, gives_late, has_result, stages, waits_for_one, well, AfterFind, finds, AfterPut, PutsOrPicks, noted_by, mismatches}
-use Rattle.run_core.proofs.standing.Answered.{asks_none, known_still, asks_no_call, puts_no_call}
-use Rattle.run_core.proofs.standing.Leaving.{KnowsSome, MayKnow, learns_by}
+use Rattle.run_core.specs.inner.Picks.{AfterEnd, AfterFault, AfterTemporary, Picks, Turns, asks, badly, drains, ends_so, fails, for_now, gives, has_result, stages, waits_for_one, well, AfterFind, finds, AfterPut, LearnsRow, PutsOrPicks, noted_by, mismatches, repeats}
+use Rattle.run_core.proofs.standing.Answered.{asks_none, asks_no_call, puts_no_call}
+use Rattle.run_core.proofs.standing.Leaving.{KnowsSome, MayKnow, is_none, known_still, learns_by, row_unlearned, settled_by_refusal}
 use Rattle.run_core.proofs.standing.Tickets.{one_less}
 use Rattle.job_rows.specs.declared.row.Row.{Row}
 
@@ -61,6 +61,16 @@ module _ (given : Given) where
   unfolded_fly walks learned old new (unfold_knows kept its_new knows known same) = same_tickets (past_of new) (past_of old) same
   unfolded_fly walks learned old new (unfold_fails fault its_new is known same) = ap (λ (p : Past). p.tickets) same
 
+  unless_over_fly : (old new : Course) (one : Resolved) → (old.end ≡ None → KnowsSome old) → LearnsUnlessOver one old new → new.tickets.items ≡ old.tickets.items
+  unless_over_fly old new one knows l = by (is_some old.end) refl
+    where
+      by : (over : Bool) → is_some old.end ≡ over → new.tickets.items ≡ old.tickets.items
+      by true over = ap (λ (p : Past). p.tickets) (l.settled over)
+      by false still =
+          let going : old.end ≡ None = is_none old.end still in
+          let some : KnowsSome old = knows going in
+          unfolded_fly some.walks _ old new (learns_by some.walks some.learned one old new old.known refl some.is (l.learned going))
+
   given_fly : (place : JobPlace) (over : Course) (number : ℕ) (row : Option Row) (turn : Turn) (new : Course) → PutsOrPicks given place over number row turn new → new.tickets.items ≡ over.tickets.items
   given_fly place over number None turn new picks = picks_fly over turn new picks
   given_fly place over number (Some row) turn new put = same_tickets (past_of new) (past_of over) put.past
@@ -69,13 +79,13 @@ module _ (given : Given) where
       new.tickets.items ≡ old.tickets.items
   turns_fly old number next turn new knows (asks call phase its_new same known) = same_tickets (past_of new) (past_of old) same
   turns_fly old number next turn new knows (fails cause failed its_turn its_new is known picks) = picks_fly failed turn new picks ∙ ap (λ (p : Past). p.tickets) is
-  turns_fly old number next turn new knows (gives_late outputs row late its_turn its_new settled same known picks) =
-      given_fly (place_at (known_in old.known) number) late number row turn new picks ∙ same_tickets (past_of late) (past_of old) same
   turns_fly old number next turn new knows (mismatches outputs failed its_turn its_new is known picks) = picks_fly failed turn new picks ∙ ap (λ (p : Past). p.tickets) is
-  turns_fly old number next turn new knows (gives outputs row learned its_turn its_new going learns picks) =
-      let some : KnowsSome old = knows going in
+  turns_fly old number next turn new knows (gives outputs row learned its_turn its_new given_it picks) =
       given_fly (place_at (known_in old.known) number) learned number row turn new picks
-      ∙ unfolded_fly some.walks _ old learned (learns_by some.walks some.learned _ old learned old.known refl some.is learns)
+      ∙ unless_over_fly given_it.there learned _ (known_still old given_it.there (ap (λ (p : Past). p.end) given_it.past) given_it.known knows) given_it.learns
+      ∙ ap (λ (p : Past). p.tickets) given_it.past
+  turns_fly old number next turn new knows (repeats row there its_turn its_new past known put) =
+      same_tickets (past_of new) (past_of there) put.past ∙ ap (λ (p : Past). p.tickets) past
 
   gave_up_fly : (past : Past) (jobs : List Job) (number retries : ℕ) {new : Past} → GivesUp jobs number retries past new → new.tickets ≡ past.tickets
   gave_up_fly past jobs number retries (again state there few) = refl
@@ -101,9 +111,28 @@ module _ (given : Given) where
   put_fly old number answer turn new after =
       picks_fly after.noted turn new after.picks ∙ ap (λ (p : Past). p.tickets) after.past ∙ note_fly (place_at (known_in old.known) number) answer (past_of old)
 
-  find_fly : (old : Course) (number : ℕ) (answer : RecordAnswer) (turn : Turn) (new : Course) → AfterFind given old number answer turn new → new.tickets.items ≡ old.tickets.items
-  find_fly old number answer turn new after =
-      picks_fly after.noted turn new after.picks ∙ ap (λ (p : Past). p.tickets) after.past ∙ answer_fly number answer after.refusal (past_of old)
+  learned_fly : (place : JobPlace) (answer : RecordAnswer) (old new : Course) → (old.end ≡ None → KnowsSome old) → LearnsRow place answer old new →
+      new.tickets.items ≡ old.tickets.items
+  learned_fly place (RecordAnswer.Found (Some row)) old new knows learns = unless_over_fly old new _ knows learns
+  learned_fly place (RecordAnswer.Found None) old new knows learns = ap (λ (p : Past). p.tickets) learns.0
+  learned_fly place RecordAnswer.Done old new knows learns = ap (λ (p : Past). p.tickets) learns.0
+  learned_fly place (RecordAnswer.Refused refusal) old new knows learns = ap (λ (p : Past). p.tickets) learns.0
+
+  found_fly : (old noted learned : Course) (number : ℕ) (answer : RecordAnswer) (refusal : Option RecordRefusal) → (old.end ≡ None → KnowsSome old) →
+      past_of noted ≡ with_answer number answer refusal (past_of old) → noted.known ≡ old.known → LearnsRow (place_at (known_in old.known) number) answer noted learned →
+      learned.tickets.items ≡ noted.tickets.items
+  found_fly old noted learned number answer None knows past known learns =
+      learned_fly (place_at (known_in old.known) number) answer noted learned (known_still old noted (ap (λ (p : Past). p.end) past) known knows) learns
+  found_fly old noted learned number answer (Some refusal) knows past known learns =
+      ap (λ (p : Past). p.tickets)
+      (row_unlearned (place_at (known_in old.known) number) answer noted learned (ap (λ (p : Past). is_some p.end) past ∙ settled_by_refusal refusal old.end) learns)
+
+  find_fly : (old : Course) (number : ℕ) (answer : RecordAnswer) (turn : Turn) (new : Course) → (old.end ≡ None → KnowsSome old) → AfterFind given old number answer turn new →
+      new.tickets.items ≡ old.tickets.items
+  find_fly old number answer turn new knows after =
+      picks_fly after.learned turn new after.picks
+      ∙ found_fly old after.noted after.learned number answer after.refusal knows after.past after.known after.learns
+      ∙ ap (λ (p : Past). p.tickets) after.past ∙ answer_fly number answer after.refusal (past_of old)
 
   pub measures_fly : (old : Course) (measuring : Measuring) (turn : Turn) (new : Course) → MeasuresOn given old measuring turn new → new.tickets.items ≡ old.tickets.items
   measures_fly old measuring turn new (all_measured known its_turn its_new none unfolded picks) = picks_fly known turn new picks ∙ unfolded_fly _ [] old known unfolded
@@ -129,7 +158,7 @@ module _ (given : Given) where
         flies_on _ _ (measures_fly old follows.next turn new follows.on)
     step_flies it (Phase.Measuring measuring) answer (by_host place request its (has_failed call)) fits goes knows follows = flies_on _ _ (fault_fly old _ turn new follows)
     step_flies it (Phase.Finding number) answer (by_host place request its can) fits goes knows follows = absurd (asks_no_call old place request number fits)
-    step_flies it (Phase.Finding number) answer (by_record place request its can) fits goes knows follows = flies_on _ _ (find_fly old number its turn new follows)
+    step_flies it (Phase.Finding number) answer (by_record place request its can) fits goes knows follows = flies_on _ _ (find_fly old number its turn new knows follows)
     step_flies it (Phase.Putting number) answer (by_host place request its can) fits goes knows follows = absurd (puts_no_call old place request number fits)
     step_flies it (Phase.Putting number) answer (by_record place request its can) fits goes knows follows = flies_on _ _ (put_fly old number its turn new follows)
     step_flies it (Phase.Staging number) answer (by_host place request its (is_staged plan folder)) fits goes knows follows =

@@ -1,12 +1,14 @@
 -- What each step leaves: the run stays bounded, what it blames on the host is so, and memory is not what it ends by.
-use Rattle.std.specs.Prelude.{IfErr}
-use Rattle.std.proofs.Common.{◌≡◌, ◌∙◌, ℕ, ◌≤◌, List, [], ◌∷◌, ◌++◌, length, Option, Some, None, Result, Ok, Err, refl, sym, ap, subst, arith}
+use Rattle.std.specs.Prelude.{IfErr, IsSome, is_some}
+use Rattle.std.specs.List.{list_all}
+use Rattle.std.proofs.Common.{◌≡◌, ◌∙◌, ℕ, ◌≤◌, Bool, true, false, List, [], ◌∷◌, ◌++◌, length, Option, Some, None, Result, Ok, Err, refl, sym, ap, subst, arith}
+use Rattle.std.proofs.lemmas.Bool.{and_parts}
 use Rattle.plan_checker.specs.declared.graph.TheConstants.{MOST_VERTICES}
 use Rattle.proc_host.specs.declared.call.Entry.{Entry}
 use Rattle.job_graph.specs.declared.unfolding.Unfolding.{Unfolding}
 use Rattle.job_graph.specs.declared.fault.UnfoldFault.{UnfoldFault}
 use Rattle.job_graph.specs.Jobs.{Job, Walker}
-use Rattle.job_graph.specs.Unfold.{Resolved}
+use Rattle.job_graph.specs.Unfold.{Resolved, or_else}
 use Rattle.run_rules.specs.declared.outcome.Outcome.{Outcome}
 use Rattle.run_rules.specs.declared.outcome.RunFault.{RunFault}
 use Rattle.run_rules.specs.declared.setting.Options.{Options}
@@ -19,15 +21,17 @@ use Rattle.run_core.specs.declared.state.JobNext.{JobNext}
 use Rattle.run_core.specs.declared.state.Phase.{Phase}
 use Rattle.run_core.specs.declared.state.Turn.{Turn}
 use Rattle.run_core.specs.inner.Attempts.{StaysBounded}
-use Rattle.run_core.specs.inner.Course.{GivesUp, Past, again, known_in, past_of, too_often, with_answer, failure_by, place_at, put_note}
-use Rattle.run_core.specs.inner.Knows.{IsKnown, IsUnfolded, Learns, end_by, fails as unfold_fails, knows as unfold_knows}
-use Rattle.run_core.specs.inner.Picks.{AfterTemporary, Delivers, Picks, Stages, Turns, asks, delivers, drains, ends_so, fails, gives, gives_late, has_result, stages, succeeds_at_once, waits_for_one, AfterFind, Finds, finds, AfterPut, PutsOrPicks, noted_by, mismatches}
+use Rattle.run_core.specs.inner.Course.{GivesUp, Past, again, families_in, known_in, past_of, too_often, with_answer, failure_by, place_at, put_note}
+use Rattle.run_core.specs.inner.Knows.{IsKnown, IsUnfolded, Learns, LearnsUnlessOver, end_by, fails as unfold_fails, knows as unfold_knows}
+use Rattle.run_core.specs.inner.Picks.{AfterTemporary, Delivers, Picks, Stages, Turns, asks, delivers, drains, ends_so, fails, gives, has_result, stages, succeeds_at_once, waits_for_one, AfterFind, Finds, finds, AfterPut, LearnsRow, PutsOrPicks, noted_by, mismatches, repeats}
 use Rattle.run_core.specs.inner.Standing.{Blames, SettlesRightly}
-use Rattle.run_core.proofs.standing.Books.{Books, BooksAt, books_end, books_given_up, books_waiting, books_looked, books_noted}
+use Rattle.run_core.proofs.standing.Books.{Books, BooksAt, books_brought, books_end, books_given_up, books_waiting, books_looked, books_noted}
 use Rattle.job_rows.specs.declared.row.Row.{Row}
 use Rattle.run_rules.specs.declared.outcome.Cause.{Cause}
 use Rattle.job_graph.specs.Words.{JobPlace}
 use Rattle.run_core.specs.inner.FoundRows.{row_in}
+use Rattle.run_core.specs.inner.JobStates.{IsLowest, is_there, parents_in, waits_in}
+use Rattle.run_core.proofs.events.Families.{as_many}
 
 -- with this turn and this course
 pub record Leaves (options : Options) (entries : List Entry) (turn : Turn) (new : Course) : Type 0 where
@@ -45,6 +49,27 @@ pub record KnowsSome (course : Course) : Type 0 where
   pub walks : Walker
   pub learned : List Resolved
   pub is : IsKnown walks learned course.known
+
+-- what was known is known still
+pub known_still : (old new : Course) → new.end ≡ old.end → new.known ≡ old.known → (old.end ≡ None → KnowsSome old) → new.end ≡ None → KnowsSome new
+known_still old new same known knows going =
+    let some : KnowsSome old = knows (sym same ∙ going) in
+    record { walks = some.walks; learned = some.learned; is = subst (λ (k : Option Unfolding). IsKnown some.walks some.learned k) (sym known) some.is }
+
+pub is_none : {T : Type 0} (o : Option T) → is_some o ≡ false → o ≡ None
+is_none None none = refl
+is_none (Some x) none = absurd cc
+
+-- where the end is settled, nothing is learned of a row
+pub row_unlearned : (place : JobPlace) (answer : RecordAnswer) (old new : Course) → IsSome old.end → LearnsRow place answer old new → past_of new ≡ past_of old
+row_unlearned place (RecordAnswer.Found (Some row)) old new over learns = learns.settled over
+row_unlearned place (RecordAnswer.Found None) old new over learns = learns.0
+row_unlearned place RecordAnswer.Done old new over learns = learns.0
+row_unlearned place (RecordAnswer.Refused refusal) old new over learns = learns.0
+
+pub settled_by_refusal : (refusal : RecordRefusal) (end : Option (Result Outcome RunFault)) → is_some (or_else end (Some (Err (RunFault.Record refusal)))) ≡ true
+settled_by_refusal refusal None = refl
+settled_by_refusal refusal (Some end) = refl
 
 -- once each input file is measured, and while the end is open
 abbrev pub MayKnow : Course → Phase → Type 0
@@ -68,6 +93,11 @@ pub learns_by : (walks : Walker) (learned : List Resolved) (one : Resolved) (old
     Learns one old new → IsUnfolded walks (learned ++ one ∷ []) old new
 learns_by walks learned one old new None is knows learns = absurd knows
 learns_by walks learned one old new (Some kept) is knows learns = learns walks learned kept is knows
+
+-- a job that is ready waits
+is_waiting : (course : Course) (number : ℕ) → IsLowest (families_in course.known) course.jobs number → waits_in course.jobs number ≡ true
+is_waiting course number lowest =
+    (and_parts (waits_in course.jobs number) (list_all (is_there course.jobs) (parents_in (families_in course.known) number)) lowest.ready).0
 
 module _ (options : Options) (entries : List Entry) where
   pub leaves_end : (end : Result Outcome RunFault) (turn : Turn) (new : Course) → turn.phase ≡ Phase.Ended end → SettlesRightly entries end → Leaves options entries turn new
@@ -118,8 +148,9 @@ module _ (options : Options) (entries : List Entry) where
         let phase : turn.phase ≡ Phase.Staging number = ap (λ (t : Turn). t.phase) staging.is in
         let most : length (known_in old.known) ≤ MOST_VERTICES =
         subst (λ (k : Option Unfolding). length (known_in k) ≤ MOST_VERTICES) known (few number phase) in
+        let many : length (families_in old.known) ≡ length (known_in old.known) = as_many [] (known_in old.known) in
         leaves_staging number old new turn staging same
-        (books_waiting options entries (past_of old) number (length (known_in old.known)) lowest.within most lowest.waits books)
+        (books_waiting options entries (past_of old) number (length (known_in old.known)) (omega (arith, lowest.within, many)) most (is_waiting old number lowest) books)
     picks_leave old turn new few books (waits_for_one its_new going looked flying none same known) =
         let now : Books options entries (past_of new) = books_course new old same books in
         record { bounded = now.bounded; blames = now.blames; not_lost = λ lost. cc; goes = λ drains. cc }
@@ -141,6 +172,12 @@ module _ (options : Options) (entries : List Entry) where
     leaves_temporary old number turn new few books after =
         picks_leave after.tried turn new few (books_gave_up (past_of old) (known_in old.known) number given.options.retries limit_is after.gives_up books) after.picks
 
+    pub books_unfolded : (walks : Walker) (learned : List Resolved) (old new : Course) → IsUnfolded walks learned old new → Books options entries (past_of old) →
+        Books options entries (past_of new)
+    books_unfolded walks learned old new (unfold_knows kept its_new knows known same) books = books_course new old same books
+    books_unfolded walks learned old new (unfold_fails fault its_new is known same) books =
+        books_at (past_of new) _ same (books_end options entries (past_of old) (end_by fault) (settles_by entries fault) books)
+
     -- The record has answered
 
     books_answered : (past : Past) (number : ℕ) (answer : RecordAnswer) (refusal : Option RecordRefusal) → Books options entries past →
@@ -148,10 +185,39 @@ module _ (options : Options) (entries : List Entry) where
     books_answered past number answer None books = books_looked options entries past number answer books
     books_answered past number answer (Some refusal) books = books_end options entries past (Err (RunFault.Record refusal)) tt books
 
-    pub leaves_find : (old : Course) (number : ℕ) (answer : RecordAnswer) (turn : Turn) (new : Course) → FewKnown turn new → Books options entries (past_of old) →
-        AfterFind given old number answer turn new → Leaves options entries turn new
-    leaves_find old number answer turn new few books after =
-        picks_leave after.noted turn new few (books_at (past_of after.noted) _ after.past (books_answered (past_of old) number answer after.refusal books)) after.picks
+    unless_over_books : (old new : Course) (one : Resolved) → (old.end ≡ None → KnowsSome old) → LearnsUnlessOver one old new → Books options entries (past_of old) →
+        Books options entries (past_of new)
+    unless_over_books old new one knows l books = by (is_some old.end) refl
+      where
+        by : (over : Bool) → is_some old.end ≡ over → Books options entries (past_of new)
+        by true over = books_course new old (l.settled over) books
+        by false still =
+            let going : old.end ≡ None = is_none old.end still in
+            let some : KnowsSome old = knows going in
+            books_unfolded some.walks _ old new (learns_by some.walks some.learned one old new old.known refl some.is (l.learned going)) books
+
+    row_books : (place : JobPlace) (answer : RecordAnswer) (old new : Course) → (old.end ≡ None → KnowsSome old) → LearnsRow place answer old new → Books options entries (past_of old) →
+        Books options entries (past_of new)
+    row_books place (RecordAnswer.Found (Some row)) old new knows learns books = unless_over_books old new _ knows learns books
+    row_books place (RecordAnswer.Found None) old new knows learns books = books_course new old learns.0 books
+    row_books place RecordAnswer.Done old new knows learns books = books_course new old learns.0 books
+    row_books place (RecordAnswer.Refused refusal) old new knows learns books = books_course new old learns.0 books
+
+    find_books : (old noted learned : Course) (number : ℕ) (answer : RecordAnswer) (refusal : Option RecordRefusal) → (old.end ≡ None → KnowsSome old) →
+        past_of noted ≡ with_answer number answer refusal (past_of old) → noted.known ≡ old.known → LearnsRow (place_at (known_in old.known) number) answer noted learned →
+        Books options entries (past_of noted) → Books options entries (past_of learned)
+    find_books old noted learned number answer None knows past known learns books =
+        row_books (place_at (known_in old.known) number) answer noted learned (known_still old noted (ap (λ (p : Past). p.end) past) known knows) learns books
+    find_books old noted learned number answer (Some refusal) knows past known learns books =
+        books_course learned noted
+        (row_unlearned (place_at (known_in old.known) number) answer noted learned (ap (λ (p : Past). is_some p.end) past ∙ settled_by_refusal refusal old.end) learns) books
+
+    pub leaves_find : (old : Course) (number : ℕ) (answer : RecordAnswer) (turn : Turn) (new : Course) → FewKnown turn new → (old.end ≡ None → KnowsSome old) →
+        Books options entries (past_of old) → AfterFind given old number answer turn new → Leaves options entries turn new
+    leaves_find old number answer turn new few knows books after =
+        picks_leave after.learned turn new few
+        (find_books old after.noted after.learned number answer after.refusal knows after.past after.known after.learns
+        (books_at (past_of after.noted) _ after.past (books_answered (past_of old) number answer after.refusal books))) after.picks
 
     books_put : (past : Past) (place : JobPlace) (answer : RecordAnswer) → Books options entries past → Books options entries (noted_by place answer past)
     books_put past place (RecordAnswer.Found row) books = books
@@ -180,12 +246,6 @@ module _ (options : Options) (entries : List Entry) where
 
     -- A job goes on
 
-    pub books_unfolded : (walks : Walker) (learned : List Resolved) (old new : Course) → IsUnfolded walks learned old new → Books options entries (past_of old) →
-        Books options entries (past_of new)
-    books_unfolded walks learned old new (unfold_knows kept its_new knows known same) books = books_course new old same books
-    books_unfolded walks learned old new (unfold_fails fault its_new is known same) books =
-        books_at (past_of new) _ same (books_end options entries (past_of old) (end_by fault) (settles_by entries fault) books)
-
     pub turns_leave : (old : Course) (number : ℕ) (next : JobNext) (turn : Turn) (new : Course) → FewKnown turn new → (old.end ≡ None → KnowsSome old) →
         Books options entries (past_of old) → Turns given old number next turn new → Leaves options entries turn new
     turns_leave old number next turn new few knows books (asks call phase its_new same known) =
@@ -194,11 +254,12 @@ module _ (options : Options) (entries : List Entry) where
     turns_leave old number next turn new few knows books (fails cause failed its_turn its_new is known picks) =
         picks_leave failed turn new few (books_at (past_of failed) _ is (books_end options entries (past_of old) _
         (failure_settles (row_in old.rows number) (place_at (known_in old.known) number) cause) books)) picks
-    turns_leave old number next turn new few knows books (gives_late outputs row late its_turn its_new settled same known picks) =
-        leaves_given (place_at (known_in old.known) number) late number row turn new few (books_course late old same books) picks
-    turns_leave old number next turn new few knows books (gives outputs row learned its_turn its_new going learns picks) =
-        let some : KnowsSome old = knows going in
+    turns_leave old number next turn new few knows books (gives outputs row learned its_turn its_new given_it picks) =
         leaves_given (place_at (known_in old.known) number) learned number row turn new few
-        (books_unfolded some.walks _ old learned (learns_by some.walks some.learned _ old learned old.known refl some.is learns) books) picks
+        (unless_over_books given_it.there learned _ (known_still old given_it.there (ap (λ (p : Past). p.end) given_it.past) given_it.known knows) given_it.learns
+        (books_at (past_of given_it.there) _ given_it.past (books_brought options entries (past_of old) number books))) picks
+    turns_leave old number next turn new few knows books (repeats row there its_turn its_new past known put) =
+        leaves_given (place_at (known_in old.known) number) there number (Some row) turn new few
+        (books_at (past_of there) _ past (books_brought options entries (past_of old) number books)) put
     turns_leave old number next turn new few knows books (mismatches outputs failed its_turn its_new is known picks) =
         picks_leave failed turn new few (books_at (past_of failed) _ is (books_end options entries (past_of old) _ tt books)) picks

@@ -26,6 +26,7 @@ weight_next (JobNext.Asks call phase) = weight_of_job phase
 weight_next (JobNext.Fails cause) = 2
 weight_next (JobNext.Gives outputs row) = 3
 weight_next (JobNext.Differs outputs) = 2
+weight_next (JobNext.Repeats row) = 3
 
 -- Before it is started
 
@@ -54,6 +55,7 @@ calls_at_most options folder (JobNext.Asks call phase) calls = many_at_most call
 calls_at_most options folder (JobNext.Fails cause) calls = omega arith
 calls_at_most options folder (JobNext.Gives outputs row) calls = omega arith
 calls_at_most options folder (JobNext.Differs outputs) calls = omega arith
+calls_at_most options folder (JobNext.Repeats row) calls = omega arith
 
 phase_at_most : (call : HostRequest) (phase : JobPhase) (todo : List Name) → FitsCall call phase → length (inputs_left (work_of [] call phase)) ≤ length todo →
     weight_of_job phase ≤ many_files + 6 + length todo
@@ -70,6 +72,7 @@ starts_at_most site staged read todo (JobNext.Asks call phase) starts =
 starts_at_most site staged read todo (JobNext.Fails cause) starts = omega arith
 starts_at_most site staged read todo (JobNext.Gives outputs row) starts = omega arith
 starts_at_most site staged read todo (JobNext.Differs outputs) starts = omega arith
+starts_at_most site staged read todo (JobNext.Repeats row) starts = omega arith
 
 -- Once its child has ended
 
@@ -126,6 +129,7 @@ collects_by_names site kept millis found read todo (JobNext.Asks call phase) it 
 collects_by_names site kept millis found read todo (JobNext.Fails cause) it = omega arith
 collects_by_names site kept millis found read todo (JobNext.Gives outputs row) it = omega arith
 collects_by_names site kept millis found read todo (JobNext.Differs outputs) it = omega arith
+collects_by_names site kept millis found read todo (JobNext.Repeats row) it = omega arith
 
 pub collects_by_lists : (site : Site) (kept : Kept) (millis : ℕ) (found : List Found) (read : Heads) (todo : List Name) (next : JobNext) → Collects site kept millis found read todo next →
     weight_next next ≤ many_files + 2
@@ -133,3 +137,4 @@ collects_by_lists site kept millis found read todo (JobNext.Asks call phase) it 
 collects_by_lists site kept millis found read todo (JobNext.Fails cause) it = omega arith
 collects_by_lists site kept millis found read todo (JobNext.Gives outputs row) it = omega arith
 collects_by_lists site kept millis found read todo (JobNext.Differs outputs) it = omega arith
+collects_by_lists site kept millis found read todo (JobNext.Repeats row) it = omega arith

@@ -4,7 +4,7 @@ use Rattle.std.specs.List.{AllByRecursion}
 use Rattle.std.proofs.Common.{◌≡◌, ℕ, zero, suc, Bool, true, false, ◌+◌, ◌*◌, ◌<◌, ◌≤◌, List, [], ◌∷◌, length, Some, refl, sym, ap, subst, arith}
 use Rattle.run_core.specs.declared.job_states.JobState.{JobState}
 use Rattle.run_core.specs.inner.Attempts.{last_try, tries_of}
-use Rattle.run_core.specs.inner.JobStates.{given_up_in, staged_in, waits_in}
+use Rattle.run_core.specs.inner.JobStates.{brought_in, given_up_in, staged_in, waits_in}
 
 -- no job gave up more often than so
 abbrev pub GaveUpAtMost : ℕ → List JobState → Type 0
@@ -52,6 +52,19 @@ pub gave_up_before : (retries : ℕ) (jobs : List JobState) (number folder : ℕ
 gave_up_before retries [] number folder all = tt
 gave_up_before retries (job ∷ jobs) zero folder all = all
 gave_up_before retries (job ∷ jobs) (suc number) folder all = (all.0, gave_up_before retries jobs number folder all.1)
+
+-- The outputs of one are at hand
+
+pub tries_brought : (jobs : List JobState) (number : ℕ) → tries_of (brought_in number jobs) ≡ tries_of jobs
+tries_brought [] zero = refl
+tries_brought [] (suc number) = refl
+tries_brought (job ∷ jobs) zero = refl
+tries_brought (job ∷ jobs) (suc number) = omega (arith, tries_brought jobs number)
+
+pub gave_up_brought : (retries : ℕ) (jobs : List JobState) (number : ℕ) → GaveUpAtMost retries jobs → GaveUpAtMost retries (brought_in number jobs)
+gave_up_brought retries [] number all = tt
+gave_up_brought retries (job ∷ jobs) zero all = all
+gave_up_brought retries (job ∷ jobs) (suc number) all = (all.0, gave_up_brought retries jobs number all.1)
 
 -- A job gave up
 

@@ -1,7 +1,7 @@
 -- Each choice of what comes next leaves few answers.
-use Rattle.std.specs.Prelude.{◌-◌, ◌*◌, IsSome}
+use Rattle.std.specs.Prelude.{◌-◌, ◌*◌, IsSome, is_some}
 use Rattle.std.specs.List.{remove}
-use Rattle.std.proofs.Common.{◌≡◌, ℕ, ◌+◌, ◌≤◌, List, [], ◌∷◌, ◌++◌, length, true, false, Option, Some, None, refl, sym, ap, subst, arith, length-append, ◌∙◌}
+use Rattle.std.proofs.Common.{◌≡◌, ℕ, ◌+◌, ◌≤◌, List, [], ◌∷◌, ◌++◌, length, true, false, Option, Some, None, refl, sym, ap, subst, arith, length-append, ◌∙◌, Bool}
 use Rattle.std.proofs.lemmas.List.Edits.{length-remove}
 use Rattle.std.proofs.lemmas.Nat.{mul-le}
 use Rattle.std.proofs.lemmas.Option.{slice_get_within}
@@ -18,9 +18,9 @@ use Rattle.run_core.specs.declared.state.Phase.{Phase}
 use Rattle.run_core.specs.declared.state.Turn.{Turn}
 use Rattle.run_core.specs.inner.Attempts.{IsBounded, answers_left, many_files, most_stagings, tries_of, weight_of_past}
 use Rattle.run_core.specs.inner.Course.{GivesUp, Past, TakesOut, again, known_in, past_of, too_often, with_staging, with_start, with_answer, place_at}
-use Rattle.run_core.specs.inner.Knows.{IsUnfolded, fails as unfold_fails, knows as unfold_knows}
-use Rattle.run_core.specs.inner.Picks.{AfterTemporary, Delivers, Picks, Stages, Turns, asks, delivers, drains, ends_so, fails, gives, gives_late, has_result, stages, succeeds_at_once, waits_for_one, Finds, finds, PutsOrPicks, mismatches}
-use Rattle.run_core.proofs.standing.Leaving.{KnowsSome, learns_by}
+use Rattle.run_core.specs.inner.Knows.{IsUnfolded, LearnsUnlessOver, fails as unfold_fails, knows as unfold_knows}
+use Rattle.run_core.specs.inner.Picks.{AfterTemporary, Delivers, Picks, Stages, Turns, asks, delivers, drains, ends_so, fails, gives, has_result, stages, succeeds_at_once, waits_for_one, Finds, finds, LearnsRow, PutsOrPicks, mismatches, repeats}
+use Rattle.run_core.proofs.standing.Leaving.{KnowsSome, is_none, known_still, learns_by}
 use Rattle.run_core.proofs.standing.Looked.{weight_next}
 use Rattle.run_core.proofs.standing.Tries.{tries_at_most}
 use Rattle.run_rules.specs.declared.request.RecordAnswer.{RecordAnswer}
@@ -167,6 +167,23 @@ module _ (options : Options) (given : Given) where
   unfolded_same walks learned old new (unfold_knows kept its_new knows known same) = ap (weight_of_past options) same
   unfolded_same walks learned old new (unfold_fails fault its_new is known same) = ap (weight_of_past options) same
 
+  -- also where it is learned unless the end is settled
+  pub unless_over_same : (old new : Course) (one : Resolved) → (old.end ≡ None → KnowsSome old) → LearnsUnlessOver one old new → Before new ≡ Before old
+  unless_over_same old new one knows l = by (is_some old.end) refl
+    where
+      by : (over : Bool) → is_some old.end ≡ over → Before new ≡ Before old
+      by true over = ap (weight_of_past options) (l.settled over)
+      by false still =
+          let going : old.end ≡ None = is_none old.end still in
+          let some : KnowsSome old = knows going in
+          unfolded_same some.walks _ old new (learns_by some.walks some.learned one old new old.known refl some.is (l.learned going))
+
+  pub row_learned_same : (place : JobPlace) (answer : RecordAnswer) (old new : Course) → (old.end ≡ None → KnowsSome old) → LearnsRow place answer old new → Before new ≡ Before old
+  row_learned_same place (RecordAnswer.Found (Some row)) old new knows learns = unless_over_same old new _ knows learns
+  row_learned_same place (RecordAnswer.Found None) old new knows learns = ap (weight_of_past options) learns.0
+  row_learned_same place RecordAnswer.Done old new knows learns = ap (weight_of_past options) learns.0
+  row_learned_same place (RecordAnswer.Refused refusal) old new knows learns = ap (weight_of_past options) learns.0
+
   two_of : (a b most : ℕ) → 2 ≤ most → a ≤ b + 2 → a ≤ b + most
   two_of a b most two few = omega (arith, two, few)
 
@@ -197,12 +214,12 @@ module _ (options : Options) (given : Given) where
       added w a b less = omega (arith, less)
   turns_few old number next turn new most two few knows (fails cause failed its_turn its_new is known picks) =
       picks_from failed old turn new most (ap (weight_of_past options) is) two picks
-  turns_few old number next turn new most two few knows (gives_late outputs row late its_turn its_new settled same known picks) =
-      given_from (place_at (known_in old.known) number) late old number row turn new most (ap (weight_of_past options) same) two few picks
-  turns_few old number next turn new most two few knows (gives outputs row learned its_turn its_new going learns picks) =
-      let some : KnowsSome old = knows going in
+  turns_few old number next turn new most two few knows (gives outputs row learned its_turn its_new given_it picks) =
       given_from (place_at (known_in old.known) number) learned old number row turn new most
-      (unfolded_same some.walks _ old learned (learns_by some.walks some.learned _ old learned old.known refl some.is learns)) two few picks
+      (unless_over_same given_it.there learned _ (known_still old given_it.there (ap (λ (p : Past). p.end) given_it.past) given_it.known knows) given_it.learns
+      ∙ ap (weight_of_past options) given_it.past) two few picks
+  turns_few old number next turn new most two few knows (repeats row there its_turn its_new past known put) =
+      given_from (place_at (known_in old.known) number) there old number (Some row) turn new most (ap (weight_of_past options) past) two few put
   turns_few old number next turn new most two few knows (mismatches outputs failed its_turn its_new is known picks) =
       picks_from failed old turn new most (ap (weight_of_past options) is) two picks
 

@@ -11,19 +11,23 @@ use Rattle.run_rules.specs.declared.request.RecordAnswer.{RecordAnswer}
 use Rattle.run_rules.specs.declared.outcome.Outcome.{Outcome}
 use Rattle.run_rules.specs.declared.outcome.RunFault.{RunFault}
 use Rattle.job_graph.specs.Jobs.{Job}
-use Rattle.job_graph.specs.Unfold.{or_else}
+use Rattle.job_graph.specs.Unfold.{Known, known_from, or_else}
 use Rattle.job_graph.specs.Words.{JobPlace, is_same_place}
 use Rattle.run_core.specs.declared.state.Course.{Course}
 use Rattle.run_core.specs.declared.state.Flight.{Flight}
 use Rattle.run_core.specs.declared.job_states.JobState.{JobState}
 use Rattle.run_core.specs.declared.state.Kept.{Kept}
 use Rattle.run_core.specs.inner.FoundRows.{row_in, rows_after}
-use Rattle.run_core.specs.inner.JobStates.{given_up_in, staged_in}
+use Rattle.run_core.specs.inner.JobStates.{brought_in, given_up_in, staged_in}
 
 -- the known jobs, by number
 abbrev pub known_in : Option Unfolding → List Job
 known_in None = []
 known_in (Some kept) = kept.known
+
+-- and with the numbers of their parents
+abbrev pub families_in : Option Unfolding → List Known
+families_in known = known_from [] (known_in known)
 
 -- what is kept of the events, but for what is known
 pub record Past : Type 0 where
@@ -92,6 +96,10 @@ failure_in past number place cause = failure_by (row_in past.rows number) place 
 
 abbrev pub with_staging : ℕ → Past → Past
 with_staging number past = record past { folders = past.folders + 1; jobs = staged_in number (past.folders + 1) past.jobs }
+
+-- the outputs of the job of a number are at hand
+abbrev pub with_hand : ℕ → Past → Past
+with_hand number past = record past { jobs = brought_in number past.jobs }
 
 abbrev pub with_start : ℕ → Kept → ℕ → Past → Past
 with_start number kept ticket past = record past {

@@ -20,7 +20,7 @@ use Rattle.run_rules.specs.declared.setting.Options.{Options}
 use Rattle.job_graph.specs.Words.{Name, Fields, JobPlace}
 use Rattle.collected_outputs.specs.Contents.{Heads}
 use Rattle.run_rules.specs.CollectsOn.{CollectsOn}
-use Rattle.run_rules.specs.Events.{Event, job_failed, job_succeeded, Work, nothing_due, input_heads_due, start_due, scan_due, output_heads_due, Started, row_differs, put_due}
+use Rattle.run_rules.specs.Events.{Event, job_failed, job_succeeded, Work, nothing_due, input_heads_due, start_due, scan_due, output_heads_due, Started, row_differs, put_due, job_repeated}
 use Rattle.run_rules.specs.Folders.{out_folder, runtime_of}
 use Rattle.job_graph.specs.Jobs.{Job}
 use Rattle.run_rules.specs.StartsOn.{StartsOn}
@@ -59,12 +59,14 @@ work_next place (JobNext.Fails cause) = nothing_due
 work_next place (JobNext.Gives outputs None) = nothing_due
 work_next place (JobNext.Gives outputs (Some row)) = put_due place row
 work_next place (JobNext.Differs outputs) = nothing_due
+work_next place (JobNext.Repeats row) = put_due place row
 
 abbrev pub events_next : JobPlace → JobNext → List Event
 events_next place (JobNext.Asks call phase) = []
 events_next place (JobNext.Fails cause) = job_failed place cause ∷ []
 events_next place (JobNext.Gives outputs row) = job_succeeded place outputs ∷ []
 events_next place (JobNext.Differs outputs) = row_differs place outputs ∷ []
+events_next place (JobNext.Repeats row) = job_repeated place ∷ []
 
 -- what is kept of a job's child is what it was started by
 pub record IsKept (kept : Kept) (started : Started) : Type 0 where
@@ -161,6 +163,11 @@ pub record CollectsFirst (site : Site) (kept : Kept) (millis : ℕ) (found : Lis
 abbrev pub DiffersAt : Option Row → Fields → Type 0
 DiffersAt None outputs = ⊥
 DiffersAt (Some row) outputs = row.outputs ≢ outputs
+
+-- the outputs are told, unless a row was found that has told them; and this row is put
+abbrev pub told_in : Option Row → Fields → Row → JobNext
+told_in None outputs row = JobNext.Gives outputs (Some row)
+told_in (Some found) outputs row = JobNext.Repeats row
 
 -- the collected outputs of the job at this site are kept so
 pub record KeepsAt (site : Site) (millis : ℕ) (found : List Found) (outputs : Fields) (next : JobNext) : Type 0 where

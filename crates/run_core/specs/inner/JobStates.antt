@@ -1,10 +1,13 @@
--- What has become of the jobs, by number, and what staging one and its failing for now make of it.
-use Rattle.std.specs.Prelude.{◌≡◌, ◌<◌, ◌+◌, ℕ, zero, suc, Bool, true, false, List, [], ◌∷◌, slice_index_or}
+-- What has become of the jobs, by number, and what staging one, its outputs and its failing for now make of it.
+use Rattle.std.specs.Prelude.{◌≡◌, ◌&&◌, ◌<◌, ◌+◌, ℕ, zero, suc, Bool, true, false, List, [], ◌∷◌, length, slice_get, slice_index_or}
+use Rattle.std.specs.List.{list_all}
+use Rattle.std.specs.Option.{option_map_or}
+use Rattle.job_graph.specs.Unfold.{Known}
 use Rattle.run_core.specs.declared.job_states.JobState.{JobState}
 
 -- of a job that was never touched
 abbrev pub untouched : JobState
-untouched = record { waits = true; folder = 0; gave_up = 0 }
+untouched = record { waits = true; at_hand = false; folder = 0; gave_up = 0 }
 
 abbrev pub state_at : List JobState → ℕ → JobState
 state_at states n = slice_index_or states n untouched
@@ -14,7 +17,7 @@ waits_in states n = (state_at states n).waits
 
 -- the job of a number has these folders, and waits no more
 abbrev pub staged_in : ℕ → ℕ → List JobState → List JobState
-staged_in zero folder [] = record { waits = false; folder = folder; gave_up = 0 } ∷ []
+staged_in zero folder [] = record { waits = false; at_hand = false; folder = folder; gave_up = 0 } ∷ []
 staged_in zero folder (job ∷ jobs) = record job { waits = false; folder = folder } ∷ jobs
 staged_in (suc number) folder [] = untouched ∷ staged_in number folder []
 staged_in (suc number) folder (job ∷ jobs) = job ∷ staged_in number folder jobs
@@ -25,12 +28,33 @@ given_up_in number [] = []
 given_up_in zero (job ∷ jobs) = record job { waits = true; gave_up = job.gave_up + 1 } ∷ jobs
 given_up_in (suc number) (job ∷ jobs) = job ∷ given_up_in number jobs
 
+-- the outputs of the job of a number are at hand
+abbrev pub brought_in : ℕ → List JobState → List JobState
+brought_in number [] = []
+brought_in zero (job ∷ jobs) = record job { at_hand = true } ∷ jobs
+brought_in (suc number) (job ∷ jobs) = job ∷ brought_in number jobs
+
+abbrev pub is_there : List JobState → ℕ → Bool
+is_there states n = (state_at states n).at_hand
+
 -- none of the first so many jobs waits
 abbrev pub NoneWaits : List JobState → ℕ → Type 0
 NoneWaits states count = (n : ℕ) → n < count → waits_in states n ≡ false
 
--- of the first so many jobs this one waits, and none below it
-pub record IsLowest (states : List JobState) (count number : ℕ) : Type 0 where
-  pub within : number < count
-  pub waits : waits_in states number ≡ true
-  pub lowest : NoneWaits states number
+-- the parents of the known job of a number, by their numbers
+abbrev pub parents_in : List Known → ℕ → List ℕ
+parents_in known n = option_map_or (λ k. k.parents) (slice_get known n) []
+
+-- whether a known job may be staged: it waits, and its parents are at hand
+abbrev pub is_ready : List Known → List JobState → ℕ → Bool
+is_ready known states n = waits_in states n && list_all (is_there states) (parents_in known n)
+
+-- none of the first so many is ready
+abbrev pub NoneReady : List Known → List JobState → ℕ → Type 0
+NoneReady known states count = (n : ℕ) → n < count → is_ready known states n ≡ false
+
+-- this known job is ready, and none below it
+pub record IsLowest (known : List Known) (states : List JobState) (number : ℕ) : Type 0 where
+  pub within : number < length known
+  pub ready : is_ready known states number ≡ true
+  pub lowest : NoneReady known states number

@@ -15,7 +15,7 @@ use Rattle.run_core.specs.declared.state.Course.{Course}
 use Rattle.run_core.specs.declared.state.Flight.{Flight}
 use Rattle.run_core.specs.inner.Course.{Past, known_in, past_of}
 use Rattle.run_core.specs.inner.Due.{IsKept}
-use Rattle.run_core.specs.inner.JobStates.{state_at, waits_in}
+use Rattle.run_core.specs.inner.JobStates.{is_there, state_at, waits_in}
 use Rattle.run_core.specs.inner.Knows.{IsKnown}
 use Rattle.job_rows.specs.declared.row.Row.{Row}
 use Rattle.run_core.specs.inner.FoundRows.{row_in}
@@ -29,6 +29,7 @@ course_of past at_work gave_up = record {
   tickets = past.tickets;
   numbers = numbers_of past.flights;
   waits = waits_in past.jobs;
+  at_hand = is_there past.jobs;
   folder = λ n. (state_at past.jobs n).folder;
   gave_up = gave_up;
   folders = past.folders;

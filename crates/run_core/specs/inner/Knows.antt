@@ -1,5 +1,5 @@
 -- What is known of the process, by the rules of its unfolding.
-use Rattle.std.specs.Prelude.{◌≡◌, ◌++◌, ◌∷◌, List, [], Option, Some, None, IsSome, OnErr, Result, Err, unwrap_or}
+use Rattle.std.specs.Prelude.{◌≡◌, ℕ, ◌++◌, ◌∷◌, List, [], Option, Some, None, IsSome, OnErr, Result, Err, unwrap_or}
 use Rattle.job_graph.specs.declared.unfolding.Unfolding.{Unfolding}
 use Rattle.job_graph.specs.declared.fault.UnfoldError.{UnfoldError}
 use Rattle.job_graph.specs.declared.fault.UnfoldFault.{UnfoldFault}
@@ -12,7 +12,7 @@ use Rattle.run_rules.specs.declared.outcome.Cause.{Cause}
 use Rattle.run_rules.specs.declared.outcome.Outcome.{Outcome}
 use Rattle.run_rules.specs.declared.outcome.RunFault.{RunFault}
 use Rattle.run_core.specs.declared.state.Course.{Course}
-use Rattle.run_core.specs.inner.Course.{known_in, past_of, with_end}
+use Rattle.run_core.specs.inner.Course.{known_in, past_of, place_at, with_end, with_hand}
 use Rattle.run_core.specs.inner.Turn.{permanent}
 
 -- what these places unfold is known, and no equation fails
@@ -43,6 +43,19 @@ pub record IsTold (one : Resolved) (kept : Unfolding) (new : Option Unfolding) (
 abbrev pub Learns : Resolved → Course → Course → Type 0
 Learns one old new = (walks : Walker) (learned : List Resolved) (kept : Unfolding) → old.known ≡ Some kept → Knows walks learned kept →
     IsUnfolded walks (learned ++ one ∷ []) old new
+
+-- and so, unless the end is settled
+pub record LearnsUnlessOver (one : Resolved) (old new : Course) : Type 0 where
+  pub settled : IsSome old.end → past_of new ≡ past_of old
+  pub unlearned : IsSome old.end → new.known ≡ old.known
+  pub learned : old.end ≡ None → Learns one old new
+
+-- the job of a number gives these outputs: they are at hand, and learned
+pub record GivesAt (number : ℕ) (outputs : Fields) (old new : Course) : Type 0 where
+  pub there : Course
+  pub past : past_of there ≡ with_hand number (past_of old)
+  pub known : there.known ≡ old.known
+  pub learns : LearnsUnlessOver (record { place = place_at (known_in old.known) number; outputs = outputs }) there new
 
 -- the outputs of the process, where they are there
 abbrev pub outputs_in : Option Unfolding → Fields

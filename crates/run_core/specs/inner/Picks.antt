@@ -40,10 +40,10 @@ use Rattle.run_core.specs.declared.state.Kept.{Kept}
 use Rattle.run_core.specs.declared.state.Phase.{Phase}
 use Rattle.run_core.specs.declared.state.Reading.{Reading}
 use Rattle.run_core.specs.declared.state.Turn.{Turn}
-use Rattle.run_core.specs.inner.Course.{GivesUp, TakesOut, known_in, number_in, past_of, place_at, with_answer, with_end, with_staging, with_start, failure_in, put_note, with_note, Past}
+use Rattle.run_core.specs.inner.Course.{GivesUp, TakesOut, families_in, known_in, number_in, past_of, place_at, with_answer, with_end, with_staging, with_start, failure_in, put_note, with_note, with_hand, Past}
 use Rattle.run_core.specs.inner.Due.{CollectsFirst, CollectsPast, Scans, Starts, StartsPast}
-use Rattle.run_core.specs.inner.JobStates.{IsLowest, NoneWaits}
-use Rattle.run_core.specs.inner.Knows.{Learns, outputs_in}
+use Rattle.run_core.specs.inner.JobStates.{IsLowest, NoneReady}
+use Rattle.run_core.specs.inner.Knows.{GivesAt, LearnsUnlessOver, outputs_in}
 use Rattle.run_core.specs.inner.Turn.{collects, ends, root_asks, succeeds, works, puts}
 use Rattle.run_core.specs.inner.FoundRows.{row_in}
 
@@ -104,15 +104,15 @@ pub data Delivers (given : Given) (course : Course) : Turn → Type 0 where
   delivers : (turn : Turn) → any_file (outputs_in course.known) ≡ true → DeliversFiles given course (last_by_name (outputs_in course.known)) turn → Delivers given course turn
   succeeds_at_once : any_file (outputs_in course.known) ≡ false → Delivers given course (succeeds (located (last_by_name (outputs_in course.known))))
 
--- no slot is free, or no known job waits
+-- no slot is free, or no known job is ready
 pub data NoneToStage (given : Given) (course : Course) : Type 0 where
   slots_full : given.options.slots ≤ length course.tickets.items → NoneToStage given course
-  none_waits : NoneWaits course.jobs (length (known_in course.known)) → NoneToStage given course
+  none_ready : NoneReady (families_in course.known) course.jobs (length (families_in course.known)) → NoneToStage given course
 
--- a slot is free for the lowest job that waits
+-- a slot is free for the lowest job that is ready
 pub record MayBeNext (given : Given) (course : Course) (number : ℕ) : Type 0 where
   pub slot : length course.tickets.items < given.options.slots
-  pub lowest : IsLowest course.jobs (length (known_in course.known)) number
+  pub lowest : IsLowest (families_in course.known) course.jobs number
 
 -- where nothing is due
 pub data Picks (given : Given) (old : Course) : Turn → Course → Type 0 where
@@ -122,7 +122,7 @@ pub data Picks (given : Given) (old : Course) : Turn → Course → Type 0 where
   finds : (number : ℕ) (turn : Turn) (new : Course) → old.end ≡ None → IsNextToFind old number → Finds old number turn → past_of new ≡ past_of old →
       new.known ≡ old.known → Picks given old turn new
   stages : (number : ℕ) (turn : Turn) (new : Course) → old.end ≡ None → NoneToFind old → length old.tickets.items < given.options.slots →
-      IsLowest old.jobs (length (known_in old.known)) number → Stages given old number turn → past_of new ≡ past_of old → new.known ≡ old.known → Picks given old turn new
+      IsLowest (families_in old.known) old.jobs number → Stages given old number turn → past_of new ≡ past_of old → new.known ≡ old.known → Picks given old turn new
   waits_for_one : (new : Course) → old.end ≡ None → NoneToFind old → old.tickets.items ≢ [] → NoneToStage given old → past_of new ≡ past_of old → new.known ≡ old.known →
       Picks given old collects new
   has_result : (turn : Turn) (new : Course) → old.end ≡ None → NoneToFind old → old.tickets.items ≡ [] → NoneToStage given old → Delivers given old turn →
@@ -146,12 +146,10 @@ pub data Turns (given : Given) (old : Course) (number : ℕ) : JobNext → Turn 
   fails : (cause : Cause) (failed : Course) (turn : Turn) (new : Course) →
       past_of failed ≡ with_end (failure_in (past_of old) number (place_at (known_in old.known) number) cause) (past_of old) → failed.known ≡ old.known →
       Picks given failed turn new → Turns given old number (JobNext.Fails cause) turn new
-  -- an end that is settled stays, and nothing more is learned
-  gives_late : (outputs : Fields) (row : Option Row) (same : Course) (turn : Turn) (new : Course) → IsSome old.end → past_of same ≡ past_of old → same.known ≡ old.known →
-      PutsOrPicks given (place_at (known_in old.known) number) same number row turn new → Turns given old number (JobNext.Gives outputs row) turn new
-  gives : (outputs : Fields) (row : Option Row) (learned : Course) (turn : Turn) (new : Course) → old.end ≡ None →
-      Learns (record { place = place_at (known_in old.known) number; outputs = outputs }) old learned →
+  gives : (outputs : Fields) (row : Option Row) (learned : Course) (turn : Turn) (new : Course) → GivesAt number outputs old learned →
       PutsOrPicks given (place_at (known_in old.known) number) learned number row turn new → Turns given old number (JobNext.Gives outputs row) turn new
+  repeats : (row : Row) (there : Course) (turn : Turn) (new : Course) → past_of there ≡ with_hand number (past_of old) → there.known ≡ old.known →
+      Puts (place_at (known_in old.known) number) there number row turn new → Turns given old number (JobNext.Repeats row) turn new
   mismatches : (outputs : Fields) (failed : Course) (turn : Turn) (new : Course) →
       past_of failed ≡ with_end (Err (RunFault.Mismatch (place_at (known_in old.known) number))) (past_of old) → failed.known ≡ old.known →
       Picks given failed turn new → Turns given old number (JobNext.Differs outputs) turn new
@@ -246,6 +244,11 @@ pub data Tells (tool : Tool) : RecordAnswer → Option RecordRefusal → Type 0 
   has_wrong_row : (row : Row) → (IsSound tool row → ⊥) → Tells tool (RecordAnswer.Found (Some row)) (Some NotARecord)
   refuses : (refusal : RecordRefusal) → Tells tool (RecordAnswer.Refused refusal) (Some refusal)
 
+-- the outputs of a row that was found are learned, unless the end is settled
+abbrev pub LearnsRow : JobPlace → RecordAnswer → Course → Course → Type 0
+LearnsRow place (RecordAnswer.Found (Some row)) old new = LearnsUnlessOver (record { place = place; outputs = row.outputs }) old new
+LearnsRow place answer old new = (past_of new ≡ past_of old) × (new.known ≡ old.known)
+
 pub record AfterFind (given : Given) (old : Course) (number : ℕ) (answer : RecordAnswer) (turn : Turn) (new : Course) : Type 0 where
   pub job : Job
   pub is_job : slice_get (known_in old.known) number ≡ Some job
@@ -254,7 +257,9 @@ pub record AfterFind (given : Given) (old : Course) (number : ℕ) (answer : Rec
   pub noted : Course
   pub past : past_of noted ≡ with_answer number answer refusal (past_of old)
   pub known : noted.known ≡ old.known
-  pub picks : Picks given noted turn new
+  pub learned : Course
+  pub learns : LearnsRow (place_at (known_in old.known) number) answer noted learned
+  pub picks : Picks given learned turn new
 
 -- the record has answered whether the row of the job of a number is kept
 abbrev pub noted_by : JobPlace → RecordAnswer → Past → Past

@@ -30,7 +30,7 @@ use Rattle.run_core.specs.declared.state.Kept.{Kept}
 use Rattle.run_core.specs.declared.state.Measuring.{Measuring}
 use Rattle.run_core.specs.declared.state.Phase.{Phase}
 use Rattle.run_core.specs.declared.state.Turn.{Turn}
-use Rattle.run_core.specs.inner.Course.{Past, known_in, nothing_past, past_of}
+use Rattle.run_core.specs.inner.Course.{Past, families_in, known_in, nothing_past, past_of}
 use Rattle.run_core.specs.inner.Due.{Calls, IsKept, work_of}
 use Rattle.run_core.specs.inner.Keeps.{Reflects}
 use Rattle.run_core.specs.inner.Measured.{IsMeasuring, measured_by}
@@ -58,11 +58,11 @@ pub record IsWorking (s : Scene) (f : Progress) (course : Course) (number : ℕ)
   pub calls : Calls s.options (state_at course.jobs number).folder call phase
   pub on : WorksOn f.events job.place phase
 
--- a job that is to be staged: the lowest one that waits
+-- a job that is to be staged: the lowest one that is ready
 pub record IsStaging (s : Scene) (f : Progress) (marks : List Mark) (course : Course) (number : ℕ) (job : Job) (plan : StagePlan) : Type 0 where
   pub it : IsJob (known_in course.known) number job
   pub may : MayStage s f marks job.place plan (course.folders + 1)
-  pub lowest : IsLowest course.jobs (length (known_in course.known)) number
+  pub lowest : IsLowest (families_in course.known) course.jobs number
   pub going : course.end ≡ None
 
 -- a job whose row is looked for: the first one that is left

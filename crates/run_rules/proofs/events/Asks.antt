@@ -7,15 +7,16 @@ use Rattle.staging.specs.Plan.{IsPlan}
 use Rattle.staging.specs.declared.plan.StagePlan.{StagePlan}
 use Rattle.run_rules.specs.declared.request.Request.{Request}
 use Rattle.job_graph.specs.Words.{Fields, JobPlace}
-use Rattle.job_graph.specs.Made.{any_made, fields_moved}
+use Rattle.job_graph.specs.Made.{fields_moved}
 use Rattle.run_rules.specs.Folders.{in_folder}
 use Rattle.job_graph.specs.Jobs.{Job}
-use Rattle.run_rules.specs.Scene.{Scene, NothingWasMadeBefore}
+use Rattle.run_rules.specs.Scene.{Scene}
 use Rattle.run_rules.specs.Delivered.{any_file, source_place}
 use Rattle.run_rules.specs.Events.{Work, nothing_due, Progress, in_flight, is_at_hand, is_held, is_looked_up, is_reusable, is_staging, delivered_at, folder_at, unfolding_at}
 use Rattle.run_rules.specs.End.{End, settled, IsDelivery, is_lost_collect}
 use Rattle.job_key.specs.Key.{key}
 use Rattle.run_rules.specs.Allowed.{IsFree, IsOpen, MayFind, MayStage, IsBusy, MayCollect, MayDeliver, due, due_in}
+use Rattle.run_rules.specs.Parents.{IsParent}
 use Rattle.run_rules.specs.Plans.{mark_at}
 use Rattle.plan_checker.specs.declared.plan.Mark.TheVariants.{Compute}
 use Rattle.run_rules.proofs.events.Flights.{Flight}
@@ -23,9 +24,9 @@ use Rattle.run_rules.proofs.events.Places.{AreApart, IsFound, IsJob, found_at, f
 use Rattle.run_rules.proofs.Places.{same_place}
 use Rattle.run_rules.proofs.events.Planned.{jobs_in}
 
--- the outputs of the jobs that made files in the inputs of a job are at hand
+-- the outputs of the parents of a job are at hand
 abbrev pub AreParentsAtHand : Scene → Progress → Job → Type 0
-AreParentsAtHand s f job = NothingWasMadeBefore s → (parent : JobPlace) → any_made parent job.inputs ≡ true → is_at_hand f.events parent ≡ true
+AreParentsAtHand s f job = (parent : Job) → IsParent (jobs_in s f) job parent → is_at_hand f.events parent.place ≡ true
 
 module _ (s : Scene) (f : Progress) (marks : List Mark) where
   -- what is due is asked
@@ -68,15 +69,14 @@ module _ (s : Scene) (f : Progress) (marks : List Mark) where
     no_stage = λ place plan number may. absurd (omega (arith, may.slot, full));
   }
 
-  -- or each known job is held
-  pub busy_when_held : IsFree s f → ((n : ℕ) (job : Job) → IsJob (jobs_in s f) n job → is_held f.events job.place ≡ true) → IsBusy s f marks
-  busy_when_held free held = record {
+  -- or each known job is held, or its parents are not at hand
+  pub busy_when_none_may : IsFree s f → ((n : ℕ) (job : Job) → IsJob (jobs_in s f) n job → is_held f.events job.place ≡ false → AreParentsAtHand s f job → ⊥) → IsBusy s f marks
+  busy_when_none_may free none = record {
     free = free;
     no_stage = λ place plan number may.
         let it : IsFound (jobs_in s f) place may.job = found_is (jobs_in s f) place may.job may.known in
         let at : may.job.place ≡ place = same_place may.job.place place it.same in
-        let is : is_held f.events place ≡ true = subst (λ (p : JobPlace). is_held f.events p ≡ true) at (held it.number may.job it.there) in
-        let never : true ≡ false = sym is ∙ may.not_held in cc;
+        none it.number may.job it.there (ap (is_held f.events) at ∙ may.not_held) may.parents;
   }
 
   -- a child is waited for

@@ -10,7 +10,7 @@ use Rattle.proc_host.specs.Tickets.{IsFresh}
 use Rattle.job_graph.specs.Words.{Fields, JobPlace, is_same_place}
 use Rattle.job_graph.specs.Jobs.{Job}
 use Rattle.job_graph.specs.Unfold.{is_at}
-use Rattle.run_rules.specs.Events.{job_staged, job_started, child_exited, job_succeeded, job_failed_for_now}
+use Rattle.run_rules.specs.Events.{job_staged, job_started, child_exited, job_failed_for_now, job_repeated}
 use Rattle.run_rules.proofs.events.ByNumber.{flies_by, gives_up_by, number_by}
 use Rattle.run_rules.proofs.events.Flights.{Flight, FlyApart, flies_more, is_flying, landed_flies_no_more, landed_is_one_less, landing_leaves_apart, others_fly_on, start_flies_apart, tickets_more}
 use Rattle.run_rules.proofs.events.Known.{IsFront, found_still, numbered_still}
@@ -26,6 +26,8 @@ pub record Course : Type 0 where
   pub numbers : List ℕ
   -- whether the job of a number may be staged: it never was, or it gave up
   pub waits : ℕ → Bool
+  -- whether its outputs are at hand
+  pub at_hand : ℕ → Bool
   -- the number of the folders that each was staged in last, and how often it gave up
   pub folder : ℕ → ℕ
   pub gave_up : ℕ → ℕ
@@ -59,6 +61,7 @@ pub record IsNew (c : Course) (n : ℕ) : Type 0 where
   pub unstaged : c.folder n ≡ 0
   pub untried : c.gave_up n ≡ 0
   pub waits : c.waits n ≡ true
+  pub away : c.at_hand n ≡ false
 
 abbrev pub holds : Readings → JobPlace → Bool
 holds r place = is_flying r.flying place || r.at_hand place
@@ -70,6 +73,7 @@ pub record Keeps (jobs : List Job) (r : Readings) (c : Course) : Type 0 where
   pub folders : c.folders ≡ r.stagings
   pub number : (n : ℕ) (job : Job) → IsJob jobs n job → r.number job.place ≡ c.folder n
   pub gave_up : (n : ℕ) (job : Job) → IsJob jobs n job → r.gave_up job.place ≡ c.gave_up n
+  pub hand : (n : ℕ) (job : Job) → IsJob jobs n job → r.at_hand job.place ≡ c.at_hand n
   -- what waits is not held
   pub waiting : (n : ℕ) (job : Job) → IsJob jobs n job → c.waits n ≡ true → holds r job.place ≡ false
   -- a number that is no job's yet is that of a job to which nothing has happened
@@ -91,8 +95,9 @@ gives_over jobs r c k = record {
   folders = k.folders;
   number = k.number;
   gave_up = k.gave_up;
+  hand = k.hand;
   waiting = k.waiting;
-  unnumbered = λ n past. let it : IsNew c n = k.unnumbered n past in record { unstaged = it.unstaged; untried = it.untried; waits = it.waits };
+  unnumbered = λ n past. let it : IsNew c n = k.unnumbered n past in record { unstaged = it.unstaged; untried = it.untried; waits = it.waits; away = it.away };
   worked = λ n job it at_work. absurd cc;
   worked_on = λ n at_work. absurd cc;
   held = λ over n job it taken other. absurd cc;
@@ -128,6 +133,10 @@ given_or_not false old is = inr is
 still_taken : (test old : Bool) → (test ≡ false → old ≡ false) → cond test false old ≡ false
 still_taken true old is = refl
 still_taken false old is = is refl
+
+or_is_cond : (a b : Bool) → (a || b) ≡ cond a true b
+or_is_cond true b = refl
+or_is_cond false b = refl
 
 nor_more : (b : Bool) → (b || (false || false)) ≡ b
 nor_more true = refl
@@ -245,6 +254,7 @@ module _ (jobs : List Job) (r : Readings) (c : Course) (k : Keeps jobs r c) wher
         unstaged = ap (λ b. cond b number (c.folder m)) differs ∙ old.unstaged;
         untried = old.untried;
         waits = ap (λ b. cond b false (c.waits m)) differs ∙ old.waits;
+        away = old.away;
       }
 
   held_still : (n m : ℕ) (other : Job) → c.at_work ≡ None → c.over ≡ false → IsJob jobs m other → (test : Bool) → (n == m) ≡ test →
@@ -262,6 +272,7 @@ module _ (jobs : List Job) (r : Readings) (c : Course) (k : Keeps jobs r c) wher
     folders = ap suc k.folders;
     number = λ m other its. number_by jobs k.apart n m job other it its (r.number other.place) number ∙ ap (λ x. cond (n == m) number x) (k.number m other its);
     gave_up = k.gave_up;
+    hand = k.hand;
     waiting = λ m other its waits. k.waiting m other its (taken_before (n == m) (c.waits m) waits).1;
     unnumbered = λ m past. new_still n job number m it past;
     worked = λ m other its at_work. let same : n ≡ m = some_n n m at_work in
@@ -292,11 +303,13 @@ module _ (jobs : List Job) (r : Readings) (c : Course) (k : Keeps jobs r c) wher
     number = k.number;
     gave_up = λ m other its. ap (λ b. cond b (suc (r.gave_up other.place)) (r.gave_up other.place)) (gives_up_by jobs k.apart n m job other it its)
         ∙ ap (λ x. cond (n == m) (suc x) x) (k.gave_up m other its);
+    hand = k.hand;
     waiting = k.waiting;
     unnumbered = λ m past. let old : IsNew c m = k.unnumbered m past in record {
       unstaged = old.unstaged;
       untried = ap (λ b. cond b (suc (c.gave_up m)) (c.gave_up m)) (ne_eqb n m (λ same. omega (arith, past, it.within, same))) ∙ old.untried;
       waits = old.waits;
+      away = old.away;
     };
     worked = k.worked;
     worked_on = k.worked_on;
@@ -328,11 +341,13 @@ module _ (jobs : List Job) (r : Readings) (c : Course) (k : Keeps jobs r c) wher
     folders = k.folders;
     number = k.number;
     gave_up = k.gave_up;
+    hand = k.hand;
     waiting = λ m other its waits. waiting_again n m job other it its at_work (given_or_not (n == m) (c.waits m) waits);
     unnumbered = λ m past. let old : IsNew c m = k.unnumbered m past in record {
       unstaged = old.unstaged;
       untried = old.untried;
       waits = given_always (n == m) (c.waits m) old.waits;
+      away = old.away;
     };
     worked = λ m other its never. absurd cc;
     worked_on = λ m never. absurd cc;
@@ -388,6 +403,7 @@ module _ (jobs : List Job) (r : Readings) (c : Course) (k : Keeps jobs r c) wher
         folders = k.folders;
         number = k.number;
         gave_up = k.gave_up;
+        hand = k.hand;
         waiting = λ m other its waits.
             let old : (is_flying r.flying other.place ≡ false) × (r.at_hand other.place ≡ false) =
             or_parts (is_flying r.flying other.place) (r.at_hand other.place) (k.waiting m other its waits) in
@@ -395,7 +411,7 @@ module _ (jobs : List Job) (r : Readings) (c : Course) (k : Keeps jobs r c) wher
             or_from (is_flying (r.flying ++ (ticket, job.place) ∷ []) other.place) (r.at_hand other.place)
             (flies_by jobs k.apart n m job other it its r.flying ticket
             ∙ or_from (is_flying r.flying other.place) ((n == m) || false) old.0 (or_from (n == m) false differs refl)) old.1;
-        unnumbered = λ m past. let old : IsNew c m = k.unnumbered m past in record { unstaged = old.unstaged; untried = old.untried; waits = old.waits };
+        unnumbered = λ m past. let old : IsNew c m = k.unnumbered m past in record { unstaged = old.unstaged; untried = old.untried; waits = old.waits; away = old.away };
         worked = λ m other its never. absurd cc;
         worked_on = λ m never. absurd cc;
         held = λ over m other its within not_it. started_held n job ticket it over m other its within at_work (n == m) refl;
@@ -436,11 +452,12 @@ module _ (jobs : List Job) (r : Readings) (c : Course) (k : Keeps jobs r c) wher
         folders = k.folders;
         number = k.number;
         gave_up = k.gave_up;
+        hand = k.hand;
         waiting = λ m other its waits.
             let old : (is_flying r.flying other.place ≡ false) × (r.at_hand other.place ≡ false) =
             or_parts (is_flying r.flying other.place) (r.at_hand other.place) (k.waiting m other its waits) in
             or_from (is_flying (remove r.flying index) other.place) (r.at_hand other.place) (fewer_fly r.flying index other.place old.0) old.1;
-        unnumbered = λ m past. let old : IsNew c m = k.unnumbered m past in record { unstaged = old.unstaged; untried = old.untried; waits = old.waits };
+        unnumbered = λ m past. let old : IsNew c m = k.unnumbered m past in record { unstaged = old.unstaged; untried = old.untried; waits = old.waits; away = old.away };
         worked = λ m other its now. let same : n ≡ m = some_n n m now in
             subst (λ (j : Job). (is_flying (remove r.flying index) j.place || r.at_hand j.place) ≡ false) (one_job jobs n m job other same it its)
             (or_from (is_flying (remove r.flying index) job.place) (r.at_hand job.place) lands
@@ -460,15 +477,66 @@ module _ (jobs : List Job) (r : Readings) (c : Course) (k : Keeps jobs r c) wher
         };
       })
 
-  -- its outputs were collected, and more may be known
-  module _ (n : ℕ) (job : Job) (outputs : Fields) (more : List Job) (it : IsJob jobs n job) (at_work : c.at_work ≡ Some n) (leads : IsFront jobs more)
-      (apart : AreApart more) where
-    abbrev pub when_succeeded : Course
-    when_succeeded = record c { at_work = None }
+  -- its outputs were collected
+  module _ (n : ℕ) (job : Job) (it : IsJob jobs n job) (at_work : c.at_work ≡ Some n) where
+    abbrev pub when_at_hand : Course
+    when_at_hand = record c { at_hand = λ m. cond (n == m) true (c.at_hand m); at_work = None }
 
-    its_still : IsJob more n job
-    its_still = numbered_still jobs more n job leads it
+    held_after : c.over ≡ false → (m : ℕ) (other : Job) → IsJob jobs m other → c.waits m ≡ false → (test : Bool) → (n == m) ≡ test →
+        (is_flying r.flying other.place || (is_same_place job.place other.place || r.at_hand other.place)) ≡ true
+    held_after over m other its within true same =
+        or_right (is_flying r.flying other.place) (is_same_place job.place other.place || r.at_hand other.place)
+        (or_left (is_same_place job.place other.place) (r.at_hand other.place) (same_by_number jobs k.apart n m job other it its ∙ same))
+    held_after over m other its within false differs =
+        ap (λ b. is_flying r.flying other.place || (b || r.at_hand other.place)) (same_by_number jobs k.apart n m job other it its ∙ differs)
+        ∙ k.held over m other its within (λ now. eqb-false n m differs (some_n n m (sym at_work ∙ now)))
 
+    coming_by : (place : JobPlace) (test : Bool) → is_same_place job.place place ≡ test → is_flying r.flying place ≡ true →
+        (is_same_place job.place place || r.at_hand place) ≡ false
+    coming_by place true same flies =
+        let lands : is_flying r.flying place ≡ false =
+        subst (λ (p : JobPlace). is_flying r.flying p ≡ false) (same_place job.place place same)
+        (or_parts (is_flying r.flying job.place) (r.at_hand job.place) (k.worked n job it at_work)).0 in
+        let never : true ≡ false = sym flies ∙ lands in absurd cc
+    coming_by place false differs flies = or_from (is_same_place job.place place) (r.at_hand place) differs (k.coming place flies)
+
+    pub keeps_at_hand : Keeps jobs (reads_after r (job_repeated job.place)) when_at_hand
+    keeps_at_hand = record {
+      apart = k.apart;
+      alone = k.alone;
+      flights = k.flights;
+      folders = k.folders;
+      number = k.number;
+      gave_up = k.gave_up;
+      hand = λ m other its.
+          ap (λ b. b || r.at_hand other.place) (same_by_number jobs k.apart n m job other it its) ∙ ap (λ b. (n == m) || b) (k.hand m other its)
+          ∙ or_is_cond (n == m) (c.at_hand m);
+      waiting = λ m other its waits.
+          let old : (is_flying r.flying other.place ≡ false) × (r.at_hand other.place ≡ false) =
+          or_parts (is_flying r.flying other.place) (r.at_hand other.place) (k.waiting m other its waits) in
+          let differs : (n == m) ≡ false = other_than c.waits n m (k.worked_on n at_work) waits in
+          or_from (is_flying r.flying other.place) (is_same_place job.place other.place || r.at_hand other.place) old.0
+          (or_from (is_same_place job.place other.place) (r.at_hand other.place) (same_by_number jobs k.apart n m job other it its ∙ differs) old.1);
+      unnumbered = λ m past. let old : IsNew c m = k.unnumbered m past in record {
+        unstaged = old.unstaged;
+        untried = old.untried;
+        waits = old.waits;
+        away = ap (λ b. cond b true (c.at_hand m)) (ne_eqb n m (λ same. omega (arith, past, it.within, same))) ∙ old.away;
+      };
+      worked = λ m other its never. absurd cc;
+      worked_on = λ m never. absurd cc;
+      held = λ over m other its within not_it. held_after over m other its within (n == m) refl;
+      coming = λ place flies. coming_by place (is_same_place job.place place) refl flies;
+      unknown = λ place none. let old : IsUntouched r place = k.unknown place none in record {
+        lands = old.lands;
+        away = or_from (is_same_place job.place place) (r.at_hand place) (not_found place jobs n job none it.within it.is) old.away;
+        unstaged = old.unstaged;
+        untried = old.untried;
+      };
+    }
+
+  -- more is known
+  module _ (more : List Job) (idle : c.at_work ≡ None) (leads : IsFront jobs more) (apart : AreApart more) where
     free_before : (m : ℕ) (other : Job) → IsJob more m other → c.waits m ≡ true → holds r other.place ≡ false
     free_before m other its waits = elim (known_or_new jobs more m other leads its) [
       | inl before ↦ k.waiting m other before waits
@@ -489,68 +557,47 @@ module _ (jobs : List Job) (r : Readings) (c : Course) (k : Keeps jobs r c) wher
       | inr new ↦ (k.unknown other.place (new_place jobs more m other leads apart its new)).untried ∙ sym (k.unnumbered m new).untried
     ]
 
-    held_before : c.over ≡ false → (m : ℕ) (other : Job) → IsJob more m other → c.waits m ≡ false → (m ≡ n → ⊥) → holds r other.place ≡ true
+    hand_still : (m : ℕ) (other : Job) → IsJob more m other → r.at_hand other.place ≡ c.at_hand m
+    hand_still m other its = elim (known_or_new jobs more m other leads its) [
+      | inl before ↦ k.hand m other before
+      | inr new ↦ (k.unknown other.place (new_place jobs more m other leads apart its new)).away ∙ sym (k.unnumbered m new).away
+    ]
+
+    held_before : c.over ≡ false → (m : ℕ) (other : Job) → IsJob more m other → c.waits m ≡ false → (c.at_work ≡ Some m → ⊥) → holds r other.place ≡ true
     held_before over m other its taken not_it = elim (known_or_new jobs more m other leads its) [
-      | inl before ↦ k.held over m other before taken (λ now. not_it (some_n m n (sym now ∙ at_work)))
+      | inl before ↦ k.held over m other before taken not_it
       | inr new ↦ (let never : true ≡ false = sym (k.unnumbered m new).waits ∙ taken in absurd cc)
     ]
 
-    held_after : c.over ≡ false → (m : ℕ) (other : Job) → IsJob more m other → c.waits m ≡ false → (test : Bool) → (n == m) ≡ test →
-        (is_flying r.flying other.place || (is_same_place job.place other.place || r.at_hand other.place)) ≡ true
-    held_after over m other its within true same =
-        or_right (is_flying r.flying other.place) (is_same_place job.place other.place || r.at_hand other.place)
-        (or_left (is_same_place job.place other.place) (r.at_hand other.place) (same_by_number more apart n m job other its_still its ∙ same))
-    held_after over m other its within false differs =
-        ap (λ b. is_flying r.flying other.place || (b || r.at_hand other.place)) (same_by_number more apart n m job other its_still its ∙ differs)
-        ∙ held_before over m other its within (λ same. eqb-false n m differs (sym same))
-
-    coming_by : (place : JobPlace) (test : Bool) → is_same_place job.place place ≡ test → is_flying r.flying place ≡ true →
-        (is_same_place job.place place || r.at_hand place) ≡ false
-    coming_by place true same flies =
-        let lands : is_flying r.flying place ≡ false =
-        subst (λ (p : JobPlace). is_flying r.flying p ≡ false) (same_place job.place place same)
-        (or_parts (is_flying r.flying job.place) (r.at_hand job.place) (k.worked n job it at_work)).0 in
-        let never : true ≡ false = sym flies ∙ lands in absurd cc
-    coming_by place false differs flies = or_from (is_same_place job.place place) (r.at_hand place) differs (k.coming place flies)
-
-    pub keeps_succeeded : Keeps more (reads_after r (job_succeeded job.place outputs)) when_succeeded
-    keeps_succeeded = record {
+    pub keeps_learned : Keeps more r c
+    keeps_learned = record {
       apart = apart;
       alone = k.alone;
       flights = record { their_tickets = k.flights.their_tickets; their_jobs = jobs_still jobs more r.flying c.numbers leads k.flights.their_jobs };
       folders = k.folders;
       number = number_still;
       gave_up = gave_up_still;
-      waiting = λ m other its waits.
-          let old : (is_flying r.flying other.place ≡ false) × (r.at_hand other.place ≡ false) =
-          or_parts (is_flying r.flying other.place) (r.at_hand other.place) (free_before m other its waits) in
-          let differs : (n == m) ≡ false = other_than c.waits n m (k.worked_on n at_work) waits in
-          or_from (is_flying r.flying other.place) (is_same_place job.place other.place || r.at_hand other.place) old.0
-          (or_from (is_same_place job.place other.place) (r.at_hand other.place) (same_by_number more apart n m job other its_still its ∙ differs) old.1);
+      hand = hand_still;
+      waiting = free_before;
       unnumbered = λ m past.
           let longer : length more ≡ length jobs + length leads.rest = ap length leads.is ∙ length-append jobs leads.rest in
           let old : IsNew c m = k.unnumbered m (omega (arith, past, longer)) in
-          record { unstaged = old.unstaged; untried = old.untried; waits = old.waits };
-      worked = λ m other its never. absurd cc;
-      worked_on = λ m never. absurd cc;
-      held = λ over m other its within not_it. held_after over m other its within (n == m) refl;
-      coming = λ place flies. coming_by place (is_same_place job.place place) refl flies;
-      unknown = λ place none. let old : IsUntouched r place = k.unknown place (unknown_before jobs more place leads none) in record {
-        lands = old.lands;
-        away = or_from (is_same_place job.place place) (r.at_hand place) (not_found place more n job none its_still.within its_still.is) old.away;
-        unstaged = old.unstaged;
-        untried = old.untried;
-      };
+          record { unstaged = old.unstaged; untried = old.untried; waits = old.waits; away = old.away };
+      worked = λ m other its now. let never : None ≡ Some m = sym idle ∙ now in absurd cc;
+      worked_on = k.worked_on;
+      held = held_before;
+      coming = k.coming;
+      unknown = λ place none. k.unknown place (unknown_before jobs more place leads none);
     }
 
 -- Before any job is staged
 
-none_alike : {K : Type 0} (eq : K → K → Bool) → IsDistinct eq []
+pub none_alike : {K : Type 0} (eq : K → K → Bool) → IsDistinct eq []
 unfolding IsDistinct
 none_alike eq = tt
 
 abbrev pub first_course : Course
-first_course = record { tickets = []; numbers = []; waits = λ n. true; folder = λ n. 0; gave_up = λ n. 0; folders = 0; at_work = None; over = false }
+first_course = record { tickets = []; numbers = []; waits = λ n. true; at_hand = λ n. false; folder = λ n. 0; gave_up = λ n. 0; folders = 0; at_work = None; over = false }
 
 pub keeps_at_first : (jobs : List Job) → AreApart jobs → Keeps jobs (readings []) first_course
 keeps_at_first jobs apart = record {
@@ -560,8 +607,9 @@ keeps_at_first jobs apart = record {
   folders = refl;
   number = λ n job it. refl;
   gave_up = λ n job it. refl;
+  hand = λ n job it. refl;
   waiting = λ n job it waits. refl;
-  unnumbered = λ n past. record { unstaged = refl; untried = refl; waits = refl };
+  unnumbered = λ n past. record { unstaged = refl; untried = refl; waits = refl; away = refl };
   worked = λ n job it never. absurd cc;
   worked_on = λ n never. absurd cc;
   held = λ over n job it taken not_it. let never : true ≡ false = taken in absurd cc;

@@ -11,7 +11,7 @@ use Rattle.job_graph.specs.Words.{Name, JobPlace}
 use Rattle.job_graph.specs.Jobs.{Job, Walker}
 use Rattle.job_graph.specs.Unfold.{Resolved, Unfolded, is_at, is_known, job_met, jobs_after, met_after, nothing_known, unfolded, with_job}
 use Rattle.run_rules.specs.Scene.{Scene}
-use Rattle.run_rules.specs.Events.{Event, file_measured, job_succeeded, measures_after, measures, measures_path, is_measured, are_measured, resolves, resolved, unfolding_at, job_at}
+use Rattle.run_rules.specs.Events.{Event, file_measured, job_succeeded, row_found, measures_after, measures, measures_path, is_measured, are_measured, resolves, resolved, unfolding_at, job_at}
 use Rattle.run_rules.proofs.events.Places.{IsJob}
 use Rattle.run_rules.proofs.events.Readings.{all_measures_after, is_measured_after, resolved_after}
 
@@ -20,10 +20,11 @@ abbrev pub is_measure : Event → Bool
 is_measure (file_measured path measure) = true
 is_measure _ = false
 
--- whether something is known by it: a measure, or the outputs of a job
+-- whether something is known by it: a measure, or the outputs of a job, by its end or by its row
 abbrev pub teaches : Event → Bool
 teaches (file_measured path measure) = true
 teaches (job_succeeded place outputs) = true
+teaches (row_found place row) = true
 teaches _ = false
 
 -- Measures
@@ -71,6 +72,7 @@ measures_stay es new none = all_measures_after es new ∙ all_same_measures (mea
 
 no_outputs : (e : Event) → teaches e ≡ false → resolves e ≡ None
 no_outputs (job_succeeded place outputs) none = absurd cc
+no_outputs (row_found place row) none = absurd cc
 no_outputs (file_measured path measure) none = refl
 no_outputs _ none = refl
 
@@ -95,6 +97,7 @@ resolved_stay es new none = resolved_after es new ∙ ap (λ (more : List Resolv
 no_teaching : (e : Event) → is_measure e ≡ false → resolves e ≡ None → list_any teaches (e ∷ []) ≡ false
 no_teaching (file_measured path measure) none no_outputs = absurd cc
 no_teaching (job_succeeded place outputs) none no_outputs = absurd cc
+no_teaching (row_found place row) none no_outputs = absurd cc
 no_teaching _ none no_outputs = refl
 
 -- Fronts

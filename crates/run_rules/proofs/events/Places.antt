@@ -1,10 +1,11 @@
 -- The test of two places is equality; and known jobs that are at different places are told apart by it, as by their numbers.
-use Rattle.std.specs.Prelude.{bytes_eq, ◌&&◌, slice_index_or}
+use Rattle.std.specs.Prelude.{bytes_eq, ◌&&◌, slice_get, slice_index_or}
 use Rattle.std.specs.Cmp.{IsEquivalence}
 use Rattle.std.specs.List.{AllByRecursion, IsDistinct}
 use Rattle.std.proofs.Common.{None, ◌≡◌, ◌∙◌, ◌<◌, ◌+◌, ◌==◌, ℕ, zero, suc, Bool, true, false, cond, List, [], ◌∷◌, length, map, find, Some, refl, sym, ap, subst, arith}
 use Rattle.std.proofs.lemmas.Bool.{eqb-true, eq-eqb}
 use Rattle.std.proofs.lemmas.Cmp.{nat_list_eq_equiv}
+use Rattle.std.proofs.lemmas.Option.{get_or_from_slice_get, slice_get_read, slice_get_within}
 use Rattle.std.proofs.lemmas.Map.Keys.{IsDistinct-head, IsDistinct-tail}
 use Rattle.job_graph.specs.Words.{JobPlace, is_same_place}
 use Rattle.job_graph.specs.Jobs.{Job}
@@ -48,6 +49,24 @@ AreApart jobs = IsDistinct is_same_place (places jobs)
 pub record IsJob (jobs : List Job) (number : ℕ) (job : Job) : Type 0 where
   pub within : number < length jobs
   pub is : slice_index_or jobs number job ≡ job
+
+pub read_job : (jobs : List Job) (n : ℕ) (job : Job) → IsJob jobs n job → slice_get jobs n ≡ Some job
+read_job jobs n job it = slice_get_read jobs (length jobs) n job refl it.within (sym it.is)
+
+pub job_there : (jobs : List Job) (n : ℕ) (job : Job) → slice_get jobs n ≡ Some job → IsJob jobs n job
+job_there jobs n job is = record { within = slice_get_within jobs n job is; is = get_or_from_slice_get jobs n job job is }
+
+-- there is one of each number below their count
+pub record HasJob (jobs : List Job) (n : ℕ) : Type 0 where
+  pub job : Job
+  pub it : IsJob jobs n job
+
+pub job_below : (jobs : List Job) (n : ℕ) → n < length jobs → HasJob jobs n
+job_below [] n within = absurd (omega (arith, within))
+job_below (x ∷ jobs) zero within = record { job = x; it = record { within = omega arith; is = refl } }
+job_below (x ∷ jobs) (suc n) within =
+    let later : HasJob jobs n = job_below jobs n (omega (arith, within)) in
+    record { job = later.job; it = record { within = omega (arith, later.it.within); is = later.it.is } }
 
 apart_from : (place : JobPlace) (jobs : List Job) (n : ℕ) (job : Job) → AllByRecursion (λ p. is_same_place place p ≡ false) (places jobs) →
     n < length jobs → slice_index_or jobs n job ≡ job → is_same_place place job.place ≡ false

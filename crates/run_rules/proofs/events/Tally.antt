@@ -2,7 +2,7 @@
 use Rattle.std.specs.Prelude.{◌||◌}
 use Rattle.std.proofs.Common.{◌≡◌, ◌∙◌, ◌+◌, ℕ, suc, Bool, true, false, cond, List, [], ◌∷◌, ◌++◌, length, filter, fold, refl, sym, ap, arith, append_assoc, append-nil}
 use Rattle.job_graph.specs.Words.{JobPlace}
-use Rattle.run_rules.specs.Events.{Event, file_measured, job_staged, job_started, child_exited, job_succeeded, job_failed, job_failed_for_now, result_delivered, host_failed, collect_failed, row_found, no_row, find_failed, put_failed, row_differs, brings, flight_after, in_flight, is_at_hand, is_staging, number_at, number_if}
+use Rattle.run_rules.specs.Events.{Event, file_measured, job_staged, job_started, child_exited, job_succeeded, job_failed, job_failed_for_now, result_delivered, host_failed, collect_failed, row_found, no_row, find_failed, put_failed, row_differs, job_repeated, brings, flight_after, in_flight, is_at_hand, is_staging, number_at, number_if}
 use Rattle.run_rules.specs.End.{gives_up}
 use Rattle.run_rules.proofs.events.Flights.{Flight}
 use Rattle.run_rules.proofs.events.Readings.{gave_up_after, in_flight_after, is_at_hand_after, number_after, stagings_after}
@@ -89,3 +89,4 @@ nothing_read r (no_row place) aside = refl
 nothing_read r (find_failed place refusal) aside = refl
 nothing_read r (put_failed place refusal) aside = refl
 nothing_read r (row_differs place outputs) aside = refl
+nothing_read r (job_repeated place) aside = absurd cc

@@ -1,11 +1,12 @@
 use Rattle.std.specs.Prelude.{◌≢◌, IfOk}
-use Rattle.std.proofs.Common.{◌≡◌, ◌∙◌, [], sym, subst}
+use Rattle.std.proofs.Common.{◌≡◌, ◌∙◌, ◌<◌, [], length, sym, subst}
 use Rattle.run_core.specs.declared.state.Course.{Course}
 use Rattle.run_core.specs.declared.state.Turn.{Turn}
 use Rattle.run_core.specs.inner.Picks.{Delivers, Picks, Stages}
 use Rattle.run_core.specs.inner.Turn.{collects}
 use Rattle.run_core.proofs.Choices.{picks_find, picks_result, picks_stage, picks_wait}
-use Rattle.run_core.proofs.Choosing.{is_none}
+use Rattle.run_core.specs.inner.Course.{known_in}
+use Rattle.run_core.proofs.Choosing.{is_none, known_within}
 use Rattle.run_core.proofs.Lists.{counted, if_ok, uncounted}
 use Rattle.run_core.proofs.choice.pick.Goals as goal
 
@@ -25,6 +26,11 @@ returns-in-Some-next_to_stage-clause-is c =
     c.in-Some-next_to_stage.number turn c.in-Some-next_to_stage.ensures.found
     (subst (λ (looked : Course). Stages c.args.given.now looked c.in-Some-next_to_stage.number turn) c.next_to_stage.ensures.same st))
     c.staging.ensures)
+
+pub staging-requires-clause-number : goal.staging-requires-clause-number
+staging-requires-clause-number c =
+    subst (λ (looked : Course). c.in-Some-next_to_stage.number < length (known_in looked.known)) (sym c.next_to_stage.ensures.same)
+    (known_within c.args.course.now c.in-Some-next_to_stage.number c.in-Some-next_to_stage.ensures.found.lowest)
 
 pub returns-then-is_empty-clause-is : goal.returns-then-is_empty-clause-is
 returns-then-is_empty-clause-is c =

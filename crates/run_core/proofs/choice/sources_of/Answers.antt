@@ -11,6 +11,6 @@ use Rattle.run_core.proofs.choice.sources_of.Goals as goal
 pub returns : goal.returns
 returns c =
     if_ok c.moved_fields.result (λ files is.
-    is ∙ ap (λ (jobs : List Job). fields_moved (source_place (λ place. out_folder c.args.options.now.work (number_in jobs c.as_slice.result.now place))) c.args.values.now) c.known_in.ensures
+    is ∙ ap (λ (jobs : List Job). fields_moved (source_place (λ place. out_folder c.args.options.now.work (number_in jobs c.as_slice.result.now place))) c.args.values.now) c.known_in.ensures.jobs
     ∙ ap (λ (states : List JobState). fields_moved (source_place (λ place. out_folder c.args.options.now.work (number_in (known_in c.args.course.now.known) states place))) c.args.values.now) c.as_slice.ensures)
     c.moved_fields.ensures

@@ -1,4 +1,5 @@
-use Rattle.std.proofs.Common.{◌≡◌, ◌∙◌, sym}
+use Rattle.std.proofs.Common.{◌≡◌, ◌∙◌, sym, subst}
+use Rattle.run_core.specs.inner.Due.{KeepsAt}
 use Rattle.run_core.proofs.Kept.{kept_none, kept_not, kept_row}
 use Rattle.run_core.proofs.keeping.kept.Goals as goal
 
@@ -12,5 +13,6 @@ returns-then-differs_from c =
 
 pub returns-in-Ok : goal.returns-in-Ok
 returns-in-Ok c =
-    kept_row c.args.site c.args.reading.now.millis c.args.reading.now.found c.args.outputs c.reuse.result c.reuse.ensures c.if-not-reuse.false
-    c.outputs_are_the_same_or_not.ensures c.differs_from.result c.differs_from.ensures c.if-differs_from.false c.in-Ok.row c.in-Ok.ensures
+    subst (KeepsAt c.args.site c.args.reading.now.millis c.args.reading.now.found c.args.outputs) (sym c.given.ensures)
+    (kept_row c.args.site c.args.reading.now.millis c.args.reading.now.found c.args.outputs c.reuse.result c.reuse.ensures c.if-not-reuse.false
+    c.outputs_are_the_same_or_not.ensures c.differs_from.result c.differs_from.ensures c.if-differs_from.false c.in-Ok.row c.in-Ok.ensures)

@@ -30,6 +30,10 @@ pub turn_of-requires-clause-number : goal.turn_of-requires-clause-number
 turn_of-requires-clause-number c =
     (lands c.args.ending.now.ticket c.note_end-flight.result c.args.course.now c.note_end-flight.new.course c.note_end-flight.ensures.taken c.note_end-flight.ensures.known c.requires.ready).known
 
+pub turn_of-requires-clause-staged : goal.turn_of-requires-clause-staged
+turn_of-requires-clause-staged c =
+    (lands c.args.ending.now.ticket c.note_end-flight.result c.args.course.now c.note_end-flight.new.course c.note_end-flight.ensures.taken c.note_end-flight.ensures.known c.requires.ready).number
+
 pub returns-in-Success-clause-is : goal.returns-in-Success-clause-is
 returns-in-Success-clause-is c =
     if_ok c.scanned.result (λ turn it. record {

@@ -1,6 +1,6 @@
 use Rattle.std.proofs.Common.{◌≡◌, ◌≤◌, ◌-◌, length}
 use Rattle.run_core.specs.inner.JobStates.{NoneWaits}
-use Rattle.run_core.proofs.job_states.JobStates.first_waiting.Given as goal
+use Rattle.run_core.proofs.job_states.JobStates.first_ready.Given as goal
 
 abbrev pub invariant-loop-self : goal.invariant-loop-self
 invariant-loop-self l = record {

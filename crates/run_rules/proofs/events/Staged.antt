@@ -1,0 +1,86 @@
+-- Which job is staged next, by the numbers of the known jobs, where nothing is due and nothing is worked on.
+use Rattle.std.specs.Prelude.{◌<◌, ◌≤◌}
+use Rattle.std.proofs.Common.{◌≡◌, ◌∙◌, inl, inr, ◌+◌, ℕ, Bool, true, false, List, length, None, Some, refl, sym, ap, subst, arith}
+use Rattle.std.proofs.lemmas.Bool.{cases_lt}
+use Rattle.plan_checker.specs.declared.plan.Mark.{Mark}
+use Rattle.staging.specs.Plan.{IsPlan}
+use Rattle.staging.specs.declared.plan.StagePlan.{StagePlan}
+use Rattle.run_rules.specs.declared.request.Pair.{Pair}
+use Rattle.job_graph.specs.Made.{any_made, fields_moved}
+use Rattle.run_rules.specs.Delivered.{source_place}
+use Rattle.run_rules.specs.Folders.{in_folder}
+use Rattle.job_graph.specs.Jobs.{Job}
+use Rattle.job_graph.specs.Words.{JobPlace}
+use Rattle.run_rules.specs.Scene.{Scene}
+use Rattle.run_rules.specs.Events.{Progress, folder_at, is_at_hand, is_held}
+use Rattle.run_rules.specs.Allowed.{IsFree, IsBusy, MayStage}
+use Rattle.run_rules.specs.Parents.{IsParent}
+use Rattle.run_rules.specs.Plans.{InForce, number_of}
+use Rattle.run_rules.specs.Run.{Goes}
+use Rattle.run_rules.proofs.events.Asks.{AreParentsAtHand, busy_when_none_may, may_stage}
+use Rattle.run_rules.proofs.events.Course.{Course, Keeps}
+use Rattle.run_rules.proofs.Places.{same_place}
+use Rattle.run_rules.proofs.events.Places.{IsFound, IsJob, found_is, job_there, number_is, read_job}
+use Rattle.run_rules.proofs.events.Planned.{computed, jobs_in}
+use Rattle.run_rules.proofs.events.Ready.{AreParentsThere, NoneIsReady}
+use Rattle.run_rules.proofs.events.Tally.{readings}
+use Rattle.run_rules.proofs.events.Turns.{so_many}
+
+module _ (s : Scene) (f : Progress) (marks : List Mark) (c : Course) (k : Keeps (jobs_in s f) (readings f.events) c) (free : IsFree s f) where
+  -- the parents of a job are at hand where they are by their numbers
+  parents_at_hand : (n : ℕ) (job : Job) → IsJob (jobs_in s f) n job → AreParentsThere (jobs_in s f) c n job → AreParentsAtHand s f job
+  parents_at_hand n job it there parent is =
+      let its : IsJob (jobs_in s f) is.number parent = job_there (jobs_in s f) is.number parent is.known in
+      let same : number_of job.place (jobs_in s f) ≡ n = number_is (jobs_in s f) k.apart n job it in
+      k.hand is.number parent its ∙ there is.number parent its (omega (arith, is.before, same)) is.made
+
+  parents_there : (n : ℕ) (job : Job) → IsJob (jobs_in s f) n job → AreParentsAtHand s f job → AreParentsThere (jobs_in s f) c n job
+  parents_there n job it at_hand p parent its below made =
+      let same : number_of job.place (jobs_in s f) ≡ n = number_is (jobs_in s f) k.apart n job it in
+      sym (k.hand p parent its)
+      ∙ at_hand parent (record { number = p; known = read_job (jobs_in s f) p parent its; before = omega (arith, below, same); made = made })
+
+  -- a job that is not held waits
+  waits_if_free : (n : ℕ) (job : Job) (waits : Bool) → c.over ≡ false → c.at_work ≡ None → IsJob (jobs_in s f) n job → is_held f.events job.place ≡ false →
+      c.waits n ≡ waits → c.waits n ≡ true
+  waits_if_free n job true going idle it away is = is
+  waits_if_free n job false going idle it away is =
+      let held : is_held f.events job.place ≡ true = k.held going n job it is (λ at_work. let never : None ≡ Some n = sym idle ∙ at_work in absurd cc) in
+      let never : true ≡ false = sym held ∙ away in absurd cc
+
+  -- nothing more can be staged where no job is ready
+  pub busy_when_none_ready : c.over ≡ false → c.at_work ≡ None → NoneIsReady (jobs_in s f) c (length (jobs_in s f)) → IsBusy s f marks
+  busy_when_none_ready going idle none =
+      busy_when_none_may s f marks free
+      (λ n job it away at_hand. none n job it.within it (waits_if_free n job (c.waits n) going idle it away refl) (parents_there n job it at_hand))
+
+  -- nor where none waits
+  pub busy_when_none_waits : c.over ≡ false → c.at_work ≡ None → ((n : ℕ) → n < length (jobs_in s f) → c.waits n ≡ false) → IsBusy s f marks
+  busy_when_none_waits going idle none =
+      busy_when_none_ready going idle (λ m job below it waits parents. let never : true ≡ false = sym waits ∙ none m it.within in cc)
+
+  -- a job that is ready may be staged
+  pub ready_may_stage : {t : List Pair} (n : ℕ) (job : Job) (plan : StagePlan) → Goes s (InForce s) t f marks → IsJob (jobs_in s f) n job → c.waits n ≡ true →
+      AreParentsThere (jobs_in s f) c n job → length c.tickets < s.options.slots →
+      IsPlan false (in_folder s.options.work (c.folders + 1)) (fields_moved (source_place (folder_at s f.events)) job.inputs) plan →
+      MayStage s f marks job.place plan (c.folders + 1)
+  ready_may_stage n job plan goes it waits parents slot staged =
+      may_stage s f marks n job plan (c.folders + 1) free k.apart it
+      (computed s n job goes free.still.idle free.still.collects free.still.unsettled free.looked_up k.apart it (k.waiting n job it waits)) (k.waiting n job it waits)
+      (parents_at_hand n job it parents)
+      (omega (arith, slot, so_many (jobs_in s f) (readings f.events) c k)) (ap (λ n. n + 1) k.folders) staged
+
+  -- none before the lowest one that is ready may be
+  pub lowest_first : (n : ℕ) → c.over ≡ false → c.at_work ≡ None → NoneIsReady (jobs_in s f) c n → (other : JobPlace) (its : StagePlan) (folder : ℕ) →
+      MayStage s f marks other its folder → n ≤ number_of other (jobs_in s f)
+  lowest_first n going idle none other its folder may =
+      let it : IsFound (jobs_in s f) other may.job = found_is (jobs_in s f) other may.job may.known in
+      let at : may.job.place ≡ other = same_place may.job.place other it.same in
+      let number : number_of other (jobs_in s f) ≡ it.number =
+      ap (λ (p : JobPlace). number_of p (jobs_in s f)) (sym at) ∙ number_is (jobs_in s f) k.apart it.number may.job it.there in
+      elim (cases_lt it.number n) [
+        | inl below ↦ absurd (none it.number may.job below it.there
+            (waits_if_free it.number may.job (c.waits it.number) going idle it.there (ap (is_held f.events) at ∙ may.not_held) refl)
+            (parents_there it.number may.job it.there may.parents))
+        | inr past ↦ omega (arith, past, number)
+      ]
