@@ -107,6 +107,22 @@ def gathered(count):
     return workflow({"f": "File"}, {}, steps)
 
 
+def packed(count):
+    """Returns the steps that stand side by side, each with an item of its own to run."""
+    main = beside(count)
+    del main["cwlVersion"]
+    for name, step in main["steps"].items():
+        step["run"] = "#" + name
+    items = [{"id": "#" + name, **COPY} for name in main["steps"]]
+    return {"cwlVersion": "v1.2", "$graph": [{"id": "#main", **main}] + items}
+
+
+def unused(count):
+    """Returns a tool, and beside it so many items that it doesn't need."""
+    items = [{"class": "CommandLineTool", "id": "#" + name} for name in named(count)]
+    return {"cwlVersion": "v1.2", "$graph": [{"id": "#main", **tool()}] + items}
+
+
 def listed_steps(count):
     made = chain(count)
     made["steps"] = [{"id": name, **step} for name, step in made["steps"].items()]
@@ -180,6 +196,8 @@ DOCUMENTS = {
     "steps: a chain, as a list": listed_steps,
     "steps: side by side": beside,
     "steps: gathered by one": gathered,
+    "items: a step each": packed,
+    "items: not needed": unused,
     "steps: 20 with many inputs": wide_steps,
     "step: inputs": wide_step,
     "step: outputs": many_outputs,

@@ -16,7 +16,7 @@ ONE_OF = {
     "PickValue": ("first_non_null", "the_only_non_null", "all_non_null"),
     "Version": ("v1.2",),
 }
-LISTS = {"Ints": "Int", "Texts": "Text", "Arguments": "Argument", "StepOutputs": "StepOutput"}
+LISTS = {"Ints": "Int", "Symbols": "Text", "Arguments": "Argument", "StepOutputs": "StepOutput"}
 ONE_OR_LIST = {"Words": "Text", "Names": "Text", "Sources": "Source", "SecondaryFiles": "SecondaryFile"}
 OBJECTS_OF = {"Argument": "Argument", "SecondaryFile": "SecondaryFile", "StepOutput": "StepOutput"}
 PROCESSES = {"CommandLineTool": "Tool", "Workflow": "Workflow"}
@@ -87,6 +87,8 @@ class Checker:
             return it in ONE_OF[name]
         if name == "Bool":
             return isinstance(it, bool)
+        if name == "MaybeBool":
+            return it is None or isinstance(it, bool)
         if name == "OnlyFalse":
             return it is False
         if name == "Int":

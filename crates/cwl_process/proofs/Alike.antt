@@ -14,7 +14,7 @@ use Rattle.cwl_process.specs.Bindings.{binding_in, secondary_in}
 use Rattle.cwl_process.specs.Links.{merge_named, pick_named, source_in}
 use Rattle.cwl_process.specs.Parameters.{if_read, input_type_in, output_binding_in, output_type_in, tool_input_in, tool_output_in, workflow_input_in, workflow_output_in}
 use Rattle.cwl_process.specs.Processes.{step_in}
-use Rattle.cwl_process.specs.Simple.{flag_at, int_in, one_or_more, text_in}
+use Rattle.cwl_process.specs.Simple.{flag_at, int_in, name_in, one_or_more, text_in}
 use Rattle.cwl_process.specs.Templates.{template_of, template_in}
 use Rattle.cwl_process.specs.Workflows.{method_named, run_in, step_input_in, step_output_in}
 use Rattle.cwl_process.specs.declared.process.Process.{Process}
@@ -77,21 +77,21 @@ module _ (ms ns : Members) where
     secondary_files = map (secondary_in true) (option_map_or one_or_more (secondary i) []);
   }
 
-  pub workflow_output_same : Same (codes "type") → Same (codes "outputSource") → Same (codes "linkMerge") → Same (codes "pickValue") → workflow_output_in (object ns) ≡ workflow_output_in (object ms)
-  workflow_output_same type source merge pick = λ i. record {
+  pub workflow_output_same : (id : List ℕ) → Same (codes "type") → Same (codes "outputSource") → Same (codes "linkMerge") → Same (codes "pickValue") → workflow_output_in id (object ns) ≡ workflow_output_in id (object ms)
+  workflow_output_same id type source merge pick = λ i. record {
     kind = option_map_or type_in (type i) [];
     links = record {
-      sources = option_map (λ v. map source_in (one_or_more v)) (source i);
+      sources = option_map (λ v. map (source_in id) (one_or_more v)) (source i);
       merge = option_and_then merge_named (option_and_then as_str (merge i));
       pick = option_and_then pick_named (option_and_then as_str (pick i));
     };
   }
 
-  pub step_input_same : Same (codes "source") → Same (codes "linkMerge") → Same (codes "pickValue") → Same (codes "default") → Same (codes "valueFrom")
-      → step_input_in (object ns) ≡ step_input_in (object ms)
-  step_input_same source merge pick default value = λ i. record {
+  pub step_input_same : (id : List ℕ) → Same (codes "source") → Same (codes "linkMerge") → Same (codes "pickValue") → Same (codes "default") → Same (codes "valueFrom")
+      → step_input_in id (object ns) ≡ step_input_in id (object ms)
+  step_input_same id source merge pick default value = λ i. record {
     links = record {
-      sources = option_map (λ v. map source_in (one_or_more v)) (source i);
+      sources = option_map (λ v. map (source_in id) (one_or_more v)) (source i);
       merge = option_and_then merge_named (option_and_then as_str (merge i));
       pick = option_and_then pick_named (option_and_then as_str (pick i));
     };
@@ -115,16 +115,16 @@ module _ (ms ns : Members) where
   pub variable_same : Same (codes "envValue") → variable_in (object ns) ≡ variable_in (object ms)
   variable_same value = λ i. record { written = option_map_or text_in (value i) []; value = template_of (option_map_or text_in (value i) []) }
 
-  pub step_same : (inner : Asked → Data → Process) (around : Asked) → Same (codes "in") → Same (codes "out") → Same (codes "run") → Same (codes "scatter")
+  pub step_same : (inner : Asked → Data → Process) (id : List ℕ) (around : Asked) → Same (codes "in") → Same (codes "out") → Same (codes "run") → Same (codes "scatter")
       → Same (codes "scatterMethod") → Same (codes "when") → Same (codes "requirements") → Same (codes "hints")
-      → step_in inner around (object ns) ≡ step_in inner around (object ms)
-  step_same inner around inputs outputs runs scatter method when requirements hints =
+      → step_in inner id around (object ns) ≡ step_in inner id around (object ms)
+  step_same inner id around inputs outputs runs scatter method when requirements hints =
       let asks = asked_same around requirements hints in
       λ i. roll-Step (record {
-        inputs = option_map_or (λ v. map (λ e. (e.0, step_input_in e.1)) (entries kind.StepInput v)) (inputs i) [];
+        inputs = option_map_or (λ v. map (λ e. (e.0, step_input_in id e.1)) (entries kind.StepInput v)) (inputs i) [];
         outputs = map step_output_in (option_map_or one_or_more (outputs i) []);
         run = option_map_or (run_in (inner (asks i)) (asks i)) (runs i) (run.Named (record { name = []; asked = asks i }));
-        scatter = map text_in (option_map_or one_or_more (scatter i) []);
+        scatter = map name_in (option_map_or one_or_more (scatter i) []);
         method = option_and_then method_named (option_and_then as_str (method i));
         when = option_map template_of (option_and_then as_str (when i));
       })

@@ -7,8 +7,8 @@ use Rattle.serde_json.specs.Data.{Data, null, boolean, number, string, array, ob
 use Rattle.serde_json.specs.View.{view}
 use Rattle.serde_json.specs.declared.value.Value.{Value}
 use Rattle.serde_json.specs.Find.{as_str, get}
-use Rattle.document_table.specs.Documents.{IsDocument}
-use Rattle.document_table.specs.Walk.{fault_in}
+use Rattle.document_table.specs.Documents.{IsDocument, table_fault}
+use Rattle.document_table.specs.Packed.{Placed, root_of}
 use Rattle.document_table.specs.declared.document.TheConstants.{MOST_NESTING}
 use Rattle.document_table.specs.Entries.{HasForm, IsOf, IsProcess, MayHaveForm, entries, entry_seen}
 use Rattle.document_table.specs.declared.fault.Cause.TheVariants as cause
@@ -19,7 +19,9 @@ use Rattle.document_table.specs.Faults.{here}
 use Rattle.document_table.specs.Kept.{kept}
 use Rattle.document_table.proofs.Whole.{tool_whole}
 use Rattle.serde_json.specs.Written.{has_float}
-use Rattle.document_table.proofs.Faultless.{document_of, entries_of, field_has_form, run_of, some_is_not_none}
+use Rattle.document_table.proofs.Faultless.{entries_of, field_has_form, first_none, process_has, run_of, some_is_not_none}
+use Rattle.document_table.proofs.Roots.{placed_has, root_is_process}
+use Rattle.cwl_process.specs.Documents.{item_fault}
 use Rattle.cwl_process.specs.Processes.{is_workflow}
 
 -- ---- tools and workflows
@@ -141,9 +143,16 @@ entry_is_of kind d found items i e has same is within at =
 
 -- ---- documents
 
-within : (d : Data) (test : Bool) → (if test then fault_in form.Document d else Some (here cause.TooDeep)) ≡ None → HasForm form.Document d
+pub within : (d : Data) (test : Bool) → (if test then table_fault d else Some (here cause.TooDeep)) ≡ None → table_fault d ≡ None
 within d true none = none
 within d false none = absurd (some_is_not_none (here cause.TooDeep) none)
 
-pub document_is_process : (bytes : List ℕ) (d : Data) → IsDocument bytes d → IsProcess d
-document_is_process bytes d is = document_of d (within d (nat_le (depth d) MOST_NESTING) is.1)
+pub document_is_process : (bytes : List ℕ) (d : Data) → IsDocument bytes d → IsProcess (root_of d).process
+document_is_process bytes d is = root_is_process d (within d (nat_le (depth d) MOST_NESTING) is.1)
+
+-- one that the code has
+pub placed_is_process : (d : Data) (p : Placed) → p ≡ root_of d → IsProcess (root_of d).process → IsProcess p.process
+placed_is_process d p same is = subst (λ (q : Placed). IsProcess q.process) (sym same) is
+
+pub item_is_process : (p : Placed) → item_fault p ≡ None → IsProcess p.process
+item_is_process p none = process_has p.process (placed_has p (first_none _ _ none))

@@ -72,11 +72,11 @@ module _ (name : List ℕ) (d : Data) (ms : Members) (over : is_read_over name �
   pub workflow_inputs : workflow_input_in (object ns) ≡ workflow_input_in (object ms)
   workflow_inputs = alike.workflow_input_same ms ns (same (codes "type") refl) (same (codes "default") refl) (same (codes "secondaryFiles") refl)
 
-  pub workflow_outputs : workflow_output_in (object ns) ≡ workflow_output_in (object ms)
-  workflow_outputs = alike.workflow_output_same ms ns (same (codes "type") refl) (same (codes "outputSource") refl) (same (codes "linkMerge") refl) (same (codes "pickValue") refl)
+  pub workflow_outputs : (id : List ℕ) → workflow_output_in id (object ns) ≡ workflow_output_in id (object ms)
+  workflow_outputs id = alike.workflow_output_same ms ns id (same (codes "type") refl) (same (codes "outputSource") refl) (same (codes "linkMerge") refl) (same (codes "pickValue") refl)
 
-  pub step_inputs : step_input_in (object ns) ≡ step_input_in (object ms)
-  step_inputs = alike.step_input_same ms ns (same (codes "source") refl) (same (codes "linkMerge") refl) (same (codes "pickValue") refl) (same (codes "default") refl) (same (codes "valueFrom") refl)
+  pub step_inputs : (id : List ℕ) → step_input_in id (object ns) ≡ step_input_in id (object ms)
+  step_inputs id = alike.step_input_same ms ns id (same (codes "source") refl) (same (codes "linkMerge") refl) (same (codes "pickValue") refl) (same (codes "default") refl) (same (codes "valueFrom") refl)
 
   asked : (around : Asked) → asked_in around (object ns) ≡ asked_in around (object ms)
   asked around = alike.asked_same ms ns around (same (codes "requirements") refl) (same (codes "hints") refl)
@@ -114,9 +114,9 @@ module _ (name : List ℕ) (d : Data) (ms : Members) (over : is_read_over name �
         written = compact_text (object (written i));
       }
 
-  pub steps : (inner : Asked → Data → Process) (around : Asked) → step_in inner around (object ns) ≡ step_in inner around (object ms)
-  steps inner around =
-      alike.step_same ms ns inner around (same (codes "in") refl) (same (codes "out") refl) (same (codes "run") refl) (same (codes "scatter") refl)
+  pub steps : (inner : Asked → Data → Process) (id : List ℕ) (around : Asked) → step_in inner id around (object ns) ≡ step_in inner id around (object ms)
+  steps inner id around =
+      alike.step_same ms ns inner id around (same (codes "in") refl) (same (codes "out") refl) (same (codes "run") refl) (same (codes "scatter") refl)
       (same (codes "scatterMethod") refl) (same (codes "when") refl) (same (codes "requirements") refl) (same (codes "hints") refl)
 
   pub processes : (levels : ℕ) (around : Asked) → process_in levels around (object ns) ≡ process_in levels around (object ms)
@@ -128,12 +128,13 @@ module _ (name : List ℕ) (d : Data) (ms : Members) (over : is_read_over name �
       let outputs = same (codes "outputs") refl in
       let inner = same (codes "steps") refl in
       let asks = asked around in
+      let own = same (codes "id") refl in
       let tool = tools around in
       λ i.
       if bytes_eq (unwrap_or (option_and_then as_str (class i)) []) (codes "Workflow")
       then process.Workflow (roll-Workflow (record {
         inputs = option_map_or (λ v. map (λ e. (e.0, workflow_input_in e.1)) (entries kind.WorkflowInput v)) (inputs i) [];
-        outputs = option_map_or (λ v. map (λ e. (e.0, workflow_output_in e.1)) (entries kind.WorkflowOutput v)) (outputs i) [];
-        steps = option_map_or (λ v. map (λ e. (e.0, step_in (process_in levels) (asks i) e.1)) (entries kind.Step v)) (inner i) [];
+        outputs = option_map_or (λ v. map (λ e. (e.0, workflow_output_in (unwrap_or (option_and_then as_str (own i)) []) e.1)) (entries kind.WorkflowOutput v)) (outputs i) [];
+        steps = option_map_or (λ v. map (λ e. (e.0, step_in (process_in levels) (unwrap_or (option_and_then as_str (own i)) []) (asks i) e.1)) (entries kind.Step v)) (inner i) [];
       }))
       else process.Tool (tool i)

@@ -14,7 +14,7 @@ use Rattle.document_table.specs.Entries.{HasForm, entries, listed_entries, mappe
 use Rattle.document_table.specs.Faults.{at, here, under}
 use Rattle.document_table.specs.Kept.{kept, kept_form, kept_items, kept_members, put_kept}
 use Rattle.document_table.specs.Layouts.{key_fits, member_form, subject_of}
-use Rattle.document_table.specs.Repeats.{name_in}
+use Rattle.document_table.specs.Repeats.{name_in, subject_name}
 use Rattle.document_table.specs.Walk.{fault_in, fault_in_items, fault_in_members, judged}
 use Rattle.document_table.specs.declared.fault.Cause.TheVariants as cause
 use Rattle.document_table.specs.declared.fault.DocumentFault.{DocumentFault}
@@ -125,7 +125,8 @@ named_kept k f (boolean b) is = refl
 named_kept k f (number n) is = refl
 named_kept k f (string s) is = refl
 named_kept k f (array ds) is = refl
-named_kept k f (object ms) is = ap (option_and_then as_str) (member_kept (layout.Fields k) (subject_of k) f ms is) ∙ then_kept as_str str_kept f (get_member (subject_of k) ms)
+named_kept k f (object ms) is =
+    ap (option_map (subject_name k)) (ap (option_and_then as_str) (member_kept (layout.Fields k) (subject_of k) f ms is) ∙ then_kept as_str str_kept f (get_member (subject_of k) ms))
 
 module _ {T : Type 0} (read : Data → T) (k : Kind) (f : Form) (subject : IsKeptAs (layout.Fields k) (subject_of k) f) where
   one_listed : (d : Data) (o : Option (List ℕ)) (others those : List (List ℕ × Data)) → read (kept (form.Object k) d) ≡ read d
@@ -145,14 +146,14 @@ module _ {T : Type 0} (read : Data → T) (k : Kind) (f : Form) (subject : IsKep
 
   one_mapped : (name : List ℕ) (d : Data) (ms : Members) (fits : Bool) → (HasForm (form.Keyed k) d → read (kept (form.Keyed k) d) ≡ read d)
       → judged name (if fits then Ok (form.Keyed k) else Err cause.WrongForm) (λ g. fault_in g d) ≡ None
-      → read_each read (mapped_entries (kept_members (layout.ByKey k) ms)) ≡ read_each read (mapped_entries ms)
-      → read_each read (mapped_entries (put_kept name (kept_form (if fits then Ok (form.Keyed k) else Err cause.WrongForm)) (λ g. kept g d) (kept_members (layout.ByKey k) ms)))
-      ≡ read_each read ((name, d) ∷ mapped_entries ms)
-  one_mapped name d ms true own none later = λ i. (name, own (under_none name (fault_in (form.Keyed k) d) none) i) ∷ later i
+      → read_each read (mapped_entries k (kept_members (layout.ByKey k) ms)) ≡ read_each read (mapped_entries k ms)
+      → read_each read (mapped_entries k (put_kept name (kept_form (if fits then Ok (form.Keyed k) else Err cause.WrongForm)) (λ g. kept g d) (kept_members (layout.ByKey k) ms)))
+      ≡ read_each read ((subject_name k name, d) ∷ mapped_entries k ms)
+  one_mapped name d ms true own none later = λ i. (subject_name k name, own (under_none name (fault_in (form.Keyed k) d) none) i) ∷ later i
   one_mapped name d ms false own none later = absurd (some_is_not_none (under name (here cause.WrongForm)) none)
 
   pub mapped_kept : (ms : Members) → ((d : Data) → HasForm (form.Keyed k) d → read (kept (form.Keyed k) d) ≡ read d) → fault_in_members (layout.ByKey k) ms ≡ None
-      → read_each read (mapped_entries (kept_members (layout.ByKey k) ms)) ≡ read_each read (mapped_entries ms)
+      → read_each read (mapped_entries k (kept_members (layout.ByKey k) ms)) ≡ read_each read (mapped_entries k ms)
   mapped_kept no_members own none = refl
   mapped_kept (member name d ms) own none =
       one_mapped name d ms (key_fits k name) (own d) (first_none _ _ none) (mapped_kept ms own (later_none _ _ none))

@@ -135,7 +135,7 @@ secondary_object absent ms =
     let l = layout.Fields kind.SecondaryFile in
     let pattern = ap (λ o. option_map_or text_in o []) (member_kept l (codes "pattern") form.Pattern ms refl)
     ∙ or_kept text_in [] form.Pattern (get_member (codes "pattern") ms) (λ d there. text_in_kept form.Pattern d) in
-    let required = flag_field l ms (codes "required") absent form.Bool refl in
+    let required = flag_field l ms (codes "required") absent form.MaybeBool refl in
     (λ i. record { pattern = pattern i; required = not (ends_with nat_eq (pattern i) (codes "?")) && required i })
 
 secondary_kept : (absent : Bool) (d : Data) → secondary_in absent (kept form.SecondaryFile d) ≡ secondary_in absent d

@@ -12,6 +12,7 @@ use Rattle.document_table.specs.Entries.{HasForm}
 use Rattle.document_table.specs.Faults.{here}
 use Rattle.document_table.specs.Kept.{kept, kept_form, kept_items, kept_members, put_kept}
 use Rattle.document_table.specs.Layouts.{member_form, type_kind}
+use Rattle.document_table.specs.Texts.{plain_id}
 use Rattle.document_table.specs.Walk.{fault_in, fault_in_items, fault_in_members, judged, own_fault}
 use Rattle.document_table.specs.declared.fault.Cause.TheVariants as cause
 use Rattle.document_table.specs.declared.form.Form.{Form}
@@ -42,7 +43,7 @@ item_binding_kept (object ms) =
 
 texts_kept : (f : Form) (ds : Items) → texts_in (kept_items f ds) ≡ texts_in ds
 texts_kept f no_items = refl
-texts_kept f (item d ds) = λ i. unwrap_or (str_kept f d i) [] ∷ texts_kept f ds i
+texts_kept f (item d ds) = λ i. plain_id (unwrap_or (str_kept f d i) []) ∷ texts_kept f ds i
 
 symbols_kept : (f : Form) (d : Data) → symbols_in (kept f d) ≡ symbols_in d
 symbols_kept f null = refl
@@ -88,8 +89,8 @@ same_object ms false true is items own none =
     let l = layout.Fields kind.EnumType in
     let after = kept_members l ms in
     let as_before : is_array (object after) ≡ false = ap array_text (field_text l (codes "type") form.Text ms refl) ∙ is in
-    let symbols = ap (λ o. option_map_or symbols_in o []) (member_kept l (codes "symbols") form.Texts ms refl)
-    ∙ or_kept symbols_in [] form.Texts (get_member (codes "symbols") ms) (λ d there. symbols_kept form.Texts d) in
+    let symbols = ap (λ o. option_map_or symbols_in o []) (member_kept l (codes "symbols") form.Symbols ms refl)
+    ∙ or_kept symbols_in [] form.Symbols (get_member (codes "symbols") ms) (λ d there. symbols_kept form.Symbols d) in
     ap (λ lists. member_by lists after (items_in after)) as_before ∙ ap Enum symbols ∙ sym (ap (λ lists. member_by lists ms (items_in ms)) is)
 same_object ms false false is items own none = absurd (some_is_not_none (here cause.WrongForm) own)
 

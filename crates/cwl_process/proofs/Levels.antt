@@ -18,7 +18,7 @@ use Rattle.cwl_process.specs.Acting.{asked_in}
 use Rattle.cwl_process.specs.Processes.{is_workflow, process_in, step_in}
 use Rattle.cwl_process.specs.Together.{process_fault, tool_fault, workflow_fault}
 use Rattle.cwl_process.specs.Tools.{entries_at, tool_in}
-use Rattle.cwl_process.specs.Workflows.{run_in, step_of, workflow_of}
+use Rattle.cwl_process.specs.Workflows.{own_id, run_in, step_of, workflow_of}
 use Rattle.cwl_process.specs.Parameters.{workflow_input_in, workflow_output_in}
 use Rattle.cwl_process.specs.declared.process.Process.{Process}
 use Rattle.cwl_process.specs.declared.process.Process as process
@@ -65,9 +65,10 @@ listed_within kind no_items = tt
 listed_within kind (item d ds) =
     named_within (max (depth d) (items_depth ds)) kind d ds (name_in kind d) (omega arith) (all_within (items_depth ds) (max (depth d) (items_depth ds)) (listed_entries kind ds) (omega arith) (listed_within kind ds))
 
-mapped_within : (ms : Members) → AreWithin (members_depth ms) (mapped_entries ms)
-mapped_within no_members = tt
-mapped_within (member name d ms) = (omega arith, all_within (members_depth ms) (max (depth d) (members_depth ms)) (mapped_entries ms) (omega arith) (mapped_within ms))
+mapped_within : (kind : Kind) (ms : Members) → AreWithin (members_depth ms) (mapped_entries kind ms)
+mapped_within kind no_members = tt
+mapped_within kind (member name d ms) =
+    (omega arith, all_within (members_depth ms) (max (depth d) (members_depth ms)) (mapped_entries kind ms) (omega arith) (mapped_within kind ms))
 
 entries_within : (kind : Kind) (d : Data) → AreWithin (depth d) (entries kind d)
 entries_within kind null = tt
@@ -75,7 +76,7 @@ entries_within kind (boolean b) = tt
 entries_within kind (number n) = tt
 entries_within kind (string s) = tt
 entries_within kind (array ds) = all_within (items_depth ds) (suc (items_depth ds)) (listed_entries kind ds) (omega arith) (listed_within kind ds)
-entries_within kind (object ms) = all_within (members_depth ms) (suc (members_depth ms)) (mapped_entries ms) (omega arith) (mapped_within ms)
+entries_within kind (object ms) = all_within (members_depth ms) (suc (members_depth ms)) (mapped_entries kind ms) (omega arith) (mapped_within kind ms)
 
 -- ---- two ways to read processes that agree on all that nests less deep
 
@@ -90,9 +91,9 @@ run_at_same : (most : ℕ) (f g : Asked → Data → Process) (asked : Asked) (d
 run_at_same most f g asked d None within agree = refl
 run_at_same most f g asked d (Some v) within agree = run_same most f g asked v agree (within v refl)
 
-step_same : (most : ℕ) (f g : Asked → Data → Process) (around : Asked) (d : Data) → Agree most f g → depth d ≤ suc most → step_in f around d ≡ step_in g around d
-step_same most f g around d agree within =
-    ap (λ r. step_of r d) (run_at_same most f g (asked_in around d) d (get (codes "run") d) (λ v found. omega (arith, field_within (codes "run") d v found, within)) agree)
+step_same : (most : ℕ) (f g : Asked → Data → Process) (id : List ℕ) (around : Asked) (d : Data) → Agree most f g → depth d ≤ suc most → step_in f id around d ≡ step_in g id around d
+step_same most f g id around d agree within =
+    ap (λ r. step_of id r d) (run_at_same most f g (asked_in around d) d (get (codes "run") d) (λ v found. omega (arith, field_within (codes "run") d v found, within)) agree)
 
 -- each entry with the step that f makes of it
 abbrev pub stepped : (Data → Step) → List (List ℕ × Data) → List (List ℕ × Step)
@@ -104,28 +105,28 @@ one_step id rest step = (id, step) ∷ rest
 abbrev one_step_before : List ℕ → Step → List (List ℕ × Step) → List (List ℕ × Step)
 one_step_before id step rest = (id, step) ∷ rest
 
-steps_same : (most : ℕ) (f g : Asked → Data → Process) (around : Asked) (es : List (List ℕ × Data)) → Agree most f g → AreWithin (suc most) es
-    → stepped (step_in f around) es ≡ stepped (step_in g around) es
-steps_same most f g around [] agree within = refl
-steps_same most f g around (e ∷ es) agree within =
-    ap (one_step e.0 (stepped (step_in f around) es)) (step_same most f g around e.1 agree within.0)
-    ∙ ap (one_step_before e.0 (step_in g around e.1)) (steps_same most f g around es agree within.1)
+steps_same : (most : ℕ) (f g : Asked → Data → Process) (id : List ℕ) (around : Asked) (es : List (List ℕ × Data)) → Agree most f g → AreWithin (suc most) es
+    → stepped (step_in f id around) es ≡ stepped (step_in g id around) es
+steps_same most f g id around [] agree within = refl
+steps_same most f g id around (e ∷ es) agree within =
+    ap (one_step e.0 (stepped (step_in f id around) es)) (step_same most f g id around e.1 agree within.0)
+    ∙ ap (one_step_before e.0 (step_in g id around e.1)) (steps_same most f g id around es agree within.1)
 
-field_steps_same : (most : ℕ) (f g : Asked → Data → Process) (around : Asked) (o : Option Data) → Agree most f g → ((v : Data) → o ≡ Some v → depth v ≤ suc most)
-    → option_map_or (λ v. stepped (step_in f around) (entries kind.Step v)) o [] ≡ option_map_or (λ v. stepped (step_in g around) (entries kind.Step v)) o []
-field_steps_same most f g around None agree within = refl
-field_steps_same most f g around (Some v) agree within =
-    steps_same most f g around (entries kind.Step v) agree (all_within (depth v) (suc most) (entries kind.Step v) (within v refl) (entries_within kind.Step v))
+field_steps_same : (most : ℕ) (f g : Asked → Data → Process) (id : List ℕ) (around : Asked) (o : Option Data) → Agree most f g → ((v : Data) → o ≡ Some v → depth v ≤ suc most)
+    → option_map_or (λ v. stepped (step_in f id around) (entries kind.Step v)) o [] ≡ option_map_or (λ v. stepped (step_in g id around) (entries kind.Step v)) o []
+field_steps_same most f g id around None agree within = refl
+field_steps_same most f g id around (Some v) agree within =
+    steps_same most f g id around (entries kind.Step v) agree (all_within (depth v) (suc most) (entries kind.Step v) (within v refl) (entries_within kind.Step v))
 
 workflow_same : (n m : ℕ) (around : Asked) (d : Data) → Agree (min n m) (process_in n) (process_in m) → depth d ≤ suc n → depth d ≤ suc m
-    → process.Workflow (workflow_of (step_in (process_in n) (asked_in around d)) d) ≡ process.Workflow (workflow_of (step_in (process_in m) (asked_in around d)) d)
+    → process.Workflow (workflow_of (step_in (process_in n) (own_id d) (asked_in around d)) d) ≡ process.Workflow (workflow_of (step_in (process_in m) (own_id d) (asked_in around d)) d)
 workflow_same n m around d agree low high =
     ap (λ steps. process.Workflow (roll-Workflow (record {
       inputs = entries_at kind.WorkflowInput workflow_input_in (codes "inputs") d;
-      outputs = entries_at kind.WorkflowOutput workflow_output_in (codes "outputs") d;
+      outputs = entries_at kind.WorkflowOutput (workflow_output_in (own_id d)) (codes "outputs") d;
       steps = steps;
     })))
-    (field_steps_same (min n m) (process_in n) (process_in m) (asked_in around d) (get (codes "steps") d) agree (λ v found. omega (arith, field_within (codes "steps") d v found, low, high)))
+    (field_steps_same (min n m) (process_in n) (process_in m) (own_id d) (asked_in around d) (get (codes "steps") d) agree (λ v found. omega (arith, field_within (codes "steps") d v found, low, high)))
 
 -- JSON that doesn't nest
 flat_same : (m : ℕ) (around : Asked) (d : Data) → depth d ≤ 0 → process_in zero around d ≡ process_in m around d
@@ -152,18 +153,18 @@ before : (n : ℕ) → n ≡ suc n - 1
 before n = omega arith
 
 pub at_workflow : (levels : ℕ) (around : Asked) (d : Data) → levels ≢ 0 → is_workflow d ≡ true
-    → process_in levels around d ≡ process.Workflow (workflow_of (step_in (process_in (levels - 1)) (asked_in around d)) d)
+    → process_in levels around d ≡ process.Workflow (workflow_of (step_in (process_in (levels - 1)) (own_id d) (asked_in around d)) d)
 unfolding process_in
 at_workflow zero around d some is = absurd (some refl)
 at_workflow (suc n) around d some is =
-    ap (λ t. if t then process.Workflow (workflow_of (step_in (process_in n) (asked_in around d)) d) else process.Tool (tool_in around d)) is
-    ∙ ap (λ k. process.Workflow (workflow_of (step_in (process_in k) (asked_in around d)) d)) (before n)
+    ap (λ t. if t then process.Workflow (workflow_of (step_in (process_in n) (own_id d) (asked_in around d)) d) else process.Tool (tool_in around d)) is
+    ∙ ap (λ k. process.Workflow (workflow_of (step_in (process_in k) (own_id d) (asked_in around d)) d)) (before n)
 
 pub at_tool : (levels : ℕ) (around : Asked) (d : Data) → levels ≢ 0 → is_workflow d ≡ false → process_in levels around d ≡ process.Tool (tool_in around d)
 unfolding process_in
 at_tool zero around d some is = absurd (some refl)
 at_tool (suc n) around d some is =
-    ap (λ t. if t then process.Workflow (workflow_of (step_in (process_in n) (asked_in around d)) d) else process.Tool (tool_in around d)) is
+    ap (λ t. if t then process.Workflow (workflow_of (step_in (process_in n) (own_id d) (asked_in around d)) d) else process.Tool (tool_in around d)) is
 
 pub at_nothing : (around : Asked) (d : Data) → process_in zero around d ≡ process.Tool (tool_in around null)
 unfolding process_in

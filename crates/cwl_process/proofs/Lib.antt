@@ -10,3 +10,4 @@ pub mod Levels
 mod ReadMaps
 pub mod Requirements
 pub mod Slashes
+pub mod Sources

@@ -8,6 +8,7 @@ use Rattle.serde_json.specs.Find.{get_member}
 use Rattle.serde_json.proofs.Views.{get_member-put_other}
 use Rattle.document_table.specs.Entries.{listed_entries, mapped_entries}
 use Rattle.document_table.specs.Laws.{item_under, items_under}
+use Rattle.document_table.specs.Repeats.{subject_name}
 use Rattle.document_table.specs.declared.form.Kind.{Kind}
 use Rattle.document_table.specs.declared.form.Kind.TheVariants as kind
 use Rattle.document_table.proofs.IdMaps.{name_under}
@@ -61,37 +62,37 @@ workflow_inputs name (number n) = refl
 workflow_inputs name (string s) = refl
 workflow_inputs name (array ds) = refl
 
-workflow_outputs : IsReadUnder kind.WorkflowOutput workflow_output_in
-workflow_outputs name (object ms) =
+workflow_outputs : (id : List ℕ) → IsReadUnder kind.WorkflowOutput (workflow_output_in id)
+workflow_outputs id name (object ms) =
     let at = λ (field : List ℕ) (apart : bytes_eq field (codes "id") ≡ false). other field (codes "id") name ms apart in
-    alike.workflow_output_same ms (put (codes "id") (string name) ms) (at (codes "type") refl) (at (codes "outputSource") refl) (at (codes "linkMerge") refl) (at (codes "pickValue") refl)
-workflow_outputs name null = refl
-workflow_outputs name (boolean b) = refl
-workflow_outputs name (number n) = refl
-workflow_outputs name (string s) = refl
-workflow_outputs name (array ds) = refl
+    alike.workflow_output_same ms (put (codes "id") (string name) ms) id (at (codes "type") refl) (at (codes "outputSource") refl) (at (codes "linkMerge") refl) (at (codes "pickValue") refl)
+workflow_outputs id name null = refl
+workflow_outputs id name (boolean b) = refl
+workflow_outputs id name (number n) = refl
+workflow_outputs id name (string s) = refl
+workflow_outputs id name (array ds) = refl
 
-step_inputs : IsReadUnder kind.StepInput step_input_in
-step_inputs name (object ms) =
+step_inputs : (id : List ℕ) → IsReadUnder kind.StepInput (step_input_in id)
+step_inputs id name (object ms) =
     let at = λ (field : List ℕ) (apart : bytes_eq field (codes "id") ≡ false). other field (codes "id") name ms apart in
-    alike.step_input_same ms (put (codes "id") (string name) ms) (at (codes "source") refl) (at (codes "linkMerge") refl) (at (codes "pickValue") refl) (at (codes "default") refl)
+    alike.step_input_same ms (put (codes "id") (string name) ms) id (at (codes "source") refl) (at (codes "linkMerge") refl) (at (codes "pickValue") refl) (at (codes "default") refl)
     (at (codes "valueFrom") refl)
-step_inputs name null = refl
-step_inputs name (boolean b) = refl
-step_inputs name (number n) = refl
-step_inputs name (string s) = refl
-step_inputs name (array ds) = refl
+step_inputs id name null = refl
+step_inputs id name (boolean b) = refl
+step_inputs id name (number n) = refl
+step_inputs id name (string s) = refl
+step_inputs id name (array ds) = refl
 
-steps : (inner : Asked → Data → Process) (around : Asked) → IsReadUnder kind.Step (step_in inner around)
-steps inner around name (object ms) =
+steps : (inner : Asked → Data → Process) (id : List ℕ) (around : Asked) → IsReadUnder kind.Step (step_in inner id around)
+steps inner id around name (object ms) =
     let at = λ (field : List ℕ) (apart : bytes_eq field (codes "id") ≡ false). other field (codes "id") name ms apart in
-    alike.step_same ms (put (codes "id") (string name) ms) inner around (at (codes "in") refl) (at (codes "out") refl) (at (codes "run") refl) (at (codes "scatter") refl)
+    alike.step_same ms (put (codes "id") (string name) ms) inner id around (at (codes "in") refl) (at (codes "out") refl) (at (codes "run") refl) (at (codes "scatter") refl)
     (at (codes "scatterMethod") refl) (at (codes "when") refl) (at (codes "requirements") refl) (at (codes "hints") refl)
-steps inner around name null = refl
-steps inner around name (boolean b) = refl
-steps inner around name (number n) = refl
-steps inner around name (string s) = refl
-steps inner around name (array ds) = refl
+steps inner id around name null = refl
+steps inner id around name (boolean b) = refl
+steps inner id around name (number n) = refl
+steps inner id around name (string s) = refl
+steps inner id around name (array ds) = refl
 
 variables : IsReadUnder kind.Variable variable_in
 variables name (object ms) = alike.variable_same ms (put (codes "envName") (string name) ms) (other (codes "envValue") (codes "envName") name ms refl)
@@ -106,14 +107,14 @@ variables name (array ds) = refl
 abbrev read_each : {T : Type 0} → (Data → T) → List (List ℕ × Data) → List (List ℕ × T)
 read_each read es = map (λ e. (e.0, read e.1)) es
 
-lists : {T : Type 0} (k : Kind) (read : Data → T) → IsReadUnder k read → (ms : Members) → read_each read (listed_entries k (items_under k ms)) ≡ read_each read (mapped_entries ms)
+lists : {T : Type 0} (k : Kind) (read : Data → T) → IsReadUnder k read → (ms : Members) → read_each read (listed_entries k (items_under k ms)) ≡ read_each read (mapped_entries k ms)
 lists k read own no_members = refl
 lists k read own (member name d ms) =
     let x = item_under k name d in
     let rest = listed_entries k (items_under k ms) in
     let first = own name d in
     let later = lists k read own ms in
-    ap (λ o. read_each read (option_map_or (λ n. (n, x) ∷ rest) o rest)) (name_under k name d) ∙ (λ i. (name, first i) ∷ later i)
+    ap (λ o. read_each read (option_map_or (λ n. (n, x) ∷ rest) o rest)) (name_under k name d) ∙ (λ i. (subject_name k name, first i) ∷ later i)
 
 pub tool_inputs_alike : ReadsMapsAsLists kind.ToolInput tool_input_in
 tool_inputs_alike = lists kind.ToolInput tool_input_in tool_inputs
@@ -124,14 +125,14 @@ tool_outputs_alike = lists kind.ToolOutput tool_output_in tool_outputs
 pub workflow_inputs_alike : ReadsMapsAsLists kind.WorkflowInput workflow_input_in
 workflow_inputs_alike = lists kind.WorkflowInput workflow_input_in workflow_inputs
 
-pub workflow_outputs_alike : ReadsMapsAsLists kind.WorkflowOutput workflow_output_in
-workflow_outputs_alike = lists kind.WorkflowOutput workflow_output_in workflow_outputs
+pub workflow_outputs_alike : (id : List ℕ) → ReadsMapsAsLists kind.WorkflowOutput (workflow_output_in id)
+workflow_outputs_alike id = lists kind.WorkflowOutput (workflow_output_in id) (workflow_outputs id)
 
-pub steps_alike : (inner : Asked → Data → Process) (around : Asked) → ReadsMapsAsLists kind.Step (step_in inner around)
-steps_alike inner around = lists kind.Step (step_in inner around) (steps inner around)
+pub steps_alike : (inner : Asked → Data → Process) (id : List ℕ) (around : Asked) → ReadsMapsAsLists kind.Step (step_in inner id around)
+steps_alike inner id around = lists kind.Step (step_in inner id around) (steps inner id around)
 
-pub step_inputs_alike : ReadsMapsAsLists kind.StepInput step_input_in
-step_inputs_alike = lists kind.StepInput step_input_in step_inputs
+pub step_inputs_alike : (id : List ℕ) → ReadsMapsAsLists kind.StepInput (step_input_in id)
+step_inputs_alike id = lists kind.StepInput (step_input_in id) (step_inputs id)
 
 pub variables_alike : ReadsMapsAsLists kind.Variable variable_in
 variables_alike = lists kind.Variable variable_in variables

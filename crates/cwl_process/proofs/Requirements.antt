@@ -54,6 +54,11 @@ no_text_fits : (f : Form) → IsRequired f → (s : List ℕ) → HasForm f (str
 no_text_fits f (inl is_form) s none = some_is_not_none (here cause.WrongForm) (subst (λ g. HasForm g (string s)) is_form none)
 no_text_fits f (inr is_form) s none = some_is_not_none (here cause.WrongForm) (subst (λ g. HasForm g (string s)) is_form none)
 
+-- a class stands for itself
+as_it_is : (o : Option (List ℕ)) (name : List ℕ) → option_map (λ text. text) o ≡ Some name → o ≡ Some name
+as_it_is None name found = absurd (none-some name found)
+as_it_is (Some text) name found = found
+
 item_sets : (f : Form) → IsRequired f → (d : Data) (name : List ℕ) → name_in kind.PlainRequirement d ≡ Some name → HasForm f d → IsEnvironment (name, d)
 item_sets f is null name found none = absurd (none-some name found)
 item_sets f is (boolean b) name found none = absurd (none-some name found)
@@ -61,7 +66,7 @@ item_sets f is (number n) name found none = absurd (none-some name found)
 item_sets f is (string s) name found none = absurd (no_text_fits f is s none)
 item_sets f is (array ds) name found none = absurd (none-some name found)
 item_sets f is (object ms) name found none = λ test.
-    (f, none, ap kind_of (requirement_layout_named f is ms name found ((bytes_decides name environment).0 test)))
+    (f, none, ap kind_of (requirement_layout_named f is ms name (as_it_is (option_and_then as_str (get (codes "class") (object ms))) name found) ((bytes_decides name environment).0 test)))
 
 unplaced : (index : ℕ) (o : Option DocumentFault) → option_map (at index) o ≡ None → o ≡ None
 unplaced index None e = refl
@@ -86,7 +91,7 @@ member_sets l name d known none = λ test.
     let formed : member_form l name ≡ Ok (form.Keyed kind.EnvVarRequirement) = ap (member_form l) same ∙ known in
     (form.Keyed kind.EnvVarRequirement, under_none name (fault_in (form.Keyed kind.EnvVarRequirement) d) (sym (ap (λ r. judged name r (λ form. fault_in form d)) formed) ∙ none), refl)
 
-members_set : (l : Layout) (ms : Members) → member_form l environment ≡ Ok (form.Keyed kind.EnvVarRequirement) → fault_in_members l ms ≡ None → AllByRecursion IsEnvironment (mapped_entries ms)
+members_set : (l : Layout) (ms : Members) → member_form l environment ≡ Ok (form.Keyed kind.EnvVarRequirement) → fault_in_members l ms ≡ None → AllByRecursion IsEnvironment (mapped_entries kind.PlainRequirement ms)
 members_set l no_members known none = tt
 members_set l (member name d ms) known none = (member_sets l name d known (first_none _ _ none), members_set l ms known (later_none _ _ none))
 

@@ -1,7 +1,9 @@
 -- Which bytes are a document of which process (CWL v1.2, "Syntax").
-use Rattle.std.specs.Prelude.{◌≡◌, ◌⊎◌, ⊤, ℕ, List, Option, Some, None}
+use Rattle.std.specs.Prelude.{◌≡◌, ◌⊎◌, ⊤, ℕ, List, Option, Some, None, option_map}
 use Rattle.serde_json.specs.Data.{Data}
 use Rattle.document_table.specs.Documents.{HasFault, IsDocument}
+use Rattle.document_table.specs.Packed.{Placed, in_item, placed_fault, root_of}
+use Rattle.document_table.specs.Walk.{or_else}
 use Rattle.document_table.specs.declared.document.TheConstants.{MOST_NESTING}
 use Rattle.document_table.specs.declared.fault.DocumentError.{DocumentError}
 use Rattle.document_table.specs.declared.fault.DocumentError.TheVariants.{Refused, OutOfMemory}
@@ -13,11 +15,19 @@ use Rattle.cwl_process.specs.declared.process.Process.{Process}
 
 -- the process of a document on its own
 abbrev pub unlinked_in : Data → Process
-unlinked_in d = process_in MOST_NESTING nothing_asked d
+unlinked_in d = process_in MOST_NESTING nothing_asked (root_of d).process
 
--- what its fields say together that they may not
+-- what the fields of a process in its place say together that they may not
+abbrev pub placed_together : Placed → Option DocumentFault
+placed_together p = option_map (in_item p.index) (process_fault MOST_NESTING p.process)
+
+-- the same of the process that a document stands for
 abbrev pub fault_together : Data → Option DocumentFault
-fault_together d = process_fault MOST_NESTING d
+fault_together d = placed_together (root_of d)
+
+-- what is wrong first with an item of a document
+abbrev pub item_fault : Placed → Option DocumentFault
+item_fault p = or_else (placed_fault p) (placed_together p)
 
 -- The bytes keep to the table of fields, and their fields go together.
 abbrev pub IsSound : List ℕ → Data → Type 0

@@ -84,5 +84,6 @@ tool_output_in d = record {
 abbrev pub workflow_input_in : Data → WorkflowInput
 workflow_input_in d = record { kind = type_at d; default = default_at d; secondary_files = secondaries_at true d }
 
-abbrev pub workflow_output_in : Data → WorkflowOutput
-workflow_output_in d = record { kind = type_at d; links = links_in (get (codes "outputSource") d) d }
+-- of the workflow of that id
+abbrev pub workflow_output_in : List ℕ → Data → WorkflowOutput
+workflow_output_in id d = record { kind = type_at d; links = links_in id (get (codes "outputSource") d) d }

@@ -7,6 +7,7 @@ use Rattle.serde_json.specs.Data.{Data, null, boolean, number, string, array, ob
 use Rattle.serde_json.specs.Find.{as_bool, as_i64, as_number, as_str, get}
 use Rattle.serde_json.specs.View.{view}
 use Rattle.serde_json.specs.declared.value.Value.{Value}
+use Rattle.document_table.specs.Texts.{plain_id}
 
 abbrev pub text_in : Data → List ℕ
 text_in d = unwrap_or (as_str d) []
@@ -53,6 +54,13 @@ texts_at name d = map text_in (list_at name d)
 
 abbrev pub ints_at : List ℕ → Data → List ℤ
 ints_at name d = map int_in (list_at name d)
+
+-- the names that a field lists, each of which may begin with `#`
+abbrev pub name_in : Data → List ℕ
+name_in d = plain_id (text_in d)
+
+abbrev pub names_at : List ℕ → Data → List (List ℕ)
+names_at name d = map name_in (list_at name d)
 
 -- a value that the code has
 abbrev pub value_seen : Bor Value → Data

@@ -128,14 +128,15 @@ fn read_environment(
 {
     match requirement_at(alloc, field, "EnvVarRequirement", value)? {
         None => Ok(None),
-        Some(found) => Ok(Some(entries_at(alloc, Kind::Variable, "envDef", found)?)),
+        Some(found) => Ok(Some(entries_at(alloc, "", Kind::Variable, "envDef", found)?)),
     }
 }
 
 impl FromEntry for Variable {
-    ghost meaning = { variable_in };
+    ghost meaning = { λ id. variable_in };
 
-    fn from_entry(alloc: Global, value: &Value) -> Result<Variable, AllocError> {
+    fn from_entry(alloc: Global, id: &str, value: &Value) -> Result<Variable, AllocError> {
+        let _ = id;
         let written = variable_text(alloc, value)?;
         let value = template_of(alloc, written.as_str())?;
         Ok(Variable { written, value })

@@ -1,5 +1,5 @@
 //! What follows from the definitions.
-ghost use Rattle.std.specs.Prelude.{◌≡◌, ◌≤◌, ℕ, true, false, codes};
+ghost use Rattle.std.specs.Prelude.{◌≡◌, ◌≤◌, ℕ, List, true, false, codes};
 ghost use Rattle.serde_json.specs.Data.{Data, boolean, depth, number, unsigned};
 ghost use Rattle.document_table.specs.declared.form.Kind.TheVariants as kind;
 ghost use Rattle.cwl_process.specs.Acting.{variable_in};
@@ -27,13 +27,13 @@ pub fn written_tells_tools_apart()
 pub fn descriptions_are_not_read()
     ensures processes { (levels : ℕ) (around : Asked)
         → IgnoresDescriptions (process_in levels around) }
-    ensures steps { (inner : Asked → Data → Process) (around : Asked)
-        → IgnoresDescriptions (step_in inner around) }
+    ensures steps { (inner : Asked → Data → Process) (id : List ℕ) (around : Asked)
+        → IgnoresDescriptions (step_in inner id around) }
     ensures tool_inputs { IgnoresDescriptions tool_input_in }
     ensures tool_outputs { IgnoresDescriptions tool_output_in }
     ensures workflow_inputs { IgnoresDescriptions workflow_input_in }
-    ensures workflow_outputs { IgnoresDescriptions workflow_output_in }
-    ensures step_inputs { IgnoresDescriptions step_input_in }
+    ensures workflow_outputs { (id : List ℕ) → IgnoresDescriptions (workflow_output_in id) }
+    ensures step_inputs { (id : List ℕ) → IgnoresDescriptions (step_input_in id) }
     ensures bindings { IgnoresDescriptions binding_in }
 {}
 
@@ -42,10 +42,11 @@ pub fn maps_are_read_as_lists()
     ensures tool_inputs { ReadsMapsAsLists kind.ToolInput tool_input_in }
     ensures tool_outputs { ReadsMapsAsLists kind.ToolOutput tool_output_in }
     ensures workflow_inputs { ReadsMapsAsLists kind.WorkflowInput workflow_input_in }
-    ensures workflow_outputs { ReadsMapsAsLists kind.WorkflowOutput workflow_output_in }
-    ensures steps { (inner : Asked → Data → Process) (around : Asked)
-        → ReadsMapsAsLists kind.Step (step_in inner around) }
-    ensures step_inputs { ReadsMapsAsLists kind.StepInput step_input_in }
+    ensures workflow_outputs { (id : List ℕ)
+        → ReadsMapsAsLists kind.WorkflowOutput (workflow_output_in id) }
+    ensures steps { (inner : Asked → Data → Process) (id : List ℕ) (around : Asked)
+        → ReadsMapsAsLists kind.Step (step_in inner id around) }
+    ensures step_inputs { (id : List ℕ) → ReadsMapsAsLists kind.StepInput (step_input_in id) }
     ensures variables { ReadsMapsAsLists kind.Variable variable_in }
 {}
 

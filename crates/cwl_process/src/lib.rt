@@ -13,6 +13,7 @@ mod document;
 mod entries;
 mod from_entry;
 mod laws;
+mod link_faults;
 mod links;
 mod parameters;
 mod parts;
@@ -29,7 +30,7 @@ mod tool_reader;
 mod workflow;
 
 pub use acting::{nothing_asked, read_asked};
-pub use document::{read_sound, read_unlinked};
+pub use document::{item_fault, read_sound, read_unlinked};
 pub use entries::Entries;
 pub use laws::{
     descriptions_are_not_read, fields_left_out_have_their_defaults, levels_never_decide,
@@ -39,7 +40,7 @@ pub use links::{Links, Merge, Pick, Source};
 pub use parameters::default_at;
 pub use parts::{StepParts, read_step_parts, read_workflow_inputs, read_workflow_outputs};
 pub use process::{Process, Run, RunName};
-pub use read_workflow::is_workflow;
+pub use read_workflow::{is_workflow, own_id};
 pub use shared::Shared;
 pub use tool::{
     Acting, Asked, Binding, ExitCodes, InputType, OutputBinding, OutputType, SecondaryFile,

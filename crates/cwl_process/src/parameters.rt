@@ -26,9 +26,10 @@ use serde_json::Value;
 use std::alloc::{AllocError, Global};
 
 impl FromEntry for ToolInput {
-    ghost meaning = { tool_input_in };
+    ghost meaning = { λ id. tool_input_in };
 
-    fn from_entry(alloc: Global, value: &Value) -> Result<ToolInput, AllocError> {
+    fn from_entry(alloc: Global, id: &str, value: &Value) -> Result<ToolInput, AllocError> {
+        let _ = id;
         let kind = read_input_type(alloc, value)?;
         let secondary_files = secondaries_at(alloc, true, value)?;
         let binding = input_binding(alloc, value)?;
@@ -103,9 +104,10 @@ pub fn default_at(alloc: Global, value: &Value) -> Result<Option<CwlValue>, Allo
 }
 
 impl FromEntry for ToolOutput {
-    ghost meaning = { tool_output_in };
+    ghost meaning = { λ id. tool_output_in };
 
-    fn from_entry(alloc: Global, value: &Value) -> Result<ToolOutput, AllocError> {
+    fn from_entry(alloc: Global, id: &str, value: &Value) -> Result<ToolOutput, AllocError> {
+        let _ = id;
         let kind = read_output_type(alloc, value)?;
         let secondary_files = secondaries_at(alloc, false, value)?;
         let binding = match value.get("outputBinding") {
@@ -171,9 +173,10 @@ fn type_at(alloc: Global, value: &Value) -> Result<Items<MemberType>, AllocError
 }
 
 impl FromEntry for WorkflowInput {
-    ghost meaning = { workflow_input_in };
+    ghost meaning = { λ id. workflow_input_in };
 
-    fn from_entry(alloc: Global, value: &Value) -> Result<WorkflowInput, AllocError> {
+    fn from_entry(alloc: Global, id: &str, value: &Value) -> Result<WorkflowInput, AllocError> {
+        let _ = id;
         let kind = type_at(alloc, value)?;
         let secondary_files = secondaries_at(alloc, true, value)?;
         let default = default_at(alloc, value)?;
@@ -188,9 +191,9 @@ impl FromEntry for WorkflowInput {
 impl FromEntry for WorkflowOutput {
     ghost meaning = { workflow_output_in };
 
-    fn from_entry(alloc: Global, value: &Value) -> Result<WorkflowOutput, AllocError> {
+    fn from_entry(alloc: Global, id: &str, value: &Value) -> Result<WorkflowOutput, AllocError> {
         let kind = type_at(alloc, value)?;
-        let links = read_links(alloc, value.get("outputSource"), value)?;
+        let links = read_links(alloc, id, value.get("outputSource"), value)?;
         Ok(WorkflowOutput { kind, links })
     }
 }

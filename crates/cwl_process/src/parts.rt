@@ -5,12 +5,12 @@ ghost use Rattle.document_table.specs.Entries.{IsOf};
 ghost use Rattle.document_table.specs.declared.form.Kind.TheVariants as kind;
 ghost use Rattle.cwl_process.specs.Parameters.{workflow_input_in, workflow_output_in};
 ghost use Rattle.cwl_process.specs.Tools.{entries_at};
-ghost use Rattle.cwl_process.specs.Workflows.{step_parts_in};
+ghost use Rattle.cwl_process.specs.Workflows.{own_id, step_parts_in};
 
 use crate::entries::Entries;
 use crate::from_entry::entries_at;
-use crate::read_workflow::{scatter_method, step_outputs};
-use crate::simple::texts_at;
+use crate::read_workflow::{own_id, scatter_method, step_outputs};
+use crate::simple::names_at;
 use crate::templates::template_at;
 use crate::workflow::{StepInput, WorkflowInput, WorkflowOutput};
 use document_table::Kind;
@@ -40,7 +40,7 @@ pub fn read_workflow_inputs(
     ensures { IfOk result (λ inputs. inputs
         ≡ entries_at kind.WorkflowInput workflow_input_in (codes "inputs") (view value.now)) }
 {
-    entries_at(alloc, Kind::WorkflowInput, "inputs", value)
+    entries_at(alloc, "", Kind::WorkflowInput, "inputs", value)
 }
 
 /// Reads the outputs of a workflow.
@@ -51,22 +51,23 @@ pub fn read_workflow_outputs(
 ) -> Result<Entries<WorkflowOutput>, AllocError>
     requires { IsOf kind.Workflow (view value.now) }
     ensures { IfOk result (λ outputs. outputs
-        ≡ entries_at kind.WorkflowOutput workflow_output_in (codes "outputs") (view value.now)) }
+        ≡ entries_at kind.WorkflowOutput (workflow_output_in (own_id (view value.now)))
+        (codes "outputs") (view value.now)) }
 {
-    entries_at(alloc, Kind::WorkflowOutput, "outputs", value)
+    entries_at(alloc, own_id(value), Kind::WorkflowOutput, "outputs", value)
 }
 
-/// Reads a step without the process that it runs.
+/// Reads a step of the workflow of that id, without the process that it runs.
 #[tactic(auto, using(crate::proofs::Forms::step_inputs))]
-pub fn read_step_parts(alloc: Global, value: &Value) -> Result<StepParts, AllocError>
+pub fn read_step_parts(alloc: Global, id: &str, value: &Value) -> Result<StepParts, AllocError>
     requires { IsOf kind.Step (view value.now) }
-    ensures { IfOk result (λ parts. parts ≡ step_parts_in (view value.now)) }
+    ensures { IfOk result (λ parts. parts ≡ step_parts_in id.now (view value.now)) }
 {
     // What is dear to let go is read last.
     let outputs = step_outputs(alloc, value)?;
-    let scatter = texts_at(alloc, "scatter", value)?;
+    let scatter = names_at(alloc, "scatter", value)?;
     let when = template_at(alloc, "when", value)?;
-    let inputs = entries_at(alloc, Kind::StepInput, "in", value)?;
+    let inputs = entries_at(alloc, id, Kind::StepInput, "in", value)?;
     Ok(StepParts {
         inputs,
         outputs,

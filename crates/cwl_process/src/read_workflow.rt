@@ -10,7 +10,7 @@ ghost use Rattle.cwl_process.specs.Processes.{is_workflow, process_in, run_at, s
 ghost use Rattle.cwl_process.specs.Simple.{list_at, text_at, value_seen};
 ghost use Rattle.cwl_process.specs.Tools.{entries_at};
 ghost use Rattle.cwl_process.specs.declared.process.Run as run;
-ghost use Rattle.cwl_process.specs.Workflows.{method_named, step_input_in, step_output_in, workflow_of};
+ghost use Rattle.cwl_process.specs.Workflows.{method_named, own_id, step_input_in, step_output_in, workflow_of};
 
 use crate::acting::read_asked;
 use crate::entries::Entries;
@@ -18,7 +18,7 @@ use crate::from_entry::{FromEntry, entries_at};
 use crate::parameters::default_at;
 use crate::process::{Process, Run, RunName};
 use crate::read_links::read_links;
-use crate::simple::{list_at, read_any_text, texts_at};
+use crate::simple::{list_at, names_at, read_name};
 use crate::templates::template_at;
 use crate::tool::Asked;
 use crate::tool_reader::read_tool;
@@ -52,6 +52,16 @@ pub(crate) fn read_process(
     Ok(Process::Tool(read_tool(alloc, around, value)?))
 }
 
+/// Returns the id of a workflow, as it is written; an empty text where it has none.
+pub fn own_id(value: &Value) -> &str
+    ensures { result.now ≡ own_id (view value.now) }
+{
+    match value.get("id") {
+        None => "",
+        Some(id) => id.as_str().unwrap_or(""),
+    }
+}
+
 /// Whether a process is a workflow.
 pub fn is_workflow(value: &Value) -> bool
     ensures { result ≡ is_workflow (view value.now) }
@@ -75,10 +85,11 @@ fn read_workflow(
 ) -> Result<Workflow, AllocError>
     requires { IsOf kind.Workflow (view value.now) }
     ensures { IfOk result (λ workflow. workflow ≡ workflow_of
-        (step_in (process_in levels) (asked_in around.now (view value.now))) (view value.now)) }
+        (step_in (process_in levels) (own_id (view value.now))
+        (asked_in around.now (view value.now))) (view value.now)) }
 {
-    let inputs = entries_at(alloc, Kind::WorkflowInput, "inputs", value)?;
-    let outputs = entries_at(alloc, Kind::WorkflowOutput, "outputs", value)?;
+    let inputs = entries_at(alloc, "", Kind::WorkflowInput, "inputs", value)?;
+    let outputs = entries_at(alloc, own_id(value), Kind::WorkflowOutput, "outputs", value)?;
     let steps = steps_at(alloc, levels, around, value)?;
     Ok(Workflow {
         inputs,
@@ -97,13 +108,14 @@ fn steps_at(
 ) -> Result<Entries<Step>, AllocError>
     requires { IsOf kind.Workflow (view value.now) }
     ensures { IfOk result (λ steps. steps ≡ entries_at kind.Step
-        (step_in (process_in levels) (asked_in around.now (view value.now)))
+        (step_in (process_in levels) (own_id (view value.now))
+        (asked_in around.now (view value.now)))
         (codes "steps") (view value.now)) }
 {
     let asked = read_asked(alloc, around, value)?;
     match value.get("steps") {
         None => Ok(Entries::from_distinct(Vec::new(alloc))),
-        Some(found) => read_steps(alloc, levels, &asked, found),
+        Some(found) => read_steps(alloc, levels, own_id(value), &asked, found),
     }
 }
 
@@ -111,19 +123,20 @@ fn steps_at(
 fn read_steps(
     alloc: Global,
     levels: usize,
+    id: &str,
     around: &Asked,
     value: &Value,
 ) -> Result<Entries<Step>, AllocError>
     requires { HasForm (form.Objects kind.Step) (view value.now) }
     ensures { IfOk result (λ steps. steps
-        ≡ map (λ e. (e.0, step_in (process_in levels) around.now e.1))
+        ≡ map (λ e. (e.0, step_in (process_in levels) id.now around.now e.1))
         (entries kind.Step (view value.now))) }
 {
     let found = entries(alloc, Kind::Step, value)?;
     let mut made = Vec::new(alloc);
     for entry in found.as_slice() {
-        let id = Text::from_text(alloc, entry.0)?;
-        made.push((id, read_step(alloc, levels, around, entry.1)?))?;
+        let name = Text::from_text(alloc, entry.0)?;
+        made.push((name, read_step(alloc, levels, id, around, entry.1)?))?;
     }
     Ok(Entries::from_distinct(made))
 }
@@ -133,16 +146,18 @@ fn read_steps(
 fn read_step(
     alloc: Global,
     levels: usize,
+    id: &str,
     around: &Asked,
     value: &Value,
 ) -> Result<Step, AllocError>
     requires { IsOf kind.Step (view value.now) }
-    ensures { IfOk result (λ step. step ≡ step_in (process_in levels) around.now (view value.now)) }
+    ensures { IfOk result
+        (λ step. step ≡ step_in (process_in levels) id.now around.now (view value.now)) }
 {
     // What is dear to let go is read last.
     let outputs = step_outputs(alloc, value)?;
-    let scatter = texts_at(alloc, "scatter", value)?;
-    let inputs = entries_at(alloc, Kind::StepInput, "in", value)?;
+    let scatter = names_at(alloc, "scatter", value)?;
+    let inputs = entries_at(alloc, id, Kind::StepInput, "in", value)?;
     let when = template_at(alloc, "when", value)?;
     let run = run_at(alloc, levels, around, value)?;
     Ok(Step {
@@ -207,7 +222,7 @@ fn read_step_output(alloc: Global, value: &Value) -> Result<Text, AllocError>
 {
     match main_field("id", value) {
         None => Text::from_text(alloc, ""),
-        Some(found) => read_any_text(alloc, found),
+        Some(found) => read_name(alloc, found),
     }
 }
 
@@ -227,8 +242,8 @@ pub(crate) fn scatter_method(value: &Value) -> Option<Method>
 impl FromEntry for StepInput {
     ghost meaning = { step_input_in };
 
-    fn from_entry(alloc: Global, value: &Value) -> Result<StepInput, AllocError> {
-        let links = read_links(alloc, main_field("source", value), value)?;
+    fn from_entry(alloc: Global, id: &str, value: &Value) -> Result<StepInput, AllocError> {
+        let links = read_links(alloc, id, main_field("source", value), value)?;
         let value_from = template_at(alloc, "valueFrom", value)?;
         let default = default_at(alloc, value)?;
         Ok(StepInput {

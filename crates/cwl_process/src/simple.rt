@@ -2,8 +2,9 @@
 ghost use Rattle.std.specs.Prelude.{◌≡◌, IfOk, map};
 ghost use Rattle.serde_json.specs.Find.{as_str};
 ghost use Rattle.serde_json.specs.View.{view, items_view};
-ghost use Rattle.cwl_process.specs.Simple.{elements, flag_at, int_at, int_in, ints_at, list_at, one_or_more, text_at, texts_at, text_in, value_seen};
+ghost use Rattle.cwl_process.specs.Simple.{elements, flag_at, int_at, int_in, ints_at, list_at, name_in, names_at, one_or_more, text_at, texts_at, text_in, value_seen};
 
+use document_table::plain_id;
 use plain_data::{Items, Text};
 use serde_json::Value;
 use std::alloc::{AllocError, Global};
@@ -126,6 +127,31 @@ fn read_texts(alloc: Global, found: &[&Value]) -> Result<Items<Text>, AllocError
         texts.push(read_any_text(alloc, value)?)?;
     }
     Ok(texts)
+}
+
+/// The names that a field lists.
+pub(crate) fn names_at(alloc: Global, name: &str, value: &Value) -> Result<Items<Text>, AllocError>
+    ensures { IfOk result (λ names. names ≡ names_at name.now (view value.now)) }
+{
+    let found = list_at(alloc, name, value)?;
+    read_names(alloc, found.as_slice())
+}
+
+fn read_names(alloc: Global, found: &[&Value]) -> Result<Items<Text>, AllocError>
+    ensures { IfOk result (λ names. names ≡ map name_in (map value_seen found.now)) }
+{
+    let mut names = Items::new(alloc);
+    for value in found {
+        names.push(read_name(alloc, value)?)?;
+    }
+    Ok(names)
+}
+
+/// What the name that a value is stands for, and an empty text where it is none.
+pub(crate) fn read_name(alloc: Global, value: &Value) -> Result<Text, AllocError>
+    ensures { IfOk result (λ name. name ≡ name_in (view value.now)) }
+{
+    Text::from_text(alloc, plain_id(value.as_str().unwrap_or("")))
 }
 
 /// The numbers of a field.

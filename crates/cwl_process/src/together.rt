@@ -6,9 +6,12 @@ ghost use Rattle.document_table.specs.Entries.{entry_seen};
 ghost use Rattle.document_table.specs.Faults.{under};
 ghost use Rattle.document_table.specs.declared.form.Kind.TheVariants as kind;
 ghost use Rattle.cwl_process.specs.FirstFaults.{first_at, first_in};
-ghost use Rattle.cwl_process.specs.Together.{default_fault, inputs_fault, is_of_type, is_stream, is_value, output_fault, own_step_fault, process_fault, step_fault, stdin_fault, tool_fault, workflow_fault};
+ghost use Rattle.cwl_process.specs.Together.{default_fault, inputs_fault, is_of_type, is_stream, is_value, output_fault, output_source_fault, own_step_fault, process_fault, step_fault, stdin_fault, tool_fault, workflow_fault};
+ghost use Rattle.cwl_process.specs.Workflows.{own_id};
+ghost use Rattle.document_table.specs.Walk.{or_else};
 
-use crate::read_workflow::is_workflow;
+use crate::link_faults::{output_sources_fault, step_sources_fault};
+use crate::read_workflow::{is_workflow, own_id};
 use crate::template_faults::{asked_fault, at_field, step_text_fault, tool_text_fault};
 use cwl_value::{ValueRefusal, from_json};
 use document_table::{Cause, DocumentFault, Kind, entries, here, main_field, under};
@@ -50,6 +53,25 @@ fn workflow_fault(
     }
     match asked_fault(alloc, value)? {
         Some(fault) => Ok(Some(fault)),
+        None => links_fault(alloc, levels, value),
+    }
+}
+
+/// What is wrong first with the links of a workflow's outputs, and then with its steps.
+#[cycle(together)]
+fn links_fault(
+    alloc: Global,
+    levels: usize,
+    value: &Value,
+) -> Result<Option<DocumentFault>, AllocError>
+    ensures { IfOk result (λ fault. fault
+        ≡ or_else (first_at kind.WorkflowOutput (output_source_fault (own_id (view value.now)))
+        (codes "outputs") (view value.now))
+        (first_at kind.Step (step_fault (process_fault levels) (own_id (view value.now)))
+        (codes "steps") (view value.now))) }
+{
+    match output_sources_fault(alloc, own_id(value), value)? {
+        Some(fault) => Ok(Some(fault)),
         None => steps_fault(alloc, levels, value),
     }
 }
@@ -61,13 +83,14 @@ fn steps_fault(
     value: &Value,
 ) -> Result<Option<DocumentFault>, AllocError>
     ensures { IfOk result (λ fault. fault
-        ≡ first_at kind.Step (step_fault (process_fault levels)) (codes "steps") (view value.now)) }
+        ≡ first_at kind.Step (step_fault (process_fault levels) (own_id (view value.now)))
+        (codes "steps") (view value.now)) }
 {
     let Some(found) = value.get("steps") else {
         return Ok(None);
     };
     let all = entries(alloc, Kind::Step, found)?;
-    let fault = first_step_fault(alloc, levels, all.as_slice())?;
+    let fault = first_step_fault(alloc, levels, own_id(value), all.as_slice())?;
     at_field(alloc, "steps", fault)
 }
 
@@ -75,13 +98,14 @@ fn steps_fault(
 fn first_step_fault(
     alloc: Global,
     levels: usize,
+    id: &str,
     all: &[(&str, &Value)],
 ) -> Result<Option<DocumentFault>, AllocError>
     ensures { IfOk result (λ fault. fault
-        ≡ first_in (step_fault (process_fault levels)) (map entry_seen all.now)) }
+        ≡ first_in (step_fault (process_fault levels) id.now) (map entry_seen all.now)) }
 {
     for entry in all {
-        if let Some(fault) = step_fault(alloc, levels, entry.1)? {
+        if let Some(fault) = step_fault(alloc, levels, id, entry.1)? {
             return Ok(Some(under(alloc, entry.0, fault)?));
         }
     }
@@ -92,11 +116,13 @@ fn first_step_fault(
 fn step_fault(
     alloc: Global,
     levels: usize,
+    id: &str,
     value: &Value,
 ) -> Result<Option<DocumentFault>, AllocError>
-    ensures { IfOk result (λ fault. fault ≡ step_fault (process_fault levels) (view value.now)) }
+    ensures { IfOk result
+        (λ fault. fault ≡ step_fault (process_fault levels) id.now (view value.now)) }
 {
-    if let Some(fault) = own_step_fault(alloc, value)? {
+    if let Some(fault) = own_step_fault(alloc, id, value)? {
         return Ok(Some(fault));
     }
     let Some(found) = value.get("run") else {
@@ -109,11 +135,18 @@ fn step_fault(
     at_field(alloc, "run", fault)
 }
 
-/// What is wrong first with a step, without the process that it runs.
-fn own_step_fault(alloc: Global, value: &Value) -> Result<Option<DocumentFault>, AllocError>
-    ensures { IfOk result (λ fault. fault ≡ own_step_fault (view value.now)) }
+/// What is wrong first with a step of the workflow of that id, without the process that it runs.
+fn own_step_fault(
+    alloc: Global,
+    id: &str,
+    value: &Value,
+) -> Result<Option<DocumentFault>, AllocError>
+    ensures { IfOk result (λ fault. fault ≡ own_step_fault id.now (view value.now)) }
 {
-    match defaults_fault(alloc, Kind::StepInput, "in", value)? {
+    if let Some(fault) = defaults_fault(alloc, Kind::StepInput, "in", value)? {
+        return Ok(Some(fault));
+    }
+    match step_sources_fault(alloc, id, value)? {
         Some(fault) => Ok(Some(fault)),
         None => step_text_fault(alloc, value),
     }

@@ -101,8 +101,8 @@ fn read_parameters(
       entries_at kind.ToolOutput tool_output_in (codes "outputs") (view value.now),
     )) }
 {
-    let inputs = entries_at(alloc, Kind::ToolInput, "inputs", value)?;
-    match entries_at(alloc, Kind::ToolOutput, "outputs", value) {
+    let inputs = entries_at(alloc, "", Kind::ToolInput, "inputs", value)?;
+    match entries_at(alloc, "", Kind::ToolOutput, "outputs", value) {
         Ok(outputs) => Ok((inputs, outputs)),
         Err(error) => {
             mem::drop(inputs);

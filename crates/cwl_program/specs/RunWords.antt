@@ -20,7 +20,7 @@ named_rule id = record (new_rule id) { long = Some id; action = Some Set; value_
 abbrev pub numbered_rule : Text → ℕ → ℕ → Rule
 numbered_rule id least most = record (named_rule id) { parser = Some (Unsigned least most) }
 
--- `run` with its two folders alone, with its two numbers, with its record, with what it tells of its jobs, with whether its work folder
+-- `run` with its two folders alone, with its two numbers, with its record, with its archive, with what it tells of its jobs, with whether its work folder
 -- stays, with the options of each command, with its document, and with the input object too
 abbrev pub with_folders : App
 with_folders = with_rule (with_rule (new_app (codes "run")) (named_rule (codes "work"))) (named_rule (codes "outdir"))
@@ -34,8 +34,11 @@ with_numbers = with_rule with_slots (numbered_rule (codes "retries") 0 10)
 abbrev pub with_record : App
 with_record = with_rule with_numbers (named_rule (codes "record"))
 
+abbrev pub with_archive : App
+with_archive = with_rule with_record (named_rule (codes "archive"))
+
 abbrev pub with_verbose : App
-with_verbose = with_rule with_record (flag_rule (codes "verbose"))
+with_verbose = with_rule with_archive (flag_rule (codes "verbose"))
 
 abbrev pub with_progress : App
 with_progress = with_rule with_verbose (flag_rule (codes "progress"))
@@ -63,7 +66,7 @@ telling_in rows =
     else Nothing
 
 -- the document, the input object's file where one is named, the two folders, the texts of the two numbers that are given, the record's file
--- where one is named, whether the work folder is to stay, and whether it is to stay after a failure, how to tell of the jobs, and whether
+-- and the archive's folder where they are named, whether the work folder is to stay, and whether it is to stay after a failure, how to tell of the jobs, and whether
 -- to say in words what went wrong
 pub record RunWish : Type 0 where
   pub document : Text
@@ -73,6 +76,7 @@ pub record RunWish : Type 0 where
   pub slots : Option Text
   pub retries : Option Text
   pub record_file : Option Text
+  pub archive : Option Text
   pub keep : Bool
   pub keep_failed : Bool
   pub telling : Telling
@@ -88,6 +92,7 @@ run_wish rows = record {
   slots = first_of (codes "slots") rows;
   retries = first_of (codes "retries") rows;
   record_file = first_of (codes "record") rows;
+  archive = first_of (codes "archive") rows;
   keep = is_given (codes "keep") rows;
   keep_failed = is_given (codes "keep-failed") rows;
   telling = telling_in rows;
@@ -103,6 +108,7 @@ wish_of_run words = record {
   slots = option_map (λ s. s.now) words.slots;
   retries = option_map (λ s. s.now) words.retries;
   record_file = option_map (λ s. s.now) words.record_file;
+  archive = option_map (λ s. s.now) words.archive;
   keep = words.keep;
   keep_failed = words.keep_failed;
   telling = words.telling;

@@ -1,5 +1,5 @@
 -- How a run of a document on inputs ends the program.
-use Rattle.std.specs.Prelude.{◌≡◌, ◌≤◌, ℕ, true, false, List, [], length, codes, Option, Some, None, unwrap_or, Result, Ok, Err, IfErr}
+use Rattle.std.specs.Prelude.{◌≡◌, ◌≤◌, ℕ, true, false, List, [], length, codes, Option, Some, None, unwrap_or, Result, Ok, Err, IfErr, is_some, option_map}
 use Rattle.serde_json.specs.Written.{compact_text}
 use Rattle.clap.specs.Words.{Text}
 use Rattle.url.specs.Parts.{Parts}
@@ -134,9 +134,10 @@ pub data IsStopExit (here : Text) (words : RunWish) : Exit → Type 0 where
 pub record AreNamed (here : Text) (words : RunWish) (places : Places) : Type 0 where
   pub work : places.work ≡ from_root here words.work
   pub outdir : places.outdir ≡ from_root here words.outdir
+  pub archive : places.archive ≡ option_map (from_root here) words.archive
 
 -- what a run may use, and where, with this `PATH`: the slots and the retries are those that the words give, else 1 and 0; a load costs 1
--- and 1 more for each 100,000 bytes, and no archive is kept
+-- and 1 more for each 100,000 bytes, and an archive is kept where the words name one
 pub record IsAsked (here : Text) (words : RunWish) (path : Text) (options : Options) : Type 0 where
   pub work : options.work ≡ from_root here words.work
   pub outdir : options.outdir ≡ from_root here words.outdir
@@ -145,7 +146,7 @@ pub record IsAsked (here : Text) (words : RunWish) (path : Text) (options : Opti
   pub retries : IsChosen 0 10 0 words.retries options.retries
   pub base : options.base ≡ 1
   pub rate : options.rate ≡ 100000
-  pub keep : options.keep ≡ false
+  pub keep : options.keep ≡ is_some words.archive
 
 -- a run of the named process on the named inputs, or nothing to run; the work folder, where it stays; and the lines that the log of the
 -- record has then, of which nothing was asked before

@@ -68,6 +68,7 @@ fn faulty(
             stop
         }
         LinkFault::Document(url, fault) => wrong(LinkFault::Document(url, fault)),
+        LinkFault::NoItem(id) => wrong(LinkFault::NoItem(id)),
         LinkFault::TooDeep => wrong(LinkFault::TooDeep),
         LinkFault::TooMany => wrong(LinkFault::TooMany),
     }

@@ -115,6 +115,6 @@ fn options_of(alloc: Global, places: &Places, call: &Call<'_>) -> Result<Options
         retries: retries_of(call.words),
         base: 1,
         rate: 100_000,
-        keep: false,
+        keep: call.words.archive.is_some(),
     })
 }

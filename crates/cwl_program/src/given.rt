@@ -26,12 +26,22 @@ pub struct Given {
 pub struct Places {
     pub work: Text,
     pub outdir: Text,
+    /// The archive's folder, where one is kept.
+    pub archive: Option<Text>,
 }
 
 impl Places {
     pub fn clone_in(&self, alloc: Global) -> Result<Places, AllocError> {
         let work = self.work.copied(alloc)?;
         let outdir = self.outdir.copied(alloc)?;
-        Ok(Places { work, outdir })
+        let archive = match &self.archive {
+            None => None,
+            Some(folder) => Some(folder.copied(alloc)?),
+        };
+        Ok(Places {
+            work,
+            outdir,
+            archive,
+        })
     }
 }

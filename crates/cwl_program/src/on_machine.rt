@@ -61,8 +61,12 @@ fn machine_of<R: World>(rt: &R, places: &Places, keep: bool) -> Result<Machine<R
 fn machine_at<R: World>(rt: R, places: Places, keep: bool) -> Machine<R>
     ensures { result.running ≡ [] }
 {
-    let Places { work, outdir } = places;
-    let mut host = Machine::new(rt, work, None, outdir);
+    let Places {
+        work,
+        outdir,
+        archive,
+    } = places;
+    let mut host = Machine::new(rt, work, archive, outdir);
     if keep {
         host.keep_folders();
     }

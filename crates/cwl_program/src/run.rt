@@ -1,6 +1,7 @@
 //! A run of the user's own process, over real processes and files.
-ghost use Rattle.std.specs.Prelude.{◌≡◌, None, IfOk, IfErr};
+ghost use Rattle.std.specs.Prelude.{◌≡◌, None, IfOk, IfErr, option_map};
 ghost use Rattle.document_links.specs.Library.{Documents};
+ghost use Rattle.cwl_program.specs.Paths.{from_root as path_from_root};
 ghost use Rattle.cwl_program.specs.RunWords.{wish_of_run};
 ghost use Rattle.cwl_program.specs.Runs.{AreNamed, IsEndOfRun, IsInputsText, IsNamedInputs, IsNamedProcess, IsNoInputs, IsNoProcess, IsRead, IsReady};
 ghost use Rattle.cwl_program.specs.Sources.{IsAccepted, IsDocumentStop};
@@ -20,7 +21,7 @@ use crate::search::reached_from;
 use crate::stop::{Stop, stopped_run, unread};
 use cwl_value::Value;
 use document_links::Process;
-use plain_data::Keyed;
+use plain_data::{Keyed, Text};
 use process_machine::World;
 use record_program::Records;
 use std::alloc::{AllocError, Global};
@@ -207,11 +208,26 @@ where
     end
 }
 
-/// The folders as paths from the root.
+/// The folders as paths from the root, that of the archive too where one is named.
 fn places_of(alloc: Global, call: &Call<'_>) -> Result<Places, AllocError>
     ensures { IfOk result (AreNamed call.now.here.now (wish_of_run call.now.words.now)) }
 {
     let work = from_root(alloc, call.here, call.words.work)?;
     let outdir = from_root(alloc, call.here, call.words.outdir)?;
-    Ok(Places { work, outdir })
+    let archive = archive_of(alloc, call)?;
+    Ok(Places {
+        work,
+        outdir,
+        archive,
+    })
+}
+
+fn archive_of(alloc: Global, call: &Call<'_>) -> Result<Option<Text>, AllocError>
+    ensures { IfOk result (λ archive. archive ≡ option_map (path_from_root call.now.here.now)
+        (wish_of_run call.now.words.now).archive) }
+{
+    match call.words.archive {
+        None => Ok(None),
+        Some(name) => Ok(Some(from_root(alloc, call.here, name)?)),
+    }
 }

@@ -1,7 +1,7 @@
 ghost use Rattle.std.specs.Prelude.{◌≡◌, ◌≤◌, IfOk, IfErr, Some, false, option_map};
 ghost use Rattle.clap.specs.Words.{app_of, found_of, kind_of, rows_of, rule_of};
 ghost use Rattle.cwl_program.specs.Flags.{IsLocal};
-ghost use Rattle.cwl_program.specs.RunWords.{IsChosen, named_rule, numbered_rule, placed_rule, run_command, run_wish, telling_in, wish_of_run, with_document, with_folders, with_keep, with_keep_failed, with_numbers, with_options, with_progress, with_record, with_slots, with_verbose};
+ghost use Rattle.cwl_program.specs.RunWords.{IsChosen, named_rule, numbered_rule, placed_rule, run_command, run_wish, telling_in, wish_of_run, with_archive, with_document, with_folders, with_keep, with_keep_failed, with_numbers, with_options, with_progress, with_record, with_slots, with_verbose};
 
 use crate::flags::{flag, is_given, is_wanted, with_flags};
 use crate::telling::Telling;
@@ -26,7 +26,10 @@ const RETRIES_HELP: &str =
     "How often a job that fails temporarily is started again, from 0 to 10 [0]";
 
 const RECORD_HELP: &str =
-    "The file of a record, made where it is absent, which keeps what each job gives and ends a run that gives something else; no job is loaded yet";
+    "The file of a record, made where it is absent, which keeps what each job gives and ends a run that gives something else";
+
+const ARCHIVE_HELP: &str =
+    "The folder that keeps the files of each job, made where it is absent; a job whose row and files are kept is not started";
 
 const VERBOSE_HELP: &str =
     "Tell of each job as it starts and ends, and show what the commands say on standard error";
@@ -51,6 +54,8 @@ pub struct RunWords<'a> {
     pub retries: Option<&'a str>,
     /// The file of the record that is asked for the jobs; without it the record ends with the run.
     pub record_file: Option<&'a str>,
+    /// The folder that keeps the files of jobs; without it none are kept, and each job is computed.
+    pub archive: Option<&'a str>,
     /// Whether the work folder is to stay, and whether it is to stay after a failure.
     pub keep: bool,
     pub keep_failed: bool,
@@ -144,6 +149,17 @@ fn record_command<'a>(alloc: Global) -> Result<Command<'a>, Error>
     Ok(command)
 }
 
+// And with its archive.
+fn archive_command<'a>(alloc: Global) -> Result<Command<'a>, Error>
+    ensures ok { IfOk result (λ command. app_of command ≡ with_archive) }
+    ensures local { IfOk result IsLocal }
+    ensures err { IfErr result (λ e. kind_of e ≡ ErrorKind.OutOfMemory) }
+{
+    let archive = named(alloc, "archive", "DIR", ARCHIVE_HELP);
+    let command = record_command(alloc)?.arg(archive)?;
+    Ok(command)
+}
+
 // And with the lines on its jobs.
 fn verbose_command<'a>(alloc: Global) -> Result<Command<'a>, Error>
     ensures ok { IfOk result (λ command. app_of command ≡ with_verbose) }
@@ -151,7 +167,7 @@ fn verbose_command<'a>(alloc: Global) -> Result<Command<'a>, Error>
     ensures err { IfErr result (λ e. kind_of e ≡ ErrorKind.OutOfMemory) }
 {
     let verbose = flag(alloc, "verbose", VERBOSE_HELP);
-    let command = record_command(alloc)?.arg(verbose)?;
+    let command = archive_command(alloc)?.arg(verbose)?;
     Ok(command)
 }
 
@@ -237,6 +253,7 @@ pub fn run_words<'a>(words: &ArgMatches<'a>) -> RunWords<'a>
         slots: words.get_str("slots"),
         retries: words.get_str("retries"),
         record_file: words.get_str("record"),
+        archive: words.get_str("archive"),
         keep: is_given(words, "keep"),
         keep_failed: is_given(words, "keep-failed"),
         telling: telling_of(words),

@@ -5,6 +5,7 @@ use Rattle.std.specs.Option.{option_map_or}
 use Rattle.std.specs.Str.{bytes_eq}
 use Rattle.serde_json.specs.Data.{Data, null, boolean, number, string, array, object, Items, no_items, item, Members, no_members, member}
 use Rattle.serde_json.specs.Find.{as_bool, as_str, get}
+use Rattle.document_table.specs.Texts.{plain_id}
 use Rattle.cwl_types.specs.Named.{Named, named_type}
 use Rattle.cwl_types.specs.declared.types.ItemBinding.{ItemBinding}
 use Rattle.cwl_types.specs.declared.types.MemberType.{MemberType}
@@ -30,9 +31,10 @@ text_type text = option_map_or members_named (named_type text) []
 abbrev pub text_in : Data → List ℕ
 text_in d = unwrap_or (as_str d) []
 
+-- A symbol may begin with `#`, as an id.
 abbrev pub texts_in : Items → List (List ℕ)
 texts_in no_items = []
-texts_in (item d ds) = text_in d ∷ texts_in ds
+texts_in (item d ds) = plain_id (text_in d) ∷ texts_in ds
 
 abbrev pub symbols_in : Data → List (List ℕ)
 symbols_in null = []

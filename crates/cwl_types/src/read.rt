@@ -6,6 +6,7 @@ ghost use Rattle.cwl_types.specs.Types.{binding_in, items_in, is_array, member_n
 
 use crate::named::{NamedType, named_type};
 use crate::types::{ArrayType, ItemBinding, MemberType, PlainType};
+use document_table::plain_id;
 use plain_data::{Items, Text};
 use serde_json::{Map, Value};
 use std::alloc::{AllocError, Global};
@@ -154,7 +155,7 @@ fn read_texts(alloc: Global, items: &Vec<Value>) -> Result<Items<Text>, AllocErr
 {
     let mut texts = Items::new(alloc);
     for item in items {
-        texts.push(Text::from_text(alloc, item.as_str().unwrap_or(""))?)?;
+        texts.push(Text::from_text(alloc, plain_id(item.as_str().unwrap_or("")))?)?;
     }
     Ok(texts)
 }

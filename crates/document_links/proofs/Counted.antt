@@ -7,8 +7,8 @@ use Rattle.serde_json.specs.Data.{Data}
 use Rattle.serde_json.specs.declared.value.Value.{Value}
 use Rattle.document_table.specs.Entries.{entry_seen}
 use Rattle.cwl_process.specs.Processes.{is_workflow}
-use Rattle.url.specs.Parts.{Parts}
 use Rattle.document_links.specs.Bounds.{left, process_left, step_left, steps_left, tool_left, workflow_left}
+use Rattle.document_links.specs.Homes.{Home}
 use Rattle.document_links.specs.Library.{Finds}
 use Rattle.document_links.specs.declared.fault.LinkFault.TheVariants.{TooDeep, TooMany}
 use Rattle.document_links.specs.declared.walk.WalkFault.TheVariants.{Other}
@@ -20,42 +20,42 @@ use Rattle.document_links.proofs.Results.{stopped}
 before : (n : ℕ) → n ≡ suc n - 1
 before n = omega arith
 
-pub no_room : (find : Finds) (levels : ℕ) (base : Parts) (d : Data) → left find levels 0 base d ≡ Err (Other TooMany)
+pub no_room : (find : Finds) (levels : ℕ) (h : Home) (d : Data) → left find levels 0 h d ≡ Err (Other TooMany)
 unfolding left
-no_room find zero base d = refl
-no_room find (suc levels) base d = refl
+no_room find zero h d = refl
+no_room find (suc levels) h d = refl
 
-one_tool : (inner : Option (ℕ → Parts → Data → Left)) (find : Finds) (room : ℕ) (base : Parts) (d : Data) → room ≢ 0 → is_workflow d ≡ false
-    → process_left inner find room base d ≡ tool_left (room - 1) base d
-one_tool inner find zero base d some is = absurd (some refl)
-one_tool inner find (suc room) base d some is =
-    ap (λ t. if t then option_map_or (λ f. workflow_left f find room base d) inner (Err (Other TooDeep)) else tool_left room base d) is ∙ ap (λ n. tool_left n base d) (before room)
+one_tool : (inner : Option (ℕ → Home → Data → Left)) (find : Finds) (room : ℕ) (h : Home) (d : Data) → room ≢ 0 → is_workflow d ≡ false
+    → process_left inner find room h d ≡ tool_left (room - 1) h d
+one_tool inner find zero h d some is = absurd (some refl)
+one_tool inner find (suc room) h d some is =
+    ap (λ t. if t then option_map_or (λ f. workflow_left f find room h d) inner (Err (Other TooDeep)) else tool_left room h d) is ∙ ap (λ n. tool_left n h d) (before room)
 
-pub left_tool : (find : Finds) (levels room : ℕ) (base : Parts) (d : Data) → room ≢ 0 → is_workflow d ≡ false → left find levels room base d ≡ tool_left (room - 1) base d
+pub left_tool : (find : Finds) (levels room : ℕ) (h : Home) (d : Data) → room ≢ 0 → is_workflow d ≡ false → left find levels room h d ≡ tool_left (room - 1) h d
 unfolding left
-left_tool find zero room base d some is = one_tool None find room base d some is
-left_tool find (suc levels) room base d some is = one_tool (Some (left find levels)) find room base d some is
+left_tool find zero room h d some is = one_tool None find room h d some is
+left_tool find (suc levels) room h d some is = one_tool (Some (left find levels)) find room h d some is
 
-pub left_deep : (find : Finds) (room : ℕ) (base : Parts) (d : Data) → room ≢ 0 → is_workflow d ≡ true → left find zero room base d ≡ Err (Other TooDeep)
+pub left_deep : (find : Finds) (room : ℕ) (h : Home) (d : Data) → room ≢ 0 → is_workflow d ≡ true → left find zero room h d ≡ Err (Other TooDeep)
 unfolding left
-left_deep find zero base d some is = absurd (some refl)
-left_deep find (suc room) base d some is = ap (λ t. if t then Err (Other TooDeep) else tool_left room base d) is
+left_deep find zero h d some is = absurd (some refl)
+left_deep find (suc room) h d some is = ap (λ t. if t then Err (Other TooDeep) else tool_left room h d) is
 
-pub left_workflow : (find : Finds) (levels room : ℕ) (base : Parts) (d : Data) → levels ≢ 0 → room ≢ 0 → is_workflow d ≡ true
-    → left find levels room base d ≡ workflow_left (left find (levels - 1)) find (room - 1) base d
+pub left_workflow : (find : Finds) (levels room : ℕ) (h : Home) (d : Data) → levels ≢ 0 → room ≢ 0 → is_workflow d ≡ true
+    → left find levels room h d ≡ workflow_left (left find (levels - 1)) find (room - 1) h d
 unfolding left
-left_workflow find zero room base d deep some is = absurd (deep refl)
-left_workflow find (suc levels) zero base d deep some is = absurd (some refl)
-left_workflow find (suc levels) (suc room) base d deep some is =
-    ap (λ t. if t then workflow_left (left find levels) find room base d else tool_left room base d) is
-    ∙ ap (λ k. workflow_left (left find k) find room base d) (before levels)
-    ∙ ap (λ k. workflow_left (left find (suc levels - 1)) find k base d) (before room)
+left_workflow find zero room h d deep some is = absurd (deep refl)
+left_workflow find (suc levels) zero h d deep some is = absurd (some refl)
+left_workflow find (suc levels) (suc room) h d deep some is =
+    ap (λ t. if t then workflow_left (left find levels) find room h d else tool_left room h d) is
+    ∙ ap (λ k. workflow_left (left find k) find room h d) (before levels)
+    ∙ ap (λ k. workflow_left (left find (suc levels - 1)) find k h d) (before room)
 
 -- A step that ends the walk ends that over the steps.
-pub steps_stop : (inner : ℕ → Parts → Data → Left) (find : Finds) (still room : ℕ) (base : Parts) (all : List (Bor (List ℕ) × Bor Value)) (i : ℕ) (e : Bor (List ℕ) × Bor Value) (error : WalkError)
-    → i < length all → e ≡ get_or all i e → steps_left inner find still base (map entry_seen (drop i all)) ≡ steps_left inner find room base (map entry_seen all)
-    → IsWalkErrorOf (within (entry_seen e).0 (step_left inner find still base (entry_seen e).1)) error → IsWalkErrorOf (steps_left inner find room base (map entry_seen all)) error
-steps_stop inner find still room base all i e error inside at same stop =
+pub steps_stop : (inner : ℕ → Home → Data → Left) (find : Finds) (still room : ℕ) (h : Home) (all : List (Bor (List ℕ) × Bor Value)) (i : ℕ) (e : Bor (List ℕ) × Bor Value) (error : WalkError)
+    → i < length all → e ≡ get_or all i e → steps_left inner find still h (map entry_seen (drop i all)) ≡ steps_left inner find room h (map entry_seen all)
+    → IsWalkErrorOf (within (entry_seen e).0 (step_left inner find still h (entry_seen e).1)) error → IsWalkErrorOf (steps_left inner find room h (map entry_seen all)) error
+steps_stop inner find still room h all i e error inside at same stop =
     subst (λ left. IsWalkErrorOf left error) same
-    (subst (λ es. IsWalkErrorOf (steps_left inner find still base (map entry_seen es)) error) (sym (drop-cons all i e inside ∙ ap (λ x. x ∷ drop (suc i) all) (sym at)))
-    (stopped _ (λ n. steps_left inner find n base (map entry_seen (drop (suc i) all))) error stop))
+    (subst (λ es. IsWalkErrorOf (steps_left inner find still h (map entry_seen es)) error) (sym (drop-cons all i e inside ∙ ap (λ x. x ∷ drop (suc i) all) (sym at)))
+    (stopped _ (λ n. steps_left inner find n h (map entry_seen (drop (suc i) all))) error stop))

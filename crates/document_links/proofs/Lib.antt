@@ -1,3 +1,4 @@
+pub mod Absent
 pub mod Bounding
 pub mod Counted
 pub mod Differ

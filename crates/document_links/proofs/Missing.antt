@@ -11,30 +11,35 @@ use Rattle.serde_json.specs.Data.{Data}
 use Rattle.serde_json.specs.Find.{as_str, get}
 use Rattle.document_table.specs.Entries.{entries}
 use Rattle.document_table.specs.Faults.{here}
+use Rattle.document_table.specs.Packed.{Placed, item_named, root_of}
+use Rattle.document_table.specs.Texts.{has_hash}
 use Rattle.document_table.specs.declared.fault.Cause.TheVariants.{WrongForm}
 use Rattle.document_table.specs.declared.fault.DocumentFault.{DocumentFault}
 use Rattle.document_table.specs.declared.form.Kind.TheVariants as kind
+use Rattle.cwl_process.specs.Documents.{item_fault}
 use Rattle.cwl_process.specs.Processes.{is_workflow}
 use Rattle.url.specs.Parts.{Parts}
 use Rattle.document_links.specs.Bounds.{at_target, left, run_left, step_left, steps_left, tool_left, workflow_left}
 use Rattle.document_links.specs.Defaults.{defaults_fault}
 use Rattle.document_links.specs.Documents.{IsRefused, bounded, told_left}
+use Rattle.document_links.specs.Homes.{Home, home}
 use Rattle.document_links.specs.Library.{Documents, Finds, Found, IsReadAs}
 use Rattle.document_links.specs.LeadsTo.{Lacks, LeadsTo, Names}
-use Rattle.document_links.specs.Names.{added, is_in, name_url, run_urls, step_urls, steps_urls, urls_in, workflow_urls}
-use Rattle.document_links.specs.Targets.{found_as, found_at, target}
+use Rattle.document_links.specs.Names.{added, document_urls, is_in, item_urls, name_url, named_urls, run_urls, step_urls, steps_urls, urls_in, workflow_urls}
+use Rattle.document_links.specs.Targets.{document_at, found_as, found_at, item_at, item_or, target}
 use Rattle.document_links.specs.Urls.{joined, url_text}
 use Rattle.document_links.specs.Walks.{Left, checked, elsewhere, then_left, within}
 use Rattle.document_links.specs.declared.bounds.TheConstants.{MOST_PROCESSES, MOST_WORKFLOWS}
 use Rattle.document_links.specs.declared.fault.LinkError.TheVariants.{Refused}
 use Rattle.document_links.specs.declared.fault.LinkFault.{LinkFault}
-use Rattle.document_links.specs.declared.fault.LinkFault.TheVariants.{Document, NotLoaded, TooDeep, TooMany}
+use Rattle.document_links.specs.declared.fault.LinkFault.TheVariants.{Document, NoItem, NotLoaded, TooDeep, TooMany}
 use Rattle.document_links.specs.declared.walk.WalkFault.TheVariants.{Own, Other}
 
 -- ---- the URL of which a walk says that nothing is there
 
 abbrev missing_at : LinkFault → Option (List ℕ)
 missing_at (NotLoaded url) = Some url
+missing_at (NoItem name) = None
 missing_at (Document url fault) = None
 missing_at TooDeep = None
 missing_at TooMany = None
@@ -53,10 +58,10 @@ missing_within name (Ok n) url is = is
 missing_within name (Err (Own fault)) url is = is
 missing_within name (Err (Other fault)) url is = is
 
-missing_elsewhere : (at : Parts) (x : Left) (url : List ℕ) → missing (elsewhere at x) ≡ Some url → missing x ≡ Some url
-missing_elsewhere at (Ok n) url is = is
-missing_elsewhere at (Err (Own fault)) url is = is
-missing_elsewhere at (Err (Other fault)) url is = is
+missing_elsewhere : (at : Parts) (index : Option ℕ) (x : Left) (url : List ℕ) → missing (elsewhere at index x) ≡ Some url → missing x ≡ Some url
+missing_elsewhere at index (Ok n) url is = is
+missing_elsewhere at index (Err (Own fault)) url is = is
+missing_elsewhere at index (Err (Other fault)) url is = is
 
 missing_then : (x : Left) (next : ℕ → Left) (url : List ℕ) → missing (then_left x next) ≡ Some url → (missing x ≡ Some url) ⊎ ((k : ℕ) × (missing (next k) ≡ Some url))
 missing_then (Ok k) next url is = inr (k, is)
@@ -127,44 +132,54 @@ given_in url found (x ∷ xs) is =
 abbrev AllWithin : (Data → List (List ℕ)) → (Data → List (List ℕ)) → Type 0
 AllWithin f g = (d : Data) → Within (f d) (g d)
 
-run_within : (f g : Data → List (List ℕ)) (base : Parts) (run : Data) (o : Option (List ℕ)) → AllWithin f g
-    → Within (option_map_or (name_url base) o (f run)) (option_map_or (name_url base) o (g run))
-run_within f g base run None all url is = all run url is
-run_within f g base run (Some name) all url is = is
+item_within : (f g : Data → List (List ℕ)) (o : Option Placed) → AllWithin f g → Within (item_urls f o) (item_urls g o)
+item_within f g None all url is = is
+item_within f g (Some p) all url is = all p.process url is
 
-step_within : (f g : Data → List (List ℕ)) (base : Parts) (o : Option Data) → AllWithin f g → Within (option_map_or (run_urls f base) o []) (option_map_or (run_urls g base) o [])
-step_within f g base None all url is = is
-step_within f g base (Some run) all url is = run_within f g base run (as_str run) all url is
+named_within : (f g : Data → List (List ℕ)) (h : Home) (name : List ℕ) (test : Bool) → AllWithin f g
+    → Within (if test then item_urls f (item_named name h.document) else name_url h.url name) (if test then item_urls g (item_named name h.document) else name_url h.url name)
+named_within f g h name true all url is = item_within f g (item_named name h.document) all url is
+named_within f g h name false all url is = is
 
-steps_within : (f g : Data → List (List ℕ)) (base : Parts) (es : List (List ℕ × Data)) → AllWithin f g → Within (steps_urls f base es) (steps_urls g base es)
-steps_within f g base [] all url is = is
-steps_within f g base (e ∷ es) all url is =
-    one_part url (step_urls f base e.1) (steps_urls f base es) (steps_urls g base (e ∷ es))
-    (λ own. in_front (step_urls g base e.1) (steps_urls g base es) url (step_within f g base (get (codes "run") e.1) all url own))
-    (λ own. in_back (step_urls g base e.1) (steps_urls g base es) url (steps_within f g base es all url own))
+run_within : (f g : Data → List (List ℕ)) (h : Home) (run : Data) (o : Option (List ℕ)) → AllWithin f g
+    → Within (option_map_or (named_urls f h) o (f run)) (option_map_or (named_urls g h) o (g run))
+run_within f g h run None all url is = all run url is
+run_within f g h run (Some name) all url is = named_within f g h name (has_hash name) all url is
+
+step_within : (f g : Data → List (List ℕ)) (h : Home) (o : Option Data) → AllWithin f g → Within (option_map_or (run_urls f h) o []) (option_map_or (run_urls g h) o [])
+step_within f g h None all url is = is
+step_within f g h (Some run) all url is = run_within f g h run (as_str run) all url is
+
+steps_within : (f g : Data → List (List ℕ)) (h : Home) (es : List (List ℕ × Data)) → AllWithin f g → Within (steps_urls f h es) (steps_urls g h es)
+steps_within f g h [] all url is = is
+steps_within f g h (e ∷ es) all url is =
+    one_part url (step_urls f h e.1) (steps_urls f h es) (steps_urls g h (e ∷ es))
+    (λ own. in_front (step_urls g h e.1) (steps_urls g h es) url (step_within f g h (get (codes "run") e.1) all url own))
+    (λ own. in_back (step_urls g h e.1) (steps_urls g h es) url (steps_within f g h es all url own))
     is
 
-workflow_within : (f g : Data → List (List ℕ)) (base : Parts) (o : Option Data) → AllWithin f g
-    → Within (option_map_or (λ v. steps_urls f base (entries kind.Step v)) o []) (option_map_or (λ v. steps_urls g base (entries kind.Step v)) o [])
-workflow_within f g base None all url is = is
-workflow_within f g base (Some v) all url is = steps_within f g base (entries kind.Step v) all url is
+workflow_within : (f g : Data → List (List ℕ)) (h : Home) (o : Option Data) → AllWithin f g
+    → Within (option_map_or (λ v. steps_urls f h (entries kind.Step v)) o []) (option_map_or (λ v. steps_urls g h (entries kind.Step v)) o [])
+workflow_within f g h None all url is = is
+workflow_within f g h (Some v) all url is = steps_within f g h (entries kind.Step v) all url is
 
-level_within : (f g : Data → List (List ℕ)) (base : Parts) (d : Data) (test : Bool) → AllWithin f g
-    → Within (if test then workflow_urls f base d else []) (if test then workflow_urls g base d else [])
-level_within f g base d true all url is = workflow_within f g base (get (codes "steps") d) all url is
-level_within f g base d false all url is = is
+level_within : (f g : Data → List (List ℕ)) (h : Home) (d : Data) (test : Bool) → AllWithin f g
+    → Within (if test then workflow_urls f h d else []) (if test then workflow_urls g h d else [])
+level_within f g h d true all url is = workflow_within f g h (get (codes "steps") d) all url is
+level_within f g h d false all url is = is
 
-one_level : (levels : ℕ) (base : Parts) → AllWithin (urls_in levels base) (urls_in (suc levels) base)
+one_level : (levels : ℕ) (h : Home) → AllWithin (urls_in levels h) (urls_in (suc levels) h)
 unfolding urls_in
-one_level zero base d url is = absurd (true≢false (sym is))
-one_level (suc levels) base d url is = level_within (urls_in levels base) (urls_in (suc levels) base) base d (is_workflow d) (one_level levels base) url is
+one_level zero h d url is = absurd (true≢false (sym is))
+one_level (suc levels) h d url is = level_within (urls_in levels h) (urls_in (suc levels) h) h d (is_workflow d) (one_level levels h) url is
 
-levels_within : (gap levels most : ℕ) (base : Parts) (d : Data) → most ≡ gap + levels → Within (urls_in levels base d) (urls_in most base d)
-levels_within zero levels most base d is url in_it = ap (λ n. is_in url (urls_in n base d)) (omega (arith, is)) ∙ in_it
-levels_within (suc gap) levels most base d is url in_it = levels_within gap (suc levels) most base d (omega (arith, is)) url (one_level levels base d url in_it)
+levels_within : (gap levels most : ℕ) (h : Home) (d : Data) → most ≡ gap + levels → Within (urls_in levels h d) (urls_in most h d)
+levels_within zero levels most h d is url in_it = ap (λ n. is_in url (urls_in n h d)) (omega (arith, is)) ∙ in_it
+levels_within (suc gap) levels most h d is url in_it = levels_within gap (suc levels) most h d (omega (arith, is)) url (one_level levels h d url in_it)
 
-pub all_named : (levels : ℕ) (base : Parts) (d : Data) (url : List ℕ) → levels ≤ MOST_WORKFLOWS → is_in url (urls_in levels base d) ≡ true → Names base d url
-all_named levels base d url most is = given_in url [] (urls_in MOST_WORKFLOWS base d) (levels_within (MOST_WORKFLOWS - levels) levels MOST_WORKFLOWS base d (omega (arith, most)) url is)
+all_named : (levels : ℕ) (base : Parts) (d : Data) (url : List ℕ) → levels ≤ MOST_WORKFLOWS → is_in url (urls_in levels (home base d) (root_of d).process) ≡ true → Names base d url
+all_named levels base d url most is =
+    given_in url [] (document_urls base d) (levels_within (MOST_WORKFLOWS - levels) levels MOST_WORKFLOWS (home base d) (root_of d).process (omega (arith, most)) url is)
 
 -- ---- what is missing, where those are the names
 
@@ -188,87 +203,106 @@ leads find base d names url up (inr there) = LeadsTo.through base d there.0 ther
 
 -- ---- one level
 
--- `inner` tells only of what is missed where those are the names, and those are names of the document
-abbrev Tells : Finds → (ℕ → Parts → Data → Left) → (Parts → Data → List (List ℕ)) → Type 0
-Tells find inner urls = (room : ℕ) (base : Parts) (d : Data) (url : List ℕ) → missing (inner room base d) ≡ Some url → Missed find (urls base d) url
+-- `inner` tells only of what is missed where those are the names
+abbrev Tells : Finds → (ℕ → Home → Data → Left) → (Home → Data → List (List ℕ)) → Type 0
+Tells find inner urls = (room : ℕ) (h : Home) (d : Data) (url : List ℕ) → missing (inner room h d) ≡ Some url → Missed find (urls h d) url
 
-abbrev AreNamed : (Parts → Data → List (List ℕ)) → Type 0
-AreNamed urls = (base : Parts) (d : Data) (url : List ℕ) → is_in url (urls base d) ≡ true → Names base d url
+-- those of what a document stands for are names of the document
+abbrev AreNamed : (Home → Data → List (List ℕ)) → Type 0
+AreNamed urls = (at : Parts) (d : Data) (url : List ℕ) → is_in url (urls (home at d) (root_of d).process) ≡ true → Names at d url
 
-at_found : (find : Finds) (inner : ℕ → Parts → Data → Left) (urls : Parts → Data → List (List ℕ)) (room : ℕ) (at : Parts) (found : Option Found) (url : List ℕ)
-    → Tells find inner urls → AreNamed urls → find (url_text at) ≡ found → missing (at_target (option_map_or (found_as at) found (Err (Other (NotLoaded (url_text at))))) (inner room)) ≡ Some url
-    → Missed find (url_text at ∷ []) url
+at_found : (find : Finds) (inner : ℕ → Home → Data → Left) (urls : Home → Data → List (List ℕ)) (room : ℕ) (at : Parts) (found : Option Found) (url : List ℕ)
+    → Tells find inner urls → AreNamed urls → find (url_text at) ≡ found
+    → missing (at_target (option_map_or (found_as at) found (Err (Other (NotLoaded (url_text at))))) (inner room)) ≡ Some url → Missed find (url_text at ∷ []) url
 at_found find inner urls room at None url tells named is lost =
     let same = same_Some (url_text at) url lost in
     (ap find (sym same) ∙ is, inl (one_name url (url_text at) (sym same)))
 at_found find inner urls room at (Some (Err fault)) url tells named is lost = absurd (none-some url lost)
 at_found find inner urls room at (Some (Ok d)) url tells named is lost =
-    let missed = tells room at d url (missing_elsewhere at (inner room at d) url lost) in
-    (missed.0, inr (at, d, one_name (url_text at) (url_text at) refl, is, leads find at d (urls at d) url (named at d) missed.1))
+    let root = (root_of d).process in
+    let missed = tells room (home at d) root url (missing_elsewhere at (root_of d).index (inner room (home at d) root) url lost) in
+    (missed.0, inr (at, d, one_name (url_text at) (url_text at) refl, is, leads find at d (urls (home at d) root) url (named at d) missed.1))
 
-at_joined : (find : Finds) (inner : ℕ → Parts → Data → Left) (urls : Parts → Data → List (List ℕ)) (room : ℕ) (o : Option Parts) (url : List ℕ)
+at_joined : (find : Finds) (inner : ℕ → Home → Data → Left) (urls : Home → Data → List (List ℕ)) (room : ℕ) (o : Option Parts) (url : List ℕ)
     → Tells find inner urls → AreNamed urls → missing (at_target (option_map_or (found_at find) o (Err (Own (here WrongForm)))) (inner room)) ≡ Some url
     → Missed find (option_map_or (λ at. url_text at ∷ []) o []) url
 at_joined find inner urls room None url tells named lost = absurd (none-some url lost)
 at_joined find inner urls room (Some at) url tells named lost = at_found find inner urls room at (find (url_text at)) url tells named refl lost
 
-at_run : (find : Finds) (inner : ℕ → Parts → Data → Left) (urls : Parts → Data → List (List ℕ)) (room : ℕ) (base : Parts) (run : Data) (o : Option (List ℕ)) (url : List ℕ)
-    → Tells find inner urls → AreNamed urls → missing (option_map_or (λ name. at_target (target find base name) (inner room)) o (inner room base run)) ≡ Some url
-    → Missed find (option_map_or (name_url base) o (urls base run)) url
-unfolding target
-at_run find inner urls room base run None url tells named lost = tells room base run url lost
-at_run find inner urls room base run (Some name) url tells named lost = at_joined find inner urls room (joined base name) url tells named lost
+at_sound : (find : Finds) (inner : ℕ → Home → Data → Left) (urls : Home → Data → List (List ℕ)) (room : ℕ) (h : Home) (p : Placed) (fault : Option DocumentFault) (url : List ℕ)
+    → Tells find inner urls → missing (at_target (item_or h p fault) (inner room)) ≡ Some url → Missed find (urls h p.process) url
+at_sound find inner urls room h p None url tells lost = tells room h p.process url (missing_elsewhere h.url p.index (inner room h p.process) url lost)
+at_sound find inner urls room h p (Some fault) url tells lost = absurd (none-some url lost)
 
-at_step : (find : Finds) (inner : ℕ → Parts → Data → Left) (urls : Parts → Data → List (List ℕ)) (room : ℕ) (base : Parts) (o : Option Data) (url : List ℕ)
-    → Tells find inner urls → AreNamed urls → missing (option_map_or (run_left inner find room base) o (Ok room)) ≡ Some url → Missed find (option_map_or (run_urls (urls base) base) o []) url
-at_step find inner urls room base None url tells named lost = absurd (none-some url lost)
-at_step find inner urls room base (Some run) url tells named lost = at_run find inner urls room base run (as_str run) url tells named lost
+at_item : (find : Finds) (inner : ℕ → Home → Data → Left) (urls : Home → Data → List (List ℕ)) (room : ℕ) (h : Home) (name : List ℕ) (o : Option Placed) (url : List ℕ)
+    → Tells find inner urls → missing (at_target (item_at h name o) (inner room)) ≡ Some url → Missed find (item_urls (urls h) o) url
+at_item find inner urls room h name None url tells lost = absurd (none-some url lost)
+at_item find inner urls room h name (Some p) url tells lost = at_sound find inner urls room h p (item_fault p) url tells lost
+
+at_name : (find : Finds) (inner : ℕ → Home → Data → Left) (urls : Home → Data → List (List ℕ)) (room : ℕ) (h : Home) (name : List ℕ) (test : Bool) (url : List ℕ)
+    → Tells find inner urls → AreNamed urls
+    → missing (at_target (if test then item_at h name (item_named name h.document) else document_at find h.url name) (inner room)) ≡ Some url
+    → Missed find (if test then item_urls (urls h) (item_named name h.document) else name_url h.url name) url
+at_name find inner urls room h name true url tells named lost = at_item find inner urls room h name (item_named name h.document) url tells lost
+at_name find inner urls room h name false url tells named lost = at_joined find inner urls room (joined h.url name) url tells named lost
+
+at_run : (find : Finds) (inner : ℕ → Home → Data → Left) (urls : Home → Data → List (List ℕ)) (room : ℕ) (h : Home) (run : Data) (o : Option (List ℕ)) (url : List ℕ)
+    → Tells find inner urls → AreNamed urls → missing (option_map_or (λ name. at_target (target find h name) (inner room)) o (inner room h run)) ≡ Some url
+    → Missed find (option_map_or (named_urls (urls h) h) o (urls h run)) url
+unfolding target
+at_run find inner urls room h run None url tells named lost = tells room h run url lost
+at_run find inner urls room h run (Some name) url tells named lost = at_name find inner urls room h name (has_hash name) url tells named lost
+
+at_step : (find : Finds) (inner : ℕ → Home → Data → Left) (urls : Home → Data → List (List ℕ)) (room : ℕ) (h : Home) (o : Option Data) (url : List ℕ)
+    → Tells find inner urls → AreNamed urls → missing (option_map_or (run_left inner find room h) o (Ok room)) ≡ Some url → Missed find (option_map_or (run_urls (urls h) h) o []) url
+at_step find inner urls room h None url tells named lost = absurd (none-some url lost)
+at_step find inner urls room h (Some run) url tells named lost = at_run find inner urls room h run (as_str run) url tells named lost
 
 either : {A B : Type 0} (C : Type 0) → A ⊎ B → (A → C) → (B → C) → C
 either C (inl a) f g = f a
 either C (inr b) f g = g b
 
-at_steps : (find : Finds) (inner : ℕ → Parts → Data → Left) (urls : Parts → Data → List (List ℕ)) (room : ℕ) (base : Parts) (es : List (List ℕ × Data)) (url : List ℕ)
-    → Tells find inner urls → AreNamed urls → missing (steps_left inner find room base es) ≡ Some url → Missed find (steps_urls (urls base) base es) url
-at_steps find inner urls room base [] url tells named lost = absurd (none-some url lost)
-at_steps find inner urls room base (e ∷ es) url tells named lost =
-    let first = step_urls (urls base) base e.1 in
-    let later = steps_urls (urls base) base es in
+at_steps : (find : Finds) (inner : ℕ → Home → Data → Left) (urls : Home → Data → List (List ℕ)) (room : ℕ) (h : Home) (es : List (List ℕ × Data)) (url : List ℕ)
+    → Tells find inner urls → AreNamed urls → missing (steps_left inner find room h es) ≡ Some url → Missed find (steps_urls (urls h) h es) url
+at_steps find inner urls room h [] url tells named lost = absurd (none-some url lost)
+at_steps find inner urls room h (e ∷ es) url tells named lost =
+    let first = step_urls (urls h) h e.1 in
+    let later = steps_urls (urls h) h es in
     either (Missed find (first ++ later) url) (missing_then _ _ url lost)
     (λ own.
     missed_more find first (first ++ later) url (in_front first later)
-    (at_step find inner urls room base (get (codes "run") e.1) url tells named
-    (missing_within (codes "run") _ url (missing_checked _ _ url (missing_within e.0 (step_left inner find room base e.1) url own)))))
-    (λ more. missed_more find later (first ++ later) url (in_back first later) (at_steps find inner urls more.0 base es url tells named more.1))
+    (at_step find inner urls room h (get (codes "run") e.1) url tells named
+    (missing_within (codes "run") _ url (missing_checked _ _ url (missing_within e.0 (step_left inner find room h e.1) url own)))))
+    (λ more. missed_more find later (first ++ later) url (in_back first later) (at_steps find inner urls more.0 h es url tells named more.1))
 
-at_field : (find : Finds) (inner : ℕ → Parts → Data → Left) (urls : Parts → Data → List (List ℕ)) (room : ℕ) (base : Parts) (o : Option Data) (url : List ℕ)
-    → Tells find inner urls → AreNamed urls → missing (option_map_or (λ v. steps_left inner find room base (entries kind.Step v)) o (Ok room)) ≡ Some url
-    → Missed find (option_map_or (λ v. steps_urls (urls base) base (entries kind.Step v)) o []) url
-at_field find inner urls room base None url tells named lost = absurd (none-some url lost)
-at_field find inner urls room base (Some v) url tells named lost = at_steps find inner urls room base (entries kind.Step v) url tells named lost
+at_field : (find : Finds) (inner : ℕ → Home → Data → Left) (urls : Home → Data → List (List ℕ)) (room : ℕ) (h : Home) (o : Option Data) (url : List ℕ)
+    → Tells find inner urls → AreNamed urls → missing (option_map_or (λ v. steps_left inner find room h (entries kind.Step v)) o (Ok room)) ≡ Some url
+    → Missed find (option_map_or (λ v. steps_urls (urls h) h (entries kind.Step v)) o []) url
+at_field find inner urls room h None url tells named lost = absurd (none-some url lost)
+at_field find inner urls room h (Some v) url tells named lost = at_steps find inner urls room h (entries kind.Step v) url tells named lost
 
-at_level : (find : Finds) (inner : ℕ → Parts → Data → Left) (urls : Parts → Data → List (List ℕ)) (room : ℕ) (base : Parts) (d : Data) (test : Bool) (url : List ℕ)
-    → Tells find inner urls → AreNamed urls → missing (if test then workflow_left inner find room base d else tool_left room base d) ≡ Some url
-    → Missed find (if test then workflow_urls (urls base) base d else []) url
-at_level find inner urls room base d true url tells named lost =
-    at_field find inner urls room base (get (codes "steps") d) url tells named (missing_within (codes "steps") _ url (missing_checked _ _ url lost))
-at_level find inner urls room base d false url tells named lost = absurd (none-some url (missing_checked (defaults_fault base kind.ToolInput (codes "inputs") d) (Ok room) url lost))
+at_level : (find : Finds) (inner : ℕ → Home → Data → Left) (urls : Home → Data → List (List ℕ)) (room : ℕ) (h : Home) (d : Data) (test : Bool) (url : List ℕ)
+    → Tells find inner urls → AreNamed urls → missing (if test then workflow_left inner find room h d else tool_left room h d) ≡ Some url
+    → Missed find (if test then workflow_urls (urls h) h d else []) url
+at_level find inner urls room h d true url tells named lost =
+    at_field find inner urls room h (get (codes "steps") d) url tells named (missing_within (codes "steps") _ url (missing_checked _ _ url lost))
+at_level find inner urls room h d false url tells named lost = absurd (none-some url (missing_checked (defaults_fault h.url kind.ToolInput (codes "inputs") d) (Ok room) url lost))
 
 -- ---- all levels
 
-at_bottom : (find : Finds) (room : ℕ) (base : Parts) (d : Data) (test : Bool) (url : List ℕ) (T : Type 0) → missing (if test then Err (Other TooDeep) else tool_left room base d) ≡ Some url → T
-at_bottom find room base d true url T lost = absurd (none-some url lost)
-at_bottom find room base d false url T lost = absurd (none-some url (missing_checked (defaults_fault base kind.ToolInput (codes "inputs") d) (Ok room) url lost))
+at_bottom : (find : Finds) (room : ℕ) (h : Home) (d : Data) (test : Bool) (url : List ℕ) (T : Type 0) → missing (if test then Err (Other TooDeep) else tool_left room h d) ≡ Some url → T
+at_bottom find room h d true url T lost = absurd (none-some url lost)
+at_bottom find room h d false url T lost = absurd (none-some url (missing_checked (defaults_fault h.url kind.ToolInput (codes "inputs") d) (Ok room) url lost))
 
-all_missed : (find : Finds) (levels room : ℕ) (base : Parts) (d : Data) (url : List ℕ) → levels ≤ MOST_WORKFLOWS → missing (left find levels room base d) ≡ Some url → Missed find (urls_in levels base d) url
+all_missed : (find : Finds) (levels room : ℕ) (h : Home) (d : Data) (url : List ℕ) → levels ≤ MOST_WORKFLOWS → missing (left find levels room h d) ≡ Some url → Missed find (urls_in levels h d) url
 unfolding left urls_in
-all_missed find zero zero base d url most lost = absurd (none-some url lost)
-all_missed find zero (suc room) base d url most lost = at_bottom find room base d (is_workflow d) url _ lost
-all_missed find (suc levels) zero base d url most lost = absurd (none-some url lost)
-all_missed find (suc levels) (suc room) base d url most lost =
-    at_level find (left find levels) (urls_in levels) room base d (is_workflow d) url
-    (λ room base d url lost. all_missed find levels room base d url (omega (arith, most)) lost)
-    (λ base d url is. all_named levels base d url (omega (arith, most)) is) lost
+all_missed find zero zero h d url most lost = absurd (none-some url lost)
+all_missed find zero (suc room) h d url most lost = at_bottom find room h d (is_workflow d) url _ lost
+all_missed find (suc levels) zero h d url most lost = absurd (none-some url lost)
+all_missed find (suc levels) (suc room) h d url most lost =
+    at_level find (left find levels) (urls_in levels) room h d (is_workflow d) url
+    (λ room h d url lost. all_missed find levels room h d url (omega (arith, most)) lost)
+    (λ at d url is. all_named levels at d url (omega (arith, most)) is) lost
 
 -- ---- documents
 
@@ -276,15 +310,15 @@ abbrev missing_told : Result ℕ LinkFault → Option (List ℕ)
 missing_told (Ok n) = None
 missing_told (Err fault) = missing_at fault
 
-told_missing : (base : Parts) (x : Left) (url : List ℕ) → told_left base x ≡ Err (NotLoaded url) → missing x ≡ Some url
-told_missing base (Ok n) url told = ap missing_told told
-told_missing base (Err (Own fault)) url told = ap missing_told told
-told_missing base (Err (Other fault)) url told = ap missing_told told
+told_missing : (base : Parts) (index : Option ℕ) (x : Left) (url : List ℕ) → told_left base index x ≡ Err (NotLoaded url) → missing x ≡ Some url
+told_missing base index (Ok n) url told = ap missing_told told
+told_missing base index (Err (Own fault)) url told = ap missing_told told
+told_missing base index (Err (Other fault)) url told = ap missing_told told
 
 pub not_loaded : (find : Finds) (base : Parts) (d : Data) (url : List ℕ) → bounded find base d ≡ Err (NotLoaded url) → (find url ≡ None) × LeadsTo find base d url
 not_loaded find base d url told =
-    let missed = all_missed find MOST_WORKFLOWS MOST_PROCESSES base d url (omega arith) (told_missing base _ url told) in
-    (missed.0, leads find base d (urls_in MOST_WORKFLOWS base d) url (λ u is. all_named MOST_WORKFLOWS base d u (omega arith) is) missed.1)
+    let missed = all_missed find MOST_WORKFLOWS MOST_PROCESSES (home base d) (root_of d).process url (omega arith) (told_missing base (root_of d).index _ url told) in
+    (missed.0, leads find base d (document_urls base d) url (λ u is. all_named MOST_WORKFLOWS base d u (omega arith) is) missed.1)
 
 not_there : (find : Finds) (url : List ℕ) (o : Option (List ℕ)) → MatchOption o (find url ≡ None) (λ bytes. (found : Found) × (find url ≡ Some found) × IsReadAs bytes found) → find url ≡ None → o ≡ None
 not_there find url None read none = refl

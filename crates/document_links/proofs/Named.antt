@@ -15,6 +15,7 @@ use Rattle.cwl_process.specs.Documents as one
 use Rattle.cwl_process.specs.Processes.{is_workflow}
 use Rattle.url.specs.Parts.{Parts}
 use Rattle.document_links.specs.Documents.{IsErrorOf, IsNotNeeding, bounded}
+use Rattle.document_links.specs.Homes.{Home}
 use Rattle.document_links.specs.Names.{added, anything, is_in, urls_in, workflow_urls}
 use Rattle.document_links.specs.declared.fault.LinkError.{LinkError}
 use Rattle.document_links.specs.declared.fault.LinkError.TheVariants.{Refused, OutOfMemory}
@@ -22,21 +23,21 @@ use Rattle.document_links.specs.declared.fault.LinkError.TheVariants.{Refused, O
 before : (n : ℕ) → n ≡ suc n - 1
 before n = omega arith
 
-pub none_so_deep : (levels : ℕ) (base : Parts) (d : Data) → levels ≡ 0 → urls_in levels base d ≡ []
+pub none_so_deep : (levels : ℕ) (h : Home) (d : Data) → levels ≡ 0 → urls_in levels h d ≡ []
 unfolding urls_in
-none_so_deep zero base d is = refl
-none_so_deep (suc levels) base d is = absurd (omega (arith, is))
+none_so_deep zero h d is = refl
+none_so_deep (suc levels) h d is = absurd (omega (arith, is))
 
-pub none_of_tool : (levels : ℕ) (base : Parts) (d : Data) → is_workflow d ≡ false → urls_in levels base d ≡ []
+pub none_of_tool : (levels : ℕ) (h : Home) (d : Data) → is_workflow d ≡ false → urls_in levels h d ≡ []
 unfolding urls_in
-none_of_tool zero base d is = refl
-none_of_tool (suc levels) base d is = ap (λ t. if t then workflow_urls (urls_in levels base) base d else []) is
+none_of_tool zero h d is = refl
+none_of_tool (suc levels) h d is = ap (λ t. if t then workflow_urls (urls_in levels h) h d else []) is
 
-pub of_workflow : (levels : ℕ) (base : Parts) (d : Data) → levels ≢ 0 → is_workflow d ≡ true → urls_in levels base d ≡ workflow_urls (urls_in (levels - 1) base) base d
+pub of_workflow : (levels : ℕ) (h : Home) (d : Data) → levels ≢ 0 → is_workflow d ≡ true → urls_in levels h d ≡ workflow_urls (urls_in (levels - 1) h) h d
 unfolding urls_in
-of_workflow zero base d some is = absurd (some refl)
-of_workflow (suc levels) base d some is =
-    ap (λ t. if t then workflow_urls (urls_in levels base) base d else []) is ∙ ap (λ n. workflow_urls (urls_in n base) base d) (before levels)
+of_workflow zero h d some is = absurd (some refl)
+of_workflow (suc levels) h d some is =
+    ap (λ t. if t then workflow_urls (urls_in levels h) h d else []) is ∙ ap (λ n. workflow_urls (urls_in n h) h d) (before levels)
 
 -- nothing more
 pub no_more : (urls more : List (List ℕ)) → more ≡ [] → urls ≡ urls ++ more

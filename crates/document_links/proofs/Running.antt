@@ -68,7 +68,7 @@ keyed_run : (name : List ℕ) (d : Data) (test : Bool) → judged name (if test 
 keyed_run name d true none = keyed_runs d (under_none name (fault_in (form.Keyed kind.Step) d) none)
 keyed_run name d false none = absurd (some_is_not_none (under name (here cause.WrongForm)) none)
 
-mapped_run : (ms : Members) → fault_in_members (layout.ByKey kind.Step) ms ≡ None → HaveRuns (mapped_entries ms)
+mapped_run : (ms : Members) → fault_in_members (layout.ByKey kind.Step) ms ≡ None → HaveRuns (mapped_entries kind.Step ms)
 mapped_run no_members none = tt
 mapped_run (member name d ms) none = (keyed_run name d (key_fits kind.Step name) (first_none _ _ none), mapped_run ms (later_none _ _ none))
 

@@ -8,7 +8,7 @@ use Rattle.serde_json.specs.Find.{as_str, get}
 use Rattle.document_table.specs.Entries.{entries}
 use Rattle.document_table.specs.declared.form.Kind.TheVariants as kind
 use Rattle.cwl_process.specs.Processes.{is_workflow}
-use Rattle.url.specs.Parts.{Parts}
+use Rattle.document_links.specs.Homes.{Home}
 use Rattle.document_links.specs.Library.{Finds}
 use Rattle.document_links.specs.Defaults.{defaults_fault}
 use Rattle.document_links.specs.Targets.{Target, target}
@@ -16,38 +16,38 @@ use Rattle.document_links.specs.Walks.{Left, checked, elsewhere, then_left, with
 use Rattle.document_links.specs.declared.fault.LinkFault.TheVariants.{TooDeep, TooMany}
 use Rattle.document_links.specs.declared.walk.WalkFault.TheVariants.{Other}
 
-abbrev pub at_target : Target → (Parts → Data → Left) → Left
-at_target (Ok t) next = elsewhere t.0 (next t.0 t.1)
+abbrev pub at_target : Target → (Home → Data → Left) → Left
+at_target (Ok t) next = elsewhere t.0.url t.1.index (next t.0 t.1.process)
 at_target (Err fault) next = Err fault
 
 -- a process: `inner` says it of those inside
-abbrev pub run_left : (ℕ → Parts → Data → Left) → Finds → ℕ → Parts → Data → Left
-run_left inner find room base d = option_map_or (λ name. at_target (target find base name) (inner room)) (as_str d) (inner room base d)
+abbrev pub run_left : (ℕ → Home → Data → Left) → Finds → ℕ → Home → Data → Left
+run_left inner find room h d = option_map_or (λ name. at_target (target find h name) (inner room)) (as_str d) (inner room h d)
 
 -- the defaults of the step's inputs, and then what it runs
-abbrev pub step_left : (ℕ → Parts → Data → Left) → Finds → ℕ → Parts → Data → Left
-step_left inner find room base d =
-    checked (defaults_fault base kind.StepInput (codes "in") d)
-    (within (codes "run") (option_map_or (run_left inner find room base) (get (codes "run") d) (Ok room)))
+abbrev pub step_left : (ℕ → Home → Data → Left) → Finds → ℕ → Home → Data → Left
+step_left inner find room h d =
+    checked (defaults_fault h.url kind.StepInput (codes "in") d)
+    (within (codes "run") (option_map_or (run_left inner find room h) (get (codes "run") d) (Ok room)))
 
-abbrev pub steps_left : (ℕ → Parts → Data → Left) → Finds → ℕ → Parts → List (List ℕ × Data) → Left
-steps_left inner find room base [] = Ok room
-steps_left inner find room base (e ∷ es) = then_left (within e.0 (step_left inner find room base e.1)) (λ n. steps_left inner find n base es)
+abbrev pub steps_left : (ℕ → Home → Data → Left) → Finds → ℕ → Home → List (List ℕ × Data) → Left
+steps_left inner find room h [] = Ok room
+steps_left inner find room h (e ∷ es) = then_left (within e.0 (step_left inner find room h e.1)) (λ n. steps_left inner find n h es)
 
-abbrev pub workflow_left : (ℕ → Parts → Data → Left) → Finds → ℕ → Parts → Data → Left
-workflow_left inner find room base d =
-    checked (defaults_fault base kind.WorkflowInput (codes "inputs") d)
-    (within (codes "steps") (option_map_or (λ v. steps_left inner find room base (entries kind.Step v)) (get (codes "steps") d) (Ok room)))
+abbrev pub workflow_left : (ℕ → Home → Data → Left) → Finds → ℕ → Home → Data → Left
+workflow_left inner find room h d =
+    checked (defaults_fault h.url kind.WorkflowInput (codes "inputs") d)
+    (within (codes "steps") (option_map_or (λ v. steps_left inner find room h (entries kind.Step v)) (get (codes "steps") d) (Ok room)))
 
-abbrev pub tool_left : ℕ → Parts → Data → Left
-tool_left room base d = checked (defaults_fault base kind.ToolInput (codes "inputs") d) (Ok room)
+abbrev pub tool_left : ℕ → Home → Data → Left
+tool_left room h d = checked (defaults_fault h.url kind.ToolInput (codes "inputs") d) (Ok room)
 
 -- Where there is no `inner`, no workflow may be.
-abbrev pub process_left : Option (ℕ → Parts → Data → Left) → Finds → ℕ → Parts → Data → Left
-process_left inner find zero base d = Err (Other TooMany)
-process_left inner find (suc room) base d =
-    if is_workflow d then option_map_or (λ f. workflow_left f find room base d) inner (Err (Other TooDeep)) else tool_left room base d
+abbrev pub process_left : Option (ℕ → Home → Data → Left) → Finds → ℕ → Home → Data → Left
+process_left inner find zero h d = Err (Other TooMany)
+process_left inner find (suc room) h d =
+    if is_workflow d then option_map_or (λ f. workflow_left f find room h d) inner (Err (Other TooDeep)) else tool_left room h d
 
-unfoldable pub left : Finds → ℕ → ℕ → Parts → Data → Left
-left find zero room base d = process_left None find room base d
-left find (suc levels) room base d = process_left (Some (left find levels)) find room base d
+unfoldable pub left : Finds → ℕ → ℕ → Home → Data → Left
+left find zero room h d = process_left None find room h d
+left find (suc levels) room h d = process_left (Some (left find levels)) find room h d

@@ -1,15 +1,17 @@
 -- Which process a document represents, among others that it names; and what is wrong first where it represents none.
-use Rattle.std.specs.Prelude.{◌≡◌, ◌⊎◌, ⊤, ℕ, List, Result, Ok, Err}
+use Rattle.std.specs.Prelude.{◌≡◌, ◌⊎◌, ⊤, ℕ, List, Option, Result, Ok, Err}
 use Rattle.serde_json.specs.Data.{Data}
+use Rattle.document_table.specs.Packed.{root_of}
 use Rattle.document_table.specs.declared.fault.DocumentError.TheVariants as error
 use Rattle.document_table.specs.declared.fault.DocumentFault.{DocumentFault}
 use Rattle.cwl_process.specs.Acting.{nothing_asked}
 use Rattle.cwl_process.specs.Documents as one
 use Rattle.url.specs.Parts.{Parts}
 use Rattle.document_links.specs.Bounds.{left}
+use Rattle.document_links.specs.Homes.{home}
 use Rattle.document_links.specs.Library.{Documents, Finds, IsLookUp}
 use Rattle.document_links.specs.Linked.{linked}
-use Rattle.document_links.specs.Names.{anything, each_once, urls_in}
+use Rattle.document_links.specs.Names.{anything, document_urls, each_once}
 use Rattle.document_links.specs.Urls.{url_text}
 use Rattle.document_links.specs.Walks.{Left, told_of}
 use Rattle.document_links.specs.declared.bounds.TheConstants.{MOST_PROCESSES, MOST_WORKFLOWS}
@@ -19,18 +21,18 @@ use Rattle.document_links.specs.declared.fault.LinkFault.{LinkFault}
 use Rattle.document_links.specs.declared.fault.LinkFault.TheVariants.{Document}
 use Rattle.document_links.specs.declared.process.Process.{Process}
 
-abbrev pub told_left : Parts → Left → Result ℕ LinkFault
-told_left base (Ok n) = Ok n
-told_left base (Err fault) = Err (told_of base fault)
+abbrev pub told_left : Parts → Option ℕ → Left → Result ℕ LinkFault
+told_left base index (Ok n) = Ok n
+told_left base index (Err fault) = Err (told_of base index fault)
 
 -- all that the document leads to: room for it, or what is wrong first
 abbrev pub bounded : Finds → Parts → Data → Result ℕ LinkFault
-bounded find base d = told_left base (left find MOST_WORKFLOWS MOST_PROCESSES base d)
+bounded find base d = told_left base (root_of d).index (left find MOST_WORKFLOWS MOST_PROCESSES (home base d) (root_of d).process)
 
 -- What the document of that JSON names is there and is within the bounds, and together they are that process.
 abbrev pub IsTogether : Data → Parts → Documents → Process → Type 0
 IsTogether d base docs process =
-    (find : Finds) × IsLookUp docs find × ((n : ℕ) × (bounded find base d ≡ Ok n)) × (process ≡ linked find MOST_WORKFLOWS base nothing_asked d)
+    (find : Finds) × IsLookUp docs find × ((n : ℕ) × (bounded find base d ≡ Ok n)) × (process ≡ linked find MOST_WORKFLOWS (home base d) nothing_asked (root_of d).process)
 
 -- The bytes are a document without a fault, and with what it names it is that process.
 abbrev pub IsLinked : List ℕ → Parts → Documents → Process → Type 0
@@ -60,7 +62,7 @@ IsRefused OutOfMemory bytes base docs = ⊤
 -- The bytes are a document without a fault, nothing is wrong with it whatever it names, and it names these.
 abbrev pub IsNeeded : List ℕ → Parts → List (List ℕ) → Type 0
 IsNeeded bytes base urls =
-    (d : Data) × one.IsSound bytes d × ((n : ℕ) × (bounded anything base d ≡ Ok n)) × (urls ≡ each_once (urls_in MOST_WORKFLOWS base d))
+    (d : Data) × one.IsSound bytes d × ((n : ℕ) × (bounded anything base d ≡ Ok n)) × (urls ≡ each_once (document_urls base d))
 
 -- The document has that fault first; or it has none, and that is the first whatever it names.
 abbrev pub IsNotNeeding : LinkError → List ℕ → Parts → Type 0

@@ -5,13 +5,12 @@ use Rattle.serde_json.specs.Data.{Data}
 use Rattle.cwl_process.specs.Documents as one
 use Rattle.url.specs.Parts.{Parts}
 use Rattle.document_links.specs.Library.{Documents, Finds, IsLookUp}
-use Rattle.document_links.specs.Names.{each_once, is_in, urls_in}
+use Rattle.document_links.specs.Names.{document_urls, each_once, is_in}
 use Rattle.document_links.specs.Urls.{url_text}
-use Rattle.document_links.specs.declared.bounds.TheConstants.{MOST_WORKFLOWS}
 
 -- The document at that base names the URL: `needed_docs` gives it.
 abbrev pub Names : Parts → Data → List ℕ → Type 0
-Names base d url = is_in url (each_once (urls_in MOST_WORKFLOWS base d)) ≡ true
+Names base d url = is_in url (each_once (document_urls base d)) ≡ true
 
 pub data LeadsTo (find : Finds) : Parts → Data → List ℕ → Type 0 where
   itself : (base : Parts) (d : Data) (url : List ℕ) → Names base d url → LeadsTo find base d url

@@ -1,7 +1,9 @@
+pub mod Absent
 pub mod Bounds
 pub mod Codes
 pub mod Defaults
 pub mod Documents
+pub mod Homes
 pub mod LeadsTo
 pub mod Library
 pub mod Linked

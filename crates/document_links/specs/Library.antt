@@ -37,7 +37,7 @@ abbrev pub Readings : Type 0
 Readings = List (List ℕ × Reading)
 
 abbrev pub seen : Reading → Found
-seen (Sound v) = Ok (view v)
+seen (Sound v) = Ok (view v.json)
 seen (Wrong fault) = Err fault
 
 abbrev pub finds_among : Readings → Finds
@@ -48,4 +48,4 @@ AreReadAs docs readings = IsLookUp docs (finds_among readings)
 
 abbrev pub finds_in : Library → Finds
 finds_in (Read readings) = finds_among readings
-finds_in (Any v) = λ url. Some (Ok (view v))
+finds_in (Any v) = λ url. Some (Ok (view v.json))

@@ -1,27 +1,48 @@
--- What a step's name leads to (CWL v1.2, Workflow Description, "WorkflowStep", `run`): its URL on the base of the document, and what the
--- document of that URL is. A name that is no URL there is wrong in its own document.
-use Rattle.std.specs.Prelude.{ℕ, List, Result, Ok, Err}
+-- What a step's name leads to (CWL v1.2, Workflow Description, "WorkflowStep", `run`). A name that begins with `#` is that of an item of the
+-- same document. Any other has a URL on the base of the document: it leads to what the document of that URL stands for. A name that is no
+-- URL there is wrong in its own document.
+use Rattle.std.specs.Prelude.{ℕ, List, Option, Some, None, Result, Ok, Err, if◌then◌else◌}
 use Rattle.std.specs.Option.{option_map_or}
-use Rattle.serde_json.specs.Data.{Data}
 use Rattle.document_table.specs.Faults.{here}
+use Rattle.document_table.specs.Packed.{Placed, item_named, root_of}
+use Rattle.document_table.specs.Texts.{has_hash}
 use Rattle.document_table.specs.declared.fault.Cause.TheVariants.{WrongForm}
+use Rattle.document_table.specs.declared.fault.DocumentFault.{DocumentFault}
+use Rattle.cwl_process.specs.Documents.{item_fault}
 use Rattle.url.specs.Parts.{Parts}
+use Rattle.document_links.specs.Homes.{Home, home}
 use Rattle.document_links.specs.Library.{Finds, Found}
 use Rattle.document_links.specs.Urls.{joined, url_text}
-use Rattle.document_links.specs.declared.fault.LinkFault.TheVariants.{Document, NotLoaded}
+use Rattle.document_links.specs.declared.fault.LinkFault.TheVariants.{Document, NoItem, NotLoaded}
 use Rattle.document_links.specs.declared.walk.WalkFault.{WalkFault}
 use Rattle.document_links.specs.declared.walk.WalkFault.TheVariants.{Own, Other}
 
--- a document's URL, and its JSON
+-- a document, and the process in it
 abbrev pub Target : Type 0
-Target = Result (Parts × Data) WalkFault
+Target = Result (Home × Placed) WalkFault
+
+-- ---- items
+
+-- An item that has a fault of its own is told of where it is named.
+abbrev pub item_or : Home → Placed → Option DocumentFault → Target
+item_or h p None = Ok (h, p)
+item_or h p (Some fault) = Err (Other (Document (url_text h.url) fault))
+
+abbrev pub item_at : Home → List ℕ → Option Placed → Target
+item_at h name None = Err (Other (NoItem name))
+item_at h name (Some p) = item_or h p (item_fault p)
+
+-- ---- documents
 
 abbrev pub found_as : Parts → Found → Target
-found_as url (Ok d) = Ok (url, d)
+found_as url (Ok d) = Ok (home url d, root_of d)
 found_as url (Err fault) = Err (Other (Document (url_text url) fault))
 
 abbrev pub found_at : Finds → Parts → Target
 found_at find url = option_map_or (found_as url) (find (url_text url)) (Err (Other (NotLoaded (url_text url))))
 
-unfoldable pub target : Finds → Parts → List ℕ → Target
-target find base name = option_map_or (found_at find) (joined base name) (Err (Own (here WrongForm)))
+abbrev pub document_at : Finds → Parts → List ℕ → Target
+document_at find base name = option_map_or (found_at find) (joined base name) (Err (Own (here WrongForm)))
+
+unfoldable pub target : Finds → Home → List ℕ → Target
+target find h name = if has_hash name then item_at h name (item_named name h.document) else document_at find h.url name

@@ -1,6 +1,7 @@
 -- For how many processes there is room after a walk over documents, or what is wrong first.
 use Rattle.std.specs.Prelude.{ℕ, List, Option, Some, None, Result, Ok, Err}
 use Rattle.document_table.specs.Faults.{under}
+use Rattle.document_table.specs.Packed.{in_item}
 use Rattle.document_table.specs.declared.fault.DocumentFault.{DocumentFault}
 use Rattle.url.specs.Parts.{Parts}
 use Rattle.document_links.specs.Urls.{url_text}
@@ -30,11 +31,11 @@ abbrev pub within : List ℕ → Left → Left
 within name (Ok n) = Ok n
 within name (Err fault) = Err (fault_within name fault)
 
--- a fault of the document at that URL, seen from outside
-abbrev pub told_of : Parts → WalkFault → LinkFault
-told_of url (Own fault) = Document (url_text url) fault
-told_of url (Other fault) = fault
+-- a fault of a process in the document at that URL, seen from outside; where the document is packed, it is the item of that index
+abbrev pub told_of : Parts → Option ℕ → WalkFault → LinkFault
+told_of url index (Own fault) = Document (url_text url) (in_item index fault)
+told_of url index (Other fault) = fault
 
-abbrev pub elsewhere : Parts → Left → Left
-elsewhere url (Ok n) = Ok n
-elsewhere url (Err fault) = Err (Other (told_of url fault))
+abbrev pub elsewhere : Parts → Option ℕ → Left → Left
+elsewhere url index (Ok n) = Ok n
+elsewhere url index (Err fault) = Err (Other (told_of url index fault))

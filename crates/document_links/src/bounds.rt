@@ -2,18 +2,22 @@
 ghost use Rattle.std.specs.Prelude.{◌≡◌, None, Ok, IfOk, IfErr, map};
 ghost use Rattle.serde_json.specs.View.{view};
 ghost use Rattle.document_table.specs.Entries.{entry_seen};
-ghost use Rattle.document_links.specs.Bounds.{left, run_left, step_left, steps_left, workflow_left};
+ghost use Rattle.document_links.specs.Bounds.{at_target, left, run_left, step_left, steps_left, workflow_left};
 ghost use Rattle.document_links.specs.Defaults.{defaults_fault};
+ghost use Rattle.document_links.specs.Homes.{home_seen};
 ghost use Rattle.document_links.specs.Library.{finds_in};
 ghost use Rattle.document_links.specs.Refused.{IsOwnFaultOf, IsWalkErrorOf};
+ghost use Rattle.document_links.specs.Targets.{document_at, item_at};
+ghost use Rattle.document_table.specs.Packed.{item_named};
 
 use crate::defaults::defaults_fault;
 use crate::fault::LinkFault;
+use crate::home::Home;
 use crate::library::Library;
-use crate::target::target;
-use crate::walk::{WalkError, WalkFault, told_of, within};
+use crate::target::{document_at, item_at};
+use crate::walk::{WalkError, WalkFault, elsewhere, within};
 use cwl_process::is_workflow;
-use document_table::{Kind, entries};
+use document_table::{Kind, entries, has_hash};
 use serde_json::Value;
 use std::alloc::Global;
 use url::Url;
@@ -32,13 +36,15 @@ pub(crate) fn left(
     library: &Library,
     levels: usize,
     room: usize,
-    base: &Url,
+    home: Home<'_>,
     value: &Value,
 ) -> Result<usize, WalkError>
     ensures ok { IfOk result
-        (λ n. left (finds_in library.now) levels room base.now (view value.now) ≡ Ok n) }
+        (λ n. left (finds_in library.now) levels room (home_seen home.entry) (view value.now)
+        ≡ Ok n) }
     ensures err { IfErr result
-        (IsWalkErrorOf (left (finds_in library.now) levels room base.now (view value.now))) }
+        (IsWalkErrorOf
+        (left (finds_in library.now) levels room (home_seen home.entry) (view value.now))) }
 {
     if room == 0 {
         return Err(WalkError::Refused(WalkFault::Other(LinkFault::TooMany)));
@@ -47,9 +53,9 @@ pub(crate) fn left(
         if levels == 0 {
             return Err(WalkError::Refused(WalkFault::Other(LinkFault::TooDeep)));
         }
-        return workflow_left(alloc, library, levels - 1, room - 1, base, value);
+        return workflow_left(alloc, library, levels - 1, room - 1, home, value);
     }
-    check_defaults(alloc, base, Kind::ToolInput, "inputs", value)?;
+    check_defaults(alloc, home.url, Kind::ToolInput, "inputs", value)?;
     Ok(room - 1)
 }
 
@@ -59,20 +65,20 @@ fn workflow_left(
     library: &Library,
     levels: usize,
     room: usize,
-    base: &Url,
+    home: Home<'_>,
     value: &Value,
 ) -> Result<usize, WalkError>
     ensures ok { IfOk result (λ n. workflow_left (left (finds_in library.now) levels)
-        (finds_in library.now) room base.now (view value.now) ≡ Ok n) }
+        (finds_in library.now) room (home_seen home.entry) (view value.now) ≡ Ok n) }
     ensures err { IfErr result (IsWalkErrorOf (workflow_left (left (finds_in library.now) levels)
-        (finds_in library.now) room base.now (view value.now))) }
+        (finds_in library.now) room (home_seen home.entry) (view value.now))) }
 {
-    check_defaults(alloc, base, Kind::WorkflowInput, "inputs", value)?;
+    check_defaults(alloc, home.url, Kind::WorkflowInput, "inputs", value)?;
     let Some(found) = value.get("steps") else {
         return Ok(room);
     };
     let all = entries(alloc, Kind::Step, found)?;
-    let left = steps_left(alloc, library, levels, room, base, all.as_slice());
+    let left = steps_left(alloc, library, levels, room, home, all.as_slice());
     within(alloc, "steps", left)
 }
 
@@ -82,17 +88,17 @@ fn steps_left(
     library: &Library,
     levels: usize,
     room: usize,
-    base: &Url,
+    home: Home<'_>,
     all: &[(&str, &Value)],
 ) -> Result<usize, WalkError>
     ensures ok { IfOk result (λ n. steps_left (left (finds_in library.now) levels)
-        (finds_in library.now) room base.now (map entry_seen all.now) ≡ Ok n) }
+        (finds_in library.now) room (home_seen home.entry) (map entry_seen all.now) ≡ Ok n) }
     ensures err { IfErr result (IsWalkErrorOf (steps_left (left (finds_in library.now) levels)
-        (finds_in library.now) room base.now (map entry_seen all.now))) }
+        (finds_in library.now) room (home_seen home.entry) (map entry_seen all.now))) }
 {
     let mut still = room;
     for entry in all {
-        let left = step_left(alloc, library, levels, still, base, entry.1);
+        let left = step_left(alloc, library, levels, still, home, entry.1);
         still = within(alloc, entry.0, left)?;
     }
     Ok(still)
@@ -104,47 +110,93 @@ fn step_left(
     library: &Library,
     levels: usize,
     room: usize,
-    base: &Url,
+    home: Home<'_>,
     value: &Value,
 ) -> Result<usize, WalkError>
     ensures ok { IfOk result (λ n. step_left (left (finds_in library.now) levels)
-        (finds_in library.now) room base.now (view value.now) ≡ Ok n) }
+        (finds_in library.now) room (home_seen home.entry) (view value.now) ≡ Ok n) }
     ensures err { IfErr result (IsWalkErrorOf (step_left (left (finds_in library.now) levels)
-        (finds_in library.now) room base.now (view value.now))) }
+        (finds_in library.now) room (home_seen home.entry) (view value.now))) }
 {
-    check_defaults(alloc, base, Kind::StepInput, "in", value)?;
+    check_defaults(alloc, home.url, Kind::StepInput, "in", value)?;
     let Some(found) = value.get("run") else {
         return Ok(room);
     };
-    let left = run_left(alloc, library, levels, room, base, found);
+    let left = run_left(alloc, library, levels, room, home, found);
     within(alloc, "run", left)
 }
 
 #[cycle(bounds)]
+#[tactic(auto, unfolding(crate::specs::Targets::target))]
 fn run_left(
     alloc: Global,
     library: &Library,
     levels: usize,
     room: usize,
-    base: &Url,
+    home: Home<'_>,
     value: &Value,
 ) -> Result<usize, WalkError>
     ensures ok { IfOk result (λ n. run_left (left (finds_in library.now) levels)
-        (finds_in library.now) room base.now (view value.now) ≡ Ok n) }
+        (finds_in library.now) room (home_seen home.entry) (view value.now) ≡ Ok n) }
     ensures err { IfErr result (IsWalkErrorOf (run_left (left (finds_in library.now) levels)
-        (finds_in library.now) room base.now (view value.now))) }
+        (finds_in library.now) room (home_seen home.entry) (view value.now))) }
 {
     let Some(name) = value.as_str() else {
-        return left(alloc, library, levels, room, base, value);
+        return left(alloc, library, levels, room, home, value);
     };
-    let (url, json) = target(alloc, library, base, name)?;
-    match left(alloc, library, levels, room, &url, json) {
-        Err(WalkError::Refused(fault)) => {
-            let told = told_of(alloc, &url, fault)?;
-            Err(WalkError::Refused(WalkFault::Other(told)))
-        }
-        other => other,
+    if has_hash(name) {
+        return item_left(alloc, library, levels, room, home, name);
     }
+    document_left(alloc, library, levels, room, home, name)
+}
+
+/// For how many processes there is room after the item of that name.
+#[cycle(bounds)]
+fn item_left(
+    alloc: Global,
+    library: &Library,
+    levels: usize,
+    room: usize,
+    home: Home<'_>,
+    name: &str,
+) -> Result<usize, WalkError>
+    ensures ok { IfOk result (λ n. at_target (item_at (home_seen home.entry) name.now
+        (item_named name.now (view home.entry.document.now.json)))
+        (left (finds_in library.now) levels room) ≡ Ok n) }
+    ensures err { IfErr result (IsWalkErrorOf (at_target (item_at (home_seen home.entry) name.now
+        (item_named name.now (view home.entry.document.now.json)))
+        (left (finds_in library.now) levels room))) }
+{
+    let item = item_at(alloc, home, name)?;
+    let left = left(alloc, library, levels, room, home, item.process);
+    elsewhere(alloc, home.url, item.index, left)
+}
+
+/// For how many processes there is room after what the document of that name stands for.
+#[cycle(bounds)]
+fn document_left(
+    alloc: Global,
+    library: &Library,
+    levels: usize,
+    room: usize,
+    home: Home<'_>,
+    name: &str,
+) -> Result<usize, WalkError>
+    ensures ok { IfOk result (λ n. at_target
+        (document_at (finds_in library.now) home.entry.url.now name.now)
+        (left (finds_in library.now) levels room) ≡ Ok n) }
+    ensures err { IfErr result (IsWalkErrorOf (at_target
+        (document_at (finds_in library.now) home.entry.url.now name.now)
+        (left (finds_in library.now) levels room))) }
+{
+    let (url, document) = document_at(alloc, library, home.url, name)?;
+    let root = document.root();
+    let other = Home {
+        url: &url,
+        document,
+    };
+    let left = left(alloc, library, levels, room, other, root.process);
+    elsewhere(alloc, &url, root.index, left)
 }
 
 /// Checks that the defaults of the objects in a field have paths.

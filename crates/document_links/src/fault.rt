@@ -15,6 +15,8 @@ pub enum LinkFault {
     Document(Text, DocumentFault),
     /// A step names the document of this URL, which isn't there.
     NotLoaded(Text),
+    /// A step names the item of this id, which isn't in its document.
+    NoItem(Text),
     /// Over `MOST_WORKFLOWS` workflows are inside one another.
     TooDeep,
     /// There are over `MOST_PROCESSES` processes.
@@ -37,6 +39,7 @@ impl LinkFault {
         match self {
             LinkFault::Document(_, fault) => fault.code(),
             LinkFault::NotLoaded(_) => "C10",
+            LinkFault::NoItem(_) => "C10",
             LinkFault::TooDeep => "C9",
             LinkFault::TooMany => "C9",
         }
@@ -48,6 +51,7 @@ impl fmt::Display for LinkFault {
         match self {
             LinkFault::Document(url, fault) => write!(f, "{fault} in {url}"),
             LinkFault::NotLoaded(url) => write!(f, "no such document: {url}"),
+            LinkFault::NoItem(id) => write!(f, "no such process: {id}"),
             LinkFault::TooDeep => f.write_str("over 16 workflows inside one another"),
             LinkFault::TooMany => f.write_str("over 4,096 processes"),
         }

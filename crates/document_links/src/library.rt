@@ -4,16 +4,15 @@ ghost use Rattle.document_links.specs.Library.{AreReadAs, IsLookUp, IsReadAs, fi
 ghost use Rattle.document_links.specs.inner.Sound.{AllProcesses, AllSound, IsSoundReading};
 
 use cwl_process::read_sound;
-use document_table::{DocumentError, DocumentFault};
+use document_table::{DocumentError, DocumentFault, Indexed};
 use plain_data::{Items, Keyed};
-use serde_json::Value;
 use std::alloc::{AllocError, Global};
 
 /// What a document reads as.
 #[derive(Drop)]
 pub enum Reading {
     /// JSON that has no fault of its own.
-    Sound(Value),
+    Sound(Indexed),
     Wrong(DocumentFault),
 }
 
@@ -22,8 +21,8 @@ pub enum Reading {
 pub enum Library {
     /// What each of them reads as.
     Read(Keyed<Reading>),
-    /// This JSON is at every URL.
-    Any(Value),
+    /// This document is at every URL.
+    Any(Indexed),
 }
 
 /// Reads each of the documents once.
@@ -52,7 +51,7 @@ fn read_as(alloc: Global, bytes: &[u8]) -> Result<Reading, AllocError>
     ensures process { IfOk result IsSoundReading }
 {
     match read_sound(alloc, bytes) {
-        Ok(json) => Ok(Reading::Sound(json)),
+        Ok(json) => Ok(Reading::Sound(Indexed::of(alloc, json)?)),
         Err(DocumentError::Refused(fault)) => Ok(Reading::Wrong(fault)),
         Err(DocumentError::OutOfMemory) => Err(AllocError),
     }

@@ -8,49 +8,54 @@ ghost use Rattle.cwl_process.specs.Acting.{asked_in};
 ghost use Rattle.cwl_process.specs.Tools.{entries_at, tool_in};
 ghost use Rattle.document_links.specs.Library.{finds_in};
 ghost use Rattle.document_links.specs.Defaults.{tool_on};
-ghost use Rattle.document_links.specs.Linked.{linked, nothing, run_at, run_in, step_in, step_of, workflow_in};
+ghost use Rattle.cwl_process.specs.Workflows.{own_id};
+ghost use Rattle.document_table.specs.Packed.{item_named};
+ghost use Rattle.document_links.specs.Homes.{home_seen};
+ghost use Rattle.document_links.specs.Targets.{document_at, item_at};
+ghost use Rattle.document_links.specs.Linked.{at_target, linked, nothing, run_at, run_in, step_in, step_of, workflow_in};
 ghost use Rattle.document_links.specs.inner.Sound.{AllProcesses};
 
 use crate::defaults::{each_on, tool_on};
+use crate::home::Home;
 use crate::library::Library;
 use crate::process::{Process, Step, Workflow};
-use crate::target::target;
+use crate::target::{document_at, item_at};
 use crate::walk::WalkError;
 use cwl_process::{
-    Asked, Entries, StepParts, Tool, is_workflow, read_asked, read_step_parts, read_tool,
+    Asked, Entries, StepParts, Tool, is_workflow, own_id, read_asked, read_step_parts, read_tool,
     read_workflow_inputs, read_workflow_outputs,
 };
-use document_table::{Kind, entries};
+use document_table::{Kind, entries, has_hash};
 use plain_data::Text;
 use serde_json::Value;
 use std::alloc::{AllocError, Global};
 use std::mem;
 use url::Url;
 
-/// The process of a document at that URL, or of a value in it. So many workflows at most are inside one another.
+/// The process that a value in a document is. So many workflows at most are inside one another.
 #[cycle(linking)]
 #[tactic(auto, using(cwl_process::proofs::Forms::is_a_workflow, cwl_process::proofs::Forms::is_a_tool))]
 pub(crate) fn linked(
     alloc: Global,
     library: &Library,
     levels: usize,
-    base: &Url,
+    home: Home<'_>,
     around: &Asked,
     value: &Value,
 ) -> Result<Process, AllocError>
     requires processes { AllProcesses library.now }
     requires process { IsProcess (view value.now) }
     ensures { IfOk result (λ process. process
-        ≡ linked (finds_in library.now) levels base.now around.now (view value.now)) }
+        ≡ linked (finds_in library.now) levels (home_seen home.entry) around.now (view value.now)) }
 {
     if is_workflow(value) {
         if levels == 0 {
             return nothing(alloc, around);
         }
-        let workflow = linked_workflow(alloc, library, levels - 1, base, around, value)?;
+        let workflow = linked_workflow(alloc, library, levels - 1, home, around, value)?;
         return Ok(Process::Workflow(workflow));
     }
-    Ok(Process::Tool(own_tool(alloc, base, around, value)?))
+    Ok(Process::Tool(own_tool(alloc, home.url, around, value)?))
 }
 
 #[tactic(auto, using(cwl_process::proofs::Forms::tool_inputs, cwl_process::proofs::Forms::tool_outputs, cwl_process::proofs::Forms::tool_requirements, cwl_process::proofs::Forms::tool_hints, cwl_process::proofs::Forms::tool_is_whole))]
@@ -74,18 +79,18 @@ fn linked_workflow(
     alloc: Global,
     library: &Library,
     levels: usize,
-    base: &Url,
+    home: Home<'_>,
     around: &Asked,
     value: &Value,
 ) -> Result<Workflow, AllocError>
     requires processes { AllProcesses library.now }
     requires workflow { IsOf kind.Workflow (view value.now) }
     ensures { IfOk result (λ workflow. workflow ≡ workflow_in (linked (finds_in library.now) levels)
-        (finds_in library.now) base.now around.now (view value.now)) }
+        (finds_in library.now) (home_seen home.entry) around.now (view value.now)) }
 {
-    let inputs = each_on(alloc, base, read_workflow_inputs(alloc, value)?)?;
+    let inputs = each_on(alloc, home.url, read_workflow_inputs(alloc, value)?)?;
     let outputs = read_workflow_outputs(alloc, value)?;
-    let steps = steps_at(alloc, library, levels, base, around, value)?;
+    let steps = steps_at(alloc, library, levels, home, around, value)?;
     Ok(Workflow {
         inputs,
         outputs,
@@ -99,20 +104,21 @@ fn steps_at(
     alloc: Global,
     library: &Library,
     levels: usize,
-    base: &Url,
+    home: Home<'_>,
     around: &Asked,
     value: &Value,
 ) -> Result<Entries<Step>, AllocError>
     requires processes { AllProcesses library.now }
     requires workflow { IsOf kind.Workflow (view value.now) }
     ensures { IfOk result (λ steps. steps ≡ entries_at kind.Step
-        (step_in (linked (finds_in library.now) levels) (finds_in library.now) base.now
-        (asked_in around.now (view value.now))) (codes "steps") (view value.now)) }
+        (step_in (linked (finds_in library.now) levels) (finds_in library.now)
+        (home_seen home.entry) (own_id (view value.now)) (asked_in around.now (view value.now)))
+        (codes "steps") (view value.now)) }
 {
     let asked = read_asked(alloc, around, value)?;
     match value.get("steps") {
         None => Ok(Entries::from_distinct(Vec::new(alloc))),
-        Some(found) => linked_steps(alloc, library, levels, base, &asked, found),
+        Some(found) => { linked_steps(alloc, library, levels, home, own_id(value), &asked, found) }
     }
 }
 
@@ -121,7 +127,8 @@ fn linked_steps(
     alloc: Global,
     library: &Library,
     levels: usize,
-    base: &Url,
+    home: Home<'_>,
+    id: &str,
     around: &Asked,
     value: &Value,
 ) -> Result<Entries<Step>, AllocError>
@@ -130,16 +137,16 @@ fn linked_steps(
     ensures { IfOk result (λ steps. steps ≡ map (λ e. (
       e.0,
       step_in (linked (finds_in library.now) levels)
-          (finds_in library.now) base.now around.now e.1,
+          (finds_in library.now) (home_seen home.entry) id.now around.now e.1,
     )) (entries kind.Step (view value.now))) }
 {
     let found = entries(alloc, Kind::Step, value)?;
     let mut made = Vec::new(alloc);
     for entry in found.as_slice() {
-        let id = Text::from_text(alloc, entry.0)?;
+        let name = Text::from_text(alloc, entry.0)?;
         made.push((
-            id,
-            linked_step(alloc, library, levels, base, around, entry.1)?,
+            name,
+            linked_step(alloc, library, levels, home, id, around, entry.1)?,
         ))?;
     }
     Ok(Entries::from_distinct(made))
@@ -150,18 +157,19 @@ fn linked_step(
     alloc: Global,
     library: &Library,
     levels: usize,
-    base: &Url,
+    home: Home<'_>,
+    id: &str,
     around: &Asked,
     value: &Value,
 ) -> Result<Step, AllocError>
     requires processes { AllProcesses library.now }
     requires step { IsOf kind.Step (view value.now) }
     ensures { IfOk result (λ step. step ≡ step_in (linked (finds_in library.now) levels)
-        (finds_in library.now) base.now around.now (view value.now)) }
+        (finds_in library.now) (home_seen home.entry) id.now around.now (view value.now)) }
 {
-    let parts = read_step_parts(alloc, value)?;
-    match run_at(alloc, library, levels, base, around, value) {
-        Ok(process) => Ok(step_of(alloc, base, process, parts)?),
+    let parts = read_step_parts(alloc, id, value)?;
+    match run_at(alloc, library, levels, home, around, value) {
+        Ok(process) => Ok(step_of(alloc, home.url, process, parts)?),
         Err(error) => {
             mem::drop(parts);
             Err(error)
@@ -202,42 +210,94 @@ fn run_at(
     alloc: Global,
     library: &Library,
     levels: usize,
-    base: &Url,
+    home: Home<'_>,
     around: &Asked,
     value: &Value,
 ) -> Result<Process, AllocError>
     requires processes { AllProcesses library.now }
     requires step { IsOf kind.Step (view value.now) }
     ensures { IfOk result (λ process. process ≡ run_at (linked (finds_in library.now) levels)
-        (finds_in library.now) base.now (asked_in around.now (view value.now)) (view value.now)) }
+        (finds_in library.now) (home_seen home.entry) (asked_in around.now (view value.now))
+        (view value.now)) }
 {
     let asked = read_asked(alloc, around, value)?;
     match value.get("run") {
         None => nothing(alloc, &asked),
-        Some(found) => run_in(alloc, library, levels, base, &asked, found),
+        Some(found) => run_in(alloc, library, levels, home, &asked, found),
     }
 }
 
 #[cycle(linking)]
-#[tactic(auto, using(cwl_process::proofs::Forms::no_text_is_process))]
+#[tactic(auto, using(cwl_process::proofs::Forms::no_text_is_process), unfolding(crate::specs::Targets::target))]
 fn run_in(
     alloc: Global,
     library: &Library,
     levels: usize,
-    base: &Url,
+    home: Home<'_>,
     asked: &Asked,
     value: &Value,
 ) -> Result<Process, AllocError>
     requires processes { AllProcesses library.now }
     requires run { HasForm form.Run (view value.now) }
     ensures { IfOk result (λ process. process ≡ run_in (linked (finds_in library.now) levels)
-        (finds_in library.now) base.now asked.now (view value.now)) }
+        (finds_in library.now) (home_seen home.entry) asked.now (view value.now)) }
 {
     let Some(name) = value.as_str() else {
-        return linked(alloc, library, levels, base, asked, value);
+        return linked(alloc, library, levels, home, asked, value);
     };
-    match target(alloc, library, base, name) {
-        Ok((url, json)) => linked(alloc, library, levels, &url, asked, json),
+    if has_hash(name) {
+        return item_in(alloc, library, levels, home, asked, name);
+    }
+    document_in(alloc, library, levels, home, asked, name)
+}
+
+/// The process of the item of that name.
+#[cycle(linking)]
+fn item_in(
+    alloc: Global,
+    library: &Library,
+    levels: usize,
+    home: Home<'_>,
+    asked: &Asked,
+    name: &str,
+) -> Result<Process, AllocError>
+    requires processes { AllProcesses library.now }
+    ensures { IfOk result (λ process. process ≡ at_target (item_at (home_seen home.entry) name.now
+        (item_named name.now (view home.entry.document.now.json)))
+        (λ h other. linked (finds_in library.now) levels h asked.now other) (nothing asked.now)) }
+{
+    match item_at(alloc, home, name) {
+        Ok(item) => linked(alloc, library, levels, home, asked, item.process),
+        Err(WalkError::Refused(_)) => nothing(alloc, asked),
+        Err(WalkError::OutOfMemory) => Err(AllocError),
+    }
+}
+
+/// The process that the document of that name stands for.
+#[cycle(linking)]
+#[tactic(auto, using(cwl_process::proofs::Forms::placed_is_process))]
+fn document_in(
+    alloc: Global,
+    library: &Library,
+    levels: usize,
+    home: Home<'_>,
+    asked: &Asked,
+    name: &str,
+) -> Result<Process, AllocError>
+    requires processes { AllProcesses library.now }
+    ensures { IfOk result (λ process. process
+        ≡ at_target (document_at (finds_in library.now) home.entry.url.now name.now)
+        (λ h other. linked (finds_in library.now) levels h asked.now other) (nothing asked.now)) }
+{
+    match document_at(alloc, library, home.url, name) {
+        Ok((url, document)) => {
+            let root = document.root();
+            let other = Home {
+                url: &url,
+                document,
+            };
+            linked(alloc, library, levels, other, asked, root.process)
+        }
         Err(WalkError::Refused(_)) => nothing(alloc, asked),
         Err(WalkError::OutOfMemory) => Err(AllocError),
     }

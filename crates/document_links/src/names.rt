@@ -2,27 +2,32 @@
 ghost use Rattle.std.specs.Prelude.{◌≡◌, ◌++◌, IfOk, OnOk, map};
 ghost use Rattle.serde_json.specs.View.{view};
 ghost use Rattle.document_table.specs.Entries.{entry_seen};
-ghost use Rattle.document_links.specs.Names.{each_once, name_url, step_urls, steps_urls, urls_in, workflow_urls};
+ghost use Rattle.document_links.specs.Homes.{home_seen};
+ghost use Rattle.document_links.specs.Names.{document_urls, each_once, name_url, named_urls, step_urls, steps_urls, urls_in, workflow_urls};
 
+use crate::bounds::MOST_WORKFLOWS;
+use crate::home::Home;
 use crate::joining::{joined, url_text};
 use cwl_process::is_workflow;
-use document_table::{Kind, entries};
+use document_table::{Indexed, Kind, entries, has_hash};
 use plain_data::{Items, Keyed, Text};
 use serde_json::Value;
 use std::alloc::{AllocError, Global};
 use url::Url;
 
 /// The URLs that a document names, each once.
-pub(crate) fn urls_in(
+pub(crate) fn document_urls(
     alloc: Global,
-    levels: usize,
-    base: &Url,
-    value: &Value,
+    url: &Url,
+    document: &Indexed,
 ) -> Result<Items<Text>, AllocError>
-    ensures { IfOk result (λ urls. urls ≡ each_once (urls_in levels base.now (view value.now))) }
+    ensures { IfOk result
+        (λ urls. urls ≡ each_once (document_urls url.now (view document.now.json))) }
 {
     let mut urls = Vec::new(alloc);
-    push_urls(alloc, levels, base, value, &mut urls)?;
+    let home = Home { url, document };
+    let root = document.root();
+    push_urls(alloc, MOST_WORKFLOWS, home, root.process, &mut urls)?;
     each_once(alloc, urls.as_slice())
 }
 
@@ -46,12 +51,13 @@ fn each_once(alloc: Global, urls: &[Text]) -> Result<Items<Text>, AllocError>
 fn push_urls(
     alloc: Global,
     levels: usize,
-    base: &Url,
+    home: Home<'_>,
     value: &Value,
     urls: &mut Vec<Text>,
 ) -> Result<(), AllocError>
     ensures { OnOk result
-        (urls.new.items ≡ urls.old.items ++ urls_in levels base.now (view value.now)) }
+        (urls.new.items
+        ≡ urls.old.items ++ urls_in levels (home_seen home.entry) (view value.now)) }
 {
     if levels == 0 {
         return Ok(());
@@ -59,41 +65,43 @@ fn push_urls(
     if !is_workflow(value) {
         return Ok(());
     }
-    push_workflow_urls(alloc, levels - 1, base, value, urls)
+    push_workflow_urls(alloc, levels - 1, home, value, urls)
 }
 
 #[cycle(names)]
 fn push_workflow_urls(
     alloc: Global,
     levels: usize,
-    base: &Url,
+    home: Home<'_>,
     value: &Value,
     urls: &mut Vec<Text>,
 ) -> Result<(), AllocError>
     ensures { OnOk result (urls.new.items
-        ≡ urls.old.items ++ workflow_urls (urls_in levels base.now) base.now (view value.now)) }
+        ≡ urls.old.items ++ workflow_urls (urls_in levels (home_seen home.entry))
+        (home_seen home.entry) (view value.now)) }
 {
     let Some(found) = value.get("steps") else {
         return Ok(());
     };
     let all = entries(alloc, Kind::Step, found)?;
-    push_steps_urls(alloc, levels, base, all.as_slice(), urls)
+    push_steps_urls(alloc, levels, home, all.as_slice(), urls)
 }
 
 #[cycle(names)]
 fn push_steps_urls(
     alloc: Global,
     levels: usize,
-    base: &Url,
+    home: Home<'_>,
     all: &[(&str, &Value)],
     urls: &mut Vec<Text>,
 ) -> Result<(), AllocError>
     ensures { OnOk result (urls.new.items
         ≡ urls.old.items
-        ++ steps_urls (urls_in levels base.now) base.now (map entry_seen all.now)) }
+        ++ steps_urls (urls_in levels (home_seen home.entry)) (home_seen home.entry)
+        (map entry_seen all.now)) }
 {
     for entry in all {
-        push_step_urls(alloc, levels, base, entry.1, urls)?;
+        push_step_urls(alloc, levels, home, entry.1, urls)?;
     }
     Ok(())
 }
@@ -102,19 +110,41 @@ fn push_steps_urls(
 fn push_step_urls(
     alloc: Global,
     levels: usize,
-    base: &Url,
+    home: Home<'_>,
     value: &Value,
     urls: &mut Vec<Text>,
 ) -> Result<(), AllocError>
     ensures { OnOk result (urls.new.items
-        ≡ urls.old.items ++ step_urls (urls_in levels base.now) base.now (view value.now)) }
+        ≡ urls.old.items ++ step_urls (urls_in levels (home_seen home.entry))
+        (home_seen home.entry) (view value.now)) }
 {
     let Some(found) = value.get("run") else {
         return Ok(());
     };
     match found.as_str() {
-        None => push_urls(alloc, levels, base, found, urls),
-        Some(name) => push_name_url(alloc, base, name, urls),
+        None => push_urls(alloc, levels, home, found, urls),
+        Some(name) => push_named_urls(alloc, levels, home, name, urls),
+    }
+}
+
+/// Adds the URL of a name, or those that the item of that name names.
+#[cycle(names)]
+fn push_named_urls(
+    alloc: Global,
+    levels: usize,
+    home: Home<'_>,
+    name: &str,
+    urls: &mut Vec<Text>,
+) -> Result<(), AllocError>
+    ensures { OnOk result (urls.new.items ≡ urls.old.items
+        ++ named_urls (urls_in levels (home_seen home.entry)) (home_seen home.entry) name.now) }
+{
+    if !has_hash(name) {
+        return push_name_url(alloc, home.url, name, urls);
+    }
+    match home.document.item(name) {
+        None => Ok(()),
+        Some(item) => push_urls(alloc, levels, home, item.process, urls),
     }
 }
 

@@ -2,21 +2,24 @@
 ghost use Rattle.std.specs.Prelude.{◌≡◌, ℕ, Ok, IfOk, IfErr};
 ghost use Rattle.serde_json.specs.View.{view};
 ghost use Rattle.document_table.specs.Entries.{IsProcess};
+ghost use Rattle.document_table.specs.Packed.{root_of};
 ghost use Rattle.cwl_process.specs.Documents as one;
 ghost use Rattle.document_links.specs.Documents.{IsApart, IsErrorOf, IsLinked, IsNeeded, IsNotNeeding, IsOwnError, IsRefused, IsTogether, bounded};
 ghost use Rattle.document_links.specs.Library.{finds_in};
+ghost use Rattle.document_links.specs.Names.{anything};
 ghost use Rattle.document_links.specs.ProcessOf.{IsItsProcess};
 
 use crate::bounds::{MOST_PROCESSES, MOST_WORKFLOWS, left};
 use crate::fault::{LinkError, LinkFault};
+use crate::home::Home;
 use crate::joining::url_text;
 use crate::library::{Library, read_library};
 use crate::linking::linked;
-use crate::names::urls_in;
+use crate::names::document_urls;
 use crate::process::Process;
 use crate::walk::{WalkError, told_of};
 use cwl_process::{nothing_asked, read_sound};
-use document_table::DocumentError;
+use document_table::{DocumentError, Indexed};
 use plain_data::{Items, Keyed, Text};
 use serde_json::Value;
 use std::alloc::Global;
@@ -29,7 +32,7 @@ pub type Docs = Keyed<Items<u8>>;
 /// The process of a document at that URL, with those that its steps name (CWL v1.2, Workflow Description, `WorkflowStep`).
 ///
 /// Of several faults the first is answered: of the document itself, then in the order of its steps. C6 where a name is no URL on its document's
-/// own, C9 where over 16 workflows are inside one another or over 4,096 processes come together, C10 where a document isn't there.
+/// own, C9 where over 16 workflows are inside one another or over 4,096 processes come together, C10 where a document or an item isn't there.
 #[tactic(auto, using(cwl_process::proofs::Forms::document_is_process))]
 pub fn read_process(
     alloc: Global,
@@ -49,33 +52,54 @@ pub fn read_process(
 
 /// The URLs of the documents that a document names, in the order of its steps, each once.
 ///
-/// It refuses what `read_process` refuses whatever the other documents are: C1 to C8 of the document itself, and C9 where a document in
-/// the place of each name already makes too many.
+/// It refuses what `read_process` refuses whatever the other documents are: C1 to C8 of the document itself, C10 where a step names an item
+/// that isn't there, and C9 where a document in the place of each name already makes too many.
 pub fn needed_docs(alloc: Global, bytes: &[u8], base: &Url) -> Result<Items<Text>, LinkError>
     ensures ok { IfOk result (λ urls. IsNeeded bytes.now base.now urls) }
     ensures err { IfErr result (λ e. IsNotNeeding e bytes.now base.now) }
 {
     let document = own_document(alloc, bytes, base)?;
-    check_bounds(alloc, &Library::Any(Value::Null), base, &document)?;
-    Ok(urls_in(alloc, MOST_WORKFLOWS, base, &document)?)
+    check_alone(alloc, base, &document)?;
+    Ok(document_urls(alloc, base, &document)?)
 }
 
 /// The process of a document, with those that its steps name.
-fn together(alloc: Global, base: &Url, docs: &Docs, document: &Value) -> Result<Process, LinkError>
-    requires { IsProcess (view document.now) }
-    ensures ok { IfOk result (λ process. IsTogether (view document.now) base.now docs.now process) }
-    ensures err { IfErr result (λ e. IsApart e (view document.now) base.now docs.now) }
+#[tactic(auto, using(cwl_process::proofs::Forms::placed_is_process))]
+fn together(
+    alloc: Global,
+    base: &Url,
+    docs: &Docs,
+    document: &Indexed,
+) -> Result<Process, LinkError>
+    requires { IsProcess (root_of (view document.now.json)).process }
+    ensures ok { IfOk result
+        (λ process. IsTogether (view document.now.json) base.now docs.now process) }
+    ensures err { IfErr result (λ e. IsApart e (view document.now.json) base.now docs.now) }
 {
     let library = read_library(alloc, docs)?;
     check_bounds(alloc, &library, base, document)?;
+    let home = Home {
+        url: base,
+        document,
+    };
     Ok(linked(
         alloc,
         &library,
         MOST_WORKFLOWS,
-        base,
+        home,
         &nothing_asked(),
-        document,
+        document.root().process,
     )?)
+}
+
+/// Checks the document with something empty in the place of each that it names.
+fn check_alone(alloc: Global, base: &Url, document: &Indexed) -> Result<(), LinkError>
+    ensures ok { IfOk result
+        (λ _. (n : ℕ) × (bounded anything base.now (view document.now.json) ≡ Ok n)) }
+    ensures err { IfErr result (IsErrorOf (bounded anything base.now (view document.now.json))) }
+{
+    let library = Library::Any(Indexed::of(alloc, Value::Null)?);
+    check_bounds(alloc, &library, base, document)
 }
 
 /// Checks that all that the document leads to is there, has no fault, and is within the bounds.
@@ -83,33 +107,40 @@ fn check_bounds(
     alloc: Global,
     library: &Library,
     base: &Url,
-    document: &Value,
+    document: &Indexed,
 ) -> Result<(), LinkError>
     ensures ok { IfOk result (λ _. (n : ℕ)
-        × (bounded (finds_in library.now) base.now (view document.now) ≡ Ok n)) }
+        × (bounded (finds_in library.now) base.now (view document.now.json) ≡ Ok n)) }
     ensures err { IfErr result
-        (IsErrorOf (bounded (finds_in library.now) base.now (view document.now))) }
+        (IsErrorOf (bounded (finds_in library.now) base.now (view document.now.json))) }
 {
+    let home = Home {
+        url: base,
+        document,
+    };
+    let root = document.root();
     match left(
         alloc,
         library,
         MOST_WORKFLOWS,
         MOST_PROCESSES,
-        base,
-        document,
+        home,
+        root.process,
     ) {
         Ok(_room) => Ok(()),
-        Err(WalkError::Refused(fault)) => { Err(LinkError::Refused(told_of(alloc, base, fault)?)) }
+        Err(WalkError::Refused(fault)) => {
+            Err(LinkError::Refused(told_of(alloc, base, root.index, fault)?))
+        }
         Err(WalkError::OutOfMemory) => Err(LinkError::OutOfMemory),
     }
 }
 
-fn own_document(alloc: Global, bytes: &[u8], base: &Url) -> Result<Value, LinkError>
-    ensures ok { IfOk result (λ document. one.IsSound bytes.now (view document)) }
+fn own_document(alloc: Global, bytes: &[u8], base: &Url) -> Result<Indexed, LinkError>
+    ensures ok { IfOk result (λ document. one.IsSound bytes.now (view document.json)) }
     ensures err { IfErr result (λ e. IsOwnError e bytes.now base.now) }
 {
     match read_sound(alloc, bytes) {
-        Ok(document) => Ok(document),
+        Ok(json) => Ok(Indexed::of(alloc, json)?),
         Err(DocumentError::Refused(fault)) => {
             let url = Text::from_text(alloc, url_text(base))?;
             Err(LinkError::Refused(LinkFault::Document(url, fault)))

@@ -17,7 +17,7 @@ use Rattle.document_table.specs.Entries.{kind_of}
 use Rattle.document_table.specs.Faults.{at, here, under}
 use Rattle.document_table.specs.Layouts.{acting_requirement, by_class, field_form, is_read_over, known_requirement, layout_of, member_form, missing, process_kind, subject_of, type_kind}
 use Rattle.document_table.specs.Table.{Row, form_named, rows_of}
-use Rattle.document_table.specs.Walk.{fault_in, fault_in_items, fault_in_members, judged, or_else, own_fault}
+use Rattle.document_table.specs.Walk.{fault_in, fault_in_items, fault_in_members, judged, key_fault, or_else, own_fault}
 use Rattle.document_table.specs.declared.fault.Cause.{Cause}
 use Rattle.document_table.specs.declared.fault.Cause.TheVariants as cause
 use Rattle.document_table.specs.declared.form.Form.{Form}
@@ -50,6 +50,7 @@ mutual
 -- ---- names that describe are in no row
 
 unread : (k : Kind) → list_all (λ row. not (is_read_over row.name)) (rows_of k) ≡ true
+unread kind.Packed = refl
 unread kind.Tool = refl
 unread kind.Workflow = refl
 unread kind.ToolInput = refl
@@ -132,6 +133,12 @@ own_same (layout.Fields j) k d e is same = ap (option_map (λ name. under name (
 own_same (layout.KeyedFields j) k d e is same = ap (option_map (λ name. under name (here cause.MissingField))) (missing_same (subject_of j) d e (rows_of j) (unread j) same)
 own_same _ k d e is same = absurd (none-some k is)
 
+-- the names of fields stand for themselves
+no_keys : (l : Layout) (k : Kind) (ms ns : Members) → kind_of l ≡ Some k → key_fault l ms ≡ key_fault l ns
+no_keys (layout.Fields j) k ms ns is = refl
+no_keys (layout.KeyedFields j) k ms ns is = refl
+no_keys _ k ms ns is = absurd (none-some k is)
+
 abbrev type_layout_by : Option Data → Layout
 type_layout_by found = option_map_or layout.Fields (option_and_then type_kind (option_and_then as_str found)) (layout.Refused cause.WrongForm)
 
@@ -141,6 +148,7 @@ layout_same form.Document d e same =
     let version = same (codes "cwlVersion") refl in
     let class = same (codes "class") refl in
     (λ i. if is_none (version i) then layout.Unversioned else by_class process_kind (layout.Refused cause.WrongClass) (layout.Refused cause.WrongClass) (class i))
+layout_same form.Process d e same = ap (by_class process_kind (layout.Refused cause.WrongClass) (layout.Refused cause.WrongClass)) (same (codes "class") refl)
 layout_same form.Run d e same = ap (by_class process_kind (layout.Refused cause.WrongClass) (layout.Refused cause.WrongClass)) (same (codes "class") refl)
 layout_same form.Type d e same = ap type_layout_by (same (codes "type") refl)
 layout_same form.InputType d e same = ap type_layout_by (same (codes "type") refl)
@@ -157,4 +165,5 @@ descriptions_decide_nothing f k name d ms over is =
     let l = layout_of f (object ms) in
     let members = ap (λ l. fault_in_members l (put name d ms)) layouts ∙ put_any l name d ms (fields_of l k name is ∙ read_over k name over) in
     let own = ap (λ l. own_fault l (object (put name d ms))) layouts ∙ own_same l k (object (put name d ms)) (object ms) is same in
-    (λ i. or_else (members i) (own i))
+    let keys = ap (λ l. key_fault l (put name d ms)) layouts ∙ no_keys l k (put name d ms) ms is in
+    (λ i. or_else (members i) (or_else (own i) (keys i)))

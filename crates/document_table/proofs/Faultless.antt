@@ -19,7 +19,7 @@ use Rattle.document_table.specs.Faults.{at, here, under}
 use Rattle.document_table.specs.Layouts.{layout_of, member_form, field_form, is_read_over, missing, missing_field, by_class, key_fits, process_kind, process_layout, subject_of}
 use Rattle.document_table.specs.Repeats.{name_in}
 use Rattle.document_table.specs.Table.{Row, form_of, rows_of}
-use Rattle.document_table.specs.Walk.{fault_in, fault_in_items, fault_in_members, or_else, judged, own_fault}
+use Rattle.document_table.specs.Walk.{fault_in, fault_in_items, fault_in_members, key_fault, or_else, judged, own_fault}
 use Rattle.document_table.specs.declared.fault.Cause.{Cause}
 use Rattle.document_table.specs.declared.fault.Cause.TheVariants as cause
 use Rattle.document_table.specs.declared.fault.DocumentFault.{DocumentFault}
@@ -64,10 +64,14 @@ member_has_form layout name f (member l d ms) formed none =
 
 -- the members and the object itself
 pub members_none : (form : Form) (ms : Members) → HasForm form (object ms) → fault_in_members (layout_of form (object ms)) ms ≡ None
-members_none form ms none = first_none (fault_in_members (layout_of form (object ms)) ms) (own_fault (layout_of form (object ms)) (object ms)) none
+members_none form ms none = first_none _ _ none
 
 pub own_none : (form : Form) (ms : Members) → HasForm form (object ms) → own_fault (layout_of form (object ms)) (object ms) ≡ None
-own_none form ms none = later_none (fault_in_members (layout_of form (object ms)) ms) (own_fault (layout_of form (object ms)) (object ms)) none
+own_none form ms none = first_none _ _ (later_none _ _ none)
+
+-- no two keys stand for one name
+pub keys_none : (form : Form) (ms : Members) → HasForm form (object ms) → key_fault (layout_of form (object ms)) ms ≡ None
+keys_none form ms none = later_none _ _ (later_none _ _ none)
 
 -- the same form, as the row of the name says
 pub formed_of : (k kind : Kind) (name : List ℕ) (f : Form) → k ≡ kind → form_of kind name ≡ Some f → field_form k name ≡ Ok f
@@ -141,6 +145,7 @@ missing_none layout.Values d none = refl
 -- ---- required fields, by the layout
 
 rows_named : (kind : Kind) → list_all (λ row. not (bytes_eq row.name [])) (rows_of kind) ≡ true
+rows_named kind.Packed = refl
 rows_named kind.Tool = refl
 rows_named kind.Workflow = refl
 rows_named kind.ToolInput = refl
@@ -221,7 +226,7 @@ keyed_of : (kind : Kind) (name : List ℕ) (d : Data) (test : Bool) → judged n
 keyed_of kind name d true none = (form.Keyed kind, under_none name (fault_in (form.Keyed kind) d) none, refl)
 keyed_of kind name d false none = absurd (some_is_not_none (under name (here cause.WrongForm)) none)
 
-members_of : (kind : Kind) (ms : Members) → fault_in_members (layout.ByKey kind) ms ≡ None → AllByRecursion (λ e. IsOf kind e.1) (mapped_entries ms)
+members_of : (kind : Kind) (ms : Members) → fault_in_members (layout.ByKey kind) ms ≡ None → AllByRecursion (λ e. IsOf kind e.1) (mapped_entries kind ms)
 members_of kind no_members none = tt
 members_of kind (member name d ms) none = (keyed_of kind name d (key_fits kind name) (first_none _ _ none), members_of kind ms (later_none _ _ none))
 
@@ -266,6 +271,15 @@ run_of (number n) none is = absurd (true≢false (sym is))
 run_of (string s) none is = absurd (true≢false (sym is))
 run_of (array ds) none is = absurd (true≢false (sym is))
 run_of (object ms) none is = (form.Run, none, ap kind_of (process_of ms (own_none form.Run ms none)))
+
+-- a process of which nothing else is said
+pub process_has : (d : Data) → HasForm form.Process d → IsProcess d
+process_has null none = absurd (some_is_not_none (here cause.WrongForm) none)
+process_has (boolean b) none = absurd (some_is_not_none (here cause.WrongForm) none)
+process_has (number n) none = absurd (some_is_not_none (here cause.WrongForm) none)
+process_has (string s) none = absurd (some_is_not_none (here cause.WrongForm) none)
+process_has (array ds) none = absurd (some_is_not_none (here cause.WrongForm) none)
+process_has (object ms) none = (form.Process, none, ap kind_of (process_of ms (own_none form.Process ms none)))
 
 versioned : (ms : Members) (test : Bool) → own_fault (if test then layout.Unversioned else process_layout (object ms)) (object ms) ≡ None
     → (if test then layout.Unversioned else process_layout (object ms)) ≡ layout.Fields (kind_in (object ms))

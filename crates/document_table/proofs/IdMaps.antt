@@ -1,25 +1,22 @@
 -- A map of objects stands for a list of them.
-use Rattle.std.proofs.Common.{◌≡◌, ℕ, ◌+◌, List, [], ◌∷◌, ◌++◌, Bool, true, false, ◌||◌, Option, Some, None, Ok, Err, refl, sym, ap, subst, ◌∙◌, bytes_eq, codes, ◌⊎◌, inl, inr}
+use Rattle.std.proofs.Common.{◌≡◌, ℕ, ◌+◌, List, [], ◌∷◌, Bool, true, false, Option, Some, None, Ok, Err, refl, sym, ap, subst, ◌∙◌, bytes_eq, codes, ◌⊎◌, inl, inr}
 use Rattle.std.specs.Prelude.{◌&&◌, not, is_none, is_some, option_and_then, option_map, if◌then◌else◌}
 use Rattle.std.specs.Option.{option_map_or}
-use Rattle.std.specs.List.{AllByRecursion, IsDistinct, list_any}
-use Rattle.std.specs.Map.{keys_of}
 use Rattle.std.specs.Ordering.{nat_cmp, match_ordering}
 use Rattle.std.specs.declared.cmp.Ordering.{Ordering}
 use Rattle.std.specs.declared.cmp.Ordering.TheVariants.{Less, Equal, Greater}
-use Rattle.std.specs.Cmp.Lexicographic.{bytes_decides, nat_list_eq_equiv, slice_cmp}
+use Rattle.std.specs.Cmp.Lexicographic.{bytes_decides, slice_cmp}
 use Rattle.std.proofs.lemmas.Bool.{true≢false}
-use Rattle.std.proofs.lemmas.List.Folds.{list_any-append}
 use Rattle.std.proofs.lemmas.Map.Lookups.{exact_bytes}
 use Rattle.serde_json.specs.Data.{Data, null, boolean, number, string, array, object, Members, no_members, member, put}
 use Rattle.serde_json.specs.Find.{as_str, get, get_member}
 use Rattle.serde_json.proofs.Views.{get_member-put, get_member-put_other}
-use Rattle.document_table.specs.Entries.{HasForm, mapped_entries}
+use Rattle.document_table.specs.Entries.{HasForm}
 use Rattle.document_table.specs.Faults.{at, here, under}
 use Rattle.document_table.specs.Laws.{item_under, items_under, predicate_of}
 use Rattle.document_table.specs.Layouts.{field_form, key_fits, member_form, missing, subject_of}
-use Rattle.document_table.specs.Leaves.{item_form, short_form, short_kind, wrong}
-use Rattle.document_table.specs.Repeats.{name_in, names_in, repeat_after}
+use Rattle.document_table.specs.Leaves.{item_form, short_form, short_kind, wrong, wrong_leaf}
+use Rattle.document_table.specs.Repeats.{key_names, name_in, names_in, repeat_after, subject_name}
 use Rattle.document_table.specs.Table.{Row, form_of, rows_of}
 use Rattle.document_table.specs.Walk.{fault_in, fault_in_items, fault_in_members, judged, leaf_fault, listed, or_else, repeat_fault}
 use Rattle.document_table.specs.declared.fault.Cause.TheVariants as cause
@@ -30,8 +27,7 @@ use Rattle.document_table.specs.declared.form.Kind.{Kind}
 use Rattle.document_table.specs.declared.form.Kind.TheVariants as kind
 use Rattle.document_table.specs.declared.layout.Layout.{Layout}
 use Rattle.document_table.specs.declared.layout.Layout.TheVariants as layout
-use Rattle.document_table.proofs.Ids.{AreNew}
-use Rattle.document_table.proofs.Faultless.{first_none, formed_of, later_none, missing_none, some_is_not_none, under_none}
+use Rattle.document_table.proofs.Faultless.{first_none, formed_of, keys_none, later_none, missing_none, some_is_not_none, under_none}
 
 -- ---- a member that is put where it belongs
 
@@ -58,19 +54,20 @@ put_none l name d (member other e ms) own all =
 abbrev HasSubject : Kind → Type 0
 HasSubject k = is_some (form_of k (subject_of k)) ≡ true
 
-taken : (f : Form) (test : Bool) → test ≡ true → (if test then None else Some (here (wrong f))) ≡ None
-taken f test is = ap (λ t. if t then None else Some (here (wrong f))) is
+taken : (f : Form) (name : List ℕ) (test : Bool) → test ≡ true → (if test then None else Some (here (wrong_leaf f (string name)))) ≡ None
+taken f name test is = ap (λ t. if t then None else Some (here (wrong_leaf f (string name)))) is
 
 subject_fits : (k : Kind) (name : List ℕ) → HasSubject k → key_fits k name ≡ true → judged (subject_of k) (field_form k (subject_of k)) (λ f. fault_in f (string name)) ≡ None
-subject_fits kind.ToolInput name has fits = ap (option_map (under (codes "id"))) (taken form.Id (key_fits kind.ToolInput name) fits)
-subject_fits kind.ToolOutput name has fits = ap (option_map (under (codes "id"))) (taken form.Id (key_fits kind.ToolInput name) fits)
-subject_fits kind.WorkflowInput name has fits = ap (option_map (under (codes "id"))) (taken form.Id (key_fits kind.ToolInput name) fits)
-subject_fits kind.WorkflowOutput name has fits = ap (option_map (under (codes "id"))) (taken form.Id (key_fits kind.ToolInput name) fits)
-subject_fits kind.Step name has fits = ap (option_map (under (codes "id"))) (taken form.StepId (key_fits kind.Step name) fits)
-subject_fits kind.StepInput name has fits = ap (option_map (under (codes "id"))) (taken form.Id (key_fits kind.ToolInput name) fits)
-subject_fits kind.StepOutput name has fits = ap (option_map (under (codes "id"))) (taken form.Id (key_fits kind.ToolInput name) fits)
-subject_fits kind.Tool name has fits = ap (option_map (under (codes "id"))) (taken form.Id (key_fits kind.ToolInput name) fits)
-subject_fits kind.Workflow name has fits = ap (option_map (under (codes "id"))) (taken form.Id (key_fits kind.ToolInput name) fits)
+subject_fits kind.ToolInput name has fits = ap (option_map (under (codes "id"))) (taken form.Id name (key_fits kind.ToolInput name) fits)
+subject_fits kind.ToolOutput name has fits = ap (option_map (under (codes "id"))) (taken form.Id name (key_fits kind.ToolInput name) fits)
+subject_fits kind.WorkflowInput name has fits = ap (option_map (under (codes "id"))) (taken form.Id name (key_fits kind.ToolInput name) fits)
+subject_fits kind.WorkflowOutput name has fits = ap (option_map (under (codes "id"))) (taken form.Id name (key_fits kind.ToolInput name) fits)
+subject_fits kind.Step name has fits = ap (option_map (under (codes "id"))) (taken form.StepId name (key_fits kind.Step name) fits)
+subject_fits kind.StepInput name has fits = ap (option_map (under (codes "id"))) (taken form.Id name (key_fits kind.ToolInput name) fits)
+subject_fits kind.StepOutput name has fits = ap (option_map (under (codes "id"))) (taken form.Id name (key_fits kind.ToolInput name) fits)
+subject_fits kind.Tool name has fits = refl
+subject_fits kind.Workflow name has fits = refl
+subject_fits kind.Packed name has fits = absurd (true≢false (sym has))
 subject_fits kind.PlainRequirement name has fits = refl
 subject_fits kind.EnvVarRequirement name has fits = refl
 subject_fits kind.WorkReuse name has fits = refl
@@ -136,8 +133,8 @@ whole_item : (k : Kind) (name : List ℕ) (ms : Members) → HasSubject k → ke
     → HasForm (form.Object k) (object (put (subject_of k) (string name) ms))
 whole_item k name ms has fits none =
     let members = put_none (layout.Fields k) (subject_of k) (string name) ms (subject_fits k name has fits) (sym (keyed_same k ms) ∙ first_none _ _ none) in
-    let rows = all_found (subject_of k) name ms (rows_of k) (missing_none (layout.KeyedFields k) (object ms) (later_none _ _ none)) in
-    none_both _ _ members (ap no_row_missed rows)
+    let rows = all_found (subject_of k) name ms (rows_of k) (missing_none (layout.KeyedFields k) (object ms) (first_none _ _ (later_none _ _ none))) in
+    none_both _ _ members (none_both _ None (ap no_row_missed rows) refl)
 
 -- ---- another value under a key
 
@@ -163,7 +160,7 @@ by_predicate k name d has fits row formed =
     let p = predicate_of k in
     let own = ap (λ r. judged p r (λ f. fault_in f d)) (formed_of k k p (short_kind k) refl row.row) ∙ ap (option_map (under p)) formed in
     let members = put_none (layout.Fields k) (subject_of k) (string name) (member p d no_members) (subject_fits k name has fits) (none_both _ None own refl) in
-    none_both _ _ members (ap no_row_missed (row.all name d))
+    none_both _ _ members (none_both _ None (ap no_row_missed (row.all name d)) refl)
 
 short_item : (k : Kind) (name : List ℕ) (d : Data) → HasSubject k → key_fits k name ≡ true → HasForm (short_kind k) d → (HasForm (form.Object k) d → ⊥) → HasForm (form.Object k) (short_object k name d)
 short_item k name d has fits formed none = either (predicate_or_none k)
@@ -213,41 +210,24 @@ items_none k index (member name d ms) has none =
     let own = keyed_parts k name d (key_fits k name) (first_none _ _ none) in
     none_both _ _ (ap (option_map (at index)) (item_none k name d has own.0 own.1)) (items_none k (index + 1) ms has (later_none _ _ none))
 
-pub name_under : (k : Kind) (name : List ℕ) (d : Data) → name_in k (item_under k name d) ≡ Some name
-name_under k name null = ap (option_and_then as_str) (get_member-put (subject_of k) (string name) (member (predicate_of k) null no_members))
-name_under k name (boolean b) = ap (option_and_then as_str) (get_member-put (subject_of k) (string name) (member (predicate_of k) (boolean b) no_members))
-name_under k name (number n) = ap (option_and_then as_str) (get_member-put (subject_of k) (string name) (member (predicate_of k) (number n) no_members))
-name_under k name (string s) = ap (option_and_then as_str) (get_member-put (subject_of k) (string name) (member (predicate_of k) (string s) no_members))
-name_under k name (array ds) = ap (option_and_then as_str) (get_member-put (subject_of k) (string name) (member (predicate_of k) (array ds) no_members))
-name_under k name (object ms) = ap (option_and_then as_str) (get_member-put (subject_of k) (string name) ms)
+pub name_under : (k : Kind) (name : List ℕ) (d : Data) → name_in k (item_under k name d) ≡ Some (subject_name k name)
+name_under k name null = ap (λ o. option_map (subject_name k) (option_and_then as_str o)) (get_member-put (subject_of k) (string name) (member (predicate_of k) null no_members))
+name_under k name (boolean b) = ap (λ o. option_map (subject_name k) (option_and_then as_str o)) (get_member-put (subject_of k) (string name) (member (predicate_of k) (boolean b) no_members))
+name_under k name (number n) = ap (λ o. option_map (subject_name k) (option_and_then as_str o)) (get_member-put (subject_of k) (string name) (member (predicate_of k) (number n) no_members))
+name_under k name (string s) = ap (λ o. option_map (subject_name k) (option_and_then as_str o)) (get_member-put (subject_of k) (string name) (member (predicate_of k) (string s) no_members))
+name_under k name (array ds) = ap (λ o. option_map (subject_name k) (option_and_then as_str o)) (get_member-put (subject_of k) (string name) (member (predicate_of k) (array ds) no_members))
+name_under k name (object ms) = ap (λ o. option_map (subject_name k) (option_and_then as_str o)) (get_member-put (subject_of k) (string name) ms)
 
-names_under : (k : Kind) (ms : Members) → names_in k (items_under k ms) ≡ keys_of (mapped_entries ms)
+names_under : (k : Kind) (ms : Members) → names_in k (items_under k ms) ≡ key_names k ms
 names_under k no_members = refl
 names_under k (member name d ms) =
-    ap (λ o. option_map_or (λ n. n ∷ names_in k (items_under k ms)) o (names_in k (items_under k ms))) (name_under k name d) ∙ ap (λ names. name ∷ names) (names_under k ms)
+    ap (λ o. option_map_or (λ n. n ∷ names_in k (items_under k ms)) o (names_in k (items_under k ms))) (name_under k name d) ∙ ap (λ names. subject_name k name ∷ names) (names_under k ms)
 
--- names that are new beside others, and differ from one more, are new beside it too
-join_new : (before : List (List ℕ)) (name : List ℕ) (names : List (List ℕ)) → AreNew before names → AllByRecursion (λ other. bytes_eq name other ≡ false) names → AreNew (before ++ name ∷ []) names
-join_new before name [] new apart = tt
-join_new before name (other ∷ names) new apart =
-    let last : (bytes_eq other name || false) ≡ false = ap (λ t. t || false) (nat_list_eq_equiv.symm other name ∙ apart.0) in
-    let both : (list_any (bytes_eq other) before || (bytes_eq other name || false)) ≡ false = ap (λ t. t || (bytes_eq other name || false)) new.0 ∙ last in
-    (list_any-append (bytes_eq other) before (name ∷ []) ∙ both, join_new before name names new.1 apart.1)
+repeat_none : (o : Option (List ℕ)) → option_map (λ name. under name (here cause.RepeatedId)) o ≡ None → o ≡ None
+repeat_none None e = refl
+repeat_none (Some name) e = absurd (some_is_not_none (under name (here cause.RepeatedId)) e)
 
-none_repeats : (before names : List (List ℕ)) → AreNew before names → IsDistinct bytes_eq names → repeat_after before names ≡ None
-unfolding IsDistinct
-none_repeats before [] new differ = refl
-none_repeats before (name ∷ names) new differ =
-    ap (λ t. if t then Some name else repeat_after (before ++ name ∷ []) names) new.0
-    ∙ none_repeats (before ++ name ∷ []) names (join_new before name names new.1 differ.0) differ.1
-
-all_new : (names : List (List ℕ)) → AreNew [] names
-all_new [] = tt
-all_new (name ∷ names) = (refl, all_new names)
-
-pub maps_stand_for_lists : (k : Kind) (ms : Members) → HasSubject k → IsDistinct bytes_eq (keys_of (mapped_entries ms)) → HasForm (form.Objects k) (object ms)
-    → HasForm (form.Objects k) (array (items_under k ms))
-maps_stand_for_lists k ms has differ none =
-    let names = names_under k ms in
-    let once = ap (repeat_after []) names ∙ none_repeats [] (keys_of (mapped_entries ms)) (all_new (keys_of (mapped_entries ms))) differ in
+pub maps_stand_for_lists : (k : Kind) (ms : Members) → HasSubject k → HasForm (form.Objects k) (object ms) → HasForm (form.Objects k) (array (items_under k ms))
+maps_stand_for_lists k ms has none =
+    let once = ap (repeat_after []) (names_under k ms) ∙ repeat_none (repeat_after [] (key_names k ms)) (keys_none (form.Objects k) ms none) in
     none_both _ _ (items_none k 0 ms has (first_none _ _ none)) (ap (option_map (λ name. under name (here cause.RepeatedId))) once)

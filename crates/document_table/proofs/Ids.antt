@@ -1,26 +1,21 @@
 -- The names of what is in a list or a map of objects differ, where the value keeps to its form.
-use Rattle.std.proofs.Common.{◌≡◌, ℕ, List, [], ◌∷◌, ◌++◌, Bool, true, false, ◌||◌, Option, Some, None, String, Global, string_bytes, string_cmp, Less, refl, sym, ap, subst, ◌∙◌, bytes_eq}
+use Rattle.std.proofs.Common.{◌≡◌, ℕ, List, [], ◌∷◌, ◌++◌, Bool, true, false, ◌||◌, Option, Some, None, refl, sym, ap, subst, ◌∙◌, bytes_eq}
 use Rattle.std.specs.Prelude.{option_map, if◌then◌else◌}
 use Rattle.std.specs.Option.{option_map_or}
 use Rattle.std.specs.List.{AllByRecursion, IsDistinct, list_any}
-use Rattle.std.specs.List.Sorted.{IsStrictlySortedBy}
 use Rattle.std.specs.Map.{keys_of}
 use Rattle.std.specs.Cmp.Lexicographic.{nat_list_eq_equiv}
 use Rattle.std.proofs.lemmas.Bool.{true≢false}
 use Rattle.std.proofs.lemmas.List.Folds.{list_any-append}
-use Rattle.std.proofs.lemmas.Map.Text.{is_eq-slice_cmp}
-use Rattle.std.specs.Ordering.{is_eq}
-use Rattle.serde_json.specs.Data.{Data, array, Items, no_items, item}
-use Rattle.serde_json.specs.View.{members_view}
-use Rattle.serde_json.specs.declared.value.Value.{Value}
+use Rattle.serde_json.specs.Data.{Data, array, object, Items, no_items, item, Members, no_members, member}
 use Rattle.document_table.specs.Entries.{HasForm, entries, listed_entries, mapped_entries}
 use Rattle.document_table.specs.Faults.{here, under}
-use Rattle.document_table.specs.Repeats.{name_in, names_in, repeat_after}
+use Rattle.document_table.specs.Repeats.{key_names, name_in, names_in, repeat_after, subject_name}
 use Rattle.document_table.specs.Walk.{fault_in_items, repeat_fault}
 use Rattle.document_table.specs.declared.fault.Cause.TheVariants as cause
 use Rattle.document_table.specs.declared.form.Form.TheVariants as form
 use Rattle.document_table.specs.declared.form.Kind.{Kind}
-use Rattle.document_table.proofs.Faultless.{later_none, some_is_not_none}
+use Rattle.document_table.proofs.Faultless.{keys_none, later_none, some_is_not_none}
 
 -- ---- lists
 
@@ -77,15 +72,10 @@ list_ids_differ kind ds none =
 
 -- ---- maps
 
-apart : (k other : String Global) → string_cmp k other ≡ Less → bytes_eq (string_bytes k) (string_bytes other) ≡ false
-apart k other below = sym (is_eq-slice_cmp (string_bytes k) (string_bytes other)) ∙ ap is_eq below
+mapped_names : (kind : Kind) (ms : Members) → keys_of (mapped_entries kind ms) ≡ key_names kind ms
+mapped_names kind no_members = refl
+mapped_names kind (member key d ms) = ap (λ names. subject_name kind key ∷ names) (mapped_names kind ms)
 
-all_apart : (k : String Global) (ms : List (String Global × Value)) → AllByRecursion (λ other. string_cmp k other ≡ Less) (keys_of ms)
-    → AllByRecursion (λ other. bytes_eq (string_bytes k) other ≡ false) (keys_of (mapped_entries (members_view ms)))
-all_apart k [] below = tt
-all_apart k (m ∷ ms) below = (apart k m.0 below.0, all_apart k ms below.1)
-
-pub mapped_ids_differ : (ms : List (String Global × Value)) → IsStrictlySortedBy string_cmp (keys_of ms) → IsDistinct bytes_eq (keys_of (mapped_entries (members_view ms)))
-unfolding IsDistinct IsStrictlySortedBy
-mapped_ids_differ [] sorted = tt
-mapped_ids_differ (m ∷ ms) sorted = (all_apart m.0 ms sorted.0, mapped_ids_differ ms sorted.1)
+pub map_ids_differ : (kind : Kind) (ms : Members) → HasForm (form.Objects kind) (object ms) → IsDistinct bytes_eq (keys_of (entries kind (object ms)))
+map_ids_differ kind ms none =
+    subst (IsDistinct bytes_eq) (sym (mapped_names kind ms)) (unrepeated [] (key_names kind ms) (repeat_none (repeat_after [] (key_names kind ms)) (keys_none (form.Objects kind) ms none))).1

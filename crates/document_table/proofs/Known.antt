@@ -1,5 +1,5 @@
 -- What a document says of itself, and that an object has no other fields than the table's.
-use Rattle.std.proofs.Common.{◌≡◌, ℕ, List, [], Bool, true, false, Option, Some, None, Ok, Err, refl, sym, ap, subst, ◌∙◌, bytes_eq, codes, ◌⊎◌, inl, inr}
+use Rattle.std.proofs.Common.{◌≡◌, ℕ, List, [], Bool, true, false, Option, Some, None, Ok, Err, refl, sym, ap, subst, ◌∙◌, bytes_eq, codes, inl, inr}
 use Rattle.std.specs.Prelude.{Result, ◌||◌, is_none, is_some, unwrap_or, option_and_then, if◌then◌else◌}
 use Rattle.std.specs.Option.{option_map_or}
 use Rattle.std.specs.Ordering.{nat_cmp, match_ordering}
@@ -13,7 +13,7 @@ use Rattle.serde_json.specs.Data.{Data, null, boolean, number, string, array, ob
 use Rattle.serde_json.specs.Find.{as_str, get, get_member}
 use Rattle.document_table.specs.Entries.{HasForm, IsOf, IsThere, MayHaveForm, class_in, kind_in, kind_of}
 use Rattle.document_table.specs.Faults.{here, under}
-use Rattle.document_table.specs.Laws.{is_known_field}
+use Rattle.document_table.specs.Laws.{IsClass, is_known_field}
 use Rattle.document_table.specs.Layouts.{by_class, field_form, is_read_over, layout_of, member_form, process_kind, process_layout}
 use Rattle.document_table.specs.Leaves.{wrong}
 use Rattle.document_table.specs.Table.{form_of}
@@ -26,7 +26,7 @@ use Rattle.document_table.specs.declared.form.Kind.{Kind}
 use Rattle.document_table.specs.declared.form.Kind.TheVariants as kind
 use Rattle.document_table.specs.declared.layout.Layout.{Layout}
 use Rattle.document_table.specs.declared.layout.Layout.TheVariants as layout
-use Rattle.document_table.proofs.Faultless.{document_of, field_has_form, first_none, later_none, members_none, own_none, some_is_not_none}
+use Rattle.document_table.proofs.Faultless.{document_of, field_has_form, first_none, later_none, members_none, own_none, required_there, some_is_not_none}
 use Rattle.document_table.proofs.Whole.{taken_of}
 
 -- ---- fields
@@ -78,7 +78,7 @@ version_text : (d : Data) → HasForm form.Version d → d ≡ string (codes "v1
 version_text null has = absurd (some_is_not_none (here (wrong form.Version)) has)
 version_text (boolean b) has = absurd (some_is_not_none (here (wrong form.Version)) has)
 version_text (number n) has = absurd (some_is_not_none (here (wrong form.Version)) has)
-version_text (string s) has = ap string ((bytes_decides s (codes "v1.2")).0 (taken_of form.Version (bytes_eq s (codes "v1.2")) has))
+version_text (string s) has = ap string ((bytes_decides s (codes "v1.2")).0 (taken_of cause.WrongVersion (bytes_eq s (codes "v1.2")) has))
 version_text (array ds) has = absurd (some_is_not_none (here (wrong form.Version)) has)
 version_text (object ms) has = absurd (some_is_not_none (here cause.WrongVersion) (own_none form.Version ms has))
 
@@ -103,9 +103,6 @@ document_version (object ms) has =
     version_there (get (codes "cwlVersion") d) ms (own_none form.Document ms has) (field_has_form (kind_in d) (codes "cwlVersion") form.Version d (document_of d has) row)
 
 -- ---- the class
-
-abbrev IsClass : List ℕ → Type 0
-IsClass name = (name ≡ codes "CommandLineTool") ⊎ (name ≡ codes "Workflow")
 
 class_text : (name : List ℕ) (tool workflow : Bool) → bytes_eq name (codes "CommandLineTool") ≡ tool → bytes_eq name (codes "Workflow") ≡ workflow → (ms : Members)
     → own_fault (option_map_or layout.Fields (if tool then Some kind.Tool else (if workflow then Some kind.Workflow else None)) (layout.Refused cause.WrongClass)) (object ms) ≡ None → IsClass name
@@ -135,3 +132,27 @@ document_class (number n) has = absurd (some_is_not_none (here cause.WrongForm) 
 document_class (string s) has = absurd (some_is_not_none (here cause.WrongForm) has)
 document_class (array ds) has = absurd (some_is_not_none (here cause.WrongForm) has)
 document_class (object ms) has = class_of (is_none (get (codes "cwlVersion") (object ms))) ms (own_none form.Document ms has)
+
+pub process_class : (d : Data) → HasForm form.Process d → IsClass (class_in d)
+process_class null has = absurd (some_is_not_none (here cause.WrongForm) has)
+process_class (boolean b) has = absurd (some_is_not_none (here cause.WrongForm) has)
+process_class (number n) has = absurd (some_is_not_none (here cause.WrongForm) has)
+process_class (string s) has = absurd (some_is_not_none (here cause.WrongForm) has)
+process_class (array ds) has = absurd (some_is_not_none (here cause.WrongForm) has)
+process_class (object ms) has = class_field (get (codes "class") (object ms)) ms (own_none form.Process ms has)
+
+-- ---- packed documents
+
+packed_version_there : (found : Option Data) → is_some found ≡ true → MayHaveForm form.Version found → found ≡ Some (string (codes "v1.2"))
+packed_version_there None there has = absurd (true≢false (sym there))
+packed_version_there (Some d) there has = ap Some (version_text d has)
+
+pub packed_version : (d : Data) → HasForm form.Packed d → get (codes "cwlVersion") d ≡ Some (string (codes "v1.2"))
+packed_version null has = absurd (some_is_not_none (here cause.WrongForm) has)
+packed_version (boolean b) has = absurd (some_is_not_none (here cause.WrongForm) has)
+packed_version (number n) has = absurd (some_is_not_none (here cause.WrongForm) has)
+packed_version (string s) has = absurd (some_is_not_none (here cause.WrongForm) has)
+packed_version (array ds) has = absurd (some_is_not_none (here cause.WrongForm) has)
+packed_version (object ms) has =
+    packed_version_there (get (codes "cwlVersion") (object ms)) ((required_there form.Packed kind.Packed ms has refl).0 refl)
+    (field_has_form kind.Packed (codes "cwlVersion") form.Version (object ms) (form.Packed, has, refl) refl)

@@ -1,7 +1,11 @@
+pub mod Alone
+pub mod Cuts
 pub mod Described
 pub mod Faultless
 pub mod IdMaps
 pub mod Ids
 pub mod Known
+pub mod Places
+pub mod Roots
 pub mod Seen
 pub mod Whole

@@ -9,7 +9,7 @@ use Rattle.document_table.specs.Entries.{HasForm, IsOf, kind_of}
 use Rattle.document_table.specs.Faults.{at, here}
 use Rattle.document_table.specs.Kept.{is_kept, kept, kept_form, kept_items, kept_members, put_kept}
 use Rattle.document_table.specs.Layouts.{field_form, layout_of, member_form}
-use Rattle.document_table.specs.Leaves.{item_form, short_form, short_kind, takes_leaf, takes_number, wrong}
+use Rattle.document_table.specs.Leaves.{item_form, short_form, short_kind, takes_leaf, takes_number, wrong, wrong_leaf}
 use Rattle.document_table.specs.Walk.{fault_in, fault_in_items, fault_in_members, judged, listed, or_else, repeat_fault}
 use Rattle.document_table.specs.declared.fault.Cause.{Cause}
 use Rattle.document_table.specs.declared.fault.DocumentFault.{DocumentFault}
@@ -43,8 +43,8 @@ item_asks : (f each : Form) → asks f ≡ true → item_form f ≡ Some each �
 item_asks form.Anything each is found = absurd (true≢false (sym is))
 item_asks form.Value each is found = ap asks (sym (same_Some form.Value each found))
 item_asks form.Words each is found = ap asks (sym (same_Some form.Text each found))
-item_asks form.Names each is found = ap asks (sym (same_Some form.Text each found))
-item_asks form.Texts each is found = ap asks (sym (same_Some form.Text each found))
+item_asks form.Names each is found = ap asks (sym (same_Some form.Name each found))
+item_asks form.Symbols each is found = ap asks (sym (same_Some form.Name each found))
 item_asks form.Ints each is found = ap asks (sym (same_Some form.Int each found))
 item_asks form.Sources each is found = ap asks (sym (same_Some form.Source each found))
 item_asks form.Type each is found = ap asks (sym (same_Some form.Type each found))
@@ -73,9 +73,9 @@ no_float_taken form.Value (float x) is taken = absurd (true≢false (sym taken))
 no_float_taken form.Int (float x) is taken = absurd (true≢false (sym taken))
 no_float_taken _ (float x) is taken = absurd (true≢false (sym taken))
 
-pub taken_of : (f : Form) (test : Bool) → (if test then None else Some (here (wrong f))) ≡ None → test ≡ true
-taken_of f true none = refl
-taken_of f false none = absurd (some_is_not_none (here (wrong f)) none)
+pub taken_of : (c : Cause) (test : Bool) → (if test then None else Some (here c)) ≡ None → test ≡ true
+taken_of c true none = refl
+taken_of c false none = absurd (some_is_not_none (here c) none)
 
 -- ---- lists and objects
 
@@ -111,7 +111,7 @@ mutual
   pub whole : (f : Form) (d : Data) → asks f ≡ true → HasForm f d → has_float (kept f d) ≡ false
   whole f null is has = refl
   whole f (boolean b) is has = refl
-  whole f (number n) is has = no_float_taken (short_form f) n (short_asks f is) (taken_of (short_form f) (takes_leaf (short_form f) (number n)) has)
+  whole f (number n) is has = no_float_taken (short_form f) n (short_asks f is) (taken_of (wrong_leaf (short_form f) (number n)) (takes_leaf (short_form f) (number n)) has)
   whole f (string s) is has = refl
   whole f (array ds) is has =
       let found = items_of f (item_form (short_form f)) ds has in
@@ -149,6 +149,7 @@ no_list : (f : Form) (ds : Items) → HasForm f (array ds) → kind_of (layout_o
 no_list (form.Object k) ds has is = some_is_not_none (here (wrong (form.Object k))) has
 no_list (form.Keyed k) ds has is =
     some_is_not_none (here (wrong (form.Keyed kind.Tool))) (subst (λ k. fault_in (form.Keyed k) (array ds) ≡ None) (same_Some k kind.Tool is) has)
+no_list form.Packed ds has is = some_is_not_none (here (wrong form.Packed)) has
 no_list form.Argument ds has is = cc
 no_list form.SecondaryFile ds has is = cc
 no_list form.SecondaryFiles ds has is = cc
@@ -159,7 +160,7 @@ pub tool_whole : (d : Data) → IsOf kind.Tool d → has_float (kept (form.Objec
 tool_whole null is = refl
 tool_whole (boolean b) is = refl
 tool_whole (number n) is =
-    no_float_taken (short_form is.0) n (short_asks is.0 (kind_asks is.0 (number n) kind.Tool is.2)) (taken_of (short_form is.0) (takes_leaf (short_form is.0) (number n)) is.1)
+    no_float_taken (short_form is.0) n (short_asks is.0 (kind_asks is.0 (number n) kind.Tool is.2)) (taken_of (wrong_leaf (short_form is.0) (number n)) (takes_leaf (short_form is.0) (number n)) is.1)
 tool_whole (string s) is = refl
 tool_whole (array ds) is = absurd (no_list is.0 ds is.1 is.2)
 tool_whole (object ms) is = members_whole (layout.Fields kind.Tool) ms (fields_faultless (layout_of is.0 (object ms)) kind.Tool ms is.2 (members_none is.0 ms is.1))

@@ -3,6 +3,7 @@ use Rattle.std.specs.Prelude.{◌≡◌, ◌⊎◌, ⊤, ℕ, List, Option, Some
 use Rattle.serde_json.specs.Data.{Data, depth}
 use Rattle.serde_json.specs.Read.{read}
 use Rattle.document_table.specs.Faults.{here}
+use Rattle.document_table.specs.Packed.{is_packed, packed_fault}
 use Rattle.document_table.specs.Walk.{fault_in}
 use Rattle.document_table.specs.declared.document.TheConstants.{MOST_NESTING}
 use Rattle.document_table.specs.declared.fault.Cause.TheVariants.{NotJson, TooDeep}
@@ -15,8 +16,12 @@ use Rattle.document_table.specs.declared.form.Form.TheVariants.{Document}
 abbrev pub IsJson : List ℕ → Data → Type 0
 IsJson bytes d = IsUtf8 bytes × (read bytes ≡ Some d)
 
+-- what the table says of it, packed or not
+abbrev pub table_fault : Data → Option DocumentFault
+table_fault d = if is_packed d then packed_fault d else fault_in Document d
+
 abbrev pub first_fault : Data → Option DocumentFault
-first_fault d = if nat_le (depth d) MOST_NESTING then fault_in Document d else Some (here TooDeep)
+first_fault d = if nat_le (depth d) MOST_NESTING then table_fault d else Some (here TooDeep)
 
 abbrev pub IsDocument : List ℕ → Data → Type 0
 IsDocument bytes d = IsJson bytes d × (first_fault d ≡ None)

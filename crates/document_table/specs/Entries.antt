@@ -9,7 +9,7 @@ use Rattle.serde_json.specs.Find.{as_str, get}
 use Rattle.serde_json.specs.View.{view}
 use Rattle.serde_json.specs.declared.value.Value.{Value}
 use Rattle.document_table.specs.Layouts.{layout_of}
-use Rattle.document_table.specs.Repeats.{name_in}
+use Rattle.document_table.specs.Repeats.{name_in, subject_name}
 use Rattle.document_table.specs.Walk.{fault_in}
 use Rattle.document_table.specs.declared.form.Form.{Form}
 use Rattle.document_table.specs.declared.form.Kind.{Kind}
@@ -69,10 +69,10 @@ abbrev pub listed_entries : Kind → Items → List (List ℕ × Data)
 listed_entries kind no_items = []
 listed_entries kind (item d ds) = option_map_or (λ name. (name, d) ∷ listed_entries kind ds) (name_in kind d) (listed_entries kind ds)
 
--- each value under its key
-abbrev pub mapped_entries : Members → List (List ℕ × Data)
-mapped_entries no_members = []
-mapped_entries (member name d ms) = (name, d) ∷ mapped_entries ms
+-- each value under what its key stands for
+abbrev pub mapped_entries : Kind → Members → List (List ℕ × Data)
+mapped_entries kind no_members = []
+mapped_entries kind (member key d ms) = (subject_name kind key, d) ∷ mapped_entries kind ms
 
 -- what is in a list or a map of objects, each beside its subject
 abbrev pub entries : Kind → Data → List (List ℕ × Data)
@@ -81,7 +81,7 @@ entries kind (boolean b) = []
 entries kind (number n) = []
 entries kind (string s) = []
 entries kind (array ds) = listed_entries kind ds
-entries kind (object ms) = mapped_entries ms
+entries kind (object ms) = mapped_entries kind ms
 
 -- an entry that the code has
 abbrev pub entry_seen : Bor (List ℕ) × Bor Value → List ℕ × Data

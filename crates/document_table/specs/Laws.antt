@@ -1,12 +1,12 @@
 -- What holds of every document that keeps to the table, in the words of the standard (CWL v1.2, "Syntax"; Schema Salad v1.2, "Document
 -- preprocessing", "Identifier maps").
-use Rattle.std.specs.Prelude.{◌≡◌, ◌⊎◌, ◌||◌, ℕ, List, Bool, true, Some, is_some, bytes_eq, codes}
-use Rattle.std.specs.List.{IsDistinct}
-use Rattle.std.specs.Map.{keys_of}
+use Rattle.std.specs.Prelude.{◌≡◌, ◌⊎◌, ◌||◌, ℕ, List, Bool, true, Some, None, is_some, codes}
 use Rattle.serde_json.specs.Data.{Data, null, boolean, number, string, array, object, Items, no_items, item, Members, no_members, member, put}
 use Rattle.serde_json.specs.Find.{get}
-use Rattle.document_table.specs.Entries.{HasForm, IsOf, IsThere, class_in, kind_of, mapped_entries}
+use Rattle.document_table.specs.Documents.{table_fault}
+use Rattle.document_table.specs.Entries.{HasForm, IsOf, IsThere, class_in, kind_of}
 use Rattle.document_table.specs.Layouts.{is_read_over, layout_of, subject_of}
+use Rattle.document_table.specs.Packed.{graph_in, is_packed, item_at, item_named, root_of}
 use Rattle.document_table.specs.Table.{form_of}
 use Rattle.document_table.specs.Walk.{fault_in}
 use Rattle.document_table.specs.declared.form.Form.{Form}
@@ -18,11 +18,23 @@ use Rattle.document_table.specs.declared.form.Kind.TheVariants as kind
 
 -- a document says the version v1.2
 abbrev pub DocumentsSayTheirVersion : Type 0
-DocumentsSayTheirVersion = (d : Data) → HasForm form.Document d → get (codes "cwlVersion") d ≡ Some (string (codes "v1.2"))
+DocumentsSayTheirVersion = (d : Data) → table_fault d ≡ None → get (codes "cwlVersion") d ≡ Some (string (codes "v1.2"))
 
--- and its class is one of two
+abbrev pub IsClass : List ℕ → Type 0
+IsClass name = (name ≡ codes "CommandLineTool") ⊎ (name ≡ codes "Workflow")
+
+-- and the class of the process that it stands for is one of two
 abbrev pub DocumentsSayTheirClass : Type 0
-DocumentsSayTheirClass = (d : Data) → HasForm form.Document d → (class_in d ≡ codes "CommandLineTool") ⊎ (class_in d ≡ codes "Workflow")
+DocumentsSayTheirClass = (d : Data) → table_fault d ≡ None → IsClass (class_in (root_of d).process)
+
+-- ---- packed documents
+
+-- A packed document stands for one of its items. It is the only one, or it has the id `#main`, or the id `main` where none has `#main`.
+abbrev pub RootsAreItems : Type 0
+RootsAreItems =
+    (d : Data) → is_packed d ≡ true → table_fault d ≡ None
+    → ((process : Data) × (graph_in d ≡ item process no_items) × (root_of d ≡ item_at 0 process))
+    ⊎ ((item_named (codes "#main") d ≡ Some (root_of d)) ⊎ ((item_named (codes "#main") d ≡ None) × (item_named (codes "main") d ≡ Some (root_of d))))
 
 -- ---- fields
 
@@ -63,8 +75,8 @@ abbrev pub items_under : Kind → Members → Items
 items_under kind no_members = no_items
 items_under kind (member name d ms) = item (item_under kind name d) (items_under kind ms)
 
--- A map of objects that is taken stands for a list that is taken. That no key is there twice, JSON objects have.
+-- A map of objects that is taken stands for a list that is taken.
 abbrev pub MapsStandForLists : Type 0
 MapsStandForLists =
-    (kind : Kind) (ms : Members) → is_some (form_of kind (subject_of kind)) ≡ true → IsDistinct bytes_eq (keys_of (mapped_entries ms))
-    → HasForm (form.Objects kind) (object ms) → HasForm (form.Objects kind) (array (items_under kind ms))
+    (kind : Kind) (ms : Members) → is_some (form_of kind (subject_of kind)) ≡ true → HasForm (form.Objects kind) (object ms)
+    → HasForm (form.Objects kind) (array (items_under kind ms))

@@ -6,7 +6,7 @@ use Rattle.std.specs.Str.{bytes_eq}
 use Rattle.serde_json.specs.Data.{Data}
 use Rattle.serde_json.specs.Find.{get, as_str}
 use Rattle.document_table.specs.Table.{Row, form_of, rows_of}
-use Rattle.document_table.specs.Texts.{has_byte, is_id, is_one_of, is_step_id}
+use Rattle.document_table.specs.Texts.{has_byte, is_id, is_one_of, is_step_id, plain_id}
 use Rattle.document_table.specs.declared.fault.Cause.{Cause}
 use Rattle.document_table.specs.declared.fault.Cause.TheVariants as cause
 use Rattle.document_table.specs.declared.form.Form.{Form}
@@ -68,6 +68,8 @@ layout_of form.Anything d = layout.Free
 layout_of form.Value d = layout.Values
 layout_of form.Document d = document_layout d
 layout_of form.Run d = process_layout d
+layout_of form.Process d = process_layout d
+layout_of form.Packed d = layout.Fields kind.Packed
 layout_of form.Version d = layout.Refused cause.WrongVersion
 layout_of form.Type d = type_layout d
 layout_of form.InputType d = type_layout d
@@ -104,8 +106,8 @@ subject_of _ = codes "id"
 
 abbrev pub key_fits : Kind → List ℕ → Bool
 key_fits kind.Variable key = true
-key_fits kind.Step key = is_step_id key
-key_fits _ key = is_id key
+key_fits kind.Step key = is_step_id (plain_id key)
+key_fits _ key = is_id (plain_id key)
 
 abbrev pub field_form : Kind → List ℕ → Result Form Cause
 field_form kind name = option_map_or Ok (form_of kind name) (if is_read_over name then Ok form.Anything else Err cause.UnknownField)

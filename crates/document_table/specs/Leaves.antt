@@ -5,7 +5,7 @@ use Rattle.std.specs.Option.{option_map_or}
 use Rattle.std.specs.Str.{bytes_eq}
 use Rattle.serde_json.specs.Data.{Data, null, boolean, number, string, array, object}
 use Rattle.serde_json.specs.Find.{as_i64, as_number}
-use Rattle.document_table.specs.Texts.{has_byte, is_id, is_one_of, is_source, is_step_id, is_type_text, link_merges, pick_values, scatter_methods}
+use Rattle.document_table.specs.Texts.{has_byte, has_hash, is_id, is_listed, is_one_of, is_source, is_step_id, is_type_text, link_merges, pick_values, plain_id, scatter_methods}
 use Rattle.document_table.specs.declared.fault.Cause.{Cause}
 use Rattle.document_table.specs.declared.fault.Cause.TheVariants as cause
 use Rattle.document_table.specs.declared.form.Form.{Form}
@@ -35,8 +35,8 @@ abbrev pub item_form : Form → Option Form
 item_form form.Anything = Some form.Anything
 item_form form.Value = Some form.Value
 item_form form.Words = Some form.Text
-item_form form.Names = Some form.Text
-item_form form.Texts = Some form.Text
+item_form form.Names = Some form.Name
+item_form form.Symbols = Some form.Name
 item_form form.Ints = Some form.Int
 item_form form.Sources = Some form.Source
 item_form form.Type = Some form.Type
@@ -53,14 +53,14 @@ item_form _ = None
 -- ---- texts, numbers, booleans and null
 
 abbrev pub takes_word : Form → List ℕ → Bool
-takes_word form.Id text = is_id text
-takes_word form.StepId text = is_step_id text
-takes_word form.StepOutput text = is_id text
+takes_word form.Id text = is_id (plain_id text)
+takes_word form.StepId text = is_step_id (plain_id text)
+takes_word form.StepOutput text = is_id (plain_id text)
 takes_word form.ScatterMethod text = is_one_of scatter_methods text
 takes_word form.LinkMerge text = is_one_of link_merges text
 takes_word form.PickValue text = is_one_of pick_values text
-takes_word form.Source text = is_source text
-takes_word form.Sources text = is_source text
+takes_word form.Source text = has_hash text || is_source text
+takes_word form.Sources text = has_hash text || is_source text
 takes_word form.Type text = is_type_text text
 takes_word form.InputType text = is_type_text text || bytes_eq text (codes "stdin")
 takes_word form.OutputType text = is_type_text text || bytes_eq text (codes "stdout") || bytes_eq text (codes "stderr")
@@ -71,10 +71,11 @@ takes_text form.Anything text = true
 takes_text form.Value text = true
 takes_text form.Text text = true
 takes_text form.Words text = true
-takes_text form.Names text = true
+takes_text form.Name text = is_listed text
+takes_text form.Names text = is_listed text
 takes_text form.Argument text = true
 takes_text form.Version text = bytes_eq text (codes "v1.2")
-takes_text form.Run text = not (has_byte 35 text)
+takes_text form.Run text = has_hash text || not (has_byte 35 text)
 takes_text form.SecondaryFile text = not (has_byte 47 text)
 takes_text form.SecondaryFiles text = not (has_byte 47 text)
 takes_text form.Pattern text = not (has_byte 47 text)
@@ -94,12 +95,14 @@ abbrev pub takes_bool : Form → Bool → Bool
 takes_bool form.Anything truth = true
 takes_bool form.Value truth = true
 takes_bool form.Bool truth = true
+takes_bool form.MaybeBool truth = true
 takes_bool form.OnlyFalse truth = not truth
 takes_bool _ truth = false
 
 abbrev pub takes_null : Form → Bool
 takes_null form.Anything = true
 takes_null form.Value = true
+takes_null form.MaybeBool = true
 takes_null _ = false
 
 -- Null, a boolean, a number or a text is taken; a list or an object is none of these.
@@ -115,3 +118,8 @@ takes_leaf form (object ms) = false
 abbrev pub wrong : Form → Cause
 wrong form.Version = cause.WrongVersion
 wrong _ = cause.WrongForm
+
+-- A text in the place of a process that is not taken names an item of another document.
+abbrev pub wrong_leaf : Form → Data → Cause
+wrong_leaf form.Run (string text) = cause.ItemElsewhere
+wrong_leaf form d = wrong form

@@ -6,6 +6,7 @@ pub mod Kept
 pub mod Laws
 pub mod Layouts
 pub mod Leaves
+pub mod Packed
 pub mod Repeats
 pub mod Table
 pub mod Texts

@@ -27,10 +27,14 @@ row_seen (Must name form) = must name.now form
 row_seen (May name form) = may name.now form
 
 abbrev pub rows_of : Kind → List Row
+rows_of kind.Packed =
+    must (codes "cwlVersion") form.Version
+    ∷ must (codes "$graph") form.Anything
+    ∷ []
 rows_of kind.Tool =
     may (codes "cwlVersion") form.Version
     ∷ must (codes "class") form.Text
-    ∷ may (codes "id") form.Id
+    ∷ may (codes "id") form.Text
     ∷ must (codes "inputs") (form.Objects kind.ToolInput)
     ∷ must (codes "outputs") (form.Objects kind.ToolOutput)
     ∷ may (codes "baseCommand") form.Words
@@ -47,7 +51,7 @@ rows_of kind.Tool =
 rows_of kind.Workflow =
     may (codes "cwlVersion") form.Version
     ∷ must (codes "class") form.Text
-    ∷ may (codes "id") form.Id
+    ∷ may (codes "id") form.Text
     ∷ must (codes "inputs") (form.Objects kind.WorkflowInput)
     ∷ must (codes "outputs") (form.Objects kind.WorkflowOutput)
     ∷ must (codes "steps") (form.Objects kind.Step)
@@ -140,12 +144,12 @@ rows_of kind.ArrayType =
     ∷ []
 rows_of kind.EnumType =
     must (codes "type") form.Text
-    ∷ must (codes "symbols") form.Texts
+    ∷ must (codes "symbols") form.Symbols
     ∷ may (codes "name") form.Text
     ∷ []
 rows_of kind.SecondaryFile =
     must (codes "pattern") form.Pattern
-    ∷ may (codes "required") form.Bool
+    ∷ may (codes "required") form.MaybeBool
     ∷ []
 rows_of kind.PlainRequirement =
     must (codes "class") form.Text

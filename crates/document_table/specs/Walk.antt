@@ -3,8 +3,8 @@ use Rattle.std.specs.Prelude.{ℕ, ◌+◌, List, Option, Some, None, Result, Ok
 use Rattle.serde_json.specs.Data.{Data, null, boolean, number, string, array, object, Items, no_items, item, Members, no_members, member}
 use Rattle.document_table.specs.Faults.{here, under, at}
 use Rattle.document_table.specs.Layouts.{layout_of, member_form, missing_field}
-use Rattle.document_table.specs.Leaves.{item_form, short_form, takes_leaf, wrong}
-use Rattle.document_table.specs.Repeats.{repeated_name}
+use Rattle.document_table.specs.Leaves.{item_form, short_form, takes_leaf, wrong, wrong_leaf}
+use Rattle.document_table.specs.Repeats.{repeated_key, repeated_name}
 use Rattle.document_table.specs.declared.fault.Cause.{Cause}
 use Rattle.document_table.specs.declared.fault.Cause.TheVariants as cause
 use Rattle.document_table.specs.declared.fault.DocumentFault.{DocumentFault}
@@ -18,7 +18,7 @@ or_else None later = later
 or_else (Some fault) later = Some fault
 
 abbrev pub leaf_fault : Form → Data → Option DocumentFault
-leaf_fault form d = if takes_leaf form d then None else Some (here (wrong form))
+leaf_fault form d = if takes_leaf form d then None else Some (here (wrong_leaf form d))
 
 -- an object that is refused itself, or that lacks a field
 abbrev pub own_fault : Layout → Data → Option DocumentFault
@@ -39,6 +39,10 @@ listed form None fault_of = Some (here (wrong form))
 abbrev pub repeat_fault : Form → Items → Option DocumentFault
 repeat_fault form ds = option_map (λ name. under name (here cause.RepeatedId)) (repeated_name form ds)
 
+-- a map in which two keys stand for one name
+abbrev pub key_fault : Layout → Members → Option DocumentFault
+key_fault layout ms = option_map (λ name. under name (here cause.RepeatedId)) (repeated_key layout ms)
+
 abbrev mutual
   pub fault_in : Form → Data → Option DocumentFault
   fault_in form null = leaf_fault (short_form form) null
@@ -46,7 +50,9 @@ abbrev mutual
   fault_in form (number n) = leaf_fault (short_form form) (number n)
   fault_in form (string s) = leaf_fault (short_form form) (string s)
   fault_in form (array ds) = listed form (item_form (short_form form)) (λ each. or_else (fault_in_items each 0 ds) (repeat_fault (short_form form) ds))
-  fault_in form (object ms) = or_else (fault_in_members (layout_of form (object ms)) ms) (own_fault (layout_of form (object ms)) (object ms))
+  fault_in form (object ms) =
+      or_else (fault_in_members (layout_of form (object ms)) ms)
+      (or_else (own_fault (layout_of form (object ms)) (object ms)) (key_fault (layout_of form (object ms)) ms))
 
   -- the items from that index on
   pub fault_in_items : Form → ℕ → Items → Option DocumentFault

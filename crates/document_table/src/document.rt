@@ -1,11 +1,12 @@
 //! Whole documents: from bytes to the JSON of a document that keeps to the table.
 ghost use Rattle.std.specs.Prelude.{◌≡◌, None, IfOk, IfErr};
 ghost use Rattle.serde_json.specs.View.{view};
-ghost use Rattle.document_table.specs.Documents.{IsDocument, IsJson, IsRefused, first_fault};
+ghost use Rattle.document_table.specs.Documents.{IsDocument, IsJson, IsRefused, first_fault, table_fault};
 
 use crate::depth::nests_within;
 use crate::fault::{Cause, DocumentError, DocumentFault, here};
 use crate::form::Form;
+use crate::packed::{is_packed, packed_fault};
 use crate::walk::fault_in;
 use serde_json::{Category, Value};
 use std::alloc::{AllocError, Global};
@@ -31,6 +32,16 @@ pub fn first_fault(alloc: Global, document: &Value) -> Result<Option<DocumentFau
 {
     if !nests_within(document, MOST_NESTING) {
         return Ok(Some(here(alloc, Cause::TooDeep)));
+    }
+    table_fault(alloc, document)
+}
+
+/// What the table says of a document, packed or not.
+fn table_fault(alloc: Global, document: &Value) -> Result<Option<DocumentFault>, AllocError>
+    ensures { IfOk result (λ found. found ≡ table_fault (view document.now)) }
+{
+    if is_packed(document) {
+        return packed_fault(alloc, document);
     }
     fault_in(alloc, Form::Document, document)
 }

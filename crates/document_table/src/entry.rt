@@ -2,14 +2,14 @@
 ghost use Rattle.std.specs.Prelude.{◌≡◌, None, IfOk, OnOk, map, option_map, bytes_eq};
 ghost use Rattle.std.specs.List.{IsDistinct};
 ghost use Rattle.std.specs.Map.{keys_of};
-ghost use Rattle.serde_json.specs.Data.{array};
+ghost use Rattle.serde_json.specs.Data.{array, object};
 ghost use Rattle.serde_json.specs.View.{view, items_view, members_view};
 ghost use Rattle.document_table.specs.Entries.{HasForm, entries, entry_seen, listed_entries, main_field, mapped_entries};
 ghost use Rattle.document_table.specs.Repeats.{names_in, repeat_after};
 ghost use Rattle.document_table.specs.declared.form.Form.TheVariants.{Objects};
 
 use crate::form::Kind;
-use crate::repeats::name_in;
+use crate::repeats::{name_in, subject_name};
 use serde_json::{Map, Value};
 use std::alloc::{AllocError, Global};
 
@@ -25,8 +25,8 @@ pub fn main_field<'v>(name: &str, value: &'v Value) -> Option<&'v Value>
     }
 }
 
-/// What is in a list or a map of objects, each beside its subject: in the order of the list, or of
-/// the bytes of the map's keys.
+/// What is in a list or a map of objects, each beside what its subject stands for: in the order of
+/// the list, or of the bytes of the map's keys.
 pub fn entries<'v>(
     alloc: Global,
     kind: Kind,
@@ -39,7 +39,7 @@ pub fn entries<'v>(
 {
     match value {
         Value::Array(items) => listed_entries(alloc, kind, items),
-        Value::Object(members) => mapped_entries(alloc, members),
+        Value::Object(members) => mapped_entries(alloc, kind, members),
         _ => Ok(Vec::new(alloc)),
     }
 }
@@ -64,19 +64,21 @@ fn listed_entries<'v>(
     Ok(found)
 }
 
-#[tactic(auto, using(crate::proofs::Ids::mapped_ids_differ))]
+#[tactic(auto, using(crate::proofs::Ids::map_ids_differ))]
 fn mapped_entries(
     alloc: Global,
+    kind: Kind,
     members: &Map<String, Value>,
 ) -> Result<Vec<(&str, &Value)>, AllocError>
-    ensures value { IfOk result
-        (λ found. map entry_seen found.items ≡ mapped_entries (members_view members.now.entries)) }
-    ensures ids { OnOk result
-        (IsDistinct bytes_eq (keys_of (mapped_entries (members_view members.now.entries)))) }
+    ensures value { IfOk result (λ found. map entry_seen found.items
+        ≡ mapped_entries kind (members_view members.now.entries)) }
+    ensures ids { OnOk result (HasForm (Objects kind) (object (members_view members.now.entries))
+        → IsDistinct bytes_eq
+        (keys_of (mapped_entries kind (members_view members.now.entries)))) }
 {
     let mut found = Vec::new(alloc);
     for (name, value) in members.iter() {
-        found.push((name.as_str(), value))?;
+        found.push((subject_name(kind, name.as_str()), value))?;
     }
     Ok(found)
 }

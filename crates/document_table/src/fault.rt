@@ -25,6 +25,8 @@ pub enum Cause {
     UnknownField,
     /// The value has another form.
     WrongForm,
+    /// The text names an item of another document, and only those of its own have names.
+    ItemElsewhere,
     /// The runner doesn't know this requirement.
     UnknownRequirement,
     /// Two items of the list have this name.
@@ -67,6 +69,7 @@ impl Cause {
             Cause::MissingField => "C4",
             Cause::UnknownField => "C5",
             Cause::WrongForm => "C6",
+            Cause::ItemElsewhere => "C6",
             Cause::UnknownRequirement => "C7",
             Cause::RepeatedId => "C8",
             Cause::TooDeep => "C9",
@@ -82,6 +85,7 @@ impl Cause {
             Cause::MissingField => "a field is missing",
             Cause::UnknownField => "no such field",
             Cause::WrongForm => "a value of another form",
+            Cause::ItemElsewhere => "only names in this document",
             Cause::UnknownRequirement => "a requirement that is not met",
             Cause::RepeatedId => "a name that stands twice",
             Cause::TooDeep => "nested over 100 deep",

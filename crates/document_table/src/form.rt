@@ -3,6 +3,8 @@
 /// The objects of a document, each with fields of its own.
 #[derive(Clone, Copy, Drop)]
 pub enum Kind {
+    /// A document that is a list of processes.
+    Packed,
     Tool,
     Workflow,
     ToolInput,
@@ -36,21 +38,30 @@ pub enum Form {
     Value,
     /// A whole document: a process that says its version.
     Document,
-    /// A process in a step, or the name of its document, without `#`.
+    /// A whole document that is a list of processes.
+    Packed,
+    /// An item of such a document.
+    Process,
+    /// A process in a step, or its name: that of a document, without `#`, or one that begins with `#`.
     Run,
     /// The text `v1.2`.
     Version,
-    /// A text that isn't empty and has neither `/` nor `#`.
+    /// A text that stands for one that isn't empty and has neither `/` nor `#`.
     Id,
     /// An id without `[`.
     StepId,
     Text,
     /// A text, or a list of texts.
     Words,
-    /// The same, where no text stands twice.
+    /// A text that may stand for an id that begins with `#`.
+    Name,
+    /// A name, or a list of names, of which no two stand for the same.
     Names,
-    Texts,
+    /// The symbols of an enum.
+    Symbols,
     Bool,
+    /// A boolean, or null in its place.
+    MaybeBool,
     /// The value `false` alone.
     OnlyFalse,
     /// A whole number of 32 bits.

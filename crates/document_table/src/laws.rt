@@ -1,5 +1,5 @@
 //! What follows of values that have no fault.
-ghost use Rattle.std.specs.Prelude.{◌≡◌, ℕ, List, Some, true, false, is_some, bytes_eq, codes};
+ghost use Rattle.std.specs.Prelude.{◌≡◌, ℕ, List, Some, None, true, false, is_some, bytes_eq, codes};
 ghost use Rattle.std.specs.List.{AllByRecursion};
 ghost use Rattle.serde_json.specs.Data.{Data, Members, array, object};
 ghost use Rattle.serde_json.specs.Find.{as_object, get};
@@ -9,7 +9,9 @@ ghost use Rattle.std.specs.Map.{keys_of};
 ghost use Rattle.serde_json.specs.Data.{Items};
 ghost use Rattle.document_table.specs.Entries.{HasForm, IsOf, IsProcess, IsThere, MayHaveForm, entries};
 ghost use Rattle.document_table.specs.Kept.{kept};
-ghost use Rattle.document_table.specs.Laws.{DescriptionsDecideNothing, DocumentsSayTheirClass, DocumentsSayTheirVersion, EachFieldIsKnown, MapsStandForLists};
+ghost use Rattle.document_table.specs.Laws.{DescriptionsDecideNothing, DocumentsSayTheirClass, DocumentsSayTheirVersion, EachFieldIsKnown, MapsStandForLists, RootsAreItems};
+ghost use Rattle.document_table.specs.Documents.{table_fault};
+ghost use Rattle.document_table.specs.Packed.{root_of};
 ghost use Rattle.document_table.specs.Layouts.{layout_of, subject_of};
 ghost use Rattle.document_table.specs.Table.{form_of, rows_of};
 ghost use Rattle.document_table.specs.declared.form.Form.{Form};
@@ -44,17 +46,20 @@ pub fn entries_have_their_form()
         → AllByRecursion (λ e. IsOf k e.1) (entries k d) }
 {}
 
-/// No two objects of a list have one subject.
-#[tactic(auto, using(crate::proofs::Ids::list_ids_differ))]
-pub fn subjects_in_a_list_differ()
-    ensures { (k : Kind) (ds : Items) → HasForm (form.Objects k) (array ds)
+/// No two objects of a list or a map have one subject, as it is understood.
+#[tactic(auto, using(crate::proofs::Ids::list_ids_differ, crate::proofs::Ids::map_ids_differ))]
+pub fn subjects_differ()
+    ensures list { (k : Kind) (ds : Items) → HasForm (form.Objects k) (array ds)
         → IsDistinct bytes_eq (keys_of (entries k (array ds))) }
+    ensures map { (k : Kind) (ms : Members) → HasForm (form.Objects k) (object ms)
+        → IsDistinct bytes_eq (keys_of (entries k (object ms))) }
 {}
 
-/// A document is a tool or a workflow, as its class says, and so is an object that a step runs.
-#[tactic(auto, using(crate::proofs::Faultless::document_of, crate::proofs::Faultless::run_of))]
+/// A document stands for a tool or a workflow, as its class says; so is an item without a fault, and an object that a step runs.
+#[tactic(auto, using(crate::proofs::Roots::root_is_process, crate::proofs::Faultless::process_has, crate::proofs::Faultless::run_of))]
 pub fn processes_are_tools_or_workflows()
-    ensures document { (d : Data) → HasForm form.Document d → IsProcess d }
+    ensures document { (d : Data) → table_fault d ≡ None → IsProcess (root_of d).process }
+    ensures item { (d : Data) → HasForm form.Process d → IsProcess d }
     ensures run { (d : Data) → HasForm form.Run d → is_some (as_object d) ≡ true → IsProcess d }
 {}
 
@@ -64,11 +69,17 @@ pub fn tools_say_no_fraction()
     ensures { (d : Data) → IsOf kind.Tool d → has_float (kept (form.Object kind.Tool) d) ≡ false }
 {}
 
-/// A document says the version v1.2, and its class is `CommandLineTool` or `Workflow`.
-#[tactic(auto, using(crate::proofs::Known::document_version, crate::proofs::Known::document_class))]
+/// A document says the version v1.2, and the class of what it stands for is `CommandLineTool` or `Workflow`.
+#[tactic(auto, using(crate::proofs::Roots::says_version, crate::proofs::Roots::says_class))]
 pub fn documents_say_version_and_class()
     ensures version { DocumentsSayTheirVersion }
     ensures class { DocumentsSayTheirClass }
+{}
+
+/// A packed document stands for one of its items: the only one, or the one with the id `#main`, or else `main`.
+#[tactic(auto, using(crate::proofs::Roots::roots_are_items))]
+pub fn roots_are_items()
+    ensures { RootsAreItems }
 {}
 
 /// An object has no field but those that the table has for its kind, those that describe, as `doc`, and extensions.

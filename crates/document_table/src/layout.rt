@@ -9,7 +9,7 @@ ghost use Rattle.std.specs.Prelude.{map};
 use crate::fault::Cause;
 use crate::form::{FieldRow, Form, Kind};
 use crate::table::{form_of, rows_of};
-use crate::texts::{has_byte, is_id, is_step_id};
+use crate::texts::{has_byte, is_id, is_step_id, plain_id};
 use serde_json::Value;
 
 /// What the members of an object have to be.
@@ -46,6 +46,8 @@ pub(crate) fn layout_of(form: Form, object: &Value) -> Layout
         Form::Value => Layout::Values,
         Form::Document => document_layout(object),
         Form::Run => process_layout(object),
+        Form::Process => process_layout(object),
+        Form::Packed => Layout::Fields(Kind::Packed),
         Form::Version => Layout::Refused(Cause::WrongVersion),
         Form::Type => type_layout(object),
         Form::InputType => type_layout(object),
@@ -216,8 +218,8 @@ fn key_fits(kind: Kind, key: &str) -> bool
 {
     match kind {
         Kind::Variable => true,
-        Kind::Step => is_step_id(key),
-        _ => is_id(key),
+        Kind::Step => is_step_id(plain_id(key)),
+        _ => is_id(plain_id(key)),
     }
 }
 

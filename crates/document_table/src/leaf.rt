@@ -1,13 +1,13 @@
 //! What a value that is no object has to be, by the form that is asked of it.
 ghost use Rattle.std.specs.Prelude.{◌≡◌};
 ghost use Rattle.serde_json.specs.View.{view};
-ghost use Rattle.document_table.specs.Leaves.{is_int, item_form, short_form, short_kind, takes_bool, takes_leaf, takes_null, takes_number, takes_text, takes_word, wrong};
+ghost use Rattle.document_table.specs.Leaves.{is_int, item_form, short_form, short_kind, takes_bool, takes_leaf, takes_null, takes_number, takes_text, takes_word, wrong, wrong_leaf};
 
 use crate::fault::Cause;
 use crate::form::{Form, Kind};
 use crate::texts::{
-    has_byte, is_id, is_link_merge, is_pick_value, is_scatter_method, is_source, is_step_id,
-    is_type_text,
+    has_byte, has_hash, is_id, is_link_merge, is_listed, is_pick_value, is_scatter_method,
+    is_source, is_step_id, is_type_text, plain_id,
 };
 use serde_json::Value;
 
@@ -46,6 +46,16 @@ pub(crate) fn wrong(form: Form) -> Cause
     }
 }
 
+/// Why null, a boolean, a number or a text is refused.
+pub(crate) fn wrong_leaf(form: Form, value: &Value) -> Cause
+    ensures { result ≡ wrong_leaf form (view value.now) }
+{
+    match (form, value) {
+        (Form::Run, Value::String(_)) => Cause::ItemElsewhere,
+        _ => wrong(form),
+    }
+}
+
 /// The form of the items, where a list is taken.
 pub(crate) fn item_form(form: Form) -> Option<Form>
     ensures { result ≡ item_form form }
@@ -54,8 +64,8 @@ pub(crate) fn item_form(form: Form) -> Option<Form>
         Form::Anything => Some(Form::Anything),
         Form::Value => Some(Form::Value),
         Form::Words => Some(Form::Text),
-        Form::Names => Some(Form::Text),
-        Form::Texts => Some(Form::Text),
+        Form::Names => Some(Form::Name),
+        Form::Symbols => Some(Form::Name),
         Form::Ints => Some(Form::Int),
         Form::Sources => Some(Form::Source),
         Form::Type => Some(Form::Type),
@@ -87,7 +97,7 @@ pub(crate) fn takes_leaf(form: Form, value: &Value) -> bool
 fn takes_null(form: Form) -> bool
     ensures { result ≡ takes_null form }
 {
-    matches!(form, Form::Anything | Form::Value)
+    matches!(form, Form::Anything | Form::Value | Form::MaybeBool)
 }
 
 fn takes_bool(form: Form, truth: bool) -> bool
@@ -97,6 +107,7 @@ fn takes_bool(form: Form, truth: bool) -> bool
         Form::Anything => true,
         Form::Value => true,
         Form::Bool => true,
+        Form::MaybeBool => true,
         Form::OnlyFalse => !truth,
         _ => false,
     }
@@ -131,10 +142,11 @@ fn takes_text(form: Form, text: &str) -> bool
         Form::Value => true,
         Form::Text => true,
         Form::Words => true,
-        Form::Names => true,
+        Form::Name => is_listed(text),
+        Form::Names => is_listed(text),
         Form::Argument => true,
         Form::Version => text == "v1.2",
-        Form::Run => !has_byte(text, b'#'),
+        Form::Run => has_hash(text) || !has_byte(text, b'#'),
         Form::SecondaryFile => !has_byte(text, b'/'),
         Form::SecondaryFiles => !has_byte(text, b'/'),
         Form::Pattern => !has_byte(text, b'/'),
@@ -146,14 +158,14 @@ fn takes_word(form: Form, text: &str) -> bool
     ensures { result ≡ takes_word form text.now }
 {
     match form {
-        Form::Id => is_id(text),
-        Form::StepId => is_step_id(text),
-        Form::StepOutput => is_id(text),
+        Form::Id => is_id(plain_id(text)),
+        Form::StepId => is_step_id(plain_id(text)),
+        Form::StepOutput => is_id(plain_id(text)),
         Form::ScatterMethod => is_scatter_method(text),
         Form::LinkMerge => is_link_merge(text),
         Form::PickValue => is_pick_value(text),
-        Form::Source => is_source(text),
-        Form::Sources => is_source(text),
+        Form::Source => has_hash(text) || is_source(text),
+        Form::Sources => has_hash(text) || is_source(text),
         Form::Type => is_type_text(text),
         Form::InputType => is_type_text(text) || text == "stdin",
         Form::OutputType => is_type_text(text) || text == "stdout" || text == "stderr",

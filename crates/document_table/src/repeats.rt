@@ -1,11 +1,12 @@
-//! Names that stand twice in a list.
+//! Names that stand twice in a list or a map.
 ghost use Rattle.std.specs.Prelude.{◌≡◌, [], IfOk, map, option_map};
-ghost use Rattle.serde_json.specs.View.{items_view, view};
-ghost use Rattle.document_table.specs.Repeats.{name_in, named_kind, names_in, repeat_after, repeated_name};
+ghost use Rattle.serde_json.specs.View.{items_view, members_view, view};
+ghost use Rattle.document_table.specs.Repeats.{key_names, name_in, named_kind, names_in, repeat_after, repeated_key, repeated_name, subject_name};
 
 use crate::form::{Form, Kind};
-use crate::layout::subject_of;
-use serde_json::Value;
+use crate::layout::{Layout, subject_of};
+use crate::texts::plain_id;
+use serde_json::{Map, Value};
 use std::alloc::{AllocError, Global};
 use std::collections::BTreeSet;
 
@@ -55,13 +56,64 @@ pub(crate) fn name_in(kind: Kind, item: &Value) -> Option<&str>
     ensures { option_map (λ name. name.now) result ≡ name_in kind (view item.now) }
 {
     match item {
-        Value::String(text) => Some(text.as_str()),
-        Value::Object(_) => item.get(subject_of(kind))?.as_str(),
+        Value::String(text) => Some(subject_name(kind, text.as_str())),
+        Value::Object(_) => Some(subject_name(kind, item.get(subject_of(kind))?.as_str()?)),
         _ => None,
     }
 }
 
-fn first_repeat<'n>(alloc: Global, names: &[&'n str]) -> Result<Option<&'n str>, AllocError>
+/// What a subject stands for: an id may begin with `#`; a class or a variable's name is itself.
+pub(crate) fn subject_name(kind: Kind, text: &str) -> &str
+    ensures { result.now ≡ subject_name kind text.now }
+{
+    match kind {
+        Kind::Variable => text,
+        Kind::PlainRequirement => text,
+        Kind::EnvVarRequirement => text,
+        Kind::WorkReuse => text,
+        _ => plain_id(text),
+    }
+}
+
+/// The first name that a key stands for and one before it too.
+pub(crate) fn repeated_key(
+    alloc: Global,
+    layout: Layout,
+    members: &Map<String, Value>,
+) -> Result<Option<&str>, AllocError>
+    ensures { IfOk result (λ found. option_map (λ name. name.now) found
+        ≡ repeated_key layout (members_view members.now.entries)) }
+{
+    match layout {
+        Layout::ByKey(kind) => {
+            let names = key_names(alloc, kind, members)?;
+            first_repeat(alloc, names.as_slice())
+        }
+        _ => Ok(None),
+    }
+}
+
+fn key_names(
+    alloc: Global,
+    kind: Kind,
+    members: &Map<String, Value>,
+) -> Result<Vec<&str>, AllocError>
+    ensures { IfOk result (λ names. map (λ name. name.now) names.items
+        ≡ key_names kind (members_view members.now.entries)) }
+{
+    let mut names = Vec::new(alloc);
+    for (key, value) in members.iter() {
+        let _ = value;
+        names.push(subject_name(kind, key.as_str()))?;
+    }
+    Ok(names)
+}
+
+/// The first of the names that stands before it too.
+pub(crate) fn first_repeat<'n>(
+    alloc: Global,
+    names: &[&'n str],
+) -> Result<Option<&'n str>, AllocError>
     ensures { IfOk result (λ found. option_map (λ name. name.now) found
         ≡ repeat_after [] (map (λ name. name.now) names.now)) }
 {

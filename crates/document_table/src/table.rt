@@ -6,10 +6,15 @@ ghost use Rattle.document_table.specs.Table.{rows_of, row_seen, form_named, form
 use crate::form::FieldRow::{May, Must};
 use crate::form::{FieldRow, Form, Kind};
 
+static PACKED: [FieldRow; 2] = [
+    Must("cwlVersion", Form::Version),
+    Must("$graph", Form::Anything),
+];
+
 static TOOL: [FieldRow; 15] = [
     May("cwlVersion", Form::Version),
     Must("class", Form::Text),
-    May("id", Form::Id),
+    May("id", Form::Text),
     Must("inputs", Form::Objects(Kind::ToolInput)),
     Must("outputs", Form::Objects(Kind::ToolOutput)),
     May("baseCommand", Form::Words),
@@ -27,7 +32,7 @@ static TOOL: [FieldRow; 15] = [
 static WORKFLOW: [FieldRow; 8] = [
     May("cwlVersion", Form::Version),
     Must("class", Form::Text),
-    May("id", Form::Id),
+    May("id", Form::Text),
     Must("inputs", Form::Objects(Kind::WorkflowInput)),
     Must("outputs", Form::Objects(Kind::WorkflowOutput)),
     Must("steps", Form::Objects(Kind::Step)),
@@ -128,13 +133,13 @@ static ARRAY_TYPE: [FieldRow; 3] = [
 
 static ENUM_TYPE: [FieldRow; 3] = [
     Must("type", Form::Text),
-    Must("symbols", Form::Texts),
+    Must("symbols", Form::Symbols),
     May("name", Form::Text),
 ];
 
 static SECONDARY_FILE: [FieldRow; 2] = [
     Must("pattern", Form::Pattern),
-    May("required", Form::Bool),
+    May("required", Form::MaybeBool),
 ];
 
 static PLAIN_REQUIREMENT: [FieldRow; 1] = [Must("class", Form::Text)];
@@ -153,6 +158,7 @@ pub(crate) fn rows_of(kind: Kind) -> &'static [FieldRow]
     ensures { map row_seen result.now ≡ rows_of kind }
 {
     match kind {
+        Kind::Packed => &PACKED,
         Kind::Tool => &TOOL,
         Kind::Workflow => &WORKFLOW,
         Kind::ToolInput => &TOOL_INPUT,

@@ -1,12 +1,46 @@
 //! What a text of a document has to be.
 ghost use Rattle.std.specs.Prelude.{◌≡◌, ◌==◌, ◌||◌, [], ◌∷◌, length, not, codes};
-ghost use Rattle.std.specs.List.{list_any};
-ghost use Rattle.document_table.specs.Texts.{has_byte, is_id, is_step_id, is_source, is_type_text, is_one_of, pick_values, link_merges, scatter_methods, types_ending};
+ghost use Rattle.std.specs.List.{list_any, after_last};
+ghost use Rattle.document_table.specs.Texts.{has_byte, has_hash, plain_id, is_id, is_listed, is_step_id, is_source, is_type_text, is_one_of, pick_values, link_merges, scatter_methods, types_ending};
 
 pub(crate) fn has_byte(text: &str, byte: u8) -> bool
     ensures { result ≡ has_byte byte text.now }
 {
     text.as_bytes().iter().any(|c| *c == byte)
+}
+
+/// What an id stands for: of one that begins with `#`, the part after its last `/`, or after the `#`
+/// where there is no `/`.
+pub fn plain_id(text: &str) -> &str
+    ensures { result.now ≡ plain_id text.now }
+{
+    match text.strip_prefix('#') {
+        None => text,
+        Some(rest) => last_part(rest),
+    }
+}
+
+fn last_part(text: &str) -> &str
+    ensures { result.now ≡ after_last (λ c. c == 47) text.now }
+{
+    match text.rfind('/') {
+        None => text,
+        Some(at) => &text[at + 1..],
+    }
+}
+
+/// Whether a text begins with `#`.
+pub fn has_hash(text: &str) -> bool
+    ensures { result ≡ has_hash text.now }
+{
+    text.starts_with('#')
+}
+
+/// Whether a text that may stand for an id that begins with `#` doesn't stand for an empty one.
+pub(crate) fn is_listed(text: &str) -> bool
+    ensures { result ≡ is_listed text.now }
+{
+    !has_hash(text) || !plain_id(text).is_empty()
 }
 
 /// Whether a text is an id: it is not empty, and has neither `/` nor `#`.
@@ -108,7 +142,7 @@ fn is_optional_array_type(text: &str) -> bool
 }
 
 /// Whether a text names a source: `name`, or `step/name`.
-pub(crate) fn is_source(text: &str) -> bool
+pub fn is_source(text: &str) -> bool
     ensures { result ≡ is_source text.now }
 {
     if is_id(text) {

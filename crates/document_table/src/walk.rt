@@ -1,13 +1,13 @@
 //! The walk over a document: each value beside the form that the table asks of it.
 ghost use Rattle.std.specs.Prelude.{◌≡◌, IfOk};
 ghost use Rattle.serde_json.specs.View.{view, items_view, members_view};
-ghost use Rattle.document_table.specs.Walk.{fault_in, fault_in_items, fault_in_members, leaf_fault, own_fault, repeat_fault};
+ghost use Rattle.document_table.specs.Walk.{fault_in, fault_in_items, fault_in_members, key_fault, leaf_fault, or_else, own_fault, repeat_fault};
 
 use crate::fault::{Cause, DocumentFault, at, here, under};
 use crate::form::Form;
 use crate::layout::{Layout, layout_of, member_form, missing_field};
-use crate::leaf::{item_form, short_form, takes_leaf, wrong};
-use crate::repeats::repeated_name;
+use crate::leaf::{item_form, short_form, takes_leaf, wrong, wrong_leaf};
+use crate::repeats::{repeated_key, repeated_name};
 use serde_json::{Map, Value};
 use std::alloc::{AllocError, Global};
 
@@ -33,7 +33,7 @@ pub fn fault_in(
             let layout = layout_of(form, value);
             match fault_in_members(alloc, layout, members)? {
                 Some(fault) => Ok(Some(fault)),
-                None => own_fault(alloc, layout, value),
+                None => object_fault(alloc, layout, members, value),
             }
         }
         Value::Null | Value::Bool(_) | Value::Number(_) | Value::String(_) => {
@@ -48,7 +48,7 @@ fn leaf_fault(alloc: Global, form: Form, value: &Value) -> Option<DocumentFault>
     if takes_leaf(form, value) {
         None
     } else {
-        Some(here(alloc, wrong(form)))
+        Some(here(alloc, wrong_leaf(form, value)))
     }
 }
 
@@ -67,6 +67,37 @@ fn repeat_fault(
 }
 
 /// The fault of an object itself, where its members have none.
+fn object_fault(
+    alloc: Global,
+    layout: Layout,
+    members: &Map<String, Value>,
+    object: &Value,
+) -> Result<Option<DocumentFault>, AllocError>
+    ensures { IfOk result (λ found. found ≡ or_else (own_fault layout (view object.now))
+        (key_fault layout (members_view members.now.entries))) }
+{
+    match own_fault(alloc, layout, object)? {
+        Some(fault) => Ok(Some(fault)),
+        None => key_fault(alloc, layout, members),
+    }
+}
+
+/// The fault of a map in which two keys stand for one name.
+fn key_fault(
+    alloc: Global,
+    layout: Layout,
+    members: &Map<String, Value>,
+) -> Result<Option<DocumentFault>, AllocError>
+    ensures { IfOk result
+        (λ found. found ≡ key_fault layout (members_view members.now.entries)) }
+{
+    match repeated_key(alloc, layout, members)? {
+        None => Ok(None),
+        Some(name) => Ok(Some(under(alloc, name, here(alloc, Cause::RepeatedId))?)),
+    }
+}
+
+/// An object that is refused itself, or that lacks a field.
 fn own_fault(
     alloc: Global,
     layout: Layout,

@@ -98,10 +98,13 @@ fn go_on<'a>(
     ensures met { IfOk result (λ found. LeavesOut
         (workflow_meaning_of facts.now.measures (made_from (facts_before facts.now)) workflow.now []
         fields.now).met (map met_of found.walk.met)
-        (workflow_meaning_of facts.now.measures (made_from facts.now) workflow.now [] fields.now).met) }
+        (workflow_meaning_of facts.now.measures (made_from facts.now) workflow.now []
+        fields.now).met) }
     ensures outs { IfOk result (λ found. found.walk.outs
-        ≡ (workflow_meaning_of facts.now.measures (made_from facts.now) workflow.now [] fields.now).outs) }
-    ensures kept { IfOk result (λ found. KeepsWorkflow facts.now fields.now workflow.now found.kept) }
+        ≡ (workflow_meaning_of facts.now.measures (made_from facts.now) workflow.now []
+        fields.now).outs) }
+    ensures kept { IfOk result (λ found. KeepsWorkflow facts.now fields.now workflow.now
+        found.kept) }
 {
     let Some(last) = facts.learned.last() else {
         drop(kept);

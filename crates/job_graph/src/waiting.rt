@@ -284,9 +284,12 @@ fn waiting_met<'a>(
     env: &Env,
     changed: &[Text],
 ) -> Result<Items<Met<'a>>, AllocError>
-    ensures { IfOk result (λ met. (old : List SeenMet) → ((not (reads_one changed.now step.now.1) || is_some (value_at step.now.0 env.now)) ≡ true
-        → (m : SeenMet) → IsIn m (walk_at facts.now place.now inputs.now env.now step.now).met → IsIn m old)
-        → LeavesOut old (map met_of met) (walk_at facts.now place.now inputs.now env.now step.now).met) }
+    ensures { IfOk result (λ met. (old : List SeenMet)
+        → ((not (reads_one changed.now step.now.1) || is_some (value_at step.now.0 env.now)) ≡ true
+        → (m : SeenMet) → IsIn m (walk_at facts.now place.now inputs.now env.now step.now).met
+        → IsIn m old)
+        → LeavesOut old (map met_of met)
+        (walk_at facts.now place.now inputs.now env.now step.now).met) }
 {
     if is_as_before(env, step, changed) {
         return Ok(Items::new(alloc));

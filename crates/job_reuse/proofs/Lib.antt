@@ -16,6 +16,7 @@ pub mod Nesting
 pub mod Paths
 pub mod Referring
 pub mod Refilled
+pub mod SameFiles
 pub mod SameOrNot
 pub mod Settled
 pub mod Sounding

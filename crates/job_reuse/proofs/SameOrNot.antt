@@ -46,7 +46,7 @@ trees (gcons u v) (gcons x y) = elim (trees u x) [
   | inr differ ↦ inr (λ is. differ (ap left is))
 ]
 
-by_code : {A : Type 0} (coded : Coded A) (x y : A) → (x ≡ y) ⊎ (x ≡ y → ⊥)
+pub by_code : {A : Type 0} (coded : Coded A) (x y : A) → (x ≡ y) ⊎ (x ≡ y → ⊥)
 by_code coded x y = elim (trees (coded.code x) (coded.code y)) [
   | inl same ↦ inl (coded.inj x y same)
   | inr differ ↦ inr (λ is. differ (ap coded.code is))

@@ -49,6 +49,10 @@ RowsAreSoundOrNot = (tool : Tool) (row : Row) → IsByName row.outputs → IsSou
 abbrev pub OutputsAreTheSameOrNot : Type 0
 OutputsAreTheSameOrNot = (one other : Named) → (one ≡ other) ⊎ (one ≢ other)
 
+-- files that were fetched are those of a row, or they are not
+abbrev pub FilesAreTheSameOrNot : Type 0
+FilesAreTheSameOrNot = (files fetched : List Found) → AreTheSame files fetched ⊎ (AreTheSame files fetched → ⊥)
+
 -- outputs are the same where they are so without their places, and stand at the same places, which are names in the job's folder
 abbrev pub SameWhereErasedAndNamedAlike : Type 0
 SameWhereErasedAndNamedAlike = (one other : Named) → (one ≡ other) ↔ ((fields_erased one ≡ fields_erased other) × (fields_places one ≡ fields_places other))

@@ -1,5 +1,5 @@
 //! Laws of rows and of what was collected: each is the contract of a function that does nothing.
-ghost use Rattle.job_reuse.specs.Laws.{CollectedOutputsAreKept, CollectedOutputsReadBack, RowsOfJobsAreSound, RowsAreSoundOrNot, SameWhereErasedAndNamedAlike, FetchedFilesStandIn, OutputsAreTheSameOrNot};
+ghost use Rattle.job_reuse.specs.Laws.{CollectedOutputsAreKept, CollectedOutputsReadBack, RowsOfJobsAreSound, RowsAreSoundOrNot, SameWhereErasedAndNamedAlike, FetchedFilesStandIn, FilesAreTheSameOrNot, OutputsAreTheSameOrNot};
 
 /// Says that the outputs of a job are such as a record keeps and gives back as they were, by whatever way they were collected:
 /// where what was found has paths below the job's folder, the job's inputs stand elsewhere, and no output is named `class` with
@@ -23,6 +23,11 @@ pub fn rows_are_sound_or_not()
 /// Says that of any outputs it can be told whether they are the same, whether or not there is memory to look.
 pub fn outputs_are_the_same_or_not()
     ensures { OutputsAreTheSameOrNot }
+{}
+
+/// Says that of any files it can be told whether they are those of a row, whether or not there is memory to look.
+pub fn files_are_the_same_or_not()
+    ensures { FilesAreTheSameOrNot }
 {}
 
 /// Says what a difference of outputs is: one in their values without places, or in the names that their Files and Directories have

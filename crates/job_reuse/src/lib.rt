@@ -21,8 +21,9 @@ mod stands;
 pub use bytes::file_bytes;
 pub use fetched::files_agree;
 pub use laws::{
-    collected_outputs_are_kept, fetched_files_stand_in, outputs_are_the_same_or_not,
-    outputs_differ_in_values_or_names, rows_are_sound_or_not, rows_of_jobs_are_sound,
+    collected_outputs_are_kept, fetched_files_stand_in, files_are_the_same_or_not,
+    outputs_are_the_same_or_not, outputs_differ_in_values_or_names, rows_are_sound_or_not,
+    rows_of_jobs_are_sound,
 };
 pub use row::row_of;
 pub use same::differs;

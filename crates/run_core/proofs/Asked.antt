@@ -1,24 +1,26 @@
 -- What an answer tells of the phase that waits for it, and of the course.
 use Rattle.std.specs.Prelude.{◌<◌, Contains}
 use Rattle.std.proofs.Common.{◌≡◌, ℕ, List, length, refl}
-use Rattle.proc_host.specs.Answers.{is_measured, is_staged, is_started, has_ended, is_listed, is_read, is_delivered, has_failed, fault_of}
+use Rattle.proc_host.specs.Answers.{is_measured, is_staged, is_started, has_ended, is_listed, is_read, is_delivered, is_stored, has_failed, fault_of, is_fetched}
 use Rattle.proc_host.specs.declared.call.HostAnswer.{HostAnswer}
 use Rattle.proc_host.specs.declared.call.HostFault.{HostFault}
 use Rattle.proc_host.specs.declared.call.HostRequest.{HostRequest}
 use Rattle.proc_host.specs.declared.child.ChildEnd.{ChildEnd}
+use Rattle.staging.specs.declared.found.Found.{Found}
 use Rattle.staging.specs.declared.measure.Measure.{Measure}
-use Rattle.run_rules.specs.Answers.{MayAnswer, by_host, by_record, is_found, is_refused, is_put}
+use Rattle.run_rules.specs.Answers.{MayAnswer, by_host, by_record, is_found, is_refused, is_put, is_dropped}
 use Rattle.run_rules.specs.declared.request.Answer.{Answer}
 use Rattle.run_rules.specs.declared.request.Request.{Request}
 use Rattle.run_rules.specs.declared.request.RecordAnswer.{RecordAnswer}
 use Rattle.run_rules.specs.declared.request.RecordRequest.{RecordRequest}
 use Rattle.cwl_value.specs.declared.value.Value.{Value}
+use Rattle.job_rows.specs.declared.row.Row.{Row}
 use Rattle.run_core.specs.declared.state.Measuring.{Measuring}
 use Rattle.run_core.specs.declared.state.Course.{Course}
 use Rattle.run_core.specs.declared.state.JobPhase.{JobPhase}
 use Rattle.run_core.specs.declared.state.Phase.{Phase}
-use Rattle.run_core.specs.inner.Follows.{AnswersWork, AsksOf, CanStage, IsStaging, IsReady, IsReadyFor, WaitsForRecord}
-use Rattle.run_core.proofs.standing.Answered.{asks_none, asks_no_call, stages_no_row, puts_no_call}
+use Rattle.run_core.specs.inner.Follows.{AnswersWork, AsksOf, CanStage, IsStaging, IsReady, IsReadyFor, StoresKnown, WaitsForRecord}
+use Rattle.run_core.proofs.standing.Answered.{asks_none, asks_no_call, stages_no_row, puts_no_call, stores_no_row, drops_no_call, fetches_no_row}
 
 -- the job of a number may be staged, which was asked
 pub record AtStaging (course : Course) (number : ℕ) (asks : Request) : Type 0 where
@@ -50,40 +52,57 @@ module _ (flying : List ℕ) (course : Course) where
   Awaits (Phase.Measuring measuring) answer = (measure : Measure) × (answer ≡ HostAnswer.Measured measure)
   Awaits (Phase.Finding number) answer = ⊥
   Awaits (Phase.Putting number) answer = ⊥
+  Awaits (Phase.Fetching number) answer = (found : List Found) × (answer ≡ HostAnswer.Fetched found)
+  Awaits (Phase.Dropping number) answer = ⊥
   Awaits (Phase.Staging number) answer = answer ≡ HostAnswer.Done
   Awaits (Phase.Working number work) answer = Unit {0}
   Awaits Phase.Collecting answer = (ending : ChildEnd) × (answer ≡ HostAnswer.Ended ending)
   Awaits (Phase.Delivering outputs) answer = answer ≡ HostAnswer.Done
   Awaits Phase.Draining answer = (ending : ChildEnd) × (answer ≡ HostAnswer.Ended ending)
   Awaits (Phase.Ended outcome) answer = ⊥
+  Awaits (Phase.Storing number row) answer = answer ≡ HostAnswer.Done
 
   pub awaits : (asks : Request) (phase : Phase) (answer : HostAnswer) → MayAnswer flying asks (Answer.Host answer) → AsksOf course asks phase →
       ((fault : HostFault) → answer ≡ HostAnswer.Failed fault → ⊥) → Awaits phase answer
   awaits asks (Phase.Measuring measuring) answer (by_host place request its (is_measured path measure)) fits well = (measure, refl)
   awaits asks (Phase.Finding number) answer (by_host place request its can) fits well = absurd (asks_no_call course place request number fits)
   awaits asks (Phase.Putting number) answer (by_host place request its can) fits well = absurd (puts_no_call course place request number fits)
+  awaits asks (Phase.Fetching number) answer (by_host place request its (is_fetched its_key folder files found among)) fits well = (found, refl)
+  awaits asks (Phase.Dropping number) answer (by_host place request its can) fits well = absurd (drops_no_call course place request number fits)
   awaits asks (Phase.Staging number) answer (by_host place request its (is_staged plan folder)) fits well = refl
   awaits asks (Phase.Working number work) answer may fits well = tt
   awaits asks Phase.Collecting answer (by_host place request its (has_ended ending flies)) fits well = (ending, refl)
   awaits asks Phase.Draining answer (by_host place request its (has_ended ending flies)) fits well = (ending, refl)
   awaits asks (Phase.Delivering outputs) answer (by_host place request its (is_delivered plan)) fits well = refl
   awaits asks (Phase.Ended outcome) answer (by_host place request its can) fits well = absurd (asks_none course place request outcome fits)
+  awaits asks (Phase.Storing number row) answer (by_host place request its (is_stored key folder files)) fits well = refl
   awaits asks phase answer (by_host place request its (has_failed call)) fits well = absurd (well (fault_of call) refl)
   awaits asks phase answer (by_host place request its can) fits well = absurd fits
 
   -- any other phase waits for none
   pub awaits_none : (phase : Phase) (answer : HostAnswer) → Awaits phase answer → ((measuring : Measuring) → phase ≡ Phase.Measuring measuring → ⊥) →
-      ((number : ℕ) → phase ≡ Phase.Staging number → ⊥) → ((number : ℕ) (work : JobPhase) → phase ≡ Phase.Working number work → ⊥) → (phase ≡ Phase.Collecting → ⊥) →
-      ((outputs : Value) → phase ≡ Phase.Delivering outputs → ⊥) → (phase ≡ Phase.Draining → ⊥) → ⊥
-  awaits_none (Phase.Measuring measuring) answer waits no_measuring no_staging no_working no_collecting no_delivering no_draining = no_measuring measuring refl
-  awaits_none (Phase.Finding number) answer waits no_measuring no_staging no_working no_collecting no_delivering no_draining = waits
-  awaits_none (Phase.Putting number) answer waits no_measuring no_staging no_working no_collecting no_delivering no_draining = waits
-  awaits_none (Phase.Staging number) answer waits no_measuring no_staging no_working no_collecting no_delivering no_draining = no_staging number refl
-  awaits_none (Phase.Working number work) answer waits no_measuring no_staging no_working no_collecting no_delivering no_draining = no_working number work refl
-  awaits_none Phase.Collecting answer waits no_measuring no_staging no_working no_collecting no_delivering no_draining = no_collecting refl
-  awaits_none (Phase.Delivering outputs) answer waits no_measuring no_staging no_working no_collecting no_delivering no_draining = no_delivering outputs refl
-  awaits_none Phase.Draining answer waits no_measuring no_staging no_working no_collecting no_delivering no_draining = no_draining refl
-  awaits_none (Phase.Ended outcome) answer waits no_measuring no_staging no_working no_collecting no_delivering no_draining = waits
+      ((number : ℕ) → phase ≡ Phase.Fetching number → ⊥) → ((number : ℕ) → phase ≡ Phase.Staging number → ⊥) → ((number : ℕ) (work : JobPhase) → phase ≡ Phase.Working number work → ⊥) → (phase ≡ Phase.Collecting → ⊥) →
+      ((outputs : Value) → phase ≡ Phase.Delivering outputs → ⊥) → (phase ≡ Phase.Draining → ⊥) →
+      ((number : ℕ) (row : Row) → phase ≡ Phase.Storing number row → ⊥) → ⊥
+  awaits_none (Phase.Measuring measuring) answer waits no_measuring no_fetching no_staging no_working no_collecting no_delivering no_draining no_storing = no_measuring measuring refl
+  awaits_none (Phase.Finding number) answer waits no_measuring no_fetching no_staging no_working no_collecting no_delivering no_draining no_storing = waits
+  awaits_none (Phase.Putting number) answer waits no_measuring no_fetching no_staging no_working no_collecting no_delivering no_draining no_storing = waits
+  awaits_none (Phase.Dropping number) answer waits no_measuring no_fetching no_staging no_working no_collecting no_delivering no_draining no_storing = waits
+  awaits_none (Phase.Fetching number) answer waits no_measuring no_fetching no_staging no_working no_collecting no_delivering no_draining no_storing = no_fetching number refl
+  awaits_none (Phase.Staging number) answer waits no_measuring no_fetching no_staging no_working no_collecting no_delivering no_draining no_storing = no_staging number refl
+  awaits_none (Phase.Working number work) answer waits no_measuring no_fetching no_staging no_working no_collecting no_delivering no_draining no_storing = no_working number work refl
+  awaits_none Phase.Collecting answer waits no_measuring no_fetching no_staging no_working no_collecting no_delivering no_draining no_storing = no_collecting refl
+  awaits_none (Phase.Delivering outputs) answer waits no_measuring no_fetching no_staging no_working no_collecting no_delivering no_draining no_storing = no_delivering outputs refl
+  awaits_none Phase.Draining answer waits no_measuring no_fetching no_staging no_working no_collecting no_delivering no_draining no_storing = no_draining refl
+  awaits_none (Phase.Ended outcome) answer waits no_measuring no_fetching no_staging no_working no_collecting no_delivering no_draining no_storing = waits
+  awaits_none (Phase.Storing number row) answer waits no_measuring no_fetching no_staging no_working no_collecting no_delivering no_draining no_storing = no_storing number row refl
+
+  -- the job whose files are archived is known, which was asked
+  pub stores_known : (asks : Request) (phase : Phase) → AsksOf course asks phase → StoresKnown course phase
+  stores_known (Request.Host place (HostRequest.Store key folder files)) (Phase.Storing number row) fits = fits
+  stores_known (Request.Record place request) (Phase.Storing number row) fits = absurd (stores_no_row course place request number row fits)
+  stores_known asks (Phase.Storing number row) fits = absurd fits
+  stores_known asks phase fits = tt
 
   -- the record's answer is one to what was asked for a known job
   pub record AtRecord (phase : Phase) (answer : RecordAnswer) : Type 0 where
@@ -96,6 +115,9 @@ module _ (flying : List ℕ) (course : Course) where
   at_record asks (Phase.Finding number) answer (by_record place request its (is_refused (RecordRequest.Find key) refusal)) fits ready = record { ready = ready; waits = (fits, tt) }
   at_record asks (Phase.Putting number) answer (by_record place request its (is_put row)) fits ready = record { ready = ready; waits = (fits, tt) }
   at_record asks (Phase.Putting number) answer (by_record place request its (is_refused (RecordRequest.Put row) refusal)) fits ready = record { ready = ready; waits = (fits, tt) }
+  at_record asks (Phase.Dropping number) answer (by_record place request its (is_dropped key)) fits ready = record { ready = ready; waits = (fits, tt) }
+  at_record asks (Phase.Dropping number) answer (by_record place request its (is_refused (RecordRequest.DropArchive key) refusal)) fits ready = record { ready = ready; waits = (fits, tt) }
+  at_record asks (Phase.Fetching number) answer (by_record place request its can) fits ready = absurd (fetches_no_row course place request number fits)
   at_record asks phase answer (by_record place request its (is_refused (RecordRequest.Find key) refusal)) fits ready = absurd fits
   at_record asks phase answer (by_record place request its (is_refused (RecordRequest.Put row) refusal)) fits ready = absurd fits
   at_record asks phase answer (by_record place request its (is_refused (RecordRequest.DropArchive key) refusal)) fits ready = absurd fits

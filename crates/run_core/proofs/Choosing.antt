@@ -4,7 +4,7 @@ use Rattle.std.proofs.Common.{◌≡◌, ◌<◌, ℕ, Bool, true, false, List, 
 use Rattle.job_graph.specs.Jobs.{Job}
 use Rattle.run_core.specs.declared.state.Course.{Course}
 use Rattle.run_core.specs.inner.Course.{families_in, known_in, place_at}
-use Rattle.run_core.specs.inner.JobStates.{IsLowest}
+use Rattle.run_core.specs.inner.JobStates.{IsLowest, state_at}
 use Rattle.run_core.proofs.events.Families.{as_many}
 
 pub is_none : {X : Type 0} (o : Option X) → is_some o ≡ false → o ≡ None

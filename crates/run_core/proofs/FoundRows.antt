@@ -48,7 +48,7 @@ set_here [] (suc number) row = set_here [] number row
 set_here (x ∷ rows) zero row = refl
 set_here (x ∷ rows) (suc number) row = set_here rows number row
 
-set_elsewhere : (rows : List (Option Row)) (number other : ℕ) (row : Row) → (number ≡ other → ⊥) → row_in (row_set number row rows) other ≡ row_in rows other
+pub set_elsewhere : (rows : List (Option Row)) (number other : ℕ) (row : Row) → (number ≡ other → ⊥) → row_in (row_set number row rows) other ≡ row_in rows other
 set_elsewhere [] zero zero row differ = absurd (differ refl)
 set_elsewhere [] zero (suc other) row differ = refl
 set_elsewhere [] (suc number) zero row differ = refl

@@ -8,8 +8,8 @@ use Rattle.job_reuse.specs.Laws.{OutputsAreTheSameOrNot}
 use Rattle.job_reuse.specs.Rows.{made_row}
 use Rattle.job_rows.specs.declared.row.Row.{Row}
 use Rattle.staging.specs.declared.found.Found.{Found}
-use Rattle.run_rules.specs.Events.{job_repeated, job_succeeded, put_due}
-use Rattle.run_rules.specs.Keeps.{AgreesWith, Keeps, differs, keeps, keeps_none}
+use Rattle.run_rules.specs.Events.{job_repeated, job_succeeded}
+use Rattle.run_rules.specs.Keeps.{AgreesWith, Keeps, differs, keeps, keeps_none, work_to_keep}
 use Rattle.run_core.specs.declared.site.Site.{Site}
 use Rattle.run_core.specs.declared.state.JobNext.{JobNext}
 use Rattle.run_core.specs.inner.Due.{DiffersAt, KeepsAt, events_next, job_at_site, told_in, work_next}
@@ -42,12 +42,14 @@ module _ (site : Site) (millis : ℕ) (found : List Found) (outputs : Fields) (r
 
     told : (before : Option Row) → option_copied site.row ≡ before → AgreesWith outputs before → KeepsAt site millis found outputs (told_in before outputs its_made)
     told None is agrees = record {
-      on = λ place. subst (λ (row : Option Row). Keeps place (job_at_site site place) row millis found outputs (put_due place its_made) (job_succeeded place outputs ∷ [])) (sym is)
+      on = λ place. subst (λ (row : Option Row). Keeps site.options.now.keep place (job_at_site site place) row millis found outputs
+          (work_to_keep site.options.now.keep place its_made) (job_succeeded place outputs ∷ [])) (sym is)
           (keeps may agrees);
       asks_nothing = tt;
     }
     told (Some before) is agrees = record {
-      on = λ place. subst (λ (row : Option Row). Keeps place (job_at_site site place) row millis found outputs (put_due place its_made) (job_repeated place ∷ [])) (sym is)
+      on = λ place. subst (λ (row : Option Row). Keeps site.options.now.keep place (job_at_site site place) row millis found outputs
+          (work_to_keep site.options.now.keep place its_made) (job_repeated place ∷ [])) (sym is)
           (keeps may agrees);
       asks_nothing = tt;
     }

@@ -1,12 +1,12 @@
--- The number of a job's folders, looked for among the jobs that were staged.
+-- The number of a job's folders, and whether they are of a fetch, looked for among the jobs that were touched.
 use Rattle.std.specs.Prelude.{◌<◌}
-use Rattle.std.proofs.Common.{◌≡◌, ◌∙◌, ◌+◌, ℕ, cond, List, [], ◌∷◌, length, get_or, drop, map, ◌⊎◌, inl, inr, refl, sym, ap}
+use Rattle.std.proofs.Common.{◌≡◌, ◌∙◌, ◌+◌, ℕ, Bool, false, cond, List, [], ◌∷◌, length, get_or, drop, map, ◌⊎◌, inl, inr, refl, sym, ap}
 use Rattle.job_graph.specs.declared.growth.KnownJob.{KnownJob}
 use Rattle.job_graph.specs.KnownJobs.{job_of}
 use Rattle.job_graph.specs.Jobs.{Job}
 use Rattle.job_graph.specs.Words.{JobPlace, is_same_place}
 use Rattle.run_core.specs.declared.job_states.JobState.{JobState}
-use Rattle.run_core.specs.inner.Course.{number_in}
+use Rattle.run_core.specs.inner.Course.{fetched_in, number_in}
 use Rattle.run_core.proofs.Loops.{drop_at}
 
 pub number_turn : (jobs : List Job) (states : List JobState) (place : JobPlace) (i : ℕ) (job : Job) (state : JobState) → i < length jobs → job ≡ get_or jobs i job →
@@ -29,3 +29,18 @@ number_end known states place i left later jobs staged (inl none) =
 number_end known states place i left later jobs staged (inr none) =
     ap (λ (ss : List JobState). number_in (map (λ one. job_of one.job) (drop i known)) ss place) (sym staged ∙ none)
     ∙ number_none (map (λ one. job_of one.job) (drop i known)) place
+
+-- whether they are of a fetch
+
+fetched_none : (jobs : List Job) (place : JobPlace) → fetched_in jobs [] place ≡ false
+fetched_none [] place = refl
+fetched_none (job ∷ jobs) place = refl
+
+pub fetched_end : (known : List KnownJob) (states : List JobState) (place : JobPlace) (i : ℕ) (left : List KnownJob) (later : List JobState) →
+    left ≡ drop i known → later ≡ drop i states → (left ≡ []) ⊎ (later ≡ []) →
+    fetched_in (map (λ one. job_of one.job) (drop i known)) (drop i states) place ≡ false
+fetched_end known states place i left later jobs staged (inl none) =
+    ap (λ (ones : List KnownJob). fetched_in (map (λ one. job_of one.job) ones) (drop i states) place) (sym jobs ∙ none)
+fetched_end known states place i left later jobs staged (inr none) =
+    ap (λ (ss : List JobState). fetched_in (map (λ one. job_of one.job) (drop i known)) ss place) (sym staged ∙ none)
+    ∙ fetched_none (map (λ one. job_of one.job) (drop i known)) place

@@ -6,13 +6,13 @@ use Rattle.std.proofs.lemmas.Bool.{cases_lt}
 use Rattle.std.proofs.lemmas.List.{get_or_append_left}
 use Rattle.std.proofs.lemmas.Option.{get_or_from_slice_get}
 use Rattle.run_core.specs.declared.job_states.JobState.{JobState}
-use Rattle.run_core.specs.inner.JobStates.{NoneWaits, brought_in, given_up_in, staged_in, state_at, untouched, waits_in}
+use Rattle.run_core.specs.inner.JobStates.{NoneWaits, brought_in, given_up_in, load_state, loaded_in, missed_in, staged_in, state_at, untouched, waits_in}
 
 pub staged_set : (states : List JobState) (number folder : ℕ) (state : JobState) → slice_get states number ≡ Some state →
-    staged_in number folder states ≡ set states number (record state { waits = false; folder = folder })
+    staged_in number folder states ≡ set states number (record state { waits = false; folder = folder; fetched = false })
 staged_set [] number folder state there = absurd cc
 staged_set (x ∷ states) zero folder state there =
-    let same : x ≡ state = cc in ap (λ (s : JobState). record s { waits = false; folder = folder } ∷ states) same
+    let same : x ≡ state = cc in ap (λ (s : JobState). record s { waits = false; folder = folder; fetched = false } ∷ states) same
 staged_set (x ∷ states) (suc number) folder state there = ap (λ (others : List JobState). x ∷ others) (staged_set states number folder state there)
 
 pub given_up_set : (states : List JobState) (number : ℕ) (state : JobState) → slice_get states number ≡ Some state →
@@ -56,6 +56,55 @@ staged_few (x ∷ states) zero folder size within few = few
 staged_few (x ∷ states) (suc number) folder zero within few = absurd (omega (arith, within))
 staged_few (x ∷ states) (suc number) folder (suc size) within few =
     let later : length (staged_in number folder states) ≤ size = staged_few states number folder size (omega (arith, within)) (omega (arith, few)) in omega (arith, later)
+
+-- a job whose files are fetched, and one whose fetch missed
+
+pub loaded_set : (states : List JobState) (number folder : ℕ) (state : JobState) → slice_get states number ≡ Some state →
+    loaded_in number folder states ≡ set states number (load_state folder state)
+loaded_set [] number folder state there = absurd cc
+loaded_set (x ∷ states) zero folder state there =
+    let same : x ≡ state = cc in ap (λ (s : JobState). load_state folder s ∷ states) same
+loaded_set (x ∷ states) (suc number) folder state there = ap (λ (others : List JobState). x ∷ others) (loaded_set states number folder state there)
+
+pub loaded_past : (states : List JobState) (number folder : ℕ) → length states ≤ number →
+    loaded_in number folder (states ++ untouched ∷ []) ≡ loaded_in number folder states
+loaded_past [] zero folder past = refl
+loaded_past [] (suc number) folder past = refl
+loaded_past (x ∷ states) zero folder past = absurd (omega (arith, past))
+loaded_past (x ∷ states) (suc number) folder past = ap (λ (others : List JobState). x ∷ others) (loaded_past states number folder (omega (arith, past)))
+
+pub loaded_few : (states : List JobState) (number folder size : ℕ) → number < size → length states ≤ size → length (loaded_in number folder states) ≤ size
+loaded_few [] zero folder size within few = omega (arith, within)
+loaded_few [] (suc number) folder zero within few = absurd (omega (arith, within))
+loaded_few [] (suc number) folder (suc size) within few =
+    let later : length (loaded_in number folder []) ≤ size = loaded_few [] number folder size (omega (arith, within)) (omega arith) in omega (arith, later)
+loaded_few (x ∷ states) zero folder size within few = few
+loaded_few (x ∷ states) (suc number) folder zero within few = absurd (omega (arith, within))
+loaded_few (x ∷ states) (suc number) folder (suc size) within few =
+    let later : length (loaded_in number folder states) ≤ size = loaded_few states number folder size (omega (arith, within)) (omega (arith, few)) in omega (arith, later)
+
+pub missed_set : (states : List JobState) (number : ℕ) (state : JobState) → slice_get states number ≡ Some state →
+    missed_in number states ≡ set states number (record state { tried = true })
+missed_set [] number state there = absurd cc
+missed_set (x ∷ states) zero state there =
+    let same : x ≡ state = cc in ap (λ (s : JobState). record s { tried = true } ∷ states) same
+missed_set (x ∷ states) (suc number) state there = ap (λ (others : List JobState). x ∷ others) (missed_set states number state there)
+
+pub missed_past : (states : List JobState) (number : ℕ) → length states ≤ number → missed_in number (states ++ untouched ∷ []) ≡ missed_in number states
+missed_past [] zero past = refl
+missed_past [] (suc number) past = refl
+missed_past (x ∷ states) zero past = absurd (omega (arith, past))
+missed_past (x ∷ states) (suc number) past = ap (λ (others : List JobState). x ∷ others) (missed_past states number (omega (arith, past)))
+
+pub missed_few : (states : List JobState) (number size : ℕ) → number < size → length states ≤ size → length (missed_in number states) ≤ size
+missed_few [] zero size within few = omega (arith, within)
+missed_few [] (suc number) zero within few = absurd (omega (arith, within))
+missed_few [] (suc number) (suc size) within few =
+    let later : length (missed_in number []) ≤ size = missed_few [] number size (omega (arith, within)) (omega arith) in omega (arith, later)
+missed_few (x ∷ states) zero size within few = few
+missed_few (x ∷ states) (suc number) zero within few = absurd (omega (arith, within))
+missed_few (x ∷ states) (suc number) (suc size) within few =
+    let later : length (missed_in number states) ≤ size = missed_few states number size (omega (arith, within)) (omega (arith, few)) in omega (arith, later)
 
 pub given_up_length : (states : List JobState) (number : ℕ) → length (given_up_in number states) ≡ length states
 given_up_length [] zero = refl

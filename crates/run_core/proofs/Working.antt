@@ -69,7 +69,7 @@ reads_name site kept reading rest name is few =
     let first : reverse reading.left ≡ name ∷ reverse rest = turned reading.left rest name is in
     record {
       on = λ place begun same.
-          subst (λ (todo : List Name). CollectsOn place (job_at_site site place) (option_copied site.row) begun reading.millis reading.found reading.heads todo
+          subst (λ (todo : List Name). CollectsOn site.options.now.keep place (job_at_site site place) (option_copied site.row) begun reading.millis reading.found reading.heads todo
           (output_heads_due place reading.millis reading.found todo reading.heads) []) (sym first) (collected.reads_on name (reverse rest));
       calls = record {
         due = ap (λ (todo : List Name). call_for site.options.now site.folder (output_heads_due [] reading.millis reading.found todo reading.heads)) first;
@@ -102,7 +102,7 @@ pub collects_by : (site : Site) (kept : Kept) (millis : ℕ) (found : List Found
 collects_by site kept millis found read next (gives outputs its_next is keeps) =
     record {
       on = λ place begun same.
-          collected.collects outputs (work_next place next) (events_next place next)
+          collected.collects outputs (work_next site.options.now.keep place next) (events_next place next)
           (subst (λ (left : Left). IsCollected left site.tool.now.outputs (Ok outputs)) (left_same kept begun found read same) is) (keeps.on place);
       calls = calls_nothing site.options.now site.folder next keeps.asks_nothing;
       keeps = keeps_nothing kept next keeps.asks_nothing;

@@ -5,3 +5,5 @@ pub mod Keeping
 pub mod Reflecting
 pub mod Learning
 pub mod Families
+pub mod Losses
+pub mod Tried

@@ -10,4 +10,6 @@ pub mod Read
 pub mod Started
 pub mod Failed
 pub mod Found
+pub mod Fetched
 pub mod Ended
+pub mod Stored

@@ -7,7 +7,7 @@ use Rattle.run_rules.specs.declared.request.Answer.{Answer}
 use Rattle.run_rules.specs.declared.request.Request.{Request}
 use Rattle.run_rules.specs.declared.request.Pair.{Pair}
 use Rattle.run_rules.specs.declared.setting.Options.{Options}
-use Rattle.run_rules.specs.Allowed.{Allowed, MayStage}
+use Rattle.run_rules.specs.Allowed.{Allowed, MayFetch, MayStage}
 use Rattle.run_rules.specs.Answers.{MayAnswer, flying_after}
 use Rattle.run_rules.specs.Events.{Progress, unfolding_at}
 use Rattle.run_rules.specs.Plans.{number_of}
@@ -15,6 +15,7 @@ use Rattle.run_rules.specs.Reports.{AreWaits, entries_of}
 use Rattle.run_rules.specs.Run.{IsRunSoFar}
 use Rattle.run_rules.specs.Scene.{Scene, scene_of}
 use Rattle.job_graph.specs.Words.{Fields, JobPlace}
+use Rattle.staging.specs.declared.found.Found.{Found}
 use Rattle.staging.specs.declared.plan.StagePlan.{StagePlan}
 use Rattle.proc_host.specs.declared.call.HostAnswer.{HostAnswer}
 use Rattle.proc_host.specs.declared.call.HostFault.{HostFault}
@@ -30,15 +31,18 @@ pub record IsDraining (core : Machine) : Type 0 where
   pub mode : core.mode ≡ is_draining
   pub asks : core.asks ≡ Request.Host [] HostRequest.Collect
 
--- where a job is to be staged, none that was known before it may be
+-- where a job is to be staged, none that was known before it may be; and so where its files are to be fetched
 abbrev pub IsFirst : Scene → Progress → List Mark → Request → Type 0
 IsFirst s f marks (Request.Host place (HostRequest.Stage plan number)) =
     (other : JobPlace) (its : StagePlan) (folder : ℕ) → MayStage s f marks other its folder →
     number_of place (unfolding_at s f.events).jobs ≤ number_of other (unfolding_at s f.events).jobs
+IsFirst s f marks (Request.Host place (HostRequest.Fetch key number files)) =
+    (other : JobPlace) (its_key : List ℕ) (its_number : ℕ) (its_files : List Found) → MayFetch s f marks other its_key its_number its_files →
+    number_of place (unfolding_at s f.events).jobs ≤ number_of other (unfolding_at s f.events).jobs
 IsFirst s f marks request = Unit {0}
 
--- what it asked and was answered is a run so far, after which it may ask what it asks, and of the jobs that may be staged asks for the first
--- one; or memory ran out, and after a run so far it only waits for the children in flight
+-- what it asked and was answered is a run so far, after which it may ask what it asks, and of the jobs that may be staged, or fetched, asks for
+-- the first one; or memory ran out, and after a run so far it only waits for the children in flight
 pub data MayAsk (core : Machine) : Type 0 where
   allowed : (happened : Progress) (marks : List Mark) → IsRunSoFar core.setting core.transcript happened marks →
       Allowed (scene_of core.setting) happened marks core.asks → IsFirst (scene_of core.setting) happened marks core.asks → MayAsk core

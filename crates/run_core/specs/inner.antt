@@ -2,6 +2,7 @@ pub mod Anyway
 pub mod Attempts
 pub mod Course
 pub mod Due
+pub mod Fetches
 pub mod Follows
 pub mod Inside
 pub mod FoundRows

@@ -10,10 +10,10 @@ use crate::{Answer, RecordAnswer};
 use collected_outputs::{every_folder_has_outputs_or_a_fault, some_heads_are_wanted};
 use command_line::every_tool_has_a_launch_or_is_refused;
 use cwl_process::Tool;
-use job_reuse::{outputs_are_the_same_or_not, rows_are_sound_or_not};
+use job_reuse::{files_are_the_same_or_not, outputs_are_the_same_or_not, rows_are_sound_or_not};
 
 /// Something follows from each answer: the phase's job has a launch or is refused one, a folder has outputs or there is a fault
-/// why not, and a row is one of its job's tool or is none.
+/// why not, a row is one of its job's tool or is none, and fetched files are a row's or are not.
 pub(crate) fn can_go_on(course: &Course<'_>, phase: &Phase, answer: &Answer)
     ensures { CanGoOn course.now (job_in phase.now) answer.now }
 {
@@ -26,6 +26,7 @@ pub(crate) fn can_go_on(course: &Course<'_>, phase: &Phase, answer: &Answer)
     see_row(answer);
     rows_are_sound_or_not();
     outputs_are_the_same_or_not();
+    files_are_the_same_or_not();
 }
 
 /// The outputs of a row that was found are in the order of their names.

@@ -11,6 +11,7 @@ ghost use Rattle.staging.specs.Plan.{IsPlan};
 
 use crate::course::{job_of, known_in};
 use crate::delivery::delivery;
+use crate::fetching::{fetching, next_to_fetch};
 use crate::finding::{finding, next_to_find};
 use crate::folders::in_folder;
 use crate::places::{Sources, Way, moved_fields};
@@ -25,8 +26,9 @@ use std::alloc::{AllocError, Global};
 use std::mem;
 
 /// What comes next: after a failure the children in flight are waited for; else the row of a known job is looked for that
-/// was not; else the lowest job that waits and whose parents are at hand is staged, where a slot is free; else a child in
-/// flight is waited for; and at last the result is delivered.
+/// was not; else the files of the lowest job that waits and can be loaded are fetched; else the lowest job that waits and
+/// whose parents are at hand is staged, where a slot is free; else a child in flight is waited for; and at last the result is
+/// delivered.
 pub(crate) fn pick(
     alloc: Global,
     given: &Given<'_>,
@@ -41,6 +43,9 @@ pub(crate) fn pick(
     }
     if let Some(number) = next_to_find(course) {
         return finding(alloc, course, number);
+    }
+    if let Some(number) = next_to_fetch(given, course) {
+        return fetching(alloc, course, number);
     }
     if let Some(number) = next_to_stage(given, course) {
         return staging(alloc, given, course, number);

@@ -2,21 +2,23 @@
 ghost use Rattle.std.specs.Prelude.{◌≡◌, ◌<◌, ◌≤◌, ◌+◌, ◌^◌, ◌∷◌, [], None, Some, Contains, IsSome, IfOk, OnErr, OnOk, length, map, slice_get, vec_len, vec_capacity};
 ghost use Rattle.job_graph.specs.declared.unfolding.Unfolding.{Unfolding as Held};
 ghost use Rattle.job_graph.specs.KnownJobs.{job_of as job_seen, known_of};
-ghost use Rattle.run_core.specs.inner.Course.{GivesUp, TakesOut, failure_in, families_in, known_in, nothing_past, past_of, place_at, put_note, with_answer, with_end, with_note, with_staging, with_start};
+ghost use Rattle.run_core.specs.inner.Course.{GivesUp, TakesOut, failure_in, families_in, known_in, nothing_past, past_of, place_at, put_note, store_note, with_answer, with_end, with_fault, with_load, with_loss, with_note, with_staging, with_start, drop_note, key_in};
 ghost use Rattle.run_core.specs.inner.Knows.{GivesAt, IsTold, LearnsUnlessOver, end_by};
 ghost use Rattle.run_core.specs.inner.Turn.{permanent};
 ghost use Rattle.run_rules.specs.declared.outcome.RunFault.{RunFault as Fault};
+ghost use Rattle.run_core.specs.inner.Follows.{asked_at};
 ghost use Rattle.run_core.specs.inner.FoundRows.{rows_after};
 
 use crate::found_rows::FoundRows;
 use crate::job_states::JobStates;
 use crate::state::{Course, Flight, Kept};
 use crate::turn::permanent;
-use crate::{Cause, Note, NoteKind, Outcome, RecordAnswer, RunFault};
-use cwl_value::{Value, copy_job};
+use crate::{Cause, Note, NoteKind, Outcome, RecordAnswer, Request, RunFault};
+use cwl_value::{JobPlace, Value, copy_job};
 use job_graph::{Job, KnownJob, UnfoldError, UnfoldFault, Unfolding};
 use job_rows::RecordRefusal;
-use plain_data::Keyed;
+use plain_data::{Items, Keyed, Text};
+use proc_host::HostFault;
 use std::alloc::{AllocError, Global};
 use std::mem;
 
@@ -32,6 +34,7 @@ pub(crate) fn at_first<'a>(alloc: Global) -> Course<'a>
         folders: 0,
         looked_up: 0,
         rows: FoundRows::new(alloc),
+        lost: Vec::new(alloc),
         notes: Vec::new(alloc),
         known: None,
         end: None,
@@ -103,6 +106,51 @@ pub(crate) fn note_staging(course: &mut Course<'_>, number: usize) -> Result<(),
     course.jobs.stage(number, folder)?;
     course.folders = folder;
     Ok(())
+}
+
+/// The files of the job's row were fetched.
+pub(crate) fn note_load(course: &mut Course<'_>, number: usize) -> Result<(), AllocError>
+    requires folders { course.old.folders + 1 < 2 ^ 64 }
+    ensures past { OnOk result (past_of course.new ≡ with_load number (past_of course.old)) }
+    ensures known { course.new.known ≡ course.old.known }
+    ensures tickets { course.new.tickets ≡ course.old.tickets }
+{
+    let folder = course.folders + 1;
+    course.jobs.load(number, folder)?;
+    course.folders = folder;
+    Ok(())
+}
+
+/// What was fetched is not what the job's row has: its archive is lost.
+pub(crate) fn note_loss(
+    alloc: Global,
+    course: &mut Course<'_>,
+    number: usize,
+) -> Result<(), AllocError>
+    requires folders { course.old.folders + 1 < 2 ^ 64 }
+    ensures past { OnOk result (past_of course.new ≡ with_loss number (past_of course.old)) }
+    ensures known { course.new.known ≡ course.old.known }
+    ensures tickets { course.new.tickets ≡ course.old.tickets }
+{
+    let key = key_of_row(alloc, course, number)?;
+    course.jobs.miss(number)?;
+    course.lost.push(key)?;
+    course.folders += 1;
+    Ok(())
+}
+
+/// The key of the row that was found for the job; empty where there is none.
+pub(crate) fn key_of_row(
+    alloc: Global,
+    course: &Course<'_>,
+    number: usize,
+) -> Result<Text, AllocError>
+    ensures { IfOk result (λ key. key ≡ key_in course.now.rows number) }
+{
+    match course.rows.get(number) {
+        None => Text::from_text(alloc, ""),
+        Some(row) => row.key.copied(alloc),
+    }
 }
 
 /// The job's child runs.
@@ -304,6 +352,85 @@ pub(crate) fn note_refused_row(
         kind: NoteKind::Put(refusal),
     })?;
     Ok(())
+}
+
+/// The record refused to note that the archive of the row of the job of a number is gone.
+pub(crate) fn note_refused_drop(
+    alloc: Global,
+    course: &mut Course<'_>,
+    number: usize,
+    refusal: RecordRefusal,
+) -> Result<(), AllocError>
+    requires { number < length (known_in course.old.known) }
+    ensures past { OnOk result (past_of course.new
+        ≡ with_note (drop_note (place_at (known_in course.old.known) number) refusal)
+        (past_of course.old)) }
+    ensures known { course.new.known ≡ course.old.known }
+    ensures flying { course.new.tickets.items ≡ course.old.tickets.items }
+{
+    let place = copy_job(alloc, &job_of(course, number).place)?;
+    course.notes.push(Note {
+        place,
+        kind: NoteKind::Drop(refusal),
+    })?;
+    Ok(())
+}
+
+/// The files of the job of a number could not be archived.
+pub(crate) fn note_unarchived(
+    alloc: Global,
+    course: &mut Course<'_>,
+    number: usize,
+    fault: HostFault,
+) -> Result<(), AllocError>
+    requires { number < length (known_in course.old.known) }
+    ensures past { OnOk result (past_of course.new
+        ≡ with_note (store_note (place_at (known_in course.old.known) number) fault)
+        (past_of course.old)) }
+    ensures known { course.new.known ≡ course.old.known }
+    ensures flying { course.new.tickets.items ≡ course.old.tickets.items }
+{
+    let place = copy_job(alloc, &job_of(course, number).place)?;
+    course.notes.push(Note {
+        place,
+        kind: NoteKind::Store(fault),
+    })?;
+    Ok(())
+}
+
+/// This call failed: that settles the end, and where it was settled before, it is noted.
+pub(crate) fn note_fault(
+    alloc: Global,
+    course: &mut Course<'_>,
+    asks: &Request,
+    fault: HostFault,
+) -> Result<(), AllocError>
+    ensures past { OnOk result (past_of course.new
+        ≡ with_fault (asked_at asks.now) fault (past_of course.old)) }
+    ensures known { course.new.known ≡ course.old.known }
+    ensures flying { course.new.tickets.items ≡ course.old.tickets.items }
+{
+    if course.end.is_none() {
+        settle(course, Err(RunFault::Host(fault, Items::new(alloc))));
+        return Ok(());
+    }
+    let place = place_asked(alloc, asks)?;
+    course.notes.push(Note {
+        place,
+        kind: NoteKind::Late(fault),
+    })?;
+    Ok(())
+}
+
+/// The place of the job that is asked for.
+fn place_asked(alloc: Global, asks: &Request) -> Result<JobPlace, AllocError>
+    ensures { IfOk result (λ place. place ≡ asked_at asks.now) }
+{
+    match asks {
+        Request::Host(place, _) => copy_job(alloc, place),
+        Request::Record(place, _) => copy_job(alloc, place),
+        Request::Finished => Ok(Items::new(alloc)),
+    }
 }
 
 /// Tells what is known of the job's outputs.

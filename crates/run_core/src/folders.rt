@@ -1,6 +1,6 @@
 ghost use Rattle.std.specs.Prelude.{◌≡◌, ◌++◌, IfOk, codes};
 ghost use Rattle.staging.specs.Groups.{path_in as path_under};
-ghost use Rattle.run_rules.specs.Folders.{in_folder, out_folder, tmp_folder, runtime_of};
+ghost use Rattle.run_rules.specs.Folders.{fetched_folder, in_folder, left_folder, out_folder, tmp_folder, runtime_of};
 
 use crate::Options;
 use command_line::Runtime;
@@ -13,6 +13,31 @@ pub(crate) fn out_folder(alloc: Global, work: &Text, number: u64) -> Result<Text
 {
     let work = work.as_str();
     Ok(Text::from_string(format!(in alloc; "{work}/j{number}/out")?))
+}
+
+/// A folder that has a job's outputs: that of a fetch, or of its child, by the number.
+#[derive(Clone, Copy, Drop)]
+pub(crate) struct Left {
+    pub fetched: bool,
+    pub number: u64,
+}
+
+/// The path of the folder that has a job's outputs.
+pub(crate) fn left_folder(alloc: Global, work: &Text, left: Left) -> Result<Text, AllocError>
+    ensures { IfOk result (λ folder. folder ≡ left_folder work.now left.fetched left.number) }
+{
+    if left.fetched {
+        return fetched_folder(alloc, work, left.number);
+    }
+    out_folder(alloc, work, left.number)
+}
+
+/// The folder that the files of the `number`-th request are fetched to.
+fn fetched_folder(alloc: Global, work: &Text, number: u64) -> Result<Text, AllocError>
+    ensures { IfOk result (λ folder. folder ≡ fetched_folder work.now number) }
+{
+    let work = work.as_str();
+    Ok(Text::from_string(format!(in alloc; "{work}/f{number}/out")?))
 }
 
 fn tmp_folder(alloc: Global, work: &Text, number: u64) -> Result<Text, AllocError>

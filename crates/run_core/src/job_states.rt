@@ -2,7 +2,7 @@
 ghost use Rattle.std.specs.Prelude.{◌≡◌, ◌<◌, ◌≤◌, ◌+◌, ◌^◌, ℕ, [], OnOk, MatchOption, length, map};
 ghost use Rattle.std.specs.List.{list_all};
 ghost use Rattle.job_graph.specs.KnownJobs.{known_of};
-ghost use Rattle.run_core.specs.inner.JobStates.{IsLowest, NoneReady, NoneWaits, brought_in, given_up_in, is_there, staged_in, state_at, waits_in};
+ghost use Rattle.run_core.specs.inner.JobStates.{IsLowest, NoneReady, NoneWaits, brought_in, given_up_in, loaded_in, missed_in, is_there, staged_in, state_at, waits_in};
 
 use job_graph::KnownJob;
 use std::alloc::{AllocError, Global};
@@ -15,8 +15,12 @@ pub(crate) struct JobState {
     pub waits: bool,
     /// Whether its outputs are at hand.
     pub at_hand: bool,
-    /// The number of the folders that it was staged in last; 0 where it never was.
+    /// Whether a fetch of its files was asked for.
+    pub tried: bool,
+    /// The number of the folders that it was staged in last, or its files were fetched to; 0 where there are none.
     pub folder: u64,
+    /// Whether these are of a fetch.
+    pub fetched: bool,
     /// How often it failed temporarily.
     pub gave_up: u64,
 }
@@ -71,6 +75,14 @@ impl JobStates {
         self.states[number].gave_up
     }
 
+    /// The number of the folders that the job was staged in last.
+    pub(crate) fn folder_of(&self, number: usize) -> u64
+        requires { number < length self.now }
+        ensures { result ≡ (state_at self.now number).folder }
+    {
+        self.states[number].folder
+    }
+
     /// The lowest of the known jobs that waits and whose parents are at hand.
     pub(crate) fn first_ready(&mut self, known: &[KnownJob<'_>]) -> Option<usize>
         ensures same { self.new ≡ self.old }
@@ -92,6 +104,7 @@ impl JobStates {
         let state = &mut self.states[number];
         state.waits = false;
         state.folder = folder;
+        state.fetched = false;
         Ok(())
     }
 
@@ -101,6 +114,36 @@ impl JobStates {
         ensures { self.new ≡ brought_in number self.old }
     {
         self.states[number].at_hand = true;
+    }
+
+    /// The files of the job were fetched to the folder of this number, and it waits no more.
+    pub(crate) fn load(&mut self, number: usize, folder: u64) -> Result<(), AllocError>
+        ensures { OnOk result (self.new ≡ loaded_in number folder self.old) }
+    {
+        self.reach(number)?;
+        let state = &mut self.states[number];
+        state.waits = false;
+        state.at_hand = true;
+        state.tried = true;
+        state.folder = folder;
+        state.fetched = true;
+        Ok(())
+    }
+
+    /// What was fetched for the job is not what its row has, and it waits still.
+    pub(crate) fn miss(&mut self, number: usize) -> Result<(), AllocError>
+        ensures { OnOk result (self.new ≡ missed_in number self.old) }
+    {
+        self.reach(number)?;
+        self.states[number].tried = true;
+        Ok(())
+    }
+
+    /// Whether the job waits.
+    pub(crate) fn waits(&self, number: usize) -> bool
+        ensures { result ≡ waits_in self.now number }
+    {
+        waits(self.states.as_slice(), number)
     }
 
     /// The job failed temporarily once more, and waits again.
@@ -122,12 +165,17 @@ impl JobStates {
         ensures reached { OnOk result (number < length self.new) }
         ensures same { (folder : ℕ) → staged_in number folder self.new
             ≡ staged_in number folder self.old }
+        ensures loaded { (folder : ℕ) → loaded_in number folder self.new
+            ≡ loaded_in number folder self.old }
+        ensures missed { missed_in number self.new ≡ missed_in number self.old }
     {
         while self.states.len() <= number {
             self.states.push(JobState {
                 waits: true,
                 at_hand: false,
+                tried: false,
                 folder: 0,
+                fetched: false,
                 gave_up: 0,
             })?;
         }

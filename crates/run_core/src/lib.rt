@@ -8,10 +8,12 @@
 #![tactic(auto)]
 
 mod anyway;
+mod archiving;
 mod choice;
 mod collects;
 mod course;
 mod delivery;
+mod fetching;
 mod fields;
 mod files;
 mod finding;

@@ -2,9 +2,9 @@
 ghost use Rattle.std.specs.Prelude.{◌≡◌, IfOk, map};
 ghost use Rattle.run_rules.specs.Delivered.{location_place, made_path};
 ghost use Rattle.job_graph.specs.Made.{value_moved, fields_moved};
-ghost use Rattle.run_core.specs.inner.Places.{file_elsewhere, dir_elsewhere, file_with, left_place, number_at_source, place_by};
+ghost use Rattle.run_core.specs.inner.Places.{file_elsewhere, dir_elsewhere, file_with, fetched_at_source, left_place, left_at_source, number_at_source, place_by};
 
-use crate::folders::{out_folder, path_in};
+use crate::folders::{Left, left_folder, path_in};
 use crate::job_states::JobState;
 use cwl_value::{DirVal, FileVal, JobPlace, Place, Value};
 use file_values::path_to_location;
@@ -147,14 +147,24 @@ fn left_place(alloc: Global, sources: Sources<'_, '_>, place: &Place) -> Result<
 {
     match place {
         Place::Made(job, name) => {
-            let folder = out_folder(alloc, sources.work, number_in(sources, job))?;
+            let folder = left_folder(alloc, sources.work, left_in(sources, job))?;
             Ok(Place::Path(path_below(alloc, &folder, name)?))
         }
         _ => place.clone_in(alloc),
     }
 }
 
-/// The number of the folders of the job at a place; 0 where it was never staged.
+/// The folder that has the outputs of the job at a place.
+fn left_in(sources: Sources<'_, '_>, place: &JobPlace) -> Left
+    ensures { result ≡ left_at_source sources.entry place.now }
+{
+    Left {
+        fetched: fetched_in(sources, place),
+        number: number_in(sources, place),
+    }
+}
+
+/// The number of the folders of the job at a place; 0 where it has none.
 fn number_in(sources: Sources<'_, '_>, place: &JobPlace) -> u64
     ensures { result ≡ number_at_source sources.entry place.now }
 {
@@ -164,6 +174,18 @@ fn number_in(sources: Sources<'_, '_>, place: &JobPlace) -> u64
         }
     }
     0
+}
+
+/// Whether these are of a fetch.
+fn fetched_in(sources: Sources<'_, '_>, place: &JobPlace) -> bool
+    ensures { result ≡ fetched_at_source sources.entry place.now }
+{
+    for (known, job) in sources.known.iter().zip(sources.jobs) {
+        if is_same_place(known.job.place.as_slice(), place.as_slice()) {
+            return job.fetched;
+        }
+    }
+    false
 }
 
 /// The path of what has this name below a folder; `.` is the folder itself.

@@ -2,12 +2,12 @@
 ghost use Rattle.std.specs.Prelude.{◌≡◌, ◌<◌, ◌+◌, ◌^◌, Some, IfOk, OnErr, OnOk, length};
 ghost use Rattle.run_core.specs.inner.Course.{known_in, past_of, place_at};
 ghost use Rattle.run_core.specs.inner.Follows.{FollowsRecord, IsOfAFind, IsOfAPut, IsReady, WaitsForRecord};
-ghost use Rattle.run_core.specs.inner.Picks.{AfterFind, AfterPut, LearnsRow, Tells, noted_by};
+ghost use Rattle.run_core.specs.inner.Picks.{AfterFind, AfterDrop, AfterPut, LearnsRow, Tells, dropped_by, noted_by};
 ghost use Rattle.run_rules.specs.declared.request.RecordAnswer.{RecordAnswer as Told};
 
 use crate::RecordAnswer;
 use crate::choice::pick;
-use crate::course::{job_of, note_answer, note_outputs, note_refused_row};
+use crate::course::{job_of, note_answer, note_outputs, note_refused_drop, note_refused_row};
 use crate::state::{Course, Given, Phase, Turn};
 use cwl_process::Tool;
 use cwl_value::copy_fields;
@@ -32,6 +32,7 @@ pub(crate) fn told(
     match phase {
         Phase::Finding(number) => told_of_job(alloc, given, course, number, answer),
         Phase::Putting(number) => put(alloc, given, course, number, answer),
+        Phase::Dropping(number) => dropped(alloc, given, course, number, answer),
         _ => unreachable!(),
     }
 }
@@ -115,6 +116,47 @@ fn note_put(
     match answer {
         RecordAnswer::Done => Ok(()),
         RecordAnswer::Refused(refusal) => note_refused_row(alloc, course, number, *refusal),
+        RecordAnswer::Found(_) => unreachable!(),
+    }
+}
+
+/// The record has answered whether it is noted that the archive of the job's row is gone.
+fn dropped(
+    alloc: Global,
+    given: &Given<'_>,
+    course: &mut Course<'_>,
+    number: usize,
+    answer: &RecordAnswer,
+) -> Result<Turn, AllocError>
+    requires folders { course.old.folders + 1 < 2 ^ 64 }
+    requires number { number < length (known_in course.old.known) }
+    requires answers { IsOfAPut answer.now }
+    ensures is { IfOk result (λ turn. AfterDrop given.now course.old number answer.now turn
+        course.new) }
+    ensures flying { OnErr result (course.new.tickets.items ≡ course.old.tickets.items) }
+{
+    note_drop(alloc, course, number, answer)?;
+    pick(alloc, given, course)
+}
+
+/// Notes that the record refused to note that an archive is gone, if it did.
+fn note_drop(
+    alloc: Global,
+    course: &mut Course<'_>,
+    number: usize,
+    answer: &RecordAnswer,
+) -> Result<(), AllocError>
+    requires number { number < length (known_in course.old.known) }
+    requires answers { IsOfAPut answer.now }
+    ensures past { OnOk result (past_of course.new
+        ≡ dropped_by (place_at (known_in course.old.known) number) answer.now
+        (past_of course.old)) }
+    ensures known { course.new.known ≡ course.old.known }
+    ensures flying { course.new.tickets.items ≡ course.old.tickets.items }
+{
+    match answer {
+        RecordAnswer::Done => Ok(()),
+        RecordAnswer::Refused(refusal) => note_refused_drop(alloc, course, number, *refusal),
         RecordAnswer::Found(_) => unreachable!(),
     }
 }

@@ -357,6 +357,7 @@ fn notes_of(course: Course<'_>) -> Vec<Note>
         folders: _,
         looked_up: _,
         rows,
+        lost,
         notes,
         known,
         end,
@@ -365,6 +366,7 @@ fn notes_of(course: Course<'_>) -> Vec<Note>
     mem::drop(flights);
     mem::drop(jobs);
     mem::drop(rows);
+    mem::drop(lost);
     mem::drop(known);
     mem::drop(end);
     notes

@@ -97,12 +97,18 @@ pub(crate) enum Phase {
     Measuring(Measuring),
     /// The row of the job of this number.
     Finding(usize),
+    /// The files of the row of the job of this number.
+    Fetching(usize),
+    /// Whether it is noted that the archive of the row of the job of this number is gone.
+    Dropping(usize),
     /// The folders of the job of this number.
     Staging(usize),
     /// The open work on the job of this number.
     Working(usize, JobPhase),
     /// Whether the row of the job of this number is kept.
     Putting(usize),
+    /// Whether the files of the job of this number are archived; its row, which is this but for that, is put then.
+    Storing(usize, Row),
     /// The end of a child.
     Collecting,
     /// The result's files at their targets, which this output object names.
@@ -144,6 +150,8 @@ pub(crate) struct Course<'a> {
     pub looked_up: usize,
     /// The rows that were found.
     pub rows: FoundRows,
+    /// The keys of the archives that are not what their rows have.
+    pub lost: Vec<Text>,
     /// What went wrong without changing the end.
     pub notes: Vec<Note>,
     /// The jobs that are known, once all input files are measured.

@@ -3,25 +3,27 @@ ghost use Rattle.std.specs.Prelude.{◌≡◌, ◌<◌, ◌+◌, ◌^◌, ◌∷
 ghost use Rattle.run_core.specs.declared.state.JobNext.{JobNext as Next};
 ghost use Rattle.run_core.specs.declared.state.Phase.{Phase as Waits};
 ghost use Rattle.run_core.specs.inner.Course.{known_in};
-ghost use Rattle.run_core.specs.inner.Follows.{AfterFailure, AnswersWork, AsksOf, CanStage, Drains, FollowsFrom, FollowsIn, FollowsWork, IsLeftAfter, IsOneLess, IsReady, IsReadyFor, IsStaging};
+ghost use Rattle.run_core.specs.inner.Follows.{AfterFailure, AnswersWork, AsksOf, CanStage, Drains, FollowsFrom, FollowsIn, FollowsWork, IsLeftAfter, IsOneLess, IsReady, IsReadyFor, IsStaging, StoresKnown};
 ghost use Rattle.run_core.specs.inner.Picks.{AfterChild, AfterInputHead, AfterListing, AfterOutputHead, AfterStaging, AfterStart, AfterTemporary, IsScanned, IsSite, Turns};
 ghost use Rattle.run_core.specs.inner.Standing.{HasRoom};
 ghost use Rattle.proc_host.specs.declared.call.HostAnswer.{HostAnswer as HostSays};
 ghost use Rattle.run_rules.specs.declared.request.Answer.{Answer as Told};
 ghost use Rattle.run_rules.specs.Answers.{MayAnswer};
 
+use crate::archiving::{archived, keeping, unarchived};
 use crate::choice::pick;
 use crate::collects::{listed, read, scanning};
 use crate::course::{
-    job_of, note_end, note_failure, note_giving_up, note_mismatch, note_staging, note_start,
-    note_success, settle,
+    job_of, note_end, note_failure, note_fault, note_giving_up, note_mismatch, note_staging,
+    note_start, note_success,
 };
+use crate::fetching::fetched;
 use crate::measuring::measured;
 use crate::rows::told;
 use crate::site::Site;
 use crate::starts::{filled, filled_first};
 use crate::state::{Course, Filling, Flight, Given, JobNext, JobPhase, Kept, Phase, Reading, Turn};
-use crate::turn::{ended, failing, lost, putting, succeeded, working};
+use crate::turn::{ended, failing, lost, succeeded, working};
 use crate::{Answer, Cause, Request, RunFault};
 use cwl_value::Value;
 use job_rows::Row;
@@ -76,17 +78,21 @@ fn follows<'a>(
     ensures going { OnErr result (phase ≡ Waits.Draining → ⊥) }
 {
     if let HostAnswer::Failed(fault) = answer {
-        return failed(alloc, given, course, phase, *fault);
+        return failed(alloc, given, course, asks, phase, *fault);
     }
     match (phase, answer) {
         (Phase::Measuring(measuring), HostAnswer::Measured(measure)) => {
             measured(alloc, given, course, measuring, measure)
+        }
+        (Phase::Fetching(job), HostAnswer::Fetched(found)) => {
+            fetched(alloc, given, course, job, found)
         }
         (Phase::Staging(job), HostAnswer::Done) => staged(alloc, given, course, job, asks),
         (Phase::Working(job, work), answer) => works_on(alloc, given, course, job, work, answer),
         (Phase::Collecting, HostAnswer::Ended(ending)) => landed(alloc, given, course, ending),
         (Phase::Draining, HostAnswer::Ended(ending)) => Ok(drained(alloc, course, ending)),
         (Phase::Delivering(outputs), HostAnswer::Done) => Ok(succeeded(outputs)),
+        (Phase::Storing(job, row), HostAnswer::Done) => archived(alloc, course, job, row),
         _ => unreachable!(),
     }
 }
@@ -178,7 +184,7 @@ fn turn_of(
     }
 }
 
-/// A job gives what its row has, and the row is put next.
+/// A job gives what its row has, and the row is kept next.
 fn repeated(
     alloc: Global,
     given: &Given<'_>,
@@ -192,13 +198,12 @@ fn repeated(
         course.new) }
     ensures flying { OnErr result (course.new.tickets.items ≡ course.old.tickets.items) }
 {
-    let _run = given;
-    let turn = putting(alloc, &job_of(course, number).place, number, row)?;
+    let turn = keeping(alloc, given, course, number, row)?;
     course.jobs.bring(number);
     Ok(turn)
 }
 
-/// A job's outputs are there: its row is put next, if one is made of it.
+/// A job's outputs are there: its row is kept next, if one is made of it.
 fn gave(
     alloc: Global,
     given: &Given<'_>,
@@ -223,7 +228,7 @@ fn gave(
     }
 }
 
-/// A job's outputs are there, and its row is put next.
+/// A job's outputs are there, and its row is kept next.
 fn gave_row(
     alloc: Global,
     given: &Given<'_>,
@@ -238,8 +243,7 @@ fn gave_row(
         (Next.Gives outputs (Some row)) turn course.new) }
     ensures flying { OnErr result (course.new.tickets.items ≡ course.old.tickets.items) }
 {
-    let _run = given;
-    match putting(alloc, &job_of(course, number).place, number, row) {
+    match keeping(alloc, given, course, number, row) {
         Ok(turn) => match note_success(alloc, course, number, outputs) {
             Ok(()) => Ok(turn),
             Err(error) => {
@@ -442,16 +446,19 @@ fn on_output_bytes(
     turn_of(alloc, given, course, number, next)
 }
 
-/// A call failed: it settles the end. After a failed collect nobody waits for the children in flight any more.
+/// A call failed: it settles the end, or is late, unless files were to be archived. After a failed collect nobody waits for the children
+/// in flight any more.
 fn failed(
     alloc: Global,
     given: &Given<'_>,
     course: &mut Course<'_>,
+    asks: &Request,
     phase: Phase,
     fault: HostFault,
 ) -> Result<Turn, AllocError>
     requires ready { IsReadyFor course.old phase }
-    ensures is { IfOk result (λ next. AfterFailure given.now course.old phase fault next
+    requires stores { StoresKnown course.old phase }
+    ensures is { IfOk result (λ next. AfterFailure given.now course.old asks.now phase fault next
         course.new) }
     ensures flying { OnErr result (course.new.tickets.items ≡ course.old.tickets.items) }
     ensures going { OnErr result (phase ≡ Waits.Draining → ⊥) }
@@ -465,9 +472,10 @@ fn failed(
             course.tickets.clear();
             Ok(lost(alloc, course))
         }
+        Phase::Storing(number, row) => unarchived(alloc, course, number, row, fault),
         phase => {
             mem::drop(phase);
-            settle(course, Err(RunFault::Host(fault, Items::new(alloc))));
+            note_fault(alloc, course, asks, fault)?;
             pick(alloc, given, course)
         }
     }

@@ -1,15 +1,17 @@
 //! What the machine may wait for.
 ghost use Rattle.std.specs.Prelude.{◌≡◌, IfOk};
+ghost use Rattle.proc_host.specs.declared.call.HostRequest.{HostRequest as Call};
 ghost use Rattle.run_core.specs.declared.state.JobNext.{JobNext as Next};
 ghost use Rattle.run_core.specs.inner.Course.{past_of};
-ghost use Rattle.run_core.specs.inner.Turn.{collects, ends, given_up, lost_after, permanent, puts, root_asks, succeeds, waits, works};
+ghost use Rattle.run_core.specs.inner.Turn.{collects, ends, given_up, lost_after, permanent, puts, root_asks, stores, succeeds, waits, works};
+ghost use Rattle.run_rules.specs.declared.request.Request.{Request as Asks};
 
 use crate::state::{Course, JobNext, JobPhase, Phase, Turn};
 use crate::{Cause, Outcome, RecordRequest, Request, RunFault};
 use cwl_value::{JobPlace, Value, copy_job};
 use job_rows::Row;
-use plain_data::Items;
-use proc_host::HostRequest;
+use plain_data::{Items, Text};
+use proc_host::{HostRequest, store_request};
 use std::alloc::{AllocError, Global};
 use std::mem;
 
@@ -112,6 +114,48 @@ pub(crate) fn putting(
         }),
         Err(refused) => {
             mem::drop(row);
+            Err(refused)
+        }
+    }
+}
+
+/// The files of a job, which are in this folder, are archived, and then its row is put.
+pub(crate) fn storing(
+    alloc: Global,
+    place: &JobPlace,
+    number: usize,
+    folder: &Text,
+    row: Row,
+) -> Result<Turn, AllocError>
+    ensures { IfOk result (λ turn. turn ≡ stores place.now number folder.now row) }
+{
+    match store_of(alloc, place, folder, &row) {
+        Ok(asks) => Ok(Turn {
+            asks,
+            phase: Phase::Storing(number, row),
+        }),
+        Err(refused) => {
+            mem::drop(row);
+            Err(refused)
+        }
+    }
+}
+
+/// The request to archive what the row of a job lists.
+fn store_of(
+    alloc: Global,
+    place: &JobPlace,
+    folder: &Text,
+    row: &Row,
+) -> Result<Request, AllocError>
+    ensures { IfOk result (λ asks. asks
+        ≡ Asks.Host place.now (Call.Store row.now.key folder.now row.now.files)) }
+{
+    let request = store_request(alloc, &row.key, folder, &row.files)?;
+    match copy_job(alloc, place) {
+        Ok(place) => Ok(Request::Host(place, request)),
+        Err(refused) => {
+            mem::drop(request);
             Err(refused)
         }
     }

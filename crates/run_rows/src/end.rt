@@ -39,7 +39,8 @@ fn temporary_json(alloc: Global, place: &JobPlace) -> Result<String, RowFault> {
     Ok(format!(in alloc; "{{\"temporaryFail\":{place}}}")?)
 }
 
-fn place_json(alloc: Global, place: &JobPlace) -> Result<String, RowFault> {
+/// The place of a job, as JSON.
+pub fn place_json(alloc: Global, place: &JobPlace) -> Result<String, RowFault> {
     let place = place_text(alloc, place)?;
     quoted(alloc, place.as_str())
 }

@@ -10,6 +10,7 @@
 
 mod again;
 mod alone;
+mod archived;
 mod copies;
 mod end;
 mod giving_up;
@@ -41,6 +42,7 @@ impl Answers for Calls<'_> {
             "copy_plan" => copies::plan(alloc, row),
             "run" => run::answer(alloc, row),
             "run_again" => again::answer(alloc, row),
+            "run_archiving" => archived::answer(alloc, row),
             "gives_up" => giving_up::answer(alloc, row),
             "orders" => orders::answer(alloc, row),
             "timed" => timed::answer(self.0, row),

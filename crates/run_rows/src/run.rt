@@ -149,15 +149,22 @@ fn natural_or(row: &Row, name: &str, absent: u64) -> Result<u64, RowFault> {
 pub fn options_of(alloc: Global, row: &Row) -> Result<Options, RowFault>
     ensures { IfOk result IsWithinLimits }
 {
+    options_with(alloc, row, false)
+}
+
+/// The same, where it keeps an archive or not.
+pub fn options_with(alloc: Global, row: &Row, keep: bool) -> Result<Options, RowFault>
+    ensures { IfOk result IsWithinLimits }
+{
     let slots = natural_or(row, "slots", 1)?;
     let retries = natural_or(row, "retries", 0)?;
     if slots == 0 || slots > 64 || retries > 10 {
         return Err(RowFault::BadArgument);
     }
-    Ok(options(alloc, slots, retries)?)
+    Ok(options(alloc, slots, retries, keep)?)
 }
 
-fn options(alloc: Global, slots: u64, retries: u64) -> Result<Options, AllocError>
+fn options(alloc: Global, slots: u64, retries: u64, keep: bool) -> Result<Options, AllocError>
     requires least_slots { 1 ≤ slots }
     requires slots { slots ≤ 64 }
     requires retries { retries ≤ 10 }
@@ -171,6 +178,6 @@ fn options(alloc: Global, slots: u64, retries: u64) -> Result<Options, AllocErro
         retries,
         base: 1,
         rate: 100_000,
-        keep: false,
+        keep,
     })
 }

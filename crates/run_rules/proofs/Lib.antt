@@ -20,6 +20,7 @@ pub mod Evaluating
 pub mod Reported
 pub mod TwoJobs
 pub mod OtherOutputs
+pub mod Fetches
 pub mod MeasuredFile
 pub mod Rows
 pub mod events

@@ -13,10 +13,10 @@ use Rattle.job_graph.specs.Jobs.{Job}
 use Rattle.job_graph.specs.Unfold.{Resolved, Unfolded, is_at, nothing_known, unfolded}
 use Rattle.job_graph.specs.Words.{Name, Fields, JobPlace}
 use Rattle.run_rules.specs.Scene.{Scene}
-use Rattle.run_rules.specs.Events.{Event, file_measured, job_staged, job_started, child_exited, job_succeeded, job_failed, job_failed_for_now, result_delivered, host_failed, collect_failed, row_found, no_row, find_failed, put_failed, row_differs, job_repeated, Work, Progress, Started, measures, measures_after, measures_path, is_measured, are_measured, resolves, resolved, unfolding_at, job_at, row_at}
+use Rattle.run_rules.specs.Events.{Event, file_measured, job_staged, job_started, child_exited, job_succeeded, job_failed, job_failed_for_now, result_delivered, host_failed, collect_failed, row_found, no_row, find_failed, put_failed, row_differs, job_repeated, Work, Progress, Started, measures, measures_after, measures_path, is_measured, are_measured, resolves, resolved, unfolding_at, job_at, row_at, store_failed, files_fetched, archive_differs, drop_failed, host_failed_late}
 use Rattle.run_rules.specs.StartsOn.{StartsOn, reads_on as starts_reading, has_launch, has_no_launch, has_no_contents}
 use Rattle.run_rules.specs.CollectsOn.{CollectsOn, reads_on as collects_reading, collects, collects_none}
-use Rattle.run_rules.specs.Steps.{Steps, measures_file, stages, reads_input, starts, exits_well, exits_for_now, exits_badly, scans, reads_output, delivers, loses_collect, call_fails, finds_none, finds, finds_wrong, find_fails, puts, put_fails}
+use Rattle.run_rules.specs.Steps.{Steps, measures_file, stages, reads_input, starts, exits_well, exits_for_now, exits_badly, scans, reads_output, delivers, loses_collect, call_fails, finds_none, finds, finds_wrong, find_fails, puts, put_fails, stores, store_fails, fetches, fetches_other, drops, drop_fails, call_fails_late}
 use Rattle.plan_checker.specs.declared.plan.Mark.{Mark}
 use Rattle.run_rules.specs.Allowed.{Allowed}
 use Rattle.run_rules.specs.Run.{Goes, begins, asks}
@@ -114,6 +114,7 @@ module _ (s : Scene) where
   FitsAt es (row_found place row) = IsKnownAt es place
   FitsAt es (row_differs place outputs) = Differs es place outputs
   FitsAt es (job_repeated place) = HasRow es place
+  FitsAt es (files_fetched place number) = HasRow es place
   FitsAt es _ = Unit {0}
 
   abbrev pub Fits : List Event → List Event → Type 0
@@ -140,8 +141,13 @@ module _ (s : Scene) where
   same_measures es (no_row place) fits all = refl
   same_measures es (find_failed place refusal) fits all = refl
   same_measures es (put_failed place refusal) fits all = refl
+  same_measures es (store_failed place) fits all = refl
+  same_measures es (host_failed_late place fault) fits all = refl
   same_measures es (row_differs place outputs) fits all = refl
   same_measures es (job_repeated place) fits all = refl
+  same_measures es (files_fetched place number) fits all = refl
+  same_measures es (archive_differs place its_key number) fits all = refl
+  same_measures es (drop_failed place refusal) fits all = refl
 
   -- so what is measured by then is measured at the end
   pub measures_stay : (es later : List Event) → Fits es later → are_measured s es ≡ true → fold measures_after (measures es) later ≡ measures es
@@ -175,14 +181,14 @@ module _ (s : Scene) where
   told_fits es place outputs None found known = known
   told_fits es place outputs (Some row) found known = record { its = known; row = row; found = found }
 
-  keeps_fit : (es : List Event) (place : JobPlace) (job : Job) {millis : ℕ} {found : List Found} {outputs : Fields} {work : Work} {more : List Event} →
-      IsKnownAt es place → Keeps place job (row_at es place) millis found outputs work more → Fits es more
+  keeps_fit : (es : List Event) (place : JobPlace) (job : Job) {keep : Bool} {millis : ℕ} {found : List Found} {outputs : Fields} {work : Work} {more : List Event} →
+      IsKnownAt es place → Keeps keep place job (row_at es place) millis found outputs work more → Fits es more
   keeps_fit es place job known (keeps_none once) = (known, tt)
   keeps_fit es place job {outputs = outputs} known (keeps reusable agrees) = (told_fits es place outputs (row_at es place) refl known, tt)
   keeps_fit es place job known (differs row reusable found other) = (record { its = known; row = row; found = found; other = other }, tt)
 
-  collects_fit : (es : List Event) (place : JobPlace) (job : Job) {started : Started} {millis : ℕ} {found : List Found} {read : Heads} {todo : List Name} {work : Work} {more : List Event} →
-      IsKnownAt es place → CollectsOn place job (row_at es place) started millis found read todo work more → Fits es more
+  collects_fit : (es : List Event) (place : JobPlace) (job : Job) {keep : Bool} {started : Started} {millis : ℕ} {found : List Found} {read : Heads} {todo : List Name} {work : Work} {more : List Event} →
+      IsKnownAt es place → CollectsOn keep place job (row_at es place) started millis found read todo work more → Fits es more
   collects_fit es place job known (collects_reading name rest) = tt
   collects_fit es place job known (collects outputs work more is kept) = keeps_fit es place job known kept
   collects_fit es place job known (collects_none fault is) = (known, tt)
@@ -212,14 +218,21 @@ module _ (s : Scene) where
   step_fits f marks may (reads_output place path limit bytes millis found name todo read job started work more is known was on) =
       collects_fit f.events place job (record { job = job; known = known }) on
   step_fits f marks may (delivers place plan) = (tt, tt)
+  step_fits f marks may (fetches place its_key number files found row its same) = (record { its = record { job = may.job; known = may.known }; row = row; found = its }, tt)
+  step_fits f marks may (fetches_other place its_key number files found row its other) = (tt, tt)
+  step_fits f marks may (drops place its_key) = tt
+  step_fits f marks may (drop_fails place its_key refusal) = (tt, tt)
   step_fits f marks may loses_collect = (tt, tt)
-  step_fits f marks may (call_fails place request other) = (tt, tt)
+  step_fits f marks may (call_fails place request other unsettled) = (tt, tt)
+  step_fits f marks may (call_fails_late place request end other over) = (tt, tt)
   step_fits f marks may (finds_none place its_key) = (tt, tt)
   step_fits f marks may (finds place its_key row job known sound) = (record { job = job; known = known }, tt)
   step_fits f marks may (finds_wrong place its_key row job known unsound) = (tt, tt)
   step_fits f marks may (find_fails place its_key refusal) = (tt, tt)
   step_fits f marks may (puts place row) = tt
   step_fits f marks may (put_fails place row refusal) = (tt, tt)
+  step_fits f marks may (stores place key folder files row due) = tt
+  step_fits f marks may (store_fails place key folder files row due) = (tt, tt)
 
   module _ (Plans : Progress → List Mark → Type 0) where
     pub goes_fitting : {t : List Pair} {f : Progress} {marks : List Mark} → Goes s Plans t f marks → Fits [] f.events

@@ -36,10 +36,10 @@ use Rattle.job_graph.proofs.laws_of_walks.Passed.{Each, EachField}
 use Rattle.run_rules.specs.declared.request.Pair.{Pair}
 use Rattle.run_rules.specs.declared.setting.Options.{Options}
 use Rattle.run_rules.specs.Scene.{Scene}
-use Rattle.run_rules.specs.Events.{Event, file_measured, job_staged, job_started, child_exited, job_succeeded, job_failed, job_failed_for_now, result_delivered, host_failed, collect_failed, row_found, no_row, find_failed, put_failed, row_differs, job_repeated, Work, Progress, Started, resolved}
+use Rattle.run_rules.specs.Events.{Event, file_measured, job_staged, job_started, child_exited, job_succeeded, job_failed, job_failed_for_now, result_delivered, host_failed, collect_failed, row_found, no_row, find_failed, put_failed, row_differs, job_repeated, Work, Progress, Started, resolved, store_failed, files_fetched, archive_differs, drop_failed, host_failed_late}
 use Rattle.run_rules.specs.StartsOn.{StartsOn, reads_on as starts_reading, has_launch, has_no_launch, has_no_contents}
 use Rattle.run_rules.specs.CollectsOn.{CollectsOn, left_of, reads_on as collects_reading, collects, collects_none}
-use Rattle.run_rules.specs.Steps.{Steps, measures_file, stages, reads_input, starts, exits_well, exits_for_now, exits_badly, scans, reads_output, delivers, loses_collect, call_fails, finds_none, finds, finds_wrong, find_fails, puts, put_fails}
+use Rattle.run_rules.specs.Steps.{Steps, measures_file, stages, reads_input, starts, exits_well, exits_for_now, exits_badly, scans, reads_output, delivers, loses_collect, call_fails, finds_none, finds, finds_wrong, find_fails, puts, put_fails, stores, store_fails, fetches, fetches_other, drops, drop_fails, call_fails_late}
 use Rattle.run_rules.specs.Run.{Goes, begins, asks}
 use Rattle.run_rules.specs.Keeps.{Keeps, keeps, keeps_none, differs, told_of}
 use Rattle.job_reuse.specs.Sound.{IsSound, all_stand, is_dir_there, is_file_there}
@@ -188,14 +188,14 @@ told_named : (place : JobPlace) (outputs : Fields) (row : Option Row) → AreUnm
 told_named place outputs None unmade = (unmade, tt)
 told_named place outputs (Some row) unmade = (tt, tt)
 
-keeps_named : {place : JobPlace} {job : Job} {row : Option Row} {millis : ℕ} {found : List Found} {outputs : Fields} {work : Work} {more : List Event} → AreUnmade outputs →
-    Keeps place job row millis found outputs work more → AllByRecursion NamedAt more
+keeps_named : {keep : Bool} {place : JobPlace} {job : Job} {row : Option Row} {millis : ℕ} {found : List Found} {outputs : Fields} {work : Work} {more : List Event} → AreUnmade outputs →
+    Keeps keep place job row millis found outputs work more → AllByRecursion NamedAt more
 keeps_named unmade (keeps_none once) = (unmade, tt)
 keeps_named {place = place} {row = row} {outputs = outputs} unmade (keeps reusable agrees) = told_named place outputs row unmade
 keeps_named unmade (differs other reusable found differ) = (tt, tt)
 
-collects_named : {place : JobPlace} {job : Job} {row : Option Row} {started : Started} {millis : ℕ} {found : List Found} {read : Heads} {todo : List Name} {work : Work} {more : List Event} →
-    CollectsOn place job row started millis found read todo work more → AllByRecursion NamedAt more
+collects_named : {keep : Bool} {place : JobPlace} {job : Job} {row : Option Row} {started : Started} {millis : ℕ} {found : List Found} {read : Heads} {todo : List Name} {work : Work} {more : List Event} →
+    CollectsOn keep place job row started millis found read todo work more → AllByRecursion NamedAt more
 collects_named (collects_reading name more) = tt
 collects_named {job = job} {started = started} {found = found} {read = read} (collects outputs work more is kept) =
     keeps_named (collected_unmade (left_of started found read) job.tool.outputs outputs is) kept
@@ -213,14 +213,21 @@ module _ (s : Scene) where
   steps_named (scans place folder millis found job started wanted work more due known at are on) = collects_named on
   steps_named (reads_output place path limit bytes millis found name todo read job started work more due known at on) = collects_named on
   steps_named (delivers place plan) = (tt, tt)
+  steps_named (fetches place its_key number files found row its same) = (tt, tt)
+  steps_named (fetches_other place its_key number files found row its other) = (tt, tt)
+  steps_named (drops place its_key) = tt
+  steps_named (drop_fails place its_key refusal) = (tt, tt)
   steps_named loses_collect = (tt, tt)
-  steps_named (call_fails place request other) = (tt, tt)
+  steps_named (call_fails place request other unsettled) = (tt, tt)
+  steps_named (call_fails_late place request end other over) = (tt, tt)
   steps_named (finds_none place its_key) = (tt, tt)
   steps_named (finds place its_key row job known sound) = (sound_unmade job.tool row sound, tt)
   steps_named (finds_wrong place its_key row job known unsound) = (tt, tt)
   steps_named (find_fails place its_key refusal) = (tt, tt)
   steps_named (puts place row) = tt
   steps_named (put_fails place row refusal) = (tt, tt)
+  steps_named (stores place key folder files row due) = tt
+  steps_named (store_fails place key folder files row due) = (tt, tt)
 
   module _ {Plans : Progress → List Mark → Type 0} where
     pub goes_named : {t : List Pair} {f : Progress} {marks : List Mark} → Goes s Plans t f marks → AllByRecursion NamedAt f.events
@@ -243,8 +250,13 @@ named_resolved (row_found place row ∷ es) all = (all.0, named_resolved es all.
 named_resolved (no_row place ∷ es) all = named_resolved es all.1
 named_resolved (find_failed place refusal ∷ es) all = named_resolved es all.1
 named_resolved (put_failed place refusal ∷ es) all = named_resolved es all.1
+named_resolved (store_failed place ∷ es) all = named_resolved es all.1
+named_resolved (host_failed_late place fault ∷ es) all = named_resolved es all.1
 named_resolved (row_differs place outputs ∷ es) all = named_resolved es all.1
 named_resolved (job_repeated place ∷ es) all = named_resolved es all.1
+named_resolved (files_fetched place number ∷ es) all = named_resolved es all.1
+named_resolved (archive_differs place its_key number ∷ es) all = named_resolved es all.1
+named_resolved (drop_failed place refusal ∷ es) all = named_resolved es all.1
 
 -- the outputs that a run has learned are named
 pub learned_are_named : (s : Scene) {Plans : Progress → List Mark → Type 0} {t : List Pair} {f : Progress} {marks : List Mark} → Goes s Plans t f marks → AreNamed (resolved f.events)

@@ -54,7 +54,7 @@ module _ (s : Scene) (f : Progress) (marks : List Mark) where
   after_lost (Request.Host place HostRequest.Collect) idle is may = yes_and_no lost_one is may.collects
   after_lost (Request.Host place (HostRequest.Scan folder)) idle is may = not_due s f (Request.Host place (HostRequest.Scan folder)) idle may
   after_lost (Request.Host place (HostRequest.Head path limit)) idle is may = not_due s f (Request.Host place (HostRequest.Head path limit)) idle may
-  after_lost (Request.Host place (HostRequest.Fetch key number files)) idle is may = not_due s f (Request.Host place (HostRequest.Fetch key number files)) idle may
+  after_lost (Request.Host place (HostRequest.Fetch key number files)) idle is may = yes_and_no lost_one is may.free.still.collects
   after_lost (Request.Host place (HostRequest.Store key folder files)) idle is may = not_due s f (Request.Host place (HostRequest.Store key folder files)) idle may
   after_lost (Request.Host place (HostRequest.Deliver plan)) idle is may = yes_and_no lost_one is may.busy.free.still.collects
   after_lost (Request.Record place (RecordRequest.Find its_key)) idle is may = yes_and_no lost_one is may.still.collects
@@ -70,7 +70,7 @@ module _ (s : Scene) (f : Progress) (marks : List Mark) where
   after_failure end (Request.Host place HostRequest.Collect) idle landed is may = some_in_none (in_flight f.events) may.flying.0 landed may.flying.1
   after_failure end (Request.Host place (HostRequest.Scan folder)) idle landed is may = not_due s f (Request.Host place (HostRequest.Scan folder)) idle may
   after_failure end (Request.Host place (HostRequest.Head path limit)) idle landed is may = not_due s f (Request.Host place (HostRequest.Head path limit)) idle may
-  after_failure end (Request.Host place (HostRequest.Fetch key number files)) idle landed is may = not_due s f (Request.Host place (HostRequest.Fetch key number files)) idle may
+  after_failure end (Request.Host place (HostRequest.Fetch key number files)) idle landed is may = some_and_none (settled s f.events) end is may.free.still.unsettled
   after_failure end (Request.Host place (HostRequest.Store key folder files)) idle landed is may = not_due s f (Request.Host place (HostRequest.Store key folder files)) idle may
   after_failure end (Request.Host place (HostRequest.Deliver plan)) idle landed is may = some_and_none (settled s f.events) end is may.busy.free.still.unsettled
   after_failure end (Request.Record place (RecordRequest.Find its_key)) idle landed is may = some_and_none (settled s f.events) end is may.still.unsettled
@@ -104,7 +104,7 @@ module _ (s : Scene) (f : Progress) (marks : List Mark) where
   over (Request.Host place HostRequest.Collect) (succeeds outputs delivered busy landed result is) may =
       some_in_none (in_flight f.events) may.flying.0 landed may.flying.1
   over (Request.Host place (HostRequest.Scan folder)) (succeeds outputs delivered busy landed result is) may = not_due s f (Request.Host place (HostRequest.Scan folder)) busy.free.still.idle may
-  over (Request.Host place (HostRequest.Fetch key number files)) (succeeds outputs delivered busy landed result is) may = not_due s f (Request.Host place (HostRequest.Fetch key number files)) busy.free.still.idle may
+  over (Request.Host place (HostRequest.Fetch key number files)) (succeeds outputs delivered busy landed result is) may = busy.no_fetch place key number files may
   over (Request.Host place (HostRequest.Store key folder files)) (succeeds outputs delivered busy landed result is) may = not_due s f (Request.Host place (HostRequest.Store key folder files)) busy.free.still.idle may
   over (Request.Host place (HostRequest.Head path limit)) (succeeds outputs delivered busy landed result is) may = not_due s f (Request.Host place (HostRequest.Head path limit)) busy.free.still.idle may
   over (Request.Host place (HostRequest.Deliver plan)) (succeeds outputs delivered busy landed result is) may =

@@ -15,7 +15,7 @@ use Rattle.run_rules.specs.declared.request.Pair.{Pair}
 use Rattle.run_rules.specs.declared.setting.Setting.{Setting}
 use Rattle.job_key.specs.Key.{key}
 use Rattle.run_rules.specs.Scene.{Scene, scene_of}
-use Rattle.run_rules.specs.Events.{Event, file_measured, job_staged, job_started, child_exited, job_succeeded, job_failed, job_failed_for_now, result_delivered, host_failed, collect_failed, row_found, no_row, find_failed, put_failed, row_differs, job_repeated, measures, measures_after, are_measured, resolved, unfolding_at, job_at, row_at, row_if}
+use Rattle.run_rules.specs.Events.{Event, file_measured, job_staged, job_started, child_exited, job_succeeded, job_failed, job_failed_for_now, result_delivered, host_failed, collect_failed, row_found, no_row, find_failed, put_failed, row_differs, job_repeated, measures, measures_after, are_measured, resolved, unfolding_at, job_at, row_at, row_if, store_failed, files_fetched, archive_differs, drop_failed, host_failed_late}
 use Rattle.run_rules.specs.End.{End, succeeds_with, fails_permanently, fails_temporarily, beyond_limits, ended_by_host, ended_by_record, fault_end, gives_up, settled_by, unfold_end, settled_from, settled, mismatches}
 use Rattle.run_rules.specs.Plans.{InForce}
 use Rattle.run_rules.specs.Honest.{AgreesAt, AgreesFrom, IsHonest, Means}
@@ -109,8 +109,13 @@ module _ (s : Scene) (world : World) (all : Measures) (evaluates : Evaluates wor
   breaks_rightly es later (no_row at) place cause fits leads agrees_so given is = absurd cc
   breaks_rightly es later (find_failed at refusal) place cause fits leads agrees_so given is = absurd cc
   breaks_rightly es later (put_failed at refusal) place cause fits leads agrees_so given is = absurd cc
+  breaks_rightly es later (store_failed at) place cause fits leads agrees_so given is = absurd cc
+  breaks_rightly es later (host_failed_late at fault) place cause fits leads agrees_so given is = absurd cc
   breaks_rightly es later (row_differs at outputs) place cause fits leads agrees_so given is = absurd cc
   breaks_rightly es later (job_repeated at) place cause fits leads agrees_so given is = absurd cc
+  breaks_rightly es later (files_fetched at number) place cause fits leads agrees_so given is = absurd cc
+  breaks_rightly es later (archive_differs at its_key number) place cause fits leads agrees_so given is = absurd cc
+  breaks_rightly es later (drop_failed at refusal) place cause fits leads agrees_so given is = absurd cc
 
   lacks_rightly : (es later : List Event) (place : JobPlace) (cause : Cause) → Fits s es later → Leads_to es later → AreGiven s world es →
       unfold_end s es ≡ Some (fails_permanently place cause) → Fails
@@ -194,7 +199,12 @@ module _ (s : Scene) (world : World) where
   rows_given_one es (no_row at) fits agrees_so given = row_as_before es (no_row at) fits (λ place last. refl) given
   rows_given_one es (find_failed at refusal) fits agrees_so given = row_as_before es (find_failed at refusal) fits (λ place last. refl) given
   rows_given_one es (put_failed at refusal) fits agrees_so given = row_as_before es (put_failed at refusal) fits (λ place last. refl) given
+  rows_given_one es (store_failed at) fits agrees_so given = row_as_before es (store_failed at) fits (λ place last. refl) given
+  rows_given_one es (host_failed_late at fault) fits agrees_so given = row_as_before es (host_failed_late at fault) fits (λ place last. refl) given
   rows_given_one es (job_repeated at) fits agrees_so given = row_as_before es (job_repeated at) fits (λ place last. refl) given
+  rows_given_one es (files_fetched at number) fits agrees_so given = row_as_before es (files_fetched at number) fits (λ place last. refl) given
+  rows_given_one es (archive_differs at its_key number) fits agrees_so given = row_as_before es (archive_differs at its_key number) fits (λ place last. refl) given
+  rows_given_one es (drop_failed at refusal) fits agrees_so given = row_as_before es (drop_failed at refusal) fits (λ place last. refl) given
 
   -- the world gives the one job at a place one thing
   one_given : (es : List Event) (place : JobPlace) (job : Job) (outputs : Fields) → job_at s es place ≡ Some job → IsGiven s world es place outputs →
@@ -238,7 +248,12 @@ module _ (s : Scene) (world : World) where
   breaks_nowhere es (no_row at) place fits agrees_so given is = cc
   breaks_nowhere es (find_failed at refusal) place fits agrees_so given is = cc
   breaks_nowhere es (put_failed at refusal) place fits agrees_so given is = cc
+  breaks_nowhere es (store_failed at) place fits agrees_so given is = cc
+  breaks_nowhere es (host_failed_late at fault) place fits agrees_so given is = cc
   breaks_nowhere es (job_repeated at) place fits agrees_so given is = cc
+  breaks_nowhere es (files_fetched at number) place fits agrees_so given is = cc
+  breaks_nowhere es (archive_differs at its_key number) place fits agrees_so given is = cc
+  breaks_nowhere es (drop_failed at refusal) place fits agrees_so given is = cc
 
   fault_is_no_mismatch : (fault : Option Fault) (place : JobPlace) → fault_end fault ≡ Some (mismatches place) → ⊥
   fault_is_no_mismatch None place is = cc

@@ -72,7 +72,7 @@ use Rattle.run_rules.specs.End.{End, succeeds_with, fails_permanently, fails_tem
 use Rattle.run_rules.specs.EndsSo.{EndsSo, IsDelivered, no_file, copied as was_copied, lost, fails, succeeds}
 use Rattle.plan_checker.specs.declared.plan.Mark.{Mark}
 use Rattle.plan_checker.specs.declared.plan.Mark.TheVariants.{Load, Compute}
-use Rattle.run_rules.specs.Allowed.{MayStage}
+use Rattle.run_rules.specs.Allowed.{MayStage, MayFetch}
 use Rattle.job_key.specs.Key.{key}
 use Rattle.job_reuse.specs.Rows.{made_row}
 use Rattle.job_rows.specs.declared.row.Row.{Row}
@@ -308,6 +308,9 @@ it_is_delivered = subst (λ (fields : Fields). IsPlan true (codes "/out") fields
 abbrev after_events : List Event → Progress
 after_events events = record { work = nothing_due; events = events }
 
+nothing_to_fetch : (place : JobPlace) (its_key : List ℕ) (number : ℕ) (files : List Found) → MayFetch s (after_events whole) (Load ∷ []) place its_key number files → ⊥
+nothing_to_fetch place its_key number files may = let never : None ≡ Some may.row = may.found in cc
+
 nothing_to_stage : (place : JobPlace) (plan : StagePlan) (number : ℕ) → MayStage s (after_events whole) (Load ∷ []) place plan number → ⊥
 nothing_to_stage [] plan number may = let held : true ≡ false = may.not_held in cc
 nothing_to_stage (segment ∷ place) plan number may = let none : None ≡ Some may.job = may.known in cc
@@ -315,7 +318,7 @@ nothing_to_stage (segment ∷ place) plan number may = let none : None ≡ Some 
 it_succeeds : EndsSo s (after_events whole) (Load ∷ []) (succeeds_with made_out put_out)
 it_succeeds =
     succeeds made_out put_out
-    (record { free = record { still = record { idle = refl; collects = refl; unsettled = refl }; measured = refl; looked_up = refl }; no_stage = nothing_to_stage }) refl its_result
+    (record { free = record { still = record { idle = refl; collects = refl; unsettled = refl }; measured = refl; looked_up = refl }; no_fetch = nothing_to_fetch; no_stage = nothing_to_stage }) refl its_result
     (was_copied its_plan refl it_is_delivered)
 
 a_file_is_there : any_file made_out ≡ true

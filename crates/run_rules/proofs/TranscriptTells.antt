@@ -21,15 +21,15 @@ use Rattle.collected_outputs.specs.Contents.{Heads}
 use Rattle.job_graph.specs.Jobs.{Job}
 use Rattle.job_graph.specs.Words.{Name, Fields, JobPlace}
 use Rattle.run_rules.specs.Scene.{Scene}
-use Rattle.run_rules.specs.Events.{Event, file_measured, job_staged, job_started, child_exited, job_succeeded, job_failed, job_failed_for_now, result_delivered, host_failed, collect_failed, row_found, no_row, find_failed, put_failed, job_repeated, Work, nothing_due, input_heads_due, start_due, scan_due, output_heads_due, Progress, Started, flight_after, in_flight, job_at, put_due}
+use Rattle.run_rules.specs.Events.{Event, file_measured, job_staged, job_started, child_exited, job_succeeded, job_failed, job_failed_for_now, result_delivered, host_failed, collect_failed, row_found, no_row, find_failed, put_failed, job_repeated, Work, nothing_due, input_heads_due, start_due, scan_due, output_heads_due, Progress, Started, flight_after, in_flight, job_at, put_due, store_failed, store_due, files_fetched, archive_differs, drop_failed, drop_due, host_failed_late}
 use Rattle.run_rules.specs.StartsOn.{StartsOn, reads_on as starts_reading, has_launch, has_no_launch, has_no_contents}
 use Rattle.run_rules.specs.CollectsOn.{CollectsOn, reads_on as collects_reading, collects, collects_none}
-use Rattle.run_rules.specs.Steps.{Steps, measures_file, stages, reads_input, starts, exits_well, exits_for_now, exits_badly, scans, reads_output, delivers, loses_collect, call_fails, call, progress_with, finds_none, finds, finds_wrong, find_fails, puts, put_fails}
+use Rattle.run_rules.specs.Steps.{Steps, measures_file, stages, reads_input, starts, exits_well, exits_for_now, exits_badly, scans, reads_output, delivers, loses_collect, call_fails, call, progress_with, finds_none, finds, finds_wrong, find_fails, puts, put_fails, stores, store_fails, fetches, fetches_other, drops, drop_fails, call_fails_late}
 use Rattle.plan_checker.specs.declared.plan.Mark.{Mark}
 use Rattle.run_rules.specs.Allowed.{Allowed, due_in}
 use Rattle.run_rules.specs.Run.{Goes, begins, asks}
 use Rattle.run_rules.specs.RanWell.{RanWell, HadRow}
-use Rattle.run_rules.specs.Keeps.{Keeps, keeps, keeps_none, differs, told_of}
+use Rattle.run_rules.specs.Keeps.{Keeps, keeps, keeps_none, differs, told_of, work_to_keep}
 use Rattle.job_rows.specs.declared.row.Row.{Row}
 
 pub none_in : {X : Type 0} (x : X) → Contains [] x → ⊥
@@ -126,6 +126,8 @@ module _ (codes : JobPlace → ExitCodes) where
     work_still (scan_due place millis) told = ran_still place told
     work_still (output_heads_due place millis found todo read) told = ran_still place told
     work_still (put_due place row) told = tt
+    work_still (drop_due place its_key) told = tt
+    work_still (store_due place row) told = tt
 
     knows_still : (f : Progress) → Knows t f → Knows (t ++ p ∷ []) f
     knows_still f knows = record {
@@ -148,6 +150,8 @@ module _ (codes : JobPlace → ExitCodes) where
   scanned t s es (output_heads_due at millis found [] read) place folder told is = absurd cc
   scanned t s es (output_heads_due at millis found (name ∷ todo) read) place folder told is = absurd cc
   scanned t s es (put_due at row) place folder told is = absurd cc
+  scanned t s es (drop_due at its_key) place folder told is = absurd cc
+  scanned t s es (store_due at row) place folder told is = absurd cc
 
   module _ (t : List Pair) (s : Scene) (f : Progress) (its_codes : (place : JobPlace) (job : Job) → job_at s f.events place ≡ Some job → job.tool.exit_codes ≡ codes place)
       (marks : List Mark) (knows : Knows t f) where
@@ -237,14 +241,19 @@ module _ (codes : JobPlace → ExitCodes) where
     one_told place outputs None work told its = one_success place outputs work told its
     one_told place outputs (Some row) work told its = quiet_after (job_repeated place) work told refl refl
 
-    keeps_told : {place : JobPlace} {job : Job} {row : Option Row} {millis : ℕ} {found : List Found} {outputs : Fields} {work : Work} {more : List Event} →
-        RanWell t place (codes place) → Keeps place job row millis found outputs work more → IsTold t flying work more
+    -- neither an archive nor a row needs that it ran well
+    kept_told : (keep : Bool) (place : JobPlace) (row : Row) → WorkTold t (work_to_keep keep place row)
+    kept_told true place row = tt
+    kept_told false place row = tt
+
+    keeps_told : {keep : Bool} {place : JobPlace} {job : Job} {row : Option Row} {millis : ℕ} {found : List Found} {outputs : Fields} {work : Work} {more : List Event} →
+        RanWell t place (codes place) → Keeps keep place job row millis found outputs work more → IsTold t flying work more
     keeps_told its (keeps_none once) = one_success _ _ nothing_due tt its
-    keeps_told {row = row} its (keeps reusable agrees) = one_told _ _ row _ tt its
+    keeps_told {keep = keep} {row = row} its (keeps reusable agrees) = one_told _ _ row _ (kept_told keep _ _) its
     keeps_told its (differs other reusable found differ) = quiet_one _ refl refl
 
-    collects_told : {place : JobPlace} {job : Job} {row : Option Row} {started : Started} {millis : ℕ} {found : List Found} {read : Heads} {todo : List Name} {work : Work} {more : List Event} →
-        RanWell t place (codes place) → CollectsOn place job row started millis found read todo work more → IsTold t flying work more
+    collects_told : {keep : Bool} {place : JobPlace} {job : Job} {row : Option Row} {started : Started} {millis : ℕ} {found : List Found} {read : Heads} {todo : List Name} {work : Work} {more : List Event} →
+        RanWell t place (codes place) → CollectsOn keep place job row started millis found read todo work more → IsTold t flying work more
     collects_told its (collects_reading name rest) = no_event _ its
     collects_told its (collects outputs work more is kept) = keeps_told its kept
     collects_told its (collects_none fault is) = quiet_one _ refl refl
@@ -274,9 +283,14 @@ module _ (codes : JobPlace → ExitCodes) where
         collects_told (scanned t s f.events f.work place folder knows.work may) on
     step_told now may (reads_output place path limit bytes millis found name todo read job started work more is known was on) =
         collects_told (subst (WorkTold t) is knows.work) on
+    step_told now may (fetches place its_key number files found row its same) = quiet_one (files_fetched place number) refl refl
+    step_told now may (fetches_other place its_key number files found row its other) = quiet_after (archive_differs place row.key number) (drop_due place row.key) tt refl refl
+    step_told now may (drops place its_key) = no_event nothing_due tt
+    step_told now may (drop_fails place its_key refusal) = quiet_one (drop_failed place refusal) refl refl
     step_told now may (delivers place plan) = quiet_one (result_delivered plan) refl refl
     step_told now may loses_collect = quiet_one collect_failed refl refl
-    step_told now may (call_fails place request other) = quiet_one (host_failed place (fault_of request)) refl refl
+    step_told now may (call_fails place request other unsettled) = quiet_one (host_failed place (fault_of request)) refl refl
+    step_told now may (call_fails_late place request end other over) = quiet_one (host_failed_late place (fault_of request)) refl refl
     step_told now may (finds_none place its_key) = quiet_one (no_row place) refl refl
     step_told now may (finds place its_key row job known sound) = record {
       flights = λ x there. inl there;
@@ -289,6 +303,13 @@ module _ (codes : JobPlace → ExitCodes) where
     step_told now may (find_fails place its_key refusal) = quiet_one (find_failed place refusal) refl refl
     step_told now may (puts place row) = no_event nothing_due tt
     step_told now may (put_fails place row refusal) = quiet_one (put_failed place refusal) refl refl
+    step_told now may (stores place key folder files row due) = no_event _ tt
+    step_told now may (store_fails place key folder files row due) = record {
+      flights = λ x there. inl there;
+      next = tt;
+      success = λ at outputs there. let never : store_failed place ≡ job_succeeded at outputs = only_in _ _ there in absurd cc;
+      rows = λ at other there. let never : store_failed place ≡ row_found at other = only_in _ _ there in absurd cc;
+    }
 
   -- of a run whose events are the first of these, where the jobs that are known after any first events have these codes
   module _ (s : Scene) (all : List Event) (its_codes : (es rest : List Event) → es ++ rest ≡ all → (place : JobPlace) (job : Job) →

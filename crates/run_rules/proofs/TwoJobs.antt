@@ -285,6 +285,7 @@ ends_by_b : EndsSo s (at (both ++ came_well 1 a ++ came_well 2 b)) (Load ∷ Loa
 ends_by_b =
     succeeds [] [] (record {
       free = record { still = record { idle = refl; collects = refl; unsettled = refl }; measured = refl; looked_up = refl };
+      no_fetch = λ place its_key number files may. let never : None ≡ Some may.row = may.found in cc;
       no_stage = λ place plan number may. both_loaded (is_same_place a place) (is_same_place b place) may.computed;
     }) refl refl (no_file refl refl)
 
@@ -292,6 +293,7 @@ ends_by_a : EndsSo s (at (both ++ came_well 2 b ++ came_well 1 a)) (Load ∷ Loa
 ends_by_a =
     succeeds [] [] (record {
       free = record { still = record { idle = refl; collects = refl; unsettled = refl }; measured = refl; looked_up = refl };
+      no_fetch = λ place its_key number files may. let never : None ≡ Some may.row = may.found in cc;
       no_stage = λ place plan number may. both_loaded (is_same_place a place) (is_same_place b place) may.computed;
     }) refl refl (no_file refl refl)
 

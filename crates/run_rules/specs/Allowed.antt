@@ -5,9 +5,11 @@ use Rattle.proc_host.specs.declared.call.HostRequest.{HostRequest}
 use Rattle.collected_outputs.specs.HeadsWanted.{limit_of}
 use Rattle.staging.specs.Groups.{path_in}
 use Rattle.staging.specs.Plan.{IsPlan}
+use Rattle.staging.specs.declared.found.Found.{Found}
 use Rattle.staging.specs.declared.plan.StagePlan.{StagePlan}
 use Rattle.input_files.specs.declared.contents.TheConstants.{MOST_CONTENTS}
 use Rattle.job_key.specs.Key.{Key, key}
+use Rattle.job_rows.specs.declared.row.Row.{Row}
 use Rattle.run_rules.specs.declared.request.RecordRequest.{RecordRequest}
 use Rattle.run_rules.specs.declared.request.Request.{Request}
 use Rattle.job_graph.specs.Jobs.{Job}
@@ -15,10 +17,10 @@ use Rattle.job_graph.specs.Made.{fields_moved}
 use Rattle.job_graph.specs.Words.{Name, Fields, JobPlace}
 use Rattle.run_rules.specs.Folders.{in_folder}
 use Rattle.run_rules.specs.Delivered.{any_file, source_place}
-use Rattle.run_rules.specs.Events.{Event, Work, nothing_due, input_heads_due, start_due, scan_due, output_heads_due, put_due, Progress, in_flight, is_at_hand, is_held, is_measured, is_looked_up, is_reusable, is_staging, are_looked_up, are_measured, delivered_at, folder_at, unfolding_at, job_at}
+use Rattle.run_rules.specs.Events.{Event, Work, nothing_due, input_heads_due, start_due, scan_due, output_heads_due, put_due, store_due, Progress, in_flight, is_at_hand, is_held, is_measured, is_looked_up, is_reusable, are_looked_up, are_measured, delivered_at, folder_at, unfolding_at, job_at, drop_due, is_numbered, row_at}
 use Rattle.run_rules.specs.End.{settled, IsDelivery, is_lost_collect}
 use Rattle.plan_checker.specs.declared.plan.Mark.{Mark}
-use Rattle.plan_checker.specs.declared.plan.Mark.TheVariants.{Compute}
+use Rattle.plan_checker.specs.declared.plan.Mark.TheVariants.{Load, Compute}
 use Rattle.run_rules.specs.Parents.{IsParent}
 use Rattle.run_rules.specs.Plans.{mark_at}
 use Rattle.run_rules.specs.Scene.{Scene}
@@ -62,16 +64,30 @@ module _ (s : Scene) where
     pub not_held : is_held f.events place ≡ false
     pub parents : (parent : Job) → IsParent (unfolding_at s f.events).jobs job parent → is_at_hand f.events parent.place ≡ true
     pub slot : length (in_flight f.events) < s.options.slots
-    pub next_number : number ≡ length (filter is_staging f.events) + 1
+    pub next_number : number ≡ length (filter is_numbered f.events) + 1
     pub staged : IsPlan false (in_folder s.options.work number) (fields_moved (source_place (folder_at s f.events)) job.inputs) plan
 
-  -- nothing more can be staged
+  -- the files of a job's row are fetched that the plan loads and that is not held
+  pub record MayFetch (f : Progress) (marks : List Mark) (place : JobPlace) (key : List ℕ) (number : ℕ) (files : List Found) : Type 0 where
+    pub free : IsFree f
+    pub job : Job
+    pub known : job_at s f.events place ≡ Some job
+    pub loaded : mark_at s marks f.events place ≡ Load
+    pub not_held : is_held f.events place ≡ false
+    pub row : Row
+    pub found : row_at f.events place ≡ Some row
+    pub its_key : key ≡ row.key
+    pub its_files : files ≡ row.files
+    pub next_number : number ≡ length (filter is_numbered f.events) + 1
+
+  -- nothing more can be fetched or staged
   pub record IsBusy (f : Progress) (marks : List Mark) : Type 0 where
     pub free : IsFree f
+    pub no_fetch : (place : JobPlace) (key : List ℕ) (number : ℕ) (files : List Found) → MayFetch f marks place key number files → ⊥
     pub no_stage : (place : JobPlace) (plan : StagePlan) (number : ℕ) → MayStage f marks place plan number → ⊥
 
   -- a child is waited for where one is in flight, no collect has failed, and, unless the end is settled, nothing more can be
-  -- staged; whose child it is nobody knows before
+  -- fetched or staged; whose child it is nobody knows before
   pub record MayCollect (f : Progress) (marks : List Mark) (place : JobPlace) : Type 0 where
     pub at_root : place ≡ []
     pub idle : f.work ≡ nothing_due
@@ -90,7 +106,8 @@ module _ (s : Scene) where
     pub only : delivered_at f.events ≡ None
     pub delivery : IsDelivery s f.events outputs plan
 
-  -- the request for the work that is due: first bytes are read, a job's launch is started, its output folder is listed, and its row is put
+  -- the request for the work that is due: first bytes are read, a job's launch is started, its output folder is listed, what was found there
+  -- is archived under its key, and its row is put
   abbrev pub due_in : List Event → Work → Option Request
   due_in es nothing_due = None
   due_in es (input_heads_due place staged [] read) = None
@@ -101,6 +118,8 @@ module _ (s : Scene) where
   due_in es (output_heads_due place millis found (name ∷ todo) read) =
       Some (Request.Host place (HostRequest.Head (path_in (folder_at s es place) name) (limit_of name)))
   due_in es (put_due place row) = Some (Request.Record place (RecordRequest.Put row))
+  due_in es (drop_due place key) = Some (Request.Record place (RecordRequest.DropArchive key))
+  due_in es (store_due place row) = Some (Request.Host place (HostRequest.Store row.key (folder_at s es place) row.files))
 
   abbrev pub due : Progress → Option Request
   due f = due_in f.events f.work
@@ -109,6 +128,7 @@ module _ (s : Scene) where
   abbrev pub Allowed : Progress → List Mark → Request → Type 0
   Allowed f marks (Request.Host place (HostRequest.Measure path)) = MayMeasure f place path
   Allowed f marks (Request.Host place (HostRequest.Stage plan number)) = MayStage f marks place plan number
+  Allowed f marks (Request.Host place (HostRequest.Fetch key number files)) = MayFetch f marks place key number files
   Allowed f marks (Request.Host place HostRequest.Collect) = MayCollect f marks place
   Allowed f marks (Request.Host place (HostRequest.Deliver plan)) = MayDeliver f marks place plan
   Allowed f marks (Request.Record place (RecordRequest.Find its_key)) = MayFind f place its_key

@@ -1,6 +1,6 @@
 -- What comes once a job's output folder is listed: first bytes of what was found are read, one file after another, where the outputs ask for
 -- them; then the outputs are collected, or there is a fault why there are none (CWL v1.2, Command Line Tool, "Output binding").
-use Rattle.std.specs.Prelude.{ℕ, List, [], ◌∷◌, Option, unwrap_or, Ok, Err}
+use Rattle.std.specs.Prelude.{ℕ, Bool, List, [], ◌∷◌, Option, unwrap_or, Ok, Err}
 use Rattle.collected_outputs.specs.Collected.{IsCollected}
 use Rattle.collected_outputs.specs.Listing.{listing_of}
 use Rattle.collected_outputs.specs.Outputs.{Left}
@@ -27,13 +27,13 @@ left_of started found read = record {
   runtime = runtime;
 }
 
--- the job at a place, with this row where one was found, whose child was started so and ran for so long, with what was found, where these
--- first bytes were read and those of these names are not
-pub data CollectsOn (place : JobPlace) (job : Job) (row : Option Row) (started : Started) (millis : ℕ) (found : List Found) (read : Heads) : List Name → Work → List Event → Type 0 where
+-- where an archive is kept or not, the job at a place, with this row where one was found, whose child was started so and ran for so long,
+-- with what was found, where these first bytes were read and those of these names are not
+pub data CollectsOn (keep : Bool) (place : JobPlace) (job : Job) (row : Option Row) (started : Started) (millis : ℕ) (found : List Found) (read : Heads) : List Name → Work → List Event → Type 0 where
   reads_on : (name : Name) (more : List Name) →
-      CollectsOn place job row started millis found read (name ∷ more) (output_heads_due place millis found (name ∷ more) read) []
+      CollectsOn keep place job row started millis found read (name ∷ more) (output_heads_due place millis found (name ∷ more) read) []
   collects : (outputs : Fields) (work : Work) (more : List Event) → IsCollected (left_of started found read) job.tool.outputs (Ok outputs) →
-      Keeps place job row millis found outputs work more →
-      CollectsOn place job row started millis found read [] work more
+      Keeps keep place job row millis found outputs work more →
+      CollectsOn keep place job row started millis found read [] work more
   collects_none : (fault : OutputFault) → IsCollected (left_of started found read) job.tool.outputs (Err fault) →
-      CollectsOn place job row started millis found read [] nothing_due (job_failed place (Cause.Collect (CollectCause.Output fault)) ∷ [])
+      CollectsOn keep place job row started millis found read [] nothing_due (job_failed place (Cause.Collect (CollectCause.Output fault)) ∷ [])

@@ -1,5 +1,5 @@
 -- What has happened in a transcript, and what is read off it.
-use Rattle.std.specs.Prelude.{ℕ, ◌==◌, ◌||◌, not, Bool, true, false, cond, List, [], ◌∷◌, ◌++◌, Option, Some, None, filter, filter_map, find, fold, map, bytes_eq}
+use Rattle.std.specs.Prelude.{ℕ, ◌==◌, ◌||◌, ◌&&◌, not, Bool, true, false, cond, List, [], ◌∷◌, ◌++◌, Option, Some, None, filter, filter_map, find, fold, map, bytes_eq}
 use Rattle.std.specs.List.{list_all, list_any}
 use Rattle.command_line.specs.declared.launch.Launch.{Launch}
 use Rattle.cwl_process.specs.Acting.{reuse_of}
@@ -16,7 +16,7 @@ use Rattle.collected_outputs.specs.Contents.{Heads}
 use Rattle.job_graph.specs.Jobs.{Job}
 use Rattle.job_graph.specs.Unfold.{Resolved, Unfolded, unfolded, nothing_known, is_at}
 use Rattle.job_graph.specs.Words.{Name, Fields, JobPlace, is_same_place}
-use Rattle.run_rules.specs.Folders.{out_folder}
+use Rattle.run_rules.specs.Folders.{left_folder}
 use Rattle.run_rules.specs.Scene.{Scene}
 
 pub data Event : Type 0 where
@@ -50,8 +50,18 @@ pub data Event : Type 0 where
   find_failed : (place : JobPlace) (refusal : RecordRefusal) → Event
   -- the record refused to keep the row of the job at a place
   put_failed : (place : JobPlace) (refusal : RecordRefusal) → Event
+  -- the files of the job at a place could not be archived
+  store_failed : (place : JobPlace) → Event
+  -- a call for the job at this place failed once the end was settled
+  host_failed_late : (place : JobPlace) (fault : HostFault) → Event
   -- the job's named outputs were collected, and are those of its row
   job_repeated : (place : JobPlace) → Event
+  -- the files of the job's row were fetched, and are in the folder of this number
+  files_fetched : (place : JobPlace) (number : ℕ) → Event
+  -- what was fetched for the job, to the folder of this number, is not what its row of this key has
+  archive_differs : (place : JobPlace) (key : List ℕ) (number : ℕ) → Event
+  -- the record refused to note that the archive of the job's row is gone
+  drop_failed : (place : JobPlace) (refusal : RecordRefusal) → Event
 
 -- the work that is due next
 pub data Work : Type 0 where
@@ -68,6 +78,10 @@ pub data Work : Type 0 where
   output_heads_due : (place : JobPlace) (millis : ℕ) (found : List Found) (todo : List Name) (read : Heads) → Work
   -- the row of the job is put, its outputs having been collected
   put_due : (place : JobPlace) (row : Row) → Work
+  -- the archive of this key is dropped, since what was fetched of it for the job is not what its row has
+  drop_due : (place : JobPlace) (key : List ℕ) → Work
+  -- the files of the job are archived under the key of its row, which is put then
+  store_due : (place : JobPlace) (row : Row) → Work
 
 -- what a transcript has brought about: what is due next, and what has happened
 pub record Progress : Type 0 where
@@ -121,9 +135,10 @@ tickets es = map (λ f. f.0) (in_flight es)
 abbrev pub brings : JobPlace → Event → Bool
 brings place (job_succeeded p outputs) = is_same_place p place
 brings place (job_repeated p) = is_same_place p place
+brings place (files_fetched p number) = is_same_place p place
 brings place _ = false
 
--- its outputs were collected in this run
+-- its outputs were collected in this run, or fetched
 abbrev pub is_at_hand : List Event → JobPlace → Bool
 is_at_hand es place = list_any (brings place) es
 
@@ -134,11 +149,21 @@ is_held es place = list_any (λ f. is_same_place f.1 place) (in_flight es) || is
 -- the number of a place's folders after one more event, where it was n
 abbrev pub number_if : JobPlace → ℕ → Event → ℕ
 number_if place n (job_staged p number) = cond (is_same_place p place) number n
+number_if place n (files_fetched p number) = cond (is_same_place p place) number n
 number_if place n _ = n
 
--- the number of the folders that a job was staged in last; 0 where it never was
+-- the number of the folders that a job was staged in last, or its files were fetched to; 0 where there are none
 abbrev pub number_at : List Event → JobPlace → ℕ
 number_at es place = fold (number_if place) 0 es
+
+-- whether these are of a fetch, after one more event
+abbrev pub fetched_if : JobPlace → Bool → Event → Bool
+fetched_if place last (job_staged p number) = cond (is_same_place p place) false last
+fetched_if place last (files_fetched p number) = cond (is_same_place p place) true last
+fetched_if place last _ = last
+
+abbrev pub is_fetched : List Event → JobPlace → Bool
+is_fetched es place = fold (fetched_if place) false es
 
 -- what a child was started by
 pub record Started : Type 0 where
@@ -189,10 +214,26 @@ row_if place last _ = last
 abbrev pub row_at : List Event → JobPlace → Option Row
 row_at es place = fold (row_if place) None es
 
--- whether folders were made
-abbrev pub is_staging : Event → Bool
-is_staging (job_staged place number) = true
-is_staging _ = false
+-- whether folders of a number were made
+abbrev pub is_numbered : Event → Bool
+is_numbered (job_staged place number) = true
+is_numbered (files_fetched place number) = true
+is_numbered (archive_differs place key number) = true
+is_numbered _ = false
+
+-- whether an event shows that the archive of a key is not what its row has
+abbrev pub loses : List ℕ → Event → Bool
+loses key (archive_differs place k number) = bytes_eq k key
+loses key _ = false
+
+-- the archive of a key was found to be another
+abbrev pub is_lost : List Event → List ℕ → Bool
+is_lost es key = list_any (loses key) es
+
+-- where an archive is kept, the files of an archived row are there as far as is known
+abbrev pub is_archived : Bool → List Event → Option Row → Bool
+is_archived keep es None = false
+is_archived keep es (Some row) = keep && row.archived && not (is_lost es row.key)
 
 module _ (s : Scene) where
   -- whether each input file is measured
@@ -213,7 +254,11 @@ module _ (s : Scene) where
 
   -- the folder that has the outputs of the job at a place
   abbrev pub folder_at : List Event → JobPlace → Name
-  folder_at es place = out_folder s.options.work (number_at es place)
+  folder_at es place = left_folder s.options.work (is_fetched es place) (number_at es place)
+
+  -- whether the job at a place can be loaded: it is of a row whose archive is kept
+  abbrev pub can_load : List Event → JobPlace → Bool
+  can_load es place = is_archived s.options.keep es (row_at es place)
 
 -- before any pair
 abbrev pub at_first : Progress

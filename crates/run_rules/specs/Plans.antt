@@ -1,5 +1,5 @@
 -- The plan in force: a mark for each known job, made anew at each planning point.
-use Rattle.std.specs.Prelude.{ℕ, ◌+◌, ◌≡◌, ◌&&◌, Bool, true, false, not, cond, List, [], ◌∷◌, map, is_none}
+use Rattle.std.specs.Prelude.{ℕ, ◌+◌, ◌≡◌, ◌&&◌, ◌||◌, Bool, true, false, not, cond, List, [], ◌∷◌, map, is_none}
 use Rattle.std.specs.List.{list_any}
 use Rattle.plan_checker.specs.Plan.{mark}
 use Rattle.plan_checker.specs.declared.plan.Mark.{Mark}
@@ -7,7 +7,7 @@ use Rattle.plan_checker.specs.declared.plan.Mark.TheVariants.{Load, Compute}
 use Rattle.job_graph.specs.Jobs.{Job}
 use Rattle.job_graph.specs.Unfold.{is_at}
 use Rattle.job_graph.specs.Words.{JobPlace}
-use Rattle.run_rules.specs.Events.{Event, Work, nothing_due, Progress, are_looked_up, is_at_hand, is_held, unfolding_at}
+use Rattle.run_rules.specs.Events.{Event, Work, nothing_due, Progress, are_looked_up, can_load, is_at_hand, is_held, unfolding_at}
 use Rattle.run_rules.specs.End.{is_lost_collect, settled}
 use Rattle.run_rules.specs.Scene.{Scene}
 
@@ -23,8 +23,8 @@ abbrev pub is_idle : Work → Bool
 is_idle nothing_due = true
 is_idle _ = false
 
-abbrev pub mark_if_held : Bool → Mark
-mark_if_held held = cond held Load Compute
+abbrev pub mark_if : Bool → Mark
+mark_if loads = cond loads Load Compute
 
 module _ (s : Scene) where
   -- nothing is due, no collect has failed, the end isn't settled, no row is looked for any more, and some known job is not at hand
@@ -35,10 +35,13 @@ module _ (s : Scene) where
   abbrev pub mark_at : List Mark → List Event → JobPlace → Mark
   mark_at marks es place = mark marks (number_of place (unfolding_at s es).jobs)
 
-  -- what is held is loaded, and all else is computed
-  abbrev pub LoadsHeld : Progress → List Mark → Type 0
-  LoadsHeld f marks = marks ≡ map (λ job. mark_if_held (is_held f.events job.place)) (unfolding_at s f.events).jobs
+  -- what is held, or can be loaded, is loaded, and all else is computed
+  abbrev pub loads : List Event → JobPlace → Bool
+  loads es place = is_held es place || can_load s es place
+
+  abbrev pub LoadsAll : Progress → List Mark → Type 0
+  LoadsAll f marks = marks ≡ map (λ job. mark_if (loads f.events job.place)) (unfolding_at s f.events).jobs
 
   -- the plan that a run has in force from a planning point on
   abbrev pub InForce : Progress → List Mark → Type 0
-  InForce = LoadsHeld
+  InForce = LoadsAll

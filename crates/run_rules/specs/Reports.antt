@@ -2,6 +2,7 @@
 use Rattle.std.specs.Prelude.{◌≡◌, List, [], ◌∷◌, ◌++◌, Option, Some, None, Result, Ok, Err, filter_map, option_map}
 use Rattle.document_links.specs.declared.process.Process.{Process}
 use Rattle.proc_host.specs.declared.call.Entry.{Entry}
+use Rattle.proc_host.specs.declared.call.HostFault.{HostFault}
 use Rattle.proc_host.specs.declared.call.HostRequest.{HostRequest}
 use Rattle.run_rules.specs.declared.request.Answer.{Answer}
 use Rattle.run_rules.specs.declared.request.Request.{Request}
@@ -18,7 +19,7 @@ use Rattle.job_graph.specs.Words.{Fields}
 use Rattle.cwl_value.specs.Erased.{erased}
 use Rattle.input_files.specs.Measured.{Measures}
 use Rattle.run_rules.specs.Delivered.{located, object_of}
-use Rattle.run_rules.specs.Events.{Event, put_failed, Progress, measures}
+use Rattle.run_rules.specs.Events.{Event, put_failed, store_failed, Progress, measures, drop_failed, host_failed_late}
 use Rattle.run_rules.specs.End.{End, succeeds_with, fails_permanently, fails_temporarily, beyond_limits, ended_by_host, mismatches, ended_by_record}
 use Rattle.plan_checker.specs.declared.plan.Mark.{Mark}
 use Rattle.run_rules.specs.Recorded.{Line, lines_of}
@@ -51,6 +52,9 @@ outcome_of (ended_by_record refusal) = Err (RunFault.Record refusal)
 -- what went wrong by an event without changing the end
 abbrev pub note_of : Event → Option Note
 note_of (put_failed place refusal) = Some (record { place = place; kind = NoteKind.Put refusal })
+note_of (drop_failed place refusal) = Some (record { place = place; kind = NoteKind.Drop refusal })
+note_of (store_failed place) = Some (record { place = place; kind = NoteKind.Store HostFault.Store })
+note_of (host_failed_late place fault) = Some (record { place = place; kind = NoteKind.Late fault })
 note_of _ = None
 
 abbrev pub notes_of : List Event → List Note

@@ -1,5 +1,5 @@
 -- What an answer brings about: the events that it adds, and the work that is due after it. A rule for each kind of answer.
-use Rattle.std.specs.Prelude.{◌≡◌, ℕ, List, [], ◌∷◌, ◌++◌, Some, None, Contains}
+use Rattle.std.specs.Prelude.{◌≡◌, ℕ, Bool, true, false, List, [], ◌∷◌, ◌++◌, Some, None, Contains}
 use Rattle.collected_outputs.specs.HeadsWanted.{AreHeadsWanted}
 use Rattle.collected_outputs.specs.Listing.{listing_of}
 use Rattle.input_files.specs.Contents.{heads_wanted}
@@ -16,6 +16,7 @@ use Rattle.staging.specs.declared.found.Found.{Found}
 use Rattle.staging.specs.declared.measure.Measure.{Measure}
 use Rattle.staging.specs.declared.plan.StagePlan.{StagePlan}
 use Rattle.job_key.specs.Key.{Key}
+use Rattle.job_reuse.specs.Rows.{AreTheSame}
 use Rattle.job_reuse.specs.Sound.{IsSound}
 use Rattle.job_rows.specs.declared.refusal.RecordRefusal.{RecordRefusal}
 use Rattle.job_rows.specs.declared.refusal.RecordRefusal.TheVariants.{NotARecord}
@@ -29,7 +30,8 @@ use Rattle.run_rules.specs.declared.request.Request.{Request}
 use Rattle.collected_outputs.specs.Contents.{Heads}
 use Rattle.job_graph.specs.Jobs.{Job}
 use Rattle.job_graph.specs.Words.{Name, Fields, JobPlace}
-use Rattle.run_rules.specs.Events.{Event, file_measured, job_staged, job_started, child_exited, job_failed, job_failed_for_now, result_delivered, host_failed, collect_failed, row_found, no_row, find_failed, put_failed, Work, nothing_due, input_heads_due, start_due, scan_due, output_heads_due, Progress, Started, in_flight, number_at, started_at, row_at, job_at}
+use Rattle.run_rules.specs.Events.{Event, file_measured, job_staged, job_started, child_exited, job_failed, job_failed_for_now, result_delivered, host_failed, collect_failed, row_found, no_row, find_failed, put_failed, store_failed, Work, nothing_due, input_heads_due, start_due, scan_due, output_heads_due, put_due, store_due, Progress, Started, in_flight, number_at, started_at, row_at, job_at, files_fetched, archive_differs, drop_failed, drop_due, host_failed_late}
+use Rattle.run_rules.specs.End.{End, settled}
 use Rattle.run_rules.specs.StartsOn.{StartsOn}
 use Rattle.run_rules.specs.CollectsOn.{CollectsOn}
 use Rattle.run_rules.specs.Scene.{Scene}
@@ -41,6 +43,12 @@ call place request answer = record { request = Request.Host place request; answe
 -- a command to the record, for the job at this place, and its answer
 abbrev pub command : JobPlace → RecordRequest → RecordAnswer → Pair
 command place request answer = record { request = Request.Record place request; answer = Answer.Record answer }
+
+-- whether a call that fails has a rule of its own
+abbrev pub fails_apart : HostRequest → Bool
+fails_apart HostRequest.Collect = true
+fails_apart (HostRequest.Store key folder files) = true
+fails_apart request = false
 
 -- with these events more, and this work due
 abbrev pub progress_with : Progress → Work → List Event → Progress
@@ -74,12 +82,12 @@ module _ (s : Scene) where
     -- its folder is listed: first bytes of what was found are read next, or its outputs are collected, or there are none
     scans : (place : JobPlace) (folder : Name) (millis : ℕ) (found : List Found) (job : Job) (started : Started) (wanted : List Name) (work : Work)
         (more : List Event) → f.work ≡ scan_due place millis → job_at s f.events place ≡ Some job → started_at f.events place ≡ Some started → AreHeadsWanted (listing_of found) started.inputs job.tool.outputs wanted →
-        CollectsOn place job (row_at f.events place) started millis found [] wanted work more →
+        CollectsOn s.options.keep place job (row_at f.events place) started millis found [] wanted work more →
         Steps f (call place (HostRequest.Scan folder) (HostAnswer.Listed found)) work more
     -- and the same where one was read
     reads_output : (place : JobPlace) (path : Name) (limit : ℕ) (bytes : List ℕ) (millis : ℕ) (found : List Found) (name : Name) (todo : List Name) (read : Heads)
         (job : Job) (started : Started) (work : Work) (more : List Event) → f.work ≡ output_heads_due place millis found (name ∷ todo) read → job_at s f.events place ≡ Some job →
-        started_at f.events place ≡ Some started → CollectsOn place job (row_at f.events place) started millis found (with_value name bytes read) todo work more →
+        started_at f.events place ≡ Some started → CollectsOn s.options.keep place job (row_at f.events place) started millis found (with_value name bytes read) todo work more →
         Steps f (call place (HostRequest.Head path limit) (HostAnswer.FirstBytes bytes)) work more
     -- the record has no row of a job, or one of its tool; one that contradicts itself or the tool is refused, as what does not read is
     finds_none : (place : JobPlace) (its_key : Key) →
@@ -94,9 +102,25 @@ module _ (s : Scene) where
     puts : (place : JobPlace) (row : Row) → Steps f (command place (RecordRequest.Put row) RecordAnswer.Done) nothing_due []
     put_fails : (place : JobPlace) (row : Row) (refusal : RecordRefusal) →
         Steps f (command place (RecordRequest.Put row) (RecordAnswer.Refused refusal)) nothing_due (put_failed place refusal ∷ [])
+    -- the files of a job's row are there, or what is there is not what the row has: its archive is dropped next
+    fetches : (place : JobPlace) (its_key : List ℕ) (number : ℕ) (files found : List Found) (row : Row) → row_at f.events place ≡ Some row → AreTheSame row.files found →
+        Steps f (call place (HostRequest.Fetch its_key number files) (HostAnswer.Fetched found)) nothing_due (files_fetched place number ∷ [])
+    fetches_other : (place : JobPlace) (its_key : List ℕ) (number : ℕ) (files found : List Found) (row : Row) → row_at f.events place ≡ Some row → (AreTheSame row.files found → ⊥) →
+        Steps f (call place (HostRequest.Fetch its_key number files) (HostAnswer.Fetched found)) (drop_due place row.key) (archive_differs place row.key number ∷ [])
+    -- that is noted by the record, or refused
+    drops : (place : JobPlace) (its_key : List ℕ) → Steps f (command place (RecordRequest.DropArchive its_key) RecordAnswer.Done) nothing_due []
+    drop_fails : (place : JobPlace) (its_key : List ℕ) (refusal : RecordRefusal) →
+        Steps f (command place (RecordRequest.DropArchive its_key) (RecordAnswer.Refused refusal)) nothing_due (drop_failed place refusal ∷ [])
     delivers : (place : JobPlace) (plan : StagePlan) →
         Steps f (call place (HostRequest.Deliver plan) HostAnswer.Done) nothing_due (result_delivered plan ∷ [])
-    -- a call fails, by its own fault
+    -- a call fails, by its own fault, and so the end is settled; where it was before, the call is late
     loses_collect : Steps f (call [] HostRequest.Collect (HostAnswer.Failed HostFault.Collect)) nothing_due (collect_failed ∷ [])
-    call_fails : (place : JobPlace) (request : HostRequest) → (request ≡ HostRequest.Collect → ⊥) →
+    call_fails : (place : JobPlace) (request : HostRequest) → fails_apart request ≡ false → settled s f.events ≡ None →
         Steps f (call place request (HostAnswer.Failed (fault_of request))) nothing_due (host_failed place (fault_of request) ∷ [])
+    call_fails_late : (place : JobPlace) (request : HostRequest) (end : End) → fails_apart request ≡ false → settled s f.events ≡ Some end →
+        Steps f (call place request (HostAnswer.Failed (fault_of request))) nothing_due (host_failed_late place (fault_of request) ∷ [])
+    -- the job's files are archived, or not: so its row says, which is put next
+    stores : (place : JobPlace) (key folder : Name) (files : List Found) (row : Row) → f.work ≡ store_due place row →
+        Steps f (call place (HostRequest.Store key folder files) HostAnswer.Done) (put_due place (record row { archived = true })) []
+    store_fails : (place : JobPlace) (key folder : Name) (files : List Found) (row : Row) → f.work ≡ store_due place row →
+        Steps f (call place (HostRequest.Store key folder files) (HostAnswer.Failed HostFault.Store)) (put_due place (record row { archived = false })) (store_failed place ∷ [])

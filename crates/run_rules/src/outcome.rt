@@ -56,6 +56,12 @@ pub struct Note {
 pub enum NoteKind {
     /// The record refused to keep the job's row.
     Put(RecordRefusal),
+    /// The record refused to note that the archive of the job's row is gone.
+    Drop(RecordRefusal),
+    /// The host could not archive the job's files.
+    Store(HostFault),
+    /// Another call for the job failed once the end was settled, and no more was done for it.
+    Late(HostFault),
 }
 
 /// What a whole run says.

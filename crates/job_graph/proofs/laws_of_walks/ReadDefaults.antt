@@ -26,6 +26,7 @@ use Rattle.file_values.specs.Location as location
 use Rattle.file_values.specs.Resolved.{all_found, dir_level, dir_resolved, distinct_beside, distinct_inside, differ_beside, fields_found, file_at, file_level, file_resolved, has_long, listing_resolved, named, place_resolved, resolved}
 use Rattle.cwl_value.specs.Secondary.{are_distinct}
 use Rattle.document_table.specs.Entries.{entries}
+use Rattle.document_table.specs.Packed.{root_of}
 use Rattle.document_table.specs.declared.form.Kind.{Kind}
 use Rattle.document_table.specs.declared.form.Kind.TheVariants as kind
 use Rattle.cwl_process.specs.Parameters.{default_at, if_read, tool_input_in, workflow_input_in}
@@ -35,7 +36,8 @@ use Rattle.cwl_process.specs.declared.tool.Asked.{Asked}
 use Rattle.document_links.specs.Defaults.{each_on, if_found, on_base, step_input_on, tool_input_on, tool_on, workflow_input_on}
 use Rattle.document_links.specs.Library.{Documents}
 use Rattle.document_links.specs.Library as library
-use Rattle.document_links.specs.ProcessOf.{AreStepsOf, IsItsProcess, IsProcessOf, IsRunBy, embedded, named as by_name, no_step, one_step, tool, workflow}
+use Rattle.document_links.specs.Homes.{Home, home}
+use Rattle.document_links.specs.ProcessOf.{AreStepsOf, IsItsProcess, IsProcessOf, IsRunBy, embedded, item as by_item, named as by_name, no_step, one_step, tool, workflow}
 use Rattle.document_links.specs.declared.process.Process.{Process}
 use Rattle.document_links.specs.declared.process.Step.{Step}
 use Rattle.document_links.specs.declared.process.Workflow.{roll-Workflow}
@@ -343,8 +345,8 @@ module _ (job : JobPlace) where
     of_workflow : (d : Data) → list_any (λ i. Hits i.1.default) (each_on workflow_input_on base (entries_at kind.WorkflowInput workflow_input_in (codes "inputs") d)) ≡ false
     of_workflow d = at_field workflow_input_on workflow_input_in (λ i. i.default) a_default kind.WorkflowInput (codes "inputs") d
 
-    of_step : (d : Data) → list_any (λ i. Hits i.1.default) (each_on step_input_on base (step_parts_in d).inputs) ≡ false
-    of_step d = at_field step_input_on step_input_in (λ i. i.default) a_default kind.StepInput (codes "in") d
+    of_step : (id : List ℕ) (d : Data) → list_any (λ i. Hits i.1.default) (each_on step_input_on base (step_parts_in id d).inputs) ≡ false
+    of_step id d = at_field step_input_on (step_input_in id) (λ i. i.default) a_default kind.StepInput (codes "in") d
 
   -- ---- processes
 
@@ -353,23 +355,24 @@ module _ (job : JobPlace) where
 
   module _ (find : library.Finds) where
     mutual
-      is_unmade : (base : Parts) (around : Asked) (d : Data) (p : Process) → IsProcessOf find base around d p → any_default test p ≡ false
-      is_unmade base around d p (tool b a e is_tool placed) = tool_defaults test (tool_on b (tool_in a e)) ∙ of_tool b a e
-      is_unmade base around d p (workflow b a e steps is_workflow placed are) =
-          workflow_default test (roll-Workflow _) ∙ workflow_defaults test _ ∙ both_false _ _ (of_workflow b e) (steps_unmade b _ _ steps are)
+      is_unmade : (h : Home) (around : Asked) (d : Data) (p : Process) → IsProcessOf find h around d p → any_default test p ≡ false
+      is_unmade h around d p (tool b a e is_tool placed) = tool_defaults test (tool_on b.url (tool_in a e)) ∙ of_tool b.url a e
+      is_unmade h around d p (workflow b a e steps is_workflow placed are) =
+          workflow_default test (roll-Workflow _) ∙ workflow_defaults test _ ∙ both_false _ _ (of_workflow b.url e) (steps_unmade b _ _ _ steps are)
 
-      steps_unmade : (base : Parts) (around : Asked) (es : List (Name × Data)) (steps : List (Name × Step)) → AreStepsOf find base around es steps
+      steps_unmade : (h : Home) (id : List ℕ) (around : Asked) (es : List (Name × Data)) (steps : List (Name × Step)) → AreStepsOf find h id around es steps
           → list_any (λ e. e.1) (map_values (any_step_default test) steps) ≡ false
-      steps_unmade base around es steps (no_step b a) = refl
-      steps_unmade base around es steps (one_step b a e run p ds others placed there by are) =
-          both_false _ _ (step_defaults test _ ∙ both_false _ _ (of_step b e.1) (run_unmade b _ run p by)) (steps_unmade b a ds others are)
+      steps_unmade h id around es steps (no_step b i a) = refl
+      steps_unmade h id around es steps (one_step b i a e run p ds others placed there by are) =
+          both_false _ _ (step_defaults test _ ∙ both_false _ _ (of_step b.url i e.1) (run_unmade b _ run p by)) (steps_unmade b i a ds others are)
 
-      run_unmade : (base : Parts) (asked : Asked) (run : Data) (p : Process) → IsRunBy find base asked run p → any_default test p ≡ false
-      run_unmade base asked run p (embedded b a r q none is) = is_unmade b a r q is
-      run_unmade base asked run p (by_name b a r name url d q text joined found is) = is_unmade url a d q is
+      run_unmade : (h : Home) (asked : Asked) (run : Data) (p : Process) → IsRunBy find h asked run p → any_default test p ≡ false
+      run_unmade h asked run p (embedded b a r q none is) = is_unmade b a r q is
+      run_unmade h asked run p (by_item b a r name i q text hash found sound is) = is_unmade b a i.process q is
+      run_unmade h asked run p (by_name b a r name url d q text hash joined found is) = is_unmade (home url d) a (root_of d).process q is
 
 pub defaults_unmade : (bytes : List ℕ) (base : Parts) (docs : Documents) (process : Process) → IsItsProcess bytes base docs process → HasUnmadeDefaults process
-defaults_unmade bytes base docs process is = λ job. is_unmade job is.2.0 base _ is.0 process is.2.2
+defaults_unmade bytes base docs process is = λ job. is_unmade job is.2.0 (home base is.0) _ (root_of is.0).process process is.2.2
 
 -- ---- the input object
 

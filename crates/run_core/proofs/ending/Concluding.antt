@@ -23,7 +23,7 @@ use Rattle.run_core.specs.declared.state.Turn.{Turn}
 use Rattle.run_core.specs.inner.Inside.{Goes, Stands, off_run, on_run, setting_in}
 use Rattle.run_core.specs.inner.Course.{Past, past_of}
 use Rattle.run_core.specs.inner.Turn.{IsEnded}
-use Rattle.run_core.specs.inner.Standing.{IsAt, IsLostAt, Runs, collecting, delivering, draining, ended, lost, measuring, staging, working, finding, putting}
+use Rattle.run_core.specs.inner.Standing.{IsAt, IsLostAt, Runs, collecting, delivering, draining, ended, lost, measuring, staging, working, finding, putting, storing, dropping, fetching}
 use Rattle.run_rules.specs.declared.outcome.Note.{Note}
 
 -- the law that what is reported of a run is right in each world where it is honest
@@ -46,6 +46,9 @@ module _ (s : Scene) (f : Progress) (marks : List Mark) (course : Course) where
   ended_at result (measuring found m rest path is left happened none nothing) phase = absurd cc
   ended_at result (finding n job r next) phase = absurd cc
   ended_at result (putting n job row r it due) phase = absurd cc
+  ended_at result (fetching n job row r is_next) phase = absurd cc
+  ended_at result (dropping n job its_key r it due) phase = absurd cc
+  ended_at result (storing n job row r it due) phase = absurd cc
   ended_at result (staging n job plan r st) phase = absurd cc
   ended_at result (working n job call phase r w) is = absurd cc
   ended_at result (collecting r may) phase = absurd cc
@@ -56,6 +59,9 @@ module _ (s : Scene) (f : Progress) (marks : List Mark) (course : Course) where
   asks_no_more (measuring found m rest path is left happened none nothing) asks = absurd cc
   asks_no_more (finding n job r next) asks = absurd cc
   asks_no_more (putting n job row r it due) asks = absurd cc
+  asks_no_more (fetching n job row r is_next) asks = absurd cc
+  asks_no_more (dropping n job its_key r it due) asks = absurd cc
+  asks_no_more (storing n job row r it due) asks = absurd cc
   asks_no_more (staging n job plan r st) asks = absurd cc
   asks_no_more (working n job call phase r w) asks = absurd cc
   asks_no_more (collecting r may) asks = absurd cc

@@ -1,7 +1,7 @@
 -- What the machine keeps goes on with each event: a lemma for each.
 use Rattle.std.specs.Prelude.{Ok, ◌<◌, ◌≤◌, ◌||◌, Contains, nat_lt, option_map, slice_get, slice_index_or}
 use Rattle.std.specs.List.{remove}
-use Rattle.std.proofs.Common.{◌≡◌, ◌∙◌, ◌⊎◌, inl, inr, ◌==◌, ◌+◌, ℕ, zero, suc, Bool, true, false, cond, List, [], ◌∷◌, ◌++◌, length, filter, Option, Some, None, refl, sym, ap, subst, arith, length-append}
+use Rattle.std.proofs.Common.{IsSome, ◌≡◌, ◌∙◌, ◌⊎◌, inl, inr, ◌==◌, ◌+◌, ℕ, zero, suc, Bool, true, false, cond, List, [], ◌∷◌, ◌++◌, length, filter, Option, Some, None, refl, sym, ap, subst, arith, length-append}
 use Rattle.std.proofs.lemmas.Bool.{eqb-true, lt-ltb, le-ltb, or_parts}
 use Rattle.std.proofs.lemmas.List.Edits.{length-remove}
 use Rattle.std.proofs.lemmas.List.Elements.{Contains-append_cases}
@@ -15,11 +15,11 @@ use Rattle.run_rules.specs.declared.outcome.Outcome.{Outcome}
 use Rattle.run_rules.specs.declared.outcome.RunFault.{RunFault}
 use Rattle.std.specs.Prelude.{Result}
 use Rattle.run_rules.specs.End.{End, fails_temporarily, gives_up, settled, settled_by, unfold_end}
-use Rattle.run_rules.specs.Events.{Event, child_exited, in_flight, job_failed_for_now, job_staged, job_started, started_at, unfolding_at}
+use Rattle.run_rules.specs.Events.{Event, archive_differs, child_exited, files_fetched, in_flight, job_failed_for_now, job_staged, job_started, started_at, unfolding_at}
 use Rattle.run_rules.specs.Reports.{outcome_of}
 use Rattle.run_rules.specs.Scene.{Scene}
 use Rattle.run_rules.proofs.Places.{same_place}
-use Rattle.run_rules.proofs.events.Course.{Course as Books, Keeps as AreKept, keeps_at_first, keeps_learned}
+use Rattle.run_rules.proofs.events.Course.{Course as Books, Keeps as AreKept, keeps_at_first, keeps_learned, gives_over}
 use Rattle.run_rules.proofs.events.Flights.{Flight as Flying, is_flying}
 use Rattle.run_rules.proofs.events.Known.{IsFront, front_itself, front_of_front, is_measure, known_jobs_stay, numbered_still, teaches, unfolding_stays}
 use Rattle.run_rules.proofs.events.Places.{AreApart, IsJob, one_job, same_itself}
@@ -30,14 +30,14 @@ use Rattle.run_rules.proofs.events.Turns.{so_many}
 use Rattle.run_core.specs.declared.state.Flight.{Flight}
 use Rattle.run_core.specs.declared.job_states.JobState.{JobState}
 use Rattle.run_core.specs.declared.state.Kept.{Kept}
-use Rattle.run_core.specs.inner.Course.{Past, TakesOut, nothing_past, with_end, with_giving_up, with_staging, with_start, with_answer, with_hand, with_note}
+use Rattle.run_core.specs.inner.Course.{Past, TakesOut, nothing_past, with_end, with_giving_up, with_staging, with_start, with_answer, with_hand, with_load, with_loss, with_note}
 use Rattle.run_core.specs.inner.Due.{IsKept}
 use Rattle.run_core.specs.inner.Keeps.{Keeps, KeepsFlight, course_of, worked}
 use Rattle.run_core.specs.inner.Standing.{HasStarted}
-use Rattle.run_core.proofs.events.Kept.{Lands, counted_once_more, gave_up_staged, keeps_end, keeps_failing, keeps_giving_up, keeps_landing, keeps_staging, keeps_starting, once_more, tries_with_hand}
+use Rattle.run_core.proofs.events.Kept.{Lands, counted_once_more, gave_up_staged, gave_up_with_load, gave_up_with_loss, keeps_end, keeps_failing, keeps_giving_up, keeps_landing, keeps_loading, keeps_missing, keeps_staging, keeps_starting, once_more, tries_with_hand}
 use Rattle.run_core.proofs.events.Numbers.{Flies, contains_before, flight_flies, state_there}
 use Rattle.run_core.specs.inner.JobStates.{given_up_in, state_at, waits_in}
-use Rattle.run_core.proofs.States.{brought_length, given_up_length, staged_few}
+use Rattle.run_core.proofs.States.{brought_length, given_up_length, loaded_few, missed_few, staged_few}
 use Rattle.run_rules.specs.declared.outcome.Note.{Note}
 use Rattle.run_rules.specs.declared.request.RecordAnswer.{RecordAnswer}
 
@@ -91,6 +91,15 @@ pub none_settled : (before : Option End) (kept : Option Outcomes) → kept ≡ o
 none_settled None kept is none = refl
 none_settled (Some end) kept is none = let never : None ≡ Some (outcome_of end) = sym none ∙ is in absurd cc
 
+-- and where an end is kept, one has
+pub record IsSettledBy (before : Option End) : Type 0 where
+  pub end : End
+  pub is : before ≡ Some end
+
+pub some_settled : (before : Option End) (kept : Option Outcomes) (told : Outcomes) → kept ≡ option_map outcome_of before → kept ≡ Some told → IsSettledBy before
+some_settled (Some end) kept told is some = record { end = end; is = refl }
+some_settled None kept told is some = let never : Some told ≡ None = sym some ∙ is in absurd cc
+
 -- with nothing to work on no slot more is taken
 idle_slots : (at_work : Option ℕ) (tickets most : ℕ) → tickets + worked at_work ≤ most → tickets + 0 ≤ most
 idle_slots None tickets most within = within
@@ -126,6 +135,40 @@ module _ (s : Scene) (es : List Event) (jobs : List Job) where
     front = front_still (job_staged job.place (past.folders + 1)) refl k.front;
     end = k.end ∙ ap (option_map outcome_of) (sym (settled_quietly s es (job_staged job.place (past.folders + 1) ∷ []) refl));
   }
+
+  -- its files are fetched
+  pub loaded_keeps : (past : Past) (n : ℕ) (job : Job) → IsJob jobs n job → waits_in past.jobs n ≡ true → Keeps s es jobs past None →
+      Keeps s (es ++ files_fetched job.place (past.folders + 1) ∷ []) jobs (with_load n past) None
+  loaded_keeps past n job it free k =
+      let e : Event = files_fetched job.place (past.folders + 1) in
+      record {
+        gave_up = k.gave_up;
+        few = loaded_few past.jobs n (past.folders + 1) (length jobs) it.within k.few;
+        books = books_after e jobs (course_of (with_load n past) None k.gave_up) (keeps_loading past n jobs (readings es) k.gave_up job it free k.books);
+        counts = λ still m. k.counts still m ∙ gave_up_with_load past n m;
+        retries = λ m. subst (λ times. times ≤ s.options.retries) (gave_up_with_load past n m) (k.retries m);
+        slots = k.slots;
+        flights = flights_still es (es ++ e ∷ []) jobs jobs past.flights (λ place. started_after es (e ∷ []) place) (front_itself jobs) k.flights;
+        front = front_still e refl k.front;
+        end = k.end ∙ ap (option_map outcome_of) (sym (settled_quietly s es (e ∷ []) refl));
+      }
+
+  -- or others were
+  pub missed_keeps : (past : Past) (n : ℕ) (place : JobPlace) (its_key : List ℕ) → n < length jobs → Keeps s es jobs past None →
+      Keeps s (es ++ archive_differs place its_key (past.folders + 1) ∷ []) jobs (with_loss n past) None
+  missed_keeps past n place its_key within k =
+      let e : Event = archive_differs place its_key (past.folders + 1) in
+      record {
+        gave_up = k.gave_up;
+        few = missed_few past.jobs n (length jobs) within k.few;
+        books = books_after e jobs (course_of (with_loss n past) None k.gave_up) (keeps_missing past n jobs (readings es) k.gave_up place its_key k.books);
+        counts = λ still m. k.counts still m ∙ gave_up_with_loss past n m;
+        retries = λ m. subst (λ times. times ≤ s.options.retries) (gave_up_with_loss past n m) (k.retries m);
+        slots = k.slots;
+        flights = flights_still es (es ++ e ∷ []) jobs jobs past.flights (λ at. started_after es (e ∷ []) at) (front_itself jobs) k.flights;
+        front = front_still e refl k.front;
+        end = k.end ∙ ap (option_map outcome_of) (sym (settled_quietly s es (e ∷ []) refl));
+      }
 
   -- its child is started
   started_flights : (past : Past) (n : ℕ) (job : Job) (inputs : Fields) (launch : Launch) (kept : Kept) (ticket : ℕ) → IsJob jobs n job →
@@ -336,6 +379,21 @@ module _ (s : Scene) (es : List Event) (jobs : List Job) where
     counts = k.counts;
     retries = k.retries;
     slots = k.slots;
+    flights = k.flights;
+    front = k.front;
+    end = k.end;
+  }
+
+  -- where the end is settled nothing is worked on
+  pub over_keeps : (past : Past) (at_work : Option ℕ) → IsSome past.end → Keeps s es jobs past at_work → Keeps s es jobs past None
+  over_keeps past at_work over k = record {
+    gave_up = k.gave_up;
+    books = subst (λ (b : Bool). AreKept jobs (readings es) (record (course_of past None k.gave_up) { over = b })) (sym over)
+        (gives_over jobs (readings es) (course_of past at_work k.gave_up) k.books);
+    few = k.few;
+    counts = k.counts;
+    retries = k.retries;
+    slots = idle_slots at_work (length past.tickets) s.options.slots k.slots;
     flights = k.flights;
     front = k.front;
     end = k.end;

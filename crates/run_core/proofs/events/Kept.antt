@@ -13,49 +13,60 @@ use Rattle.run_rules.specs.declared.outcome.RunFault.{RunFault}
 use Rattle.job_graph.specs.Words.{Fields}
 use Rattle.job_graph.specs.Jobs.{Job}
 use Rattle.job_graph.specs.Unfold.{or_else}
-use Rattle.run_rules.specs.Events.{child_exited, job_failed_for_now, job_repeated, job_staged, job_started}
-use Rattle.run_rules.proofs.events.Course.{Keeps as AreKept, gives_over, keeps_at_hand, keeps_gave_up, keeps_given_back, keeps_landed, keeps_staged, keeps_started, when_landed}
+use Rattle.run_rules.specs.Events.{archive_differs, child_exited, files_fetched, job_failed_for_now, job_repeated, job_staged, job_started}
+use Rattle.run_rules.proofs.events.Course.{Keeps as AreKept, gives_over, keeps_at_hand, keeps_gave_up, keeps_given_back, keeps_landed, keeps_loaded, keeps_missed, keeps_staged, keeps_started, when_landed}
 use Rattle.run_rules.proofs.events.Places.{IsJob}
 use Rattle.run_rules.proofs.events.Tally.{Readings, reads_after}
 use Rattle.run_rules.proofs.events.Turns.{FliesAt, flies_taken, flight_of, tickets_left}
 use Rattle.run_core.specs.declared.state.Flight.{Flight}
 use Rattle.run_core.specs.declared.job_states.JobState.{JobState}
 use Rattle.run_core.specs.declared.state.Kept.{Kept}
-use Rattle.run_core.specs.inner.Course.{Past, TakesOut, with_end, with_giving_up, with_hand, with_staging, with_start}
+use Rattle.run_core.specs.inner.Course.{Past, TakesOut, with_end, with_giving_up, with_hand, with_load, with_loss, with_staging, with_start}
 use Rattle.run_core.specs.inner.Keeps.{course_of, numbers_of}
-use Rattle.run_core.specs.inner.JobStates.{brought_in, given_up_in, is_there, staged_in, state_at, untouched, waits_in}
+use Rattle.run_core.specs.inner.JobStates.{brought_in, given_up_in, is_there, load_state, loaded_in, missed_in, staged_in, state_at, untouched, waits_in}
+use Rattle.job_graph.specs.Words.{JobPlace}
 
 -- A job is staged
 
 state_staged : (states : List JobState) (n folder m : ℕ) →
-    state_at (staged_in n folder states) m ≡ cond (n == m) (record (state_at states n) { waits = false; folder = folder }) (state_at states m)
+    state_at (staged_in n folder states) m ≡ cond (n == m) (record (state_at states n) { waits = false; folder = folder; fetched = false }) (state_at states m)
 state_staged [] zero folder zero = refl
-state_staged [] zero folder (suc m) = sym (ap (λ b. cond b (record untouched { waits = false; folder = folder }) untouched) (eqb-zero-suc m))
-state_staged [] (suc n) folder zero = sym (ap (λ b. cond b (record untouched { waits = false; folder = folder }) untouched) (eqb-suc-zero n))
+state_staged [] zero folder (suc m) = sym (ap (λ b. cond b (record untouched { waits = false; folder = folder; fetched = false }) untouched) (eqb-zero-suc m))
+state_staged [] (suc n) folder zero = sym (ap (λ b. cond b (record untouched { waits = false; folder = folder; fetched = false }) untouched) (eqb-suc-zero n))
 state_staged [] (suc n) folder (suc m) =
-    state_staged [] n folder m ∙ sym (ap (λ b. cond b (record untouched { waits = false; folder = folder }) untouched) (eqb-suc-suc n m))
+    state_staged [] n folder m ∙ sym (ap (λ b. cond b (record untouched { waits = false; folder = folder; fetched = false }) untouched) (eqb-suc-suc n m))
 state_staged (x ∷ states) zero folder zero = refl
-state_staged (x ∷ states) zero folder (suc m) = sym (ap (λ b. cond b (record x { waits = false; folder = folder }) (state_at states m)) (eqb-zero-suc m))
-state_staged (x ∷ states) (suc n) folder zero = sym (ap (λ b. cond b (record (state_at states n) { waits = false; folder = folder }) x) (eqb-suc-zero n))
+state_staged (x ∷ states) zero folder (suc m) = sym (ap (λ b. cond b (record x { waits = false; folder = folder; fetched = false }) (state_at states m)) (eqb-zero-suc m))
+state_staged (x ∷ states) (suc n) folder zero = sym (ap (λ b. cond b (record (state_at states n) { waits = false; folder = folder; fetched = false }) x) (eqb-suc-zero n))
 state_staged (x ∷ states) (suc n) folder (suc m) =
     state_staged states n folder m
-    ∙ sym (ap (λ b. cond b (record (state_at states n) { waits = false; folder = folder }) (state_at states m)) (eqb-suc-suc n m))
+    ∙ sym (ap (λ b. cond b (record (state_at states n) { waits = false; folder = folder; fetched = false }) (state_at states m)) (eqb-suc-suc n m))
 
-waits_if : (b : Bool) (folder : ℕ) (one other : JobState) → (cond b (record one { waits = false; folder = folder }) other).waits ≡ cond b false other.waits
+waits_if : (b : Bool) (folder : ℕ) (one other : JobState) → (cond b (record one { waits = false; folder = folder; fetched = false }) other).waits ≡ cond b false other.waits
 waits_if true folder one other = refl
 waits_if false folder one other = refl
 
-folder_if : (b : Bool) (folder : ℕ) (one other : JobState) → (cond b (record one { waits = false; folder = folder }) other).folder ≡ cond b folder other.folder
+folder_if : (b : Bool) (folder : ℕ) (one other : JobState) → (cond b (record one { waits = false; folder = folder; fetched = false }) other).folder ≡ cond b folder other.folder
 folder_if true folder one other = refl
 folder_if false folder one other = refl
 
 gave_up_if : (b : Bool) (folder : ℕ) (one other : JobState) → (b ≡ true → one ≡ other) →
-    (cond b (record one { waits = false; folder = folder }) other).gave_up ≡ other.gave_up
+    (cond b (record one { waits = false; folder = folder; fetched = false }) other).gave_up ≡ other.gave_up
 gave_up_if true folder one other same = ap (λ (state : JobState). state.gave_up) (same refl)
 gave_up_if false folder one other same = refl
 
+fetched_if : (b : Bool) (folder : ℕ) (one other : JobState) →
+    (cond b (record one { waits = false; folder = folder; fetched = false }) other).fetched ≡ cond b false other.fetched
+fetched_if true folder one other = refl
+fetched_if false folder one other = refl
+
+tried_if : (b : Bool) (folder : ℕ) (one other : JobState) → (b ≡ true → one ≡ other) →
+    (cond b (record one { waits = false; folder = folder; fetched = false }) other).tried ≡ other.tried
+tried_if true folder one other same = ap (λ (state : JobState). state.tried) (same refl)
+tried_if false folder one other same = refl
+
 there_if : (b : Bool) (folder : ℕ) (one other : JobState) → (b ≡ true → one ≡ other) →
-    (cond b (record one { waits = false; folder = folder }) other).at_hand ≡ other.at_hand
+    (cond b (record one { waits = false; folder = folder; fetched = false }) other).at_hand ≡ other.at_hand
 there_if true folder one other same = ap (λ (state : JobState). state.at_hand) (same refl)
 there_if false folder one other same = refl
 
@@ -75,7 +86,17 @@ module _ (past : Past) (n : ℕ) where
       ap (λ (state : JobState). state.gave_up) (state_staged past.jobs n (past.folders + 1) m)
       ∙ gave_up_if (n == m) (past.folders + 1) (state_at past.jobs n) (state_at past.jobs m) (λ same. ap (state_at past.jobs) (eqb-true n m same))
 
-  there_staged : (m : ℕ) → is_there (with_staging n past).jobs m ≡ is_there past.jobs m
+  pub fetched_staged : (m : ℕ) → (state_at (with_staging n past).jobs m).fetched ≡ cond (n == m) false (state_at past.jobs m).fetched
+  fetched_staged m =
+      ap (λ (state : JobState). state.fetched) (state_staged past.jobs n (past.folders + 1) m)
+      ∙ fetched_if (n == m) (past.folders + 1) (state_at past.jobs n) (state_at past.jobs m)
+
+  pub tried_staged : (m : ℕ) → (state_at (with_staging n past).jobs m).tried ≡ (state_at past.jobs m).tried
+  tried_staged m =
+      ap (λ (state : JobState). state.tried) (state_staged past.jobs n (past.folders + 1) m)
+      ∙ tried_if (n == m) (past.folders + 1) (state_at past.jobs n) (state_at past.jobs m) (λ same. ap (state_at past.jobs) (eqb-true n m same))
+
+  pub there_staged : (m : ℕ) → is_there (with_staging n past).jobs m ≡ is_there past.jobs m
   there_staged m =
       ap (λ (state : JobState). state.at_hand) (state_staged past.jobs n (past.folders + 1) m)
       ∙ there_if (n == m) (past.folders + 1) (state_at past.jobs n) (state_at past.jobs m) (λ same. ap (state_at past.jobs) (eqb-true n m same))
@@ -94,6 +115,7 @@ module _ (jobs : List Job) (r : Readings) (past : Past) (g : ℕ → ℕ) (n : �
         waits = λ m. sym (waits_staged past n m) i;
         at_hand = λ m. sym (there_staged past n m) i;
         folder = λ m. sym (folder_staged past n m) i;
+        fetched = λ m. sym (fetched_staged past n m) i;
         gave_up = g;
         folders = one_more i;
         at_work = Some n;
@@ -176,6 +198,14 @@ there_given_up : (b : Bool) (state : JobState) → state.at_hand ≡ (cond b (re
 there_given_up true state = refl
 there_given_up false state = refl
 
+fetched_given_up : (b : Bool) (state : JobState) → state.fetched ≡ (cond b (record state { waits = true; gave_up = state.gave_up + 1 }) state).fetched
+fetched_given_up true state = refl
+fetched_given_up false state = refl
+
+tried_given_up : (b : Bool) (state : JobState) → state.tried ≡ (cond b (record state { waits = true; gave_up = state.gave_up + 1 }) state).tried
+tried_given_up true state = refl
+tried_given_up false state = refl
+
 gave_up_given_up : (b : Bool) (state : JobState) → cond b (suc state.gave_up) state.gave_up ≡ (cond b (record state { waits = true; gave_up = state.gave_up + 1 }) state).gave_up
 gave_up_given_up true state = omega arith
 gave_up_given_up false state = refl
@@ -187,7 +217,13 @@ module _ (past : Past) (n : ℕ) (within : n < length past.jobs) where
   pub folder_kept : (m : ℕ) → (state_at past.jobs m).folder ≡ (state_at (with_giving_up n past).jobs m).folder
   folder_kept m = folder_given_up (n == m) (state_at past.jobs m) ∙ ap (λ (s : JobState). s.folder) (sym (state_given_up past.jobs n m within))
 
-  there_kept : (m : ℕ) → is_there past.jobs m ≡ is_there (with_giving_up n past).jobs m
+  pub fetched_kept : (m : ℕ) → (state_at past.jobs m).fetched ≡ (state_at (with_giving_up n past).jobs m).fetched
+  fetched_kept m = fetched_given_up (n == m) (state_at past.jobs m) ∙ ap (λ (s : JobState). s.fetched) (sym (state_given_up past.jobs n m within))
+
+  pub tried_kept : (m : ℕ) → (state_at past.jobs m).tried ≡ (state_at (with_giving_up n past).jobs m).tried
+  tried_kept m = tried_given_up (n == m) (state_at past.jobs m) ∙ ap (λ (s : JobState). s.tried) (sym (state_given_up past.jobs n m within))
+
+  pub there_kept : (m : ℕ) → is_there past.jobs m ≡ is_there (with_giving_up n past).jobs m
   there_kept m = there_given_up (n == m) (state_at past.jobs m) ∙ ap (λ (s : JobState). s.at_hand) (sym (state_given_up past.jobs n m within))
 
   pub counted_once_more : (m : ℕ) → cond (n == m) (suc (state_at past.jobs m).gave_up) (state_at past.jobs m).gave_up ≡ (state_at (with_giving_up n past).jobs m).gave_up
@@ -211,6 +247,7 @@ module _ (jobs : List Job) (r : Readings) (past : Past) (g : ℕ → ℕ) (n : �
         waits = λ m. waits_again past n within m i;
         at_hand = λ m. there_kept past n within m i;
         folder = λ m. folder_kept past n within m i;
+        fetched = λ m. fetched_kept past n within m i;
         gave_up = once_more n g;
         folders = past.folders;
         at_work = None;
@@ -242,6 +279,14 @@ there_brought : (b : Bool) (state : JobState) → cond b true state.at_hand ≡ 
 there_brought true state = refl
 there_brought false state = refl
 
+fetched_brought : (b : Bool) (state : JobState) → state.fetched ≡ (cond b (record state { at_hand = true }) state).fetched
+fetched_brought true state = refl
+fetched_brought false state = refl
+
+tried_brought : (b : Bool) (state : JobState) → state.tried ≡ (cond b (record state { at_hand = true }) state).tried
+tried_brought true state = refl
+tried_brought false state = refl
+
 tries_brought : (b : Bool) (state : JobState) → state.gave_up ≡ (cond b (record state { at_hand = true }) state).gave_up
 tries_brought true state = refl
 tries_brought false state = refl
@@ -253,6 +298,15 @@ module _ (past : Past) (n : ℕ) (within : n < length past.jobs) where
   pub tries_with_hand : (m : ℕ) → (state_at past.jobs m).gave_up ≡ (state_at (with_hand n past).jobs m).gave_up
   tries_with_hand m = tries_brought (n == m) (state_at past.jobs m) ∙ by_state (λ state. state.gave_up) m
 
+  pub tried_with_hand : (m : ℕ) → (state_at past.jobs m).tried ≡ (state_at (with_hand n past).jobs m).tried
+  tried_with_hand m = tried_brought (n == m) (state_at past.jobs m) ∙ by_state (λ state. state.tried) m
+
+  pub fetched_with_hand : (m : ℕ) → (state_at past.jobs m).fetched ≡ (state_at (with_hand n past).jobs m).fetched
+  fetched_with_hand m = fetched_brought (n == m) (state_at past.jobs m) ∙ by_state (λ state. state.fetched) m
+
+  pub there_with_hand : (m : ℕ) → cond (n == m) true (is_there past.jobs m) ≡ is_there (with_hand n past).jobs m
+  there_with_hand m = there_brought (n == m) (state_at past.jobs m) ∙ by_state (λ state. state.at_hand) m
+
   pub keeps_bringing : (jobs : List Job) (r : Readings) (g : ℕ → ℕ) (job : Job) → IsJob jobs n job → AreKept jobs r (course_of past (Some n) g) →
       AreKept jobs (reads_after r (job_repeated job.place)) (course_of (with_hand n past) None g)
   keeps_bringing jobs r g job it k =
@@ -261,14 +315,153 @@ module _ (past : Past) (n : ℕ) (within : n < length past.jobs) where
         tickets = past.tickets;
         numbers = numbers_of past.flights;
         waits = λ m. (waits_brought (n == m) (state_at past.jobs m) ∙ by_state (λ state. state.waits) m) i;
-        at_hand = λ m. (there_brought (n == m) (state_at past.jobs m) ∙ by_state (λ state. state.at_hand) m) i;
+        at_hand = λ m. there_with_hand m i;
         folder = λ m. (folder_brought (n == m) (state_at past.jobs m) ∙ by_state (λ state. state.folder) m) i;
+        fetched = λ m. fetched_with_hand m i;
         gave_up = g;
         folders = past.folders;
         at_work = None;
         over = is_some past.end;
       })
       (keeps_at_hand jobs r (course_of past (Some n) g) k n job it refl)
+
+-- Its files were fetched
+
+abbrev loaded_if : Bool → ℕ → JobState → JobState
+loaded_if b folder state = cond b (load_state folder state) state
+
+state_loaded : (states : List JobState) (n folder m : ℕ) → state_at (loaded_in n folder states) m ≡ loaded_if (n == m) folder (state_at states m)
+state_loaded [] zero folder zero = refl
+state_loaded [] zero folder (suc m) = sym (ap (λ b. loaded_if b folder untouched) (eqb-zero-suc m))
+state_loaded [] (suc n) folder zero = sym (ap (λ b. loaded_if b folder untouched) (eqb-suc-zero n))
+state_loaded [] (suc n) folder (suc m) = state_loaded [] n folder m ∙ sym (ap (λ b. loaded_if b folder untouched) (eqb-suc-suc n m))
+state_loaded (x ∷ states) zero folder zero = refl
+state_loaded (x ∷ states) zero folder (suc m) = sym (ap (λ b. loaded_if b folder (state_at states m)) (eqb-zero-suc m))
+state_loaded (x ∷ states) (suc n) folder zero = sym (ap (λ b. loaded_if b folder x) (eqb-suc-zero n))
+state_loaded (x ∷ states) (suc n) folder (suc m) = state_loaded states n folder m ∙ sym (ap (λ b. loaded_if b folder (state_at states m)) (eqb-suc-suc n m))
+
+waits_loaded : (b : Bool) (folder : ℕ) (state : JobState) → cond b false state.waits ≡ (loaded_if b folder state).waits
+waits_loaded true folder state = refl
+waits_loaded false folder state = refl
+
+there_loaded : (b : Bool) (folder : ℕ) (state : JobState) → cond b true state.at_hand ≡ (loaded_if b folder state).at_hand
+there_loaded true folder state = refl
+there_loaded false folder state = refl
+
+folder_loaded : (b : Bool) (folder : ℕ) (state : JobState) → cond b folder state.folder ≡ (loaded_if b folder state).folder
+folder_loaded true folder state = refl
+folder_loaded false folder state = refl
+
+fetched_loaded : (b : Bool) (folder : ℕ) (state : JobState) → cond b true state.fetched ≡ (loaded_if b folder state).fetched
+fetched_loaded true folder state = refl
+fetched_loaded false folder state = refl
+
+tried_loaded : (b : Bool) (folder : ℕ) (state : JobState) → cond b true state.tried ≡ (loaded_if b folder state).tried
+tried_loaded true folder state = refl
+tried_loaded false folder state = refl
+
+gave_up_loaded : (b : Bool) (folder : ℕ) (state : JobState) → state.gave_up ≡ (loaded_if b folder state).gave_up
+gave_up_loaded true folder state = refl
+gave_up_loaded false folder state = refl
+
+module _ (past : Past) (n : ℕ) where
+  part_loaded : {X : Type 0} (part : JobState → X) (m : ℕ) → part (loaded_if (n == m) (past.folders + 1) (state_at past.jobs m)) ≡ part (state_at (with_load n past).jobs m)
+  part_loaded part m = ap part (sym (state_loaded past.jobs n (past.folders + 1) m))
+
+  pub tried_with_load : (m : ℕ) → cond (n == m) true (state_at past.jobs m).tried ≡ (state_at (with_load n past).jobs m).tried
+  tried_with_load m = tried_loaded (n == m) (past.folders + 1) (state_at past.jobs m) ∙ part_loaded (λ state. state.tried) m
+
+  pub fetched_with_load : (m : ℕ) → cond (n == m) true (state_at past.jobs m).fetched ≡ (state_at (with_load n past).jobs m).fetched
+  fetched_with_load m = fetched_loaded (n == m) (past.folders + 1) (state_at past.jobs m) ∙ part_loaded (λ state. state.fetched) m
+
+  pub there_with_load : (m : ℕ) → cond (n == m) true (is_there past.jobs m) ≡ is_there (with_load n past).jobs m
+  there_with_load m = there_loaded (n == m) (past.folders + 1) (state_at past.jobs m) ∙ part_loaded (λ state. state.at_hand) m
+
+  pub gave_up_with_load : (m : ℕ) → (state_at past.jobs m).gave_up ≡ (state_at (with_load n past).jobs m).gave_up
+  gave_up_with_load m = gave_up_loaded (n == m) (past.folders + 1) (state_at past.jobs m) ∙ part_loaded (λ state. state.gave_up) m
+
+  pub keeps_loading : (jobs : List Job) (r : Readings) (g : ℕ → ℕ) (job : Job) → IsJob jobs n job → waits_in past.jobs n ≡ true → AreKept jobs r (course_of past None g) →
+      AreKept jobs (reads_after r (files_fetched job.place (past.folders + 1))) (course_of (with_load n past) None g)
+  keeps_loading jobs r g job it free k =
+      subst (AreKept jobs (reads_after r (files_fetched job.place (past.folders + 1))))
+      (λ i. record {
+        tickets = past.tickets;
+        numbers = numbers_of past.flights;
+        waits = λ m. (waits_loaded (n == m) (past.folders + 1) (state_at past.jobs m) ∙ part_loaded (λ state. state.waits) m) i;
+        at_hand = λ m. there_with_load m i;
+        folder = λ m. (folder_loaded (n == m) (past.folders + 1) (state_at past.jobs m) ∙ part_loaded (λ state. state.folder) m) i;
+        fetched = λ m. fetched_with_load m i;
+        gave_up = g;
+        folders = one_after past.folders i;
+        at_work = None;
+        over = is_some past.end;
+      })
+      (keeps_loaded jobs r (course_of past None g) k n job (past.folders + 1) it free refl)
+    where
+      one_after : (folders : ℕ) → suc folders ≡ folders + 1
+      one_after folders = omega arith
+
+-- What was fetched is not what its row has
+
+abbrev missed_if : Bool → JobState → JobState
+missed_if b state = cond b (record state { tried = true }) state
+
+state_missed : (states : List JobState) (n m : ℕ) → state_at (missed_in n states) m ≡ missed_if (n == m) (state_at states m)
+state_missed [] zero zero = refl
+state_missed [] zero (suc m) = sym (ap (λ b. missed_if b untouched) (eqb-zero-suc m))
+state_missed [] (suc n) zero = sym (ap (λ b. missed_if b untouched) (eqb-suc-zero n))
+state_missed [] (suc n) (suc m) = state_missed [] n m ∙ sym (ap (λ b. missed_if b untouched) (eqb-suc-suc n m))
+state_missed (x ∷ states) zero zero = refl
+state_missed (x ∷ states) zero (suc m) = sym (ap (λ b. missed_if b (state_at states m)) (eqb-zero-suc m))
+state_missed (x ∷ states) (suc n) zero = sym (ap (λ b. missed_if b x) (eqb-suc-zero n))
+state_missed (x ∷ states) (suc n) (suc m) = state_missed states n m ∙ sym (ap (λ b. missed_if b (state_at states m)) (eqb-suc-suc n m))
+
+missed_same : {X : Type 0} (part : JobState → X) → ((state : JobState) → part (record state { tried = true }) ≡ part state) → (b : Bool) (state : JobState) →
+    part state ≡ part (missed_if b state)
+missed_same part same true state = sym (same state)
+missed_same part same false state = refl
+
+tried_missed : (b : Bool) (state : JobState) → cond b true state.tried ≡ (missed_if b state).tried
+tried_missed true state = refl
+tried_missed false state = refl
+
+module _ (past : Past) (n : ℕ) where
+  part_missed : {X : Type 0} (part : JobState → X) → ((state : JobState) → part (record state { tried = true }) ≡ part state) → (m : ℕ) →
+      part (state_at past.jobs m) ≡ part (state_at (with_loss n past).jobs m)
+  part_missed part same m = missed_same part same (n == m) (state_at past.jobs m) ∙ ap part (sym (state_missed past.jobs n m))
+
+  pub tried_with_loss : (m : ℕ) → cond (n == m) true (state_at past.jobs m).tried ≡ (state_at (with_loss n past).jobs m).tried
+  tried_with_loss m = tried_missed (n == m) (state_at past.jobs m) ∙ ap (λ (state : JobState). state.tried) (sym (state_missed past.jobs n m))
+
+  pub fetched_with_loss : (m : ℕ) → (state_at past.jobs m).fetched ≡ (state_at (with_loss n past).jobs m).fetched
+  fetched_with_loss m = part_missed (λ state. state.fetched) (λ state. refl) m
+
+  pub there_with_loss : (m : ℕ) → is_there past.jobs m ≡ is_there (with_loss n past).jobs m
+  there_with_loss m = part_missed (λ state. state.at_hand) (λ state. refl) m
+
+  pub gave_up_with_loss : (m : ℕ) → (state_at past.jobs m).gave_up ≡ (state_at (with_loss n past).jobs m).gave_up
+  gave_up_with_loss m = part_missed (λ state. state.gave_up) (λ state. refl) m
+
+  pub keeps_missing : (jobs : List Job) (r : Readings) (g : ℕ → ℕ) (place : JobPlace) (its_key : List ℕ) → AreKept jobs r (course_of past None g) →
+      AreKept jobs (reads_after r (archive_differs place its_key (past.folders + 1))) (course_of (with_loss n past) None g)
+  keeps_missing jobs r g place its_key k =
+      subst (AreKept jobs (reads_after r (archive_differs place its_key (past.folders + 1))))
+      (λ i. record {
+        tickets = past.tickets;
+        numbers = numbers_of past.flights;
+        waits = λ m. part_missed (λ state. state.waits) (λ state. refl) m i;
+        at_hand = λ m. there_with_loss m i;
+        folder = λ m. part_missed (λ state. state.folder) (λ state. refl) m i;
+        fetched = λ m. part_missed (λ state. state.fetched) (λ state. refl) m i;
+        gave_up = g;
+        folders = one_after past.folders i;
+        at_work = None;
+        over = is_some past.end;
+      })
+      (keeps_missed jobs r (course_of past None g) k place its_key (past.folders + 1))
+    where
+      one_after : (folders : ℕ) → suc folders ≡ folders + 1
+      one_after folders = omega arith
 
 -- The end is settled
 

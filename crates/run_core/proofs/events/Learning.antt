@@ -2,6 +2,7 @@
 use Rattle.std.specs.Prelude.{◌≤◌, IsSome, is_some, Result, option_map}
 use Rattle.std.specs.List.{list_any}
 use Rattle.std.proofs.Common.{◌≡◌, ◌∙◌, ◌+◌, ◌<◌, ℕ, Bool, true, false, List, [], ◌∷◌, ◌++◌, length, Option, Some, None, refl, sym, ap, subst}
+use Rattle.std.proofs.Math.Nat.{le_trans}
 use Rattle.job_graph.specs.declared.fault.UnfoldFault.{UnfoldFault}
 use Rattle.job_graph.specs.declared.unfolding.Unfolding.{Unfolding}
 use Rattle.input_files.specs.Measured.{Measures}
@@ -13,7 +14,7 @@ use Rattle.run_rules.specs.declared.outcome.Outcome.{Outcome}
 use Rattle.run_rules.specs.declared.outcome.RunFault.{RunFault}
 use Rattle.run_rules.specs.declared.request.RecordAnswer.{RecordAnswer}
 use Rattle.run_rules.specs.End.{End, fault_end, is_lost_collect, settled, settled_by, unfold_end}
-use Rattle.run_rules.specs.Events.{Event, delivered_if, is_reusable, job_succeeded, measures, resolved, resolves, row_found, started_at, unfolding_at}
+use Rattle.run_rules.specs.Events.{Event, delivered_if, is_lost, is_reusable, job_succeeded, loses, measures, resolved, resolves, row_found, started_at, unfolding_at}
 use Rattle.run_rules.specs.Reports.{note_of, outcome_of}
 use Rattle.run_rules.specs.Scene.{Scene}
 use Rattle.run_rules.proofs.events.Course.{Keeps as AreKept}
@@ -24,12 +25,14 @@ use Rattle.run_rules.proofs.events.Readings.{resolved_after, started_after}
 use Rattle.run_rules.proofs.events.Settled.{settled_more, settled_stays}
 use Rattle.run_rules.proofs.events.Tally.{readings, reads_after}
 use Rattle.run_core.specs.declared.state.Course.{Course}
-use Rattle.run_core.specs.inner.Course.{Past, known_in, past_of, with_answer, with_end, with_hand}
+use Rattle.run_core.specs.inner.Course.{Past, is_lost_in, known_in, past_of, with_answer, with_end, with_hand}
 use Rattle.run_core.specs.inner.FoundRows.{rows_after}
-use Rattle.run_core.specs.inner.Keeps.{AreFound, Keeps, Reflects, course_of}
+use Rattle.run_core.specs.inner.Keeps.{AreFound, AreTriedOnce, Keeps, Reflects, course_of}
 use Rattle.run_core.specs.inner.Knows.{IsKnown, IsUnfolded, Knows, Learns, LearnsUnlessOver, end_by, fails, fault_of, knows}
 use Rattle.run_core.proofs.FoundRows.{found_still as rows_still, more_found, row_is_found}
 use Rattle.run_core.proofs.States.{taken_within}
+use Rattle.run_core.proofs.events.Losses.{none_lost}
+use Rattle.run_core.proofs.events.Tried.{answer_leaves, hand_leaves, leaves_same, tried_still}
 use Rattle.run_core.proofs.events.Kept.{keeps_bringing}
 use Rattle.run_core.proofs.events.Keeping.{KeepsTheRest, front_later, hand_keeps_the_rest, learned_fails_keeps, learned_keeps, never_none, none_settled}
 use Rattle.run_core.proofs.events.Reflecting.{Laws, collects_after, end_of, end_reported, fault_ends, moved, no_notes_more, not_open, one_test, settled_late, undelivered_after, unfolds_by}
@@ -46,9 +49,12 @@ pub record Teaches (s : Scene) (es : List Event) (old : Course) (at_work : Optio
   pub collects : is_lost_collect e ≡ false
   pub delivers : delivered_if None e ≡ None
   pub notes : note_of e ≡ None
+  pub losses : (key : List ℕ) → loses key e ≡ false
   pub started : (place : JobPlace) → started_at (es ++ e ∷ []) place ≡ started_at es place
   pub rest : KeepsTheRest (past_of old) there
   pub noted : there.notes ≡ old.notes.items
+  pub lost : there.lost ≡ old.lost.items
+  pub tried : AreTriedOnce there
   pub kept : AreKept (known_in old.known) (reads_after (readings es) e) (course_of there None r.keeps.gave_up)
   pub looks : LooksUp (known_in old.known) (es ++ e ∷ []) there.looked_up
   pub rows : AreFound (known_in old.known) (es ++ e ∷ []) there.rows there.looked_up
@@ -60,6 +66,9 @@ module _ (s : Scene) (laws : Laws s) (es : List Event) (old : Course) (at_work :
 
   leads : IsFront (known_in old.known) (unfolding_at s (es ++ e ∷ [])).jobs
   leads = front_later s es (known_in old.known) e t.measures r.keeps.front
+
+  lost_then : (key : List ℕ) → is_lost (es ++ e ∷ []) key ≡ is_lost_in there.lost key
+  lost_then key = none_lost es e key (t.losses key) ∙ r.lost key ∙ ap (λ (lost : List (List ℕ)). is_lost_in lost key) (sym t.lost)
 
   -- the same jobs, with what is kept then
   looks_same : (new : Course) → known_in new.known ≡ known_in old.known → new.looked_up ≡ there.looked_up → LooksUp (known_in new.known) (es ++ e ∷ []) new.looked_up
@@ -89,6 +98,8 @@ module _ (s : Scene) (laws : Laws s) (es : List Event) (old : Course) (at_work :
         looks = looks_same new (ap known_in known) (ap (λ (p : Past). p.looked_up) past);
         rows = rows_same new (ap known_in known) (ap (λ (p : Past). p.rows) past) (ap (λ (p : Past). p.looked_up) past);
         notes = ap (λ (p : Past). p.notes) past ∙ t.noted ∙ r.notes ∙ sym (no_notes_more es e t.notes);
+        lost = λ key. lost_then key ∙ ap (λ (lost : List (List ℕ)). is_lost_in lost key) (ap (λ (p : Past). p.lost) (sym past));
+        tried = subst (λ (p : Past). AreTriedOnce p) (sym past) t.tried;
       }
 
   module _ (going : old.end ≡ None) where
@@ -132,6 +143,8 @@ module _ (s : Scene) (laws : Laws s) (es : List Event) (old : Course) (at_work :
               (more_found (known_in old.known) (es ++ e ∷ []) there.rows there.looked_up t.rows
               (known_in new.known) (subst (λ (js : List Job). IsFront (known_in old.known) js) whole leads) t.looks (looks_then new jobs whole));
           notes = ap (λ (p : Past). p.notes) past ∙ t.noted ∙ r.notes ∙ sym (no_notes_more es e t.notes);
+          lost = λ key. lost_then key ∙ ap (λ (lost : List (List ℕ)). is_lost_in lost key) (ap (λ (p : Past). p.lost) (sym past));
+          tried = subst (λ (p : Past). AreTriedOnce p) (sym past) t.tried;
         }
 
     learns_fault : (fault : UnfoldFault) (new : Course) → (unfolded walks (resolved es ++ one ∷ [])).fault ≡ Some (fault_of fault) → known_in new.known ≡ known_in old.known →
@@ -148,6 +161,8 @@ module _ (s : Scene) (laws : Laws s) (es : List Event) (old : Course) (at_work :
       looks = looks_same new known (ap (λ (p : Past). p.looked_up) past);
       rows = rows_same new known (ap (λ (p : Past). p.rows) past) (ap (λ (p : Past). p.looked_up) past);
       notes = ap (λ (p : Past). p.notes) past ∙ t.noted ∙ r.notes ∙ sym (no_notes_more es e t.notes);
+      lost = λ key. lost_then key ∙ ap (λ (lost : List (List ℕ)). is_lost_in lost key) (ap (λ (p : Past). p.lost) (sym past));
+      tried = subst (λ (p : Past). AreTriedOnce p) (sym past) (tried_still (leaves_same (record { jobs = refl; rows = refl; lost = refl })) t.tried);
     }
 
     module _ (before : Course) (past : past_of before ≡ there) (known : before.known ≡ old.known) where
@@ -208,9 +223,12 @@ module _ (s : Scene) (es : List Event) (old : Course) (n : ℕ) (job : Job) (it 
         collects = refl;
         delivers = refl;
         notes = refl;
+        losses = λ key. refl;
         started = λ place. started_after es (e ∷ []) place;
         rest = hand_keeps_the_rest (past_of old) n within;
         noted = refl;
+        lost = refl;
+        tried = tried_still (hand_leaves (past_of old) n within) r.tried;
         kept = keeps_bringing (past_of old) n within (known_in old.known) (readings es) r.keeps.gave_up job it r.keeps.books;
         looks = still_looked_up (known_in old.known) es (e ∷ []) old.looked_up refl r.looks;
         rows = rows_still (known_in old.known) es old.rows old.looked_up r.rows (e ∷ []) refl;
@@ -229,9 +247,12 @@ module _ (s : Scene) (es : List Event) (old : Course) (n : ℕ) (job : Job) (it 
         collects = refl;
         delivers = refl;
         notes = refl;
+        losses = λ key. refl;
         started = λ place. started_after es (e ∷ []) place;
         rest = record { few = refl; tries = λ m. refl; tickets = refl; flights = refl; end = refl };
         noted = refl;
+        lost = refl;
+        tried = tried_still (answer_leaves (past_of old) n (RecordAnswer.Found (Some row)) (le_trans r.rows.few left)) r.tried;
         kept = r.keeps.books;
         looks = one_looked_up (known_in old.known) es e old.looked_up n job r.keeps.books.apart it (λ at. refl) left first r.looks;
         rows = row_is_found (known_in old.known) es old.rows old.looked_up r.rows n job it r.keeps.books.apart left r.looks row;

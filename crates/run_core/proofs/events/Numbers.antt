@@ -17,7 +17,7 @@ use Rattle.run_rules.proofs.events.Tally.{Readings}
 use Rattle.run_rules.proofs.events.Turns.{so_many}
 use Rattle.run_core.specs.declared.state.Flight.{Flight}
 use Rattle.run_core.specs.declared.job_states.JobState.{JobState}
-use Rattle.run_core.specs.inner.Course.{Past, number_in, place_at}
+use Rattle.run_core.specs.inner.Course.{Past, fetched_in, number_in, place_at}
 use Rattle.run_core.specs.inner.Keeps.{course_of, numbers_of}
 use Rattle.run_core.specs.inner.JobStates.{state_at}
 
@@ -38,20 +38,26 @@ record IsNumbered (jobs : List Job) (states : List JobState) (place : JobPlace) 
   pub it : IsJob jobs number job
   pub same : is_same_place job.place place ≡ true
   pub folder : number_in jobs states place ≡ (state_at states number).folder
+  pub fetched : fetched_in jobs states place ≡ (state_at states number).fetched
 
 record IsUnnumbered (jobs : List Job) (states : List JobState) (place : JobPlace) : Type 0 where
   pub none : find (is_at place) jobs ≡ None
   pub folder : number_in jobs states place ≡ 0
+  pub fetched : fetched_in jobs states place ≡ false
 
 none_staged : (jobs : List Job) (place : JobPlace) → number_in jobs [] place ≡ 0
 none_staged [] place = refl
 none_staged (x ∷ jobs) place = refl
 
+none_fetched : (jobs : List Job) (place : JobPlace) → fetched_in jobs [] place ≡ false
+none_fetched [] place = refl
+none_fetched (x ∷ jobs) place = refl
+
 numbered_unstaged : (jobs : List Job) (place : JobPlace) (o : Option Job) → find (is_at place) jobs ≡ o → IsNumbered jobs [] place ⊎ IsUnnumbered jobs [] place
-numbered_unstaged jobs place None is = inr (record { none = is; folder = none_staged jobs place })
+numbered_unstaged jobs place None is = inr (record { none = is; folder = none_staged jobs place; fetched = none_fetched jobs place })
 numbered_unstaged jobs place (Some job) is =
     let it : IsFound jobs place job = found_is jobs place job is in
-    inl (record { number = it.number; job = job; it = it.there; same = it.same; folder = none_staged jobs place })
+    inl (record { number = it.number; job = job; it = it.there; same = it.same; folder = none_staged jobs place; fetched = none_fetched jobs place })
 
 numbered_first : (test : Bool) (x : Job) (jobs : List Job) (state : JobState) (states : List JobState) (place : JobPlace) → is_same_place x.place place ≡ test →
     IsNumbered jobs states place ⊎ IsUnnumbered jobs states place → IsNumbered (x ∷ jobs) (state ∷ states) place ⊎ IsUnnumbered (x ∷ jobs) (state ∷ states) place
@@ -61,6 +67,7 @@ numbered_first true x jobs state states place is later = inl (record {
   it = record { within = omega arith; is = refl };
   same = is;
   folder = ap (λ b. cond b state.folder (number_in jobs states place)) is;
+  fetched = ap (λ b. cond b state.fetched (fetched_in jobs states place)) is;
 })
 numbered_first false x jobs state states place is (inl later) = inl (record {
   number = suc later.number;
@@ -68,14 +75,16 @@ numbered_first false x jobs state states place is (inl later) = inl (record {
   it = record { within = omega (arith, later.it.within); is = later.it.is };
   same = later.same;
   folder = ap (λ b. cond b state.folder (number_in jobs states place)) is ∙ later.folder;
+  fetched = ap (λ b. cond b state.fetched (fetched_in jobs states place)) is ∙ later.fetched;
 })
 numbered_first false x jobs state states place is (inr later) = inr (record {
   none = ap (λ b. cond b (Some x) (find (is_at place) jobs)) is ∙ later.none;
   folder = ap (λ b. cond b state.folder (number_in jobs states place)) is ∙ later.folder;
+  fetched = ap (λ b. cond b state.fetched (fetched_in jobs states place)) is ∙ later.fetched;
 })
 
 numbered_or_not : (jobs : List Job) (states : List JobState) (place : JobPlace) → IsNumbered jobs states place ⊎ IsUnnumbered jobs states place
-numbered_or_not [] states place = inr (record { none = refl; folder = refl })
+numbered_or_not [] states place = inr (record { none = refl; folder = refl; fetched = refl })
 numbered_or_not (x ∷ jobs) [] place = numbered_unstaged (x ∷ jobs) place (find (is_at place) (x ∷ jobs)) refl
 numbered_or_not (x ∷ jobs) (state ∷ states) place =
     numbered_first (is_same_place x.place place) x jobs state states place refl (numbered_or_not jobs states place)
@@ -127,6 +136,12 @@ module _ (jobs : List Job) (r : Readings) (past : Past) (at_work : Option ℕ) (
   number_is_kept place = elim (numbered_or_not jobs past.jobs place) [
     | inl n ↦ ap r.number (sym (same_place n.job.place place n.same)) ∙ k.number n.number n.job n.it ∙ sym n.folder
     | inr n ↦ (k.unknown place n.none).unstaged ∙ sym n.folder
+  ]
+
+  pub fetched_is_kept : (place : JobPlace) → r.fetched place ≡ fetched_in jobs past.jobs place
+  fetched_is_kept place = elim (numbered_or_not jobs past.jobs place) [
+    | inl n ↦ ap r.fetched (sym (same_place n.job.place place n.same)) ∙ k.fetches n.number n.job n.it ∙ sym n.fetched
+    | inr n ↦ (k.unknown place n.none).unfetched ∙ sym n.fetched
   ]
 
   pub flight_flies : (flight : Flight) → Contains past.flights flight → Flies jobs r.flying flight.job

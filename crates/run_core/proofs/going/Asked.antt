@@ -1,5 +1,5 @@
 -- What the machine asks, where it is in its run: it may be asked, its phase fits it, and the course's lists fit one another.
-use Rattle.std.specs.Prelude.{◌<◌, ◌≤◌, ◌≢◌, Contains, is_some}
+use Rattle.std.specs.Prelude.{◌<◌, ◌≤◌, ◌≢◌, ◌&&◌, Contains, is_some}
 use Rattle.std.proofs.Common.{◌≡◌, ◌∙◌, ◌+◌, ℕ, Bool, true, false, List, [], ◌∷◌, length, reverse, Option, Some, None, refl, sym, ap, subst, arith}
 use Rattle.std.proofs.lemmas.Bool.{or_parts}
 use Rattle.plan_checker.specs.declared.plan.Mark.{Mark}
@@ -16,17 +16,20 @@ use Rattle.run_rules.specs.declared.request.Pair.{Pair}
 use Rattle.run_rules.specs.declared.request.Request.{Request}
 use Rattle.run_rules.specs.declared.setting.Options.{Options}
 use Rattle.run_rules.specs.Allowed.{Allowed, MayCollect, MayMeasure}
-use Rattle.run_rules.specs.Events.{Event, Progress, in_flight, input_heads_due, output_heads_due, put_due}
+use Rattle.run_rules.specs.Events.{Event, Progress, in_flight, input_heads_due, output_heads_due, put_due, store_due, folder_at, drop_due}
 use Rattle.run_rules.specs.Folders.{out_folder}
 use Rattle.run_rules.specs.Scene.{Scene}
-use Rattle.run_rules.specs.Plans.{number_of}
+use Rattle.run_rules.specs.Plans.{InForce, number_of}
+use Rattle.run_rules.specs.Run.{Goes}
+use Rattle.run_core.specs.inner.Fetches.{can_load}
+use Rattle.job_rows.specs.declared.row.Row.{Row}
 use Rattle.run_rules.proofs.events.Course.{Keeps as AreKept}
 use Rattle.run_rules.proofs.events.Flights.{is_flying}
 use Rattle.run_rules.proofs.events.Tally.{Readings, readings}
 use Rattle.run_rules.proofs.events.Places.{IsJob, number_is}
 use Rattle.run_rules.proofs.events.Planned.{jobs_in}
 use Rattle.run_rules.proofs.events.Ready.{AreParentsThere, NoneIsReady}
-use Rattle.run_rules.proofs.events.Staged.{lowest_first}
+use Rattle.run_rules.proofs.events.Staged.{lowest_fetched, lowest_first}
 use Rattle.run_rules.proofs.events.Turns.{so_many}
 use Rattle.job_key.specs.Key.{key}
 use Rattle.run_rules.specs.declared.request.RecordRequest.{RecordRequest}
@@ -42,12 +45,12 @@ use Rattle.run_core.specs.inner.Due.{FitsCall, call_for, work_of}
 use Rattle.run_core.specs.inner.Follows.{AsksIn, AsksOf}
 use Rattle.run_core.specs.inner.Keeps.{Reflects, course_of}
 use Rattle.run_core.specs.Core.{IsFirst}
-use Rattle.run_core.specs.inner.Standing.{IsAt, IsStaging, Runs, collecting, delivering, ended, measuring, staging, working, finding, putting}
+use Rattle.run_core.specs.inner.Standing.{IsAt, IsStaging, Runs, collecting, delivering, ended, measuring, staging, working, finding, putting, storing, FetchesNext, dropping, fetching}
 use Rattle.run_core.proofs.events.Families.{ready_if}
 use Rattle.run_core.proofs.events.Numbers.{Flies, flight_flies, flights_as_many}
-use Rattle.run_core.proofs.events.Reflecting.{Laws, folder_there}
+use Rattle.run_core.proofs.events.Reflecting.{Laws, staged_there}
 use Rattle.run_core.proofs.going.Measured.{IsOf, may_measure}
-use Rattle.run_core.proofs.going.Picking.{all_known, all_kept}
+use Rattle.run_core.proofs.going.Picking.{all_known, all_kept, loads_at, nor_kept}
 use Rattle.run_core.proofs.job_steps.Calls.{IsForJob, for_job, working_allowed}
 use Rattle.run_core.proofs.job_steps.Turns.{PicksAt}
 use Rattle.run_core.specs.inner.JobStates.{is_ready, state_at, waits_in}
@@ -134,6 +137,9 @@ module _ (s : Scene) (f : Progress) (marks : List Mark) (course : Course) where
   fits_at asks (measuring found m rest path is left happened none nothing) = nothing_fits course (past_of course) refl nothing
   fits_at asks (finding n job r next) = lists_fit s f.events course None r
   fits_at asks (putting n job row r it due) = lists_fit s f.events course None r
+  fits_at asks (fetching n job row r next) = lists_fit s f.events course None r
+  fits_at asks (dropping n job its_key r it due) = lists_fit s f.events course None r
+  fits_at asks (storing n job row r it due) = lists_fit s f.events course None r
   fits_at asks (staging n job plan r st) = lists_fit s f.events course None r
   fits_at asks (working n job call phase r w) = lists_fit s f.events course (Some n) r
   fits_at asks (collecting r may) = lists_fit s f.events course None r
@@ -144,6 +150,9 @@ module _ (s : Scene) (f : Progress) (marks : List Mark) (course : Course) where
   asks_at (measuring found m rest path is left happened none nothing) = tt
   asks_at (finding n job r next) = next.it.within
   asks_at (putting n job row r it due) = it.within
+  asks_at (fetching n job row r next) = next.it.within
+  asks_at (dropping n job its_key r it due) = it.within
+  asks_at (storing n job row r it due) = it.within
   asks_at (staging n job plan r st) = record { known = st.it.within }
   asks_at (working n job call phase r w) =
       work_asks s.options course job.place n (state_at course.jobs n).folder call phase w.calls.due w.calls.fits (taken_within course.jobs n (r.keeps.books.worked_on n refl))
@@ -168,6 +177,10 @@ module _ (s : Scene) (f : Progress) (marks : List Mark) (course : Course) where
       let never : Request.Record job.place (RecordRequest.Find (key job.tool job.inputs)) ≡ Request.Host place HostRequest.Collect = asks in absurd cc
   collects_at place (putting n job row r it due) asks =
       let never : Request.Record job.place (RecordRequest.Put row) ≡ Request.Host place HostRequest.Collect = asks in absurd cc
+  collects_at place (fetching n job row r next) asks = absurd (not_waiting (HostRequest.Fetch row.key (course.folders + 1) row.files) place job.place (λ same. cc) asks)
+  collects_at place (dropping n job its_key r it due) asks =
+      let never : Request.Record job.place (RecordRequest.DropArchive its_key) ≡ Request.Host place HostRequest.Collect = asks in absurd cc
+  collects_at place (storing n job row r it due) asks = absurd (not_waiting (HostRequest.Store row.key (folder_at s f.events job.place) row.files) place job.place (λ same. cc) asks)
   collects_at place (staging n job plan r st) asks = absurd (not_waiting (HostRequest.Stage plan (course.folders + 1)) place job.place (λ same. cc) asks)
   collects_at place (working n job call phase r w) asks =
       absurd (not_waiting call place job.place
@@ -182,15 +195,21 @@ module _ (s : Scene) (given : Given) (its : IsOf s given) (laws : Laws s) (picks
       subst (λ (g : Progress). MayMeasure s g [] path) (sym happened) (may_measure s given its laws picks t found marks m rest path is left)
   allows_at t f marks course asks (finding n job r next) = next.may
   allows_at t f marks course asks (putting n job row r it due) = due_when s f marks (put_due job.place row) (Request.Record job.place (RecordRequest.Put row)) due refl
+  allows_at t f marks course asks (fetching n job row r next) = next.may
+  allows_at t f marks course asks (dropping n job its_key r it due) =
+      due_when s f marks (drop_due job.place its_key) (Request.Record job.place (RecordRequest.DropArchive its_key)) due refl
+  allows_at t f marks course asks (storing n job row r it due) =
+      due_when s f marks (store_due job.place row) (Request.Host job.place (HostRequest.Store row.key (folder_at s f.events job.place) row.files)) due refl
   allows_at t f marks course asks (staging n job plan r st) = st.may
   allows_at t f marks course asks (working n job call phase r w) =
-      working_allowed s f marks course n job call phase (folder_there s f.events course (Some n) n job w.it r) w
+      working_allowed s f marks course n job call phase (staged_there s f.events course n job w.it r) w
   allows_at t f marks course asks (collecting r may) = may
   allows_at t f marks course asks (delivering plan r may going all) = may
   allows_at t f marks course asks (ended end so noted) = absurd (asks refl)
 
   first_call : (f : Progress) (marks : List Mark) (place : JobPlace) (call : HostRequest) → IsForJob call → IsFirst s f marks (Request.Host place call)
   first_call f marks place (HostRequest.Stage plan number) its = absurd its
+  first_call f marks place (HostRequest.Fetch key number files) its = absurd its
   first_call f marks place call its = tt
 
   -- the lowest job that waits is staged
@@ -213,23 +232,45 @@ module _ (s : Scene) (given : Given) (its : IsOf s given) (laws : Laws s) (picks
       lowest_first s f marks (course_of (past_of course) None r.keeps.gave_up) books st.may.free n (ap is_some st.going) refl none_before other its folder may in
       omega (arith, number, least)
 
-  first_at : (f : Progress) (marks : List Mark) (course : Course) {turn : Turn} → turn.asks ≢ Request.Finished → IsAt s f marks course turn → IsFirst s f marks turn.asks
-  first_at f marks course asks (measuring found m rest path is left happened none nothing) = tt
-  first_at f marks course asks (finding n job r next) = tt
-  first_at f marks course asks (putting n job row r it due) = tt
-  first_at f marks course asks (staging n job plan r st) = first_staged f marks course n job plan r st
-  first_at f marks course asks (working n job call phase r w) =
+  -- the files of the lowest job that waits and can be loaded are fetched
+  first_fetched : (t : List Pair) (f : Progress) (marks : List Mark) (goes : Goes s (InForce s) t f marks) (course : Course) (n : ℕ) (job : Job) (row : Row) → Reflects s f.events course None →
+      FetchesNext s f marks course n job row → IsFirst s f marks (Request.Host job.place (HostRequest.Fetch row.key (course.folders + 1) row.files))
+  first_fetched t f marks goes course n job row r next =
+      let whole : known_in course.known ≡ jobs_in s f = all_known s f.events course None r next.going in
+      let books : AreKept (jobs_in s f) (readings f.events) (course_of (past_of course) None r.keeps.gave_up) = all_kept s f.events course None r next.going in
+      let number : number_of job.place (jobs_in s f) ≡ n =
+      number_is (jobs_in s f) books.apart n job (subst (λ (jobs : List Job). IsJob jobs n job) whole next.it) in
+      λ other its_key its_number its_files may.
+      let least : n ≤ number_of other (jobs_in s f) =
+      lowest_fetched s f marks (course_of (past_of course) None r.keeps.gave_up) books next.may.free n goes (ap is_some next.going) refl
+      (λ m its below it waits.
+      loads_at s f.events course None r m its (subst (λ (jobs : List Job). IsJob jobs m its) (sym whole) it)
+      ∙ ap (λ b. s.options.keep && b) (ap (λ b. b && can_load course m) (sym waits) ∙ next.lowest m below)
+      ∙ nor_kept s.options.keep)
+      other its_key its_number its_files may in
+      omega (arith, number, least)
+
+  first_at : (t : List Pair) (f : Progress) (marks : List Mark) → Goes s (InForce s) t f marks → (course : Course) {turn : Turn} → turn.asks ≢ Request.Finished → IsAt s f marks course turn →
+      IsFirst s f marks turn.asks
+  first_at t f marks goes course asks (measuring found m rest path is left happened none nothing) = tt
+  first_at t f marks goes course asks (finding n job r next) = tt
+  first_at t f marks goes course asks (putting n job row r it due) = tt
+  first_at t f marks goes course asks (storing n job row r it due) = tt
+  first_at t f marks goes course asks (fetching n job row r next) = first_fetched t f marks goes course n job row r next
+  first_at t f marks goes course asks (dropping n job its_key r it due) = tt
+  first_at t f marks goes course asks (staging n job plan r st) = first_staged f marks course n job plan r st
+  first_at t f marks goes course asks (working n job call phase r w) =
       first_call f marks job.place call (for_job s.options (state_at course.jobs n).folder [] call phase w.calls.due)
-  first_at f marks course asks (collecting r may) = tt
-  first_at f marks course asks (delivering plan r may going all) = tt
-  first_at f marks course asks (ended end so noted) = absurd (asks refl)
+  first_at t f marks goes course asks (collecting r may) = tt
+  first_at t f marks goes course asks (delivering plan r may going all) = tt
+  first_at t f marks goes course asks (ended end so noted) = absurd (asks refl)
 
   -- what is asked may be asked
   pub allows : (t : List Pair) (course : Course) (turn : Turn) (runs : Runs s t course turn) → turn.asks ≢ Request.Finished → Allowed s runs.happened runs.marks turn.asks
   allows t course turn runs asks = allows_at t runs.happened runs.marks course asks runs.at
 
   pub is_first : (t : List Pair) (course : Course) (turn : Turn) (runs : Runs s t course turn) → turn.asks ≢ Request.Finished → IsFirst s runs.happened runs.marks turn.asks
-  is_first t course turn runs asks = first_at runs.happened runs.marks course asks runs.at
+  is_first t course turn runs asks = first_at t runs.happened runs.marks runs.goes course asks runs.at
 
 pub asks_in : (s : Scene) (t : List Pair) (course : Course) (turn : Turn) → Runs s t course turn → AsksIn course turn
 asks_in s t course turn runs = asks_at s runs.happened runs.marks course runs.at

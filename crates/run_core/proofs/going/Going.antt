@@ -1,9 +1,10 @@
 -- A run goes on with each answer to what is asked.
 use Rattle.std.specs.Prelude.{◌≤◌}
-use Rattle.std.proofs.Common.{◌≡◌, ◌+◌, ℕ, List, [], ◌∷◌, ◌++◌, Some, None, length, subst}
+use Rattle.std.proofs.Common.{◌≡◌, ◌+◌, ℕ, List, [], ◌∷◌, ◌++◌, ◌∙◌, Some, None, length, refl, ap, subst}
 use Rattle.plan_checker.specs.declared.plan.Mark.{Mark}
 use Rattle.proc_host.specs.Answers.{CanAnswer, is_measured, is_staged, is_started, has_ended, is_listed, is_read, is_delivered, has_failed, is_fetched, is_stored}
 use Rattle.proc_host.specs.declared.call.HostAnswer.{HostAnswer}
+use Rattle.proc_host.specs.declared.call.HostFault.{HostFault}
 use Rattle.proc_host.specs.declared.call.HostRequest.{HostRequest}
 use Rattle.staging.specs.declared.measure.Measure.{Measure}
 use Rattle.staging.specs.declared.plan.StagePlan.{StagePlan}
@@ -19,6 +20,8 @@ use Rattle.run_rules.specs.Events.{Progress}
 use Rattle.run_rules.specs.Plans.{InForce}
 use Rattle.run_rules.specs.Run.{Goes}
 use Rattle.run_rules.specs.Scene.{Scene}
+use Rattle.job_rows.specs.declared.row.Row.{Row}
+use Rattle.run_core.proofs.job_steps.Fetched.{drop_goes_on, fetch_goes_on}
 use Rattle.run_core.proofs.job_steps.Found.{answer_goes_on, put_goes_on}
 use Rattle.run_core.specs.declared.state.Course.{Course}
 use Rattle.run_core.specs.declared.state.Given.{Given}
@@ -26,30 +29,27 @@ use Rattle.run_core.specs.declared.state.JobPhase.{JobPhase}
 use Rattle.run_core.specs.declared.state.Measuring.{Measuring}
 use Rattle.run_core.specs.declared.state.Phase.{Phase}
 use Rattle.run_core.specs.declared.state.Turn.{Turn}
-use Rattle.run_core.specs.inner.Course.{known_in, nothing_past, past_of}
+use Rattle.run_core.specs.inner.Course.{Past, fault_after, known_in, nothing_past, past_of}
 use Rattle.run_core.specs.inner.Follows.{FollowsFrom}
 use Rattle.run_core.specs.inner.Keeps.{Reflects}
 use Rattle.run_core.specs.inner.Measured.{IsMeasuring}
 use Rattle.run_core.specs.inner.Measures.{Begins}
-use Rattle.run_core.specs.inner.Standing.{IsAt, IsStaging, IsWorking, Runs, collecting, delivering, ended, measuring, staging, working, finding, putting}
+use Rattle.run_core.specs.inner.Standing.{IsAt, IsStaging, IsWorking, Runs, collecting, delivering, ended, measuring, staging, working, finding, putting, storing, FetchesNext, dropping, fetching}
 use Rattle.run_core.specs.inner.Turn.{collects, waits, works}
-use Rattle.run_core.proofs.events.Reflecting.{Laws, folder_there}
+use Rattle.run_core.proofs.events.Reflecting.{Laws, staged_there}
 use Rattle.run_core.proofs.going.Delivered.{delivery_goes_on}
 use Rattle.run_core.proofs.going.Measured.{IsOf, begins_so, may_measure, measure_fault_reflects, measure_goes_on, when_measured}
 use Rattle.run_core.proofs.going.Picking.{picked}
-use Rattle.run_core.proofs.job_steps.Calls.{IsForJob, for_job, working_allowed}
+use Rattle.run_core.proofs.job_steps.Calls.{for_job, for_job_apart, working_allowed}
 use Rattle.run_core.proofs.job_steps.Ended.{child_goes_on}
 use Rattle.run_core.proofs.job_steps.Failed.{collect_fails, fault_goes_by, fault_goes_on}
 use Rattle.run_core.proofs.job_steps.Listed.{listing_goes_on}
 use Rattle.run_core.proofs.job_steps.Read.{bytes_go_on}
 use Rattle.run_core.proofs.job_steps.Staged.{staging_goes_on}
+use Rattle.run_core.proofs.job_steps.Stored.{store_goes_on}
 use Rattle.run_core.proofs.job_steps.Started.{start_goes_on}
 use Rattle.run_core.proofs.job_steps.Turns.{PicksAt}
 use Rattle.run_core.specs.inner.JobStates.{NoneWaits, state_at}
-
--- a collect is for no job
-not_collect : (call : HostRequest) → IsForJob call → call ≡ HostRequest.Collect → ⊥
-not_collect call its is = subst IsForJob is its
 
 module _ (s : Scene) (given : Given) (same : given.options ≡ s.options) (its : IsOf s given) (laws : Laws s) (some : 1 ≤ s.options.slots) where
   pub picks : PicksAt s given
@@ -67,8 +67,10 @@ module _ (s : Scene) (given : Given) (same : given.options ≡ s.options) (its :
         measure_goes_on s given its laws picks t found marks m rest path is left (subst (λ (g : Progress). Goes s (InForce s) t g marks) happened goes) old nothing none measure turn new follows
     measure_by found m rest path is left happened none nothing (has_failed request) follows =
         fault_goes_by s given picks t (when_measured found) marks (subst (λ (g : Progress). Goes s (InForce s) t g marks) happened goes) old [] (HostRequest.Measure path)
-        (may_measure s given its laws picks t found marks m rest path is left) (λ same. cc) turn new follows
-        (measure_fault_reflects s given its laws picks t found marks m rest path is left old follows.settled nothing none follows.past follows.known)
+        (may_measure s given its laws picks t found marks m rest path is left) refl turn new follows
+        (may_measure s given its laws picks t found marks m rest path is left).still.unsettled
+        (measure_fault_reflects s given its laws picks t found marks m rest path is left old follows.settled nothing none
+        (follows.past ∙ ap (λ (p : Past). fault_after p.end [] HostFault.Measure (past_of old)) nothing) follows.known)
 
     stage_by : (n : ℕ) (job : Job) (plan : StagePlan) → Reflects s f.events old None → IsStaging s f marks old n job plan →
         {answer : HostAnswer} → CanAnswer old.tickets.items (HostRequest.Stage plan (old.folders + 1)) answer →
@@ -77,7 +79,15 @@ module _ (s : Scene) (given : Given) (same : given.options ≡ s.options) (its :
     stage_by n job plan r st (is_staged p number) follows =
         staging_goes_on s given same laws picks t f marks goes old n job plan r st turn new follows
     stage_by n job plan r st (has_failed request) follows =
-        fault_goes_on s given picks t f marks goes old job.place (HostRequest.Stage plan (old.folders + 1)) st.may (λ same. cc) turn new follows None r
+        fault_goes_on s given picks t f marks goes old job.place (HostRequest.Stage plan (old.folders + 1)) st.may refl turn new follows None r
+
+    fetch_by : (n : ℕ) (job : Job) (row : Row) → Reflects s f.events old None → FetchesNext s f marks old n job row →
+        {answer : HostAnswer} → CanAnswer old.tickets.items (HostRequest.Fetch row.key (old.folders + 1) row.files) answer →
+        FollowsFrom given old (record { asks = Request.Host job.place (HostRequest.Fetch row.key (old.folders + 1) row.files); phase = Phase.Fetching n }) (Answer.Host answer) turn new →
+        GoesOnWith job.place (HostRequest.Fetch row.key (old.folders + 1) row.files) answer
+    fetch_by n job row r next (is_fetched its_key number files found among) follows = fetch_goes_on s given picks t f marks goes old n job row r next found turn new follows
+    fetch_by n job row r next (has_failed request) follows =
+        fault_goes_on s given picks t f marks goes old job.place (HostRequest.Fetch row.key (old.folders + 1) row.files) next.may refl turn new follows None r
 
     work_by : (n : ℕ) (job : Job) (phase : JobPhase) {call : HostRequest} {answer : HostAnswer} → CanAnswer old.tickets.items call answer → Reflects s f.events old (Some n) →
         IsWorking s f old n job call phase → FollowsFrom given old (works job.place n call phase) (Answer.Host answer) turn new → GoesOnWith job.place call answer
@@ -101,8 +111,8 @@ module _ (s : Scene) (given : Given) (same : given.options ≡ s.options) (its :
         absurd (for_job s.options (state_at old.jobs n).folder [] (HostRequest.Deliver plan) phase w.calls.due)
     work_by n job phase (has_failed request) r w follows =
         fault_goes_on s given picks t f marks goes old job.place request
-        (working_allowed s f marks old n job request phase (folder_there s f.events old (Some n) n job w.it r) w)
-        (not_collect request (for_job s.options (state_at old.jobs n).folder [] request phase w.calls.due)) turn new follows (Some n) r
+        (working_allowed s f marks old n job request phase (staged_there s f.events old n job w.it r) w)
+        (for_job_apart request (for_job s.options (state_at old.jobs n).folder [] request phase w.calls.due)) turn new follows (Some n) r
 
     collect_by : Reflects s f.events old None → MayCollect s f marks [] → {answer : HostAnswer} → CanAnswer old.tickets.items HostRequest.Collect answer →
         FollowsFrom given old collects (Answer.Host answer) turn new → GoesOnWith [] HostRequest.Collect answer
@@ -114,7 +124,7 @@ module _ (s : Scene) (given : Given) (same : given.options ≡ s.options) (its :
         FollowsFrom given old (waits (HostRequest.Deliver plan) (Phase.Delivering (located plan.value))) (Answer.Host answer) turn new → GoesOnWith [] (HostRequest.Deliver plan) answer
     deliver_by plan r may going all (is_delivered p) follows = delivery_goes_on s t f marks goes old plan r may going all turn new follows
     deliver_by plan r may going all (has_failed request) follows =
-        fault_goes_on s given picks t f marks goes old [] (HostRequest.Deliver plan) may (λ same. cc) turn new follows None r
+        fault_goes_on s given picks t f marks goes old [] (HostRequest.Deliver plan) may refl turn new follows None r
 
     -- each answer that may come
     answered : {before : Turn} {answer : Answer} → IsAt s f marks old before → MayAnswer old.tickets.items before.asks answer → FollowsFrom given old before answer turn new →
@@ -123,7 +133,11 @@ module _ (s : Scene) (given : Given) (same : given.options ≡ s.options) (its :
         measure_by found m rest path is left happened none nothing can follows
     answered (finding n job r next) (by_record place request answer can) follows = answer_goes_on s given laws picks t f marks goes old n job r next answer turn new follows
     answered (putting n job row r it due) (by_record place request answer can) follows = put_goes_on s given picks t f marks goes old n job row r it due answer can turn new follows
+    answered (fetching n job row r next) (by_host place request answer can) follows = fetch_by n job row r next can follows
+    answered (dropping n job its_key r it due) (by_record place request answer can) follows =
+        drop_goes_on s given picks t f marks goes old n job its_key r it due answer can turn new follows
     answered (staging n job plan r st) (by_host place request answer can) follows = stage_by n job plan r st can follows
+    answered (storing n job row r it due) (by_host place request answer can) follows = store_goes_on s given t f marks goes old n job row r it due can turn new follows
     answered (working n job call phase r w) (by_host place request answer can) follows = work_by n job phase can r w follows
     answered (collecting r may) (by_host place request answer can) follows = collect_by r may can follows
     answered (delivering plan r may going all) (by_host place request answer can) follows = deliver_by plan r may going all can follows

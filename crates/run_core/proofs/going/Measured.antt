@@ -2,7 +2,7 @@
 use Rattle.std.specs.Prelude.{◌&&◌, ◌||◌, ◌<◌, ◌^◌, Contains, Result, Err}
 use Rattle.std.specs.List.{IsDistinct, list_all, list_any}
 use Rattle.std.specs.Map.{keys_of}
-use Rattle.std.proofs.Common.{◌≡◌, ◌∙◌, Bool, true, false, List, [], ◌∷◌, ◌++◌, length, fold, reverse, bytes_eq, Option, Some, None, refl, sym, ap, subst, arith, append_assoc, append-nil}
+use Rattle.std.proofs.Common.{◌≡◌, ◌∙◌, ℕ, Bool, true, false, List, [], ◌∷◌, ◌++◌, length, fold, reverse, bytes_eq, Option, Some, None, refl, sym, ap, subst, arith, append_assoc, append-nil}
 use Rattle.std.proofs.lemmas.Bool.{or_left, or_right}
 use Rattle.std.proofs.lemmas.Cmp.{nat_list_eq_equiv}
 use Rattle.std.proofs.lemmas.List.{map-append, reverse-reverse}
@@ -28,7 +28,7 @@ use Rattle.run_rules.specs.declared.outcome.RunFault.{RunFault}
 use Rattle.run_rules.specs.declared.request.Pair.{Pair}
 use Rattle.run_rules.specs.Allowed.{MayMeasure}
 use Rattle.run_rules.specs.End.{End, ended_by_host, fault_end, is_lost_collect, settled, settled_from, unfold_end}
-use Rattle.run_rules.specs.Events.{Event, Progress, are_measured, delivered_if, file_measured, host_failed, is_measured, measures, measures_after, nothing_due, resolved, unfolding_at}
+use Rattle.run_rules.specs.Events.{Event, Progress, are_measured, delivered_if, file_measured, host_failed, is_lost, is_measured, measures, measures_after, nothing_due, resolved, unfolding_at}
 use Rattle.run_rules.specs.Plans.{InForce}
 use Rattle.run_rules.specs.Reports.{outcome_of, notes_of}
 use Rattle.run_rules.specs.Run.{Goes}
@@ -46,8 +46,8 @@ use Rattle.run_core.specs.declared.state.Course.{Course}
 use Rattle.run_core.specs.declared.state.Given.{Given}
 use Rattle.run_core.specs.declared.state.Measuring.{Measuring}
 use Rattle.run_core.specs.declared.state.Turn.{Turn}
-use Rattle.run_core.specs.inner.Course.{Past, known_in, nothing_past, past_of, with_end}
-use Rattle.run_core.specs.inner.Keeps.{Keeps, Reflects, AreFound}
+use Rattle.run_core.specs.inner.Course.{Past, is_lost_in, known_in, nothing_past, past_of, with_end}
+use Rattle.run_core.specs.inner.Keeps.{AreTriedOnce, Keeps, Reflects, AreFound}
 use Rattle.run_core.specs.inner.Knows.{IsKnown, IsUnfolded, Knows, end_by, fails, fault_of, knows}
 use Rattle.run_core.specs.inner.Measured.{IsMeasuring, measured_by}
 use Rattle.run_core.specs.inner.Measures.{Begins, MeasuresOn, TakesMeasure, all_measured, measures as measures_next}
@@ -59,6 +59,8 @@ use Rattle.run_core.proofs.events.Keeping.{failed_keeps, first_fails_keeps, firs
 use Rattle.run_core.proofs.events.Reflecting.{Laws, collects_after, end_of, end_reported, fault_ends, moved, undelivered_after, no_notes_more}
 use Rattle.run_core.proofs.job_steps.Turns.{PicksAt}
 use Rattle.run_core.proofs.FoundRows.{nothing_found, found_still}
+use Rattle.run_core.proofs.events.Losses.{none_lost as none_lost_more}
+use Rattle.run_core.proofs.events.Tried.{leaves_same, tried_still}
 
 -- while input files are measured
 abbrev pub when_measured : List (Name × Measure) → Progress
@@ -73,6 +75,13 @@ none_resolved (m ∷ found) = none_resolved found
 none_lost : (found : List (Name × Measure)) → list_any is_lost_collect (measured_by found) ≡ false
 none_lost [] = refl
 none_lost (m ∷ found) = none_lost found
+
+no_archive_lost : (found : List (Name × Measure)) (key : List ℕ) → is_lost (measured_by found) key ≡ false
+no_archive_lost [] key = refl
+no_archive_lost (m ∷ found) key = no_archive_lost found key
+
+none_tried : AreTriedOnce nothing_past
+none_tried = record { each = λ number tried. absurd cc; there = λ number fetched. absurd cc }
 
 none_noted : (found : List (Name × Measure)) → notes_of (measured_by found) ≡ []
 none_noted [] = refl
@@ -209,6 +218,8 @@ module _ (s : Scene) (once : Once s.paths) where
             rows = subst (λ (p : Past). AreFound (known_in new.known) (measured_by found) p.rows p.looked_up) (sym (past ∙ nothing))
                 (nothing_found (known_in new.known) (measured_by found) (nothing_looked_up (known_in new.known) found));
             notes = ap (λ (p : Past). p.notes) (past ∙ nothing) ∙ sym (none_noted found);
+            lost = λ key. no_archive_lost found key ∙ ap (λ (p : Past). is_lost_in p.lost key) (sym (past ∙ nothing));
+            tried = subst (λ (p : Past). AreTriedOnce p) (sym (past ∙ nothing)) none_tried;
           }
 
       first_fault : (fault : UnfoldFault) (new : Course) → (unfolded walks []).fault ≡ Some (fault_of fault) → known_in new.known ≡ known_in old.known →
@@ -230,6 +241,8 @@ module _ (s : Scene) (once : Once s.paths) where
             rows = subst (λ (p : Past). AreFound (known_in new.known) (measured_by found) p.rows p.looked_up) (sym after)
                 (nothing_found (known_in new.known) (measured_by found) (nothing_looked_up (known_in new.known) found));
             notes = ap (λ (p : Past). p.notes) after ∙ sym (none_noted found);
+            lost = λ key. no_archive_lost found key ∙ ap (λ (p : Past). is_lost_in p.lost key) (sym after);
+            tried = subst (λ (p : Past). AreTriedOnce p) (sym after) (tried_still (leaves_same (record { jobs = refl; rows = refl; lost = refl })) none_tried);
           }
 
       first_by : {new : Course} → IsUnfolded walks [] old new → Reflects s (measured_by found) new None
@@ -332,4 +345,6 @@ module _ (s : Scene) (given : Given) (its : IsOf s given) (laws : Laws s) (picks
               (found_still (known_in new.known) (measured_by found) [] 0 (nothing_found (known_in new.known) (measured_by found) (nothing_looked_up (known_in new.known) found))
               (host_failed [] HostFault.Measure ∷ []) refl);
           notes = ap (λ (p : Past). p.notes) after ∙ sym (no_notes_more (measured_by found) (host_failed [] HostFault.Measure) refl ∙ none_noted found);
+          lost = λ key. none_lost_more (measured_by found) (host_failed [] HostFault.Measure) key refl ∙ no_archive_lost found key ∙ ap (λ (p : Past). is_lost_in p.lost key) (sym after);
+          tried = subst (λ (p : Past). AreTriedOnce p) (sym after) (tried_still (leaves_same (record { jobs = refl; rows = refl; lost = refl })) none_tried);
         }

@@ -1,5 +1,5 @@
 -- Where nothing is due, what the machine turns to is what its run may ask then, or how it ends.
-use Rattle.std.specs.Prelude.{Ok, ◌<◌, ◌≤◌, ◌≢◌, ◌||◌, Contains, IsSome, is_some, Result, option_map, unwrap_or, slice_get}
+use Rattle.std.specs.Prelude.{Ok, ◌<◌, ◌≤◌, ◌≢◌, ◌||◌, ◌&&◌, not, Contains, IsSome, is_some, Result, option_map, unwrap_or, slice_get}
 use Rattle.std.proofs.Common.{◌≡◌, ◌∙◌, ◌+◌, ℕ, Bool, true, false, cond, List, [], ◌∷◌, length, find, Option, Some, None, refl, sym, ap, subst, arith}
 use Rattle.plan_checker.specs.declared.plan.Mark.{Mark}
 use Rattle.staging.specs.Plan.{IsPlan}
@@ -16,15 +16,15 @@ use Rattle.run_rules.specs.Allowed.{IsBusy, IsFree, IsOpen}
 use Rattle.run_rules.specs.Delivered.{any_file, located, source_place, sources}
 use Rattle.run_rules.specs.End.{End, settled, succeeds_with}
 use Rattle.run_rules.specs.EndsSo.{fails, no_file, succeeds}
-use Rattle.run_rules.specs.Events.{Event, Progress, in_flight, is_at_hand, folder_at, measures, nothing_due, number_at, resolved, unfolding_at, are_looked_up, has_no_find, is_reusable}
-use Rattle.run_rules.specs.Folders.{in_folder, out_folder}
+use Rattle.run_rules.specs.Events.{Event, Progress, in_flight, is_at_hand, folder_at, measures, nothing_due, number_at, resolved, unfolding_at, are_looked_up, can_load as may_load, has_no_find, is_archived, is_fetched, is_lost, is_reusable}
+use Rattle.run_rules.specs.Folders.{in_folder, left_folder}
 use Rattle.run_rules.specs.Plans.{InForce}
 use Rattle.run_rules.specs.Reports.{outcome_of}
 use Rattle.run_rules.specs.Run.{Goes}
 use Rattle.run_rules.specs.Scene.{Scene}
 use Rattle.run_rules.proofs.PlacesErased.{map_by_name}
 use Rattle.run_rules.proofs.events.AtHand.{hand_is_resolved}
-use Rattle.run_rules.proofs.events.Asks.{may_collect, may_collect_settled, may_deliver, may_find}
+use Rattle.run_rules.proofs.events.Asks.{NoneMayFetch, may_collect, may_collect_settled, may_deliver, may_find}
 use Rattle.run_rules.proofs.events.Course.{Keeps as AreKept}
 use Rattle.run_rules.proofs.events.Flights.{Flight as Flying, is_flying}
 use Rattle.run_rules.proofs.events.Known.{unfolding_when}
@@ -33,23 +33,28 @@ use Rattle.run_rules.proofs.events.Planned.{jobs_in}
 use Rattle.run_rules.proofs.events.Tally.{readings}
 use Rattle.run_rules.proofs.events.Turns.{busy_when_taken, none_flies}
 use Rattle.run_rules.proofs.events.Ready.{AreParentsThere, NoneIsReady, none_waits}
-use Rattle.run_rules.proofs.events.Staged.{busy_when_none_ready, ready_may_stage}
+use Rattle.run_rules.proofs.events.Staged.{busy_when_none_ready, none_may_fetch, ready_may_stage, waiting_may_fetch}
 use Rattle.run_rules.proofs.events.Lookups.{all_looked_up}
 use Rattle.std.proofs.lemmas.Option.{slice_get-get_or}
 use Rattle.std.specs.List.{list_all}
 use Rattle.run_core.specs.declared.state.Course.{Course}
 use Rattle.run_core.specs.declared.state.Given.{Given}
 use Rattle.run_core.specs.declared.state.Turn.{Turn}
-use Rattle.run_core.specs.inner.Course.{families_in, known_in, number_in, past_of}
-use Rattle.run_core.specs.inner.JobStates.{IsLowest, NoneReady, NoneWaits, is_ready}
+use Rattle.run_core.specs.inner.Course.{families_in, fetched_in, is_lost_in, known_in, number_in, past_of}
+use Rattle.run_core.specs.inner.JobStates.{IsLowest, NoneReady, NoneWaits, is_ready, is_there, waits_in}
 use Rattle.run_core.specs.inner.Keeps.{Reflects, course_of}
 use Rattle.run_core.specs.inner.Knows.{IsKnown, outputs_in}
-use Rattle.run_core.specs.inner.Picks.{Delivers, DeliversFiles, NoneToStage, Picks, Stages, delivers, drains, ends_so, has_result, none_ready, slots_full, sources_in, stages, succeeds_at_once, waits_for_one, Finds, IsNextToFind, NoneToFind, finds}
-use Rattle.run_core.specs.inner.Standing.{IsAt, collecting, delivering, ended, staging, finding}
+use Rattle.run_core.specs.inner.Picks.{Delivers, DeliversFiles, NoneToStage, Picks, Stages, delivers, drains, ends_so, has_result, none_ready, slots_full, sources_in, stages, succeeds_at_once, waits_for_one, Finds, IsNextToFind, NoneToFind, fetches, finds}
+use Rattle.run_core.specs.inner.Fetches.{Fetches, IsNextToFetch, NoneToFetch, archived_in, can_load, none_kept, none_loads}
+use Rattle.run_core.specs.inner.FoundRows.{row_in}
+use Rattle.job_rows.specs.declared.row.Row.{Row}
+use Rattle.std.proofs.lemmas.Bool.{and_parts, or_parts}
+use Rattle.run_core.proofs.events.Tried.{untried}
+use Rattle.run_core.specs.inner.Standing.{IsAt, collecting, delivering, ended, fetching, staging, finding}
 use Rattle.run_core.specs.inner.Turn.{collects, ends}
 use Rattle.run_core.proofs.events.Keeping.{none_settled}
 use Rattle.run_core.proofs.events.Families.{as_many, ready_if, ready_parents, ready_waits}
-use Rattle.run_core.proofs.events.Numbers.{job_there, number_is_kept}
+use Rattle.run_core.proofs.events.Numbers.{fetched_is_kept, job_there, number_is_kept}
 use Rattle.run_core.proofs.events.Reflecting.{FliesThere, Laws, flies_there}
 use Rattle.run_core.proofs.going.Same.{at_same}
 
@@ -116,6 +121,9 @@ module _ (s : Scene) (es : List Event) (course : Course) (at_work : Option ℕ) 
   pub numbers_same : number_at es ≡ number_in (known_in course.known) course.jobs
   numbers_same = λ i place. number_is_kept (known_in course.known) (readings es) (past_of course) at_work r.keeps.gave_up r.keeps.books place i
 
+  fetches_same : is_fetched es ≡ fetched_in (known_in course.known) course.jobs
+  fetches_same = λ i place. fetched_is_kept (known_in course.known) (readings es) (past_of course) at_work r.keeps.gave_up r.keeps.books place i
+
   pub none_in_flight : course.tickets.items ≡ [] → in_flight es ≡ []
   none_in_flight none = none_flies (known_in course.known) (readings es) (course_of (past_of course) at_work r.keeps.gave_up) r.keeps.books none
 
@@ -140,12 +148,48 @@ module _ (s : Scene) (f : Progress) (course : Course) (at_work : Option ℕ) (r 
     looked_up = looked_up none;
   }
 
+-- the files of a row are there, as far as is known
+
+loads_as : (keep : Bool) (es : List Event) (lost : List (List ℕ)) → ((key : List ℕ) → is_lost es key ≡ is_lost_in lost key) → (o : Option Row) →
+    is_archived keep es o ≡ (keep && archived_in lost o)
+loads_as true es lost same None = refl
+loads_as true es lost same (Some row) = ap (λ b. row.archived && not b) (same row.key)
+loads_as false es lost same None = refl
+loads_as false es lost same (Some row) = refl
+
+pub nor_kept : (keep : Bool) → (keep && false) ≡ false
+nor_kept true = refl
+nor_kept false = refl
+
+not_true : (b : Bool) → not b ≡ true → b ≡ false
+not_true true is = absurd cc
+not_true false is = refl
+
+-- whether the job of a number can be loaded
+module _ (s : Scene) where
+  pub loads_at : (es : List Event) (course : Course) (at_work : Option ℕ) → Reflects s es course at_work → (n : ℕ) (job : Job) → IsJob (known_in course.known) n job →
+      may_load s es job.place ≡ (s.options.keep && can_load course n)
+  loads_at es course at_work r n job it =
+      ap (λ (o : Option Row). is_archived s.options.keep es o) (r.rows.each n job it) ∙ loads_as s.options.keep es course.lost.items r.lost (row_in course.rows n)
+
 module _ (s : Scene) (given : Given) (same : given.options ≡ s.options) where
+  -- one that waits cannot, where none is to be fetched
+  unloaded : (es : List Event) (course : Course) (at_work : Option ℕ) → Reflects s es course at_work → NoneToFetch given course → (n : ℕ) (job : Job) → IsJob (known_in course.known) n job →
+      waits_in course.jobs n ≡ true → may_load s es job.place ≡ false
+  unloaded es course at_work r (none_kept kept) n job it waits =
+      loads_at s es course at_work r n job it ∙ ap (λ b. b && can_load course n) (ap (λ (o : Options). o.keep) (sym same) ∙ kept)
+  unloaded es course at_work r (none_loads none) n job it waits =
+      loads_at s es course at_work r n job it
+      ∙ ap (λ b. s.options.keep && b) (ap (λ b. b && can_load course n) (sym waits) ∙ none n it.within)
+      ∙ nor_kept s.options.keep
+
   -- files are copied from where the jobs that made them left them
   sources_same : (es : List Event) (course : Course) (at_work : Option ℕ) → Reflects s es course at_work → (values : Fields) →
       fields_moved (source_place (folder_at s es)) values ≡ sources_in given.options course values
   sources_same es course at_work r values =
-      ap (λ (number : JobPlace → ℕ). fields_moved (source_place (λ place. out_folder s.options.work (number place))) values) (numbers_same s es course at_work r)
+      ap (λ (number : JobPlace → ℕ). fields_moved (source_place (λ place. left_folder s.options.work (is_fetched es place) (number place))) values) (numbers_same s es course at_work r)
+      ∙ ap (λ (fetched : JobPlace → Bool). fields_moved (source_place (λ place. left_folder s.options.work (fetched place) (number_in (known_in course.known) course.jobs place))) values)
+      (fetches_same s es course at_work r)
       ∙ ap (λ (o : Options). sources_in o course values) (sym same)
 
   plan_same : (es : List Event) (course : Course) (at_work : Option ℕ) → Reflects s es course at_work → (n : ℕ) {turn : Turn} (st : Stages given course n turn) →
@@ -163,9 +207,9 @@ module _ (s : Scene) (given : Given) (same : given.options ≡ s.options) where
 
   module _ {t : List Pair} (f : Progress) (marks : List Mark) (goes : Goes s (InForce s) t f marks) (idle : f.work ≡ nothing_due) where
     -- the lowest job that is ready is staged
-    staged_next : (course : Course) (n : ℕ) (turn : Turn) → Reflects s f.events course None → course.end ≡ None → NoneToFind course → length course.tickets.items < s.options.slots →
+    staged_next : (course : Course) (n : ℕ) (turn : Turn) → Reflects s f.events course None → course.end ≡ None → NoneToFind course → NoneToFetch given course → length course.tickets.items < s.options.slots →
         IsLowest (families_in course.known) course.jobs n → Stages given course n turn → IsAt s f marks course turn
-    staged_next course n turn r going looked slot lowest st =
+    staged_next course n turn r going looked unfetched slot lowest st =
         let it : IsJob (known_in course.known) n st.job = job_there (known_in course.known) n st.job st.known in
         let whole : known_in course.known ≡ jobs_in s f = all_known s f.events course None r going in
         subst (IsAt s f marks course) (sym st.is)
@@ -174,10 +218,40 @@ module _ (s : Scene) (given : Given) (same : given.options ≡ s.options) where
           may = ready_may_stage s f marks (course_of (past_of course) None r.keeps.gave_up) (all_kept s f.events course None r going)
               (is_free s f course None r idle going looked) n st.job st.plan goes (subst (λ (jobs : List Job). IsJob jobs n st.job) whole it)
               (ready_waits (known_in course.known) course.jobs n st.job it lowest.ready)
+              (unloaded f.events course None r unfetched n st.job it (ready_waits (known_in course.known) course.jobs n st.job it lowest.ready))
               (subst (λ (jobs : List Job). AreParentsThere jobs (course_of (past_of course) None r.keeps.gave_up) n st.job) whole
               (ready_parents (known_in course.known) course.jobs n st.job it lowest.ready)) slot
               (plan_same f.events course None r n st);
           lowest = lowest;
+          going = going;
+        }))
+
+    -- the files of the lowest job that waits and can be loaded are fetched
+    fetched_next : (course : Course) (n : ℕ) (turn : Turn) → Reflects s f.events course None → course.end ≡ None → NoneToFind course → IsNextToFetch given course n →
+        Fetches course n turn → IsAt s f marks course turn
+    fetched_next course n turn r going looked next f_is =
+        let it : IsJob (known_in course.known) n f_is.job = job_there (known_in course.known) n f_is.job f_is.known in
+        let whole : known_in course.known ≡ jobs_in s f = all_known s f.events course None r going in
+        let parts : (waits_in course.jobs n ≡ true) × (can_load course n ≡ true) = and_parts (waits_in course.jobs n) (can_load course n) next.loads in
+        let keeps : s.options.keep ≡ true = ap (λ (o : Options). o.keep) (sym same) ∙ next.keeps in
+        let archived : archived_in course.lost.items (Some f_is.row) ≡ true = ap (archived_in course.lost.items) (sym f_is.found) ∙ parts.1 in
+        let there : is_lost_in course.lost.items f_is.row.key ≡ false =
+        not_true (is_lost_in course.lost.items f_is.row.key) (and_parts f_is.row.archived (not (is_lost_in course.lost.items f_is.row.key)) archived).1 in
+        let away : is_there course.jobs n ≡ false =
+        sym (r.keeps.books.hand n f_is.job it)
+        ∙ (or_parts (is_flying (in_flight f.events) f_is.job.place) (is_at_hand f.events f_is.job.place) (r.keeps.books.waiting n f_is.job it parts.0)).1 in
+        subst (IsAt s f marks course) (sym f_is.is)
+        (fetching n f_is.job f_is.row r (record {
+          it = it;
+          found = f_is.found;
+          may = waiting_may_fetch s f marks (course_of (past_of course) None r.keeps.gave_up) (all_kept s f.events course None r going)
+              (is_free s f course None r idle going looked) n f_is.job f_is.row goes (subst (λ (jobs : List Job). IsJob jobs n f_is.job) whole it) parts.0
+              (r.rows.each n f_is.job it ∙ f_is.found)
+              (loads_at s f.events course None r n f_is.job it ∙ ap (λ b. b && can_load course n) keeps ∙ parts.1);
+          waits = parts.0;
+          untried = untried (past_of course) n f_is.row f_is.found away there r.tried;
+          lowest = next.lowest;
+          kept = keeps;
           going = going;
         }))
 
@@ -219,9 +293,22 @@ module _ (s : Scene) (given : Given) (same : given.options ≡ s.options) where
           (ended so.end (fails so.end idle r.collects (none_in_flight s f.events course None r none) so.is) (same_notes ∙ r.notes))
 
       module _ (going : course.end ≡ None) (looked : NoneToFind course) where
-        busy_if_full : s.options.slots ≤ length course.tickets.items → IsBusy s f marks
-        busy_if_full full =
-            busy_when_taken s f marks (course_of (past_of course) None r.keeps.gave_up) (all_kept s f.events course None r going) (is_free s f course None r idle going looked) full
+        -- the files of none may be fetched
+        unfetched_where : ((m : ℕ) (job : Job) → IsJob (known_in course.known) m job → waits_in course.jobs m ≡ true → may_load s f.events job.place ≡ false) → NoneMayFetch s f marks
+        unfetched_where none =
+            none_may_fetch s f marks (course_of (past_of course) None r.keeps.gave_up) (all_kept s f.events course None r going) (is_free s f course None r idle going looked) goes
+            (ap is_some going) refl
+            (λ m job it waits. none m job (subst (λ (jobs : List Job). IsJob jobs m job) (sym (all_known s f.events course None r going)) it) waits)
+
+        unfetched_if : NoneToFetch given course → NoneMayFetch s f marks
+        unfetched_if none = unfetched_where (λ m job it waits. unloaded f.events course None r none m job it waits)
+
+        unfetched_if_none_waits : NoneWaits course.jobs (length (known_in course.known)) → NoneMayFetch s f marks
+        unfetched_if_none_waits none = unfetched_where (λ m job it waits. let never : true ≡ false = sym waits ∙ none m it.within in absurd cc)
+
+        busy_if_full : NoneMayFetch s f marks → s.options.slots ≤ length course.tickets.items → IsBusy s f marks
+        busy_if_full unfetched full =
+            busy_when_taken s f marks (course_of (past_of course) None r.keeps.gave_up) (all_kept s f.events course None r going) (is_free s f course None r idle going looked) unfetched full
 
         -- where no job is ready, none may be staged
         none_is_ready : NoneReady (families_in course.known) course.jobs (length (families_in course.known)) →
@@ -231,24 +318,24 @@ module _ (s : Scene) (given : Given) (same : given.options ≡ s.options) where
             let ready : is_ready (families_in course.known) course.jobs m ≡ true = ready_if (known_in course.known) course.jobs m job it waits parents in
             let never : true ≡ false = sym ready ∙ none m (omega (arith, below, many)) in cc
 
-        busy_if_none_is_ready : NoneIsReady (known_in course.known) (course_of (past_of course) None r.keeps.gave_up) (length (known_in course.known)) → IsBusy s f marks
-        busy_if_none_is_ready none =
+        busy_if_none_is_ready : NoneMayFetch s f marks → NoneIsReady (known_in course.known) (course_of (past_of course) None r.keeps.gave_up) (length (known_in course.known)) → IsBusy s f marks
+        busy_if_none_is_ready unfetched none =
             busy_when_none_ready s f marks (course_of (past_of course) None r.keeps.gave_up) (all_kept s f.events course None r going) (is_free s f course None r idle going looked)
-            (ap is_some going) refl
+            unfetched (ap is_some going) refl
             (subst (λ (jobs : List Job). NoneIsReady jobs (course_of (past_of course) None r.keeps.gave_up) (length jobs)) (all_known s f.events course None r going) none)
 
         pub busy_if_none_waits : NoneWaits course.jobs (length (known_in course.known)) → IsBusy s f marks
-        busy_if_none_waits none = busy_if_none_is_ready (λ m job below it waits parents. let never : true ≡ false = sym waits ∙ none m it.within in cc)
+        busy_if_none_waits none = busy_if_none_is_ready (unfetched_if_none_waits none) (λ m job below it waits parents. let never : true ≡ false = sym waits ∙ none m it.within in cc)
 
-        busy_if : NoneToStage given course → IsBusy s f marks
-        busy_if (slots_full full) = busy_if_full (subst (λ (o : Options). o.slots ≤ length course.tickets.items) same full)
-        busy_if (none_ready none) = busy_if_none_is_ready (none_is_ready none)
+        busy_if : NoneToFetch given course → NoneToStage given course → IsBusy s f marks
+        busy_if unfetched (slots_full full) = busy_if_full (unfetched_if unfetched) (subst (λ (o : Options). o.slots ≤ length course.tickets.items) same full)
+        busy_if unfetched (none_ready none) = busy_if_none_is_ready (unfetched_if unfetched) (none_is_ready none)
 
-        waited_for : course.tickets.items ≢ [] → NoneToStage given course → IsAt s f marks course collects
-        waited_for flying none =
+        waited_for : course.tickets.items ≢ [] → NoneToFetch given course → NoneToStage given course → IsAt s f marks course collects
+        waited_for flying unfetched none =
             let first : HasTicket course.tickets.items = some_ticket course.tickets.items flying in
             let flies : FliesThere s f.events course first.ticket = flies_there s f.events course None first.ticket first.there r in
-            collecting r (may_collect s f marks (first.ticket, flies.job.place) idle r.collects flies.there (λ still. busy_if none))
+            collecting r (may_collect s f marks (first.ticket, flies.job.place) idle r.collects flies.there (λ still. busy_if unfetched none))
 
         -- no known job waits, and none is in flight: all are at hand
         module _ (laws : Laws s) (none : course.tickets.items ≡ []) (all : NoneWaits course.jobs (length (known_in course.known))) where
@@ -322,7 +409,8 @@ module _ (s : Scene) (given : Given) (same : given.options ≡ s.options) where
       picked (drains new over flying past known) = at_same s f marks old new past known (drained old r over flying)
       picked (ends_so told new is none left known same_notes) = ended_so old r told is none new same_notes
       picked (finds number turn new going next f_is past known) = at_same s f marks old new past known (found_next old number turn r going next f_is)
-      picked (stages number turn new going looked slot lowest st past known) =
-          at_same s f marks old new past known (staged_next old number turn r going looked (subst (λ (o : Options). length old.tickets.items < o.slots) same slot) lowest st)
-      picked (waits_for_one new going looked flying none past known) = at_same s f marks old new past known (waited_for old r going looked flying none)
-      picked (has_result turn new going looked none nothing d past known) = at_same s f marks old new past known (result_there old r going looked laws some none nothing d)
+      picked (fetches number turn new going looked next f_is past known) = at_same s f marks old new past known (fetched_next old number turn r going looked next f_is)
+      picked (stages number turn new going looked unfetched slot lowest st past known) =
+          at_same s f marks old new past known (staged_next old number turn r going looked unfetched (subst (λ (o : Options). length old.tickets.items < o.slots) same slot) lowest st)
+      picked (waits_for_one new going looked unfetched flying none past known) = at_same s f marks old new past known (waited_for old r going looked flying unfetched none)
+      picked (has_result turn new going looked unfetched none nothing d past known) = at_same s f marks old new past known (result_there old r going looked laws some none nothing d)

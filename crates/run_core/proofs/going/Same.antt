@@ -1,4 +1,5 @@
 -- Where the machine is depends on what its course has come to, and not on the room that its lists have.
+use Rattle.std.specs.Prelude.{◌&&◌}
 use Rattle.std.proofs.Common.{◌≡◌, ◌∙◌, ◌+◌, ℕ, List, length, Some, None, sym, ap, subst, ◌≤◌}
 use Rattle.plan_checker.specs.declared.plan.Mark.{Mark}
 use Rattle.proc_host.specs.declared.call.HostRequest.{HostRequest}
@@ -6,7 +7,8 @@ use Rattle.staging.specs.declared.plan.StagePlan.{StagePlan}
 use Rattle.job_graph.specs.Jobs.{Job}
 use Rattle.run_rules.specs.declared.request.Pair.{Pair}
 use Rattle.run_rules.specs.declared.request.Request.{Request}
-use Rattle.run_rules.specs.Allowed.{MayStage}
+use Rattle.job_rows.specs.declared.row.Row.{Row}
+use Rattle.run_rules.specs.Allowed.{MayFetch, MayStage}
 use Rattle.run_rules.specs.Events.{Progress}
 use Rattle.run_rules.specs.Scene.{Scene}
 use Rattle.run_rules.proofs.events.Places.{IsJob}
@@ -18,9 +20,11 @@ use Rattle.run_core.specs.declared.state.Turn.{Turn}
 use Rattle.job_graph.specs.Unfold.{Known}
 use Rattle.run_core.specs.inner.Course.{Past, families_in, known_in, past_of}
 use Rattle.run_core.specs.inner.Due.{Calls}
-use Rattle.run_core.specs.inner.Standing.{IsAt, IsStaging, IsWorking, Runs, collecting, delivering, ended, measuring, staging, working, FindsNext, finding, putting}
+use Rattle.run_core.specs.inner.Standing.{IsAt, IsStaging, IsWorking, Runs, collecting, delivering, ended, measuring, staging, working, FindsNext, finding, putting, storing, FetchesNext, dropping, fetching}
 use Rattle.run_core.proofs.events.Reflecting.{reflects_same}
-use Rattle.run_core.specs.inner.JobStates.{IsLowest, NoneWaits, state_at}
+use Rattle.run_core.specs.inner.Fetches.{archived_in}
+use Rattle.run_core.specs.inner.FoundRows.{row_in}
+use Rattle.run_core.specs.inner.JobStates.{IsLowest, NoneWaits, state_at, waits_in}
 
 module _ (s : Scene) (f : Progress) (marks : List Mark) (old new : Course) (past : past_of new ≡ past_of old) (known : new.known ≡ old.known) where
   same_jobs : known_in old.known ≡ known_in new.known
@@ -48,6 +52,18 @@ module _ (s : Scene) (f : Progress) (marks : List Mark) (old new : Course) (past
     going = same_end ∙ st.going;
   }
 
+  fetches_same : (n : ℕ) (job : Job) (row : Row) → FetchesNext s f marks old n job row → FetchesNext s f marks new n job row
+  fetches_same n job row next = record {
+    it = subst (λ (jobs : List Job). IsJob jobs n job) same_jobs next.it;
+    found = ap (λ (p : Past). row_in p.rows n) past ∙ next.found;
+    may = subst (λ folders. MayFetch s f marks job.place row.key (folders + 1) row.files) same_folders next.may;
+    waits = ap (λ (p : Past). waits_in p.jobs n) past ∙ next.waits;
+    untried = ap (λ (p : Past). (state_at p.jobs n).tried) past ∙ next.untried;
+    lowest = λ m below. ap (λ (p : Past). waits_in p.jobs m && archived_in p.lost (row_in p.rows m)) past ∙ next.lowest m below;
+    kept = next.kept;
+    going = same_end ∙ next.going;
+  }
+
   same_looks : old.looked_up ≡ new.looked_up
   same_looks = ap (λ (p : Past). p.looked_up) (sym past)
 
@@ -72,6 +88,11 @@ module _ (s : Scene) (f : Progress) (marks : List Mark) (old new : Course) (past
   pub at_same : {turn : Turn} → IsAt s f marks old turn → IsAt s f marks new turn
   at_same (measuring found m rest path is left happened none nothing) = measuring found m rest path is left happened (known ∙ none) (past ∙ nothing)
   at_same (finding n job r next) = finding n job (reflects_same s f.events old new None past known r) (finds_same n job next)
+  at_same (fetching n job row r next) =
+      subst (λ folders. IsAt s f marks new (record { asks = Request.Host job.place (HostRequest.Fetch row.key (folders + 1) row.files); phase = Phase.Fetching n })) (sym same_folders)
+      (fetching n job row (reflects_same s f.events old new None past known r) (fetches_same n job row next))
+  at_same (dropping n job its_key r it due) =
+      dropping n job its_key (reflects_same s f.events old new None past known r) (subst (λ (jobs : List Job). IsJob jobs n job) same_jobs it) due
   at_same (staging n job plan r st) =
       subst (λ folders. IsAt s f marks new (record { asks = Request.Host job.place (HostRequest.Stage plan (folders + 1)); phase = Phase.Staging n })) (sym same_folders)
       (staging n job plan (reflects_same s f.events old new None past known r) (staging_same n job plan st))
@@ -83,6 +104,8 @@ module _ (s : Scene) (f : Progress) (marks : List Mark) (old new : Course) (past
       (subst (λ (jobs : List Job). NoneWaits old.jobs (length jobs)) same_jobs all))
   at_same (putting n job row r it due) =
       putting n job row (reflects_same s f.events old new None past known r) (subst (λ (jobs : List Job). IsJob jobs n job) same_jobs it) due
+  at_same (storing n job row r it due) =
+      storing n job row (reflects_same s f.events old new None past known r) (subst (λ (jobs : List Job). IsJob jobs n job) same_jobs it) due
   at_same (ended end so noted) = ended end so (ap (λ (p : Past). p.notes) past ∙ noted)
 
 -- so with its run

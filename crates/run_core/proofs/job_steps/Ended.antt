@@ -86,7 +86,7 @@ module _ (s : Scene) (given : Given) (same : given.options ≡ s.options) (laws 
           happened = progress_with f (scan_due lands.job.place ending.millis) (child_exited ending.ticket ∷ []);
           marks = marks_after s (progress_with f (scan_due lands.job.place ending.millis) (child_exited ending.ticket ∷ [])) marks;
           goes = goes_by (scan_due lands.job.place ending.millis) (child_exited ending.ticket ∷ []) step;
-          at = turns_at s given laws picks (t ++ pair ∷ []) (progress_with f (scan_due lands.job.place ending.millis) (child_exited ending.ticket ∷ []))
+          at = turns_at s given same laws picks (t ++ pair ∷ []) (progress_with f (scan_due lands.job.place ending.millis) (child_exited ending.ticket ∷ []))
               (marks_after s (progress_with f (scan_due lands.job.place ending.millis) (child_exited ending.ticket ∷ [])) marks)
               (goes_by (scan_due lands.job.place ending.millis) (child_exited ending.ticket ∷ []) step)
               es after.landed n lands.job lands.reflects it
@@ -107,7 +107,7 @@ module _ (s : Scene) (given : Given) (same : given.options ≡ s.options) (laws 
           happened = progress_with f nothing_due (child_exited ending.ticket ∷ job_failed lands.job.place (Cause.Exit ending.code) ∷ []);
           marks = marks_after s (progress_with f nothing_due (child_exited ending.ticket ∷ job_failed lands.job.place (Cause.Exit ending.code) ∷ [])) marks;
           goes = goes_by nothing_due (child_exited ending.ticket ∷ job_failed lands.job.place (Cause.Exit ending.code) ∷ []) step;
-          at = turns_at s given laws picks (t ++ pair ∷ [])
+          at = turns_at s given same laws picks (t ++ pair ∷ [])
               (progress_with f nothing_due (child_exited ending.ticket ∷ job_failed lands.job.place (Cause.Exit ending.code) ∷ []))
               (marks_after s (progress_with f nothing_due (child_exited ending.ticket ∷ job_failed lands.job.place (Cause.Exit ending.code) ∷ [])) marks)
               (goes_by nothing_due (child_exited ending.ticket ∷ job_failed lands.job.place (Cause.Exit ending.code) ∷ []) step)

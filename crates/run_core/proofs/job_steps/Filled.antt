@@ -25,7 +25,7 @@ use Rattle.run_core.specs.inner.Due.{Starts, events_next, work_next}
 use Rattle.run_core.specs.inner.Keeps.{Reflects}
 use Rattle.run_core.specs.inner.Picks.{AfterInputHead}
 use Rattle.run_core.specs.inner.Standing.{IsWorking, Runs}
-use Rattle.run_core.proofs.events.Reflecting.{Laws, folder_there, known_there}
+use Rattle.run_core.proofs.events.Reflecting.{Laws, folder_there, known_there, staged_there}
 use Rattle.run_core.proofs.job_steps.Calls.{working_allowed}
 use Rattle.run_core.proofs.job_steps.Firsts.{IsFirst, first_input}
 use Rattle.run_core.proofs.job_steps.Sites.{Fits, site_fits, starts_at, starts_call, works_unstarted}
@@ -52,35 +52,35 @@ module _ (s : Scene) (given : Given) (same : given.options ≡ s.options) (laws 
     its_starts : Starts after.site filling.staged read (reverse first.rest) after.next
     its_starts = after.starts.each first.rest path first.is
 
-    on : StartsOn s.options job.place job folder filling.staged read (reverse first.rest) (work_next job.place after.next) (events_next job.place after.next)
+    on : StartsOn s.options job.place job folder filling.staged read (reverse first.rest) (work_next s.options.keep job.place after.next) (events_next job.place after.next)
     on = starts_at s.options folder job after.site fits filling.staged read (reverse first.rest) after.next its_starts
 
     its_number : number_at f.events job.place ≡ folder
     its_number = folder_there s f.events old (Some n) n job is.it r
 
-    step : Steps s f (call job.place (HostRequest.Head path limit) (HostAnswer.FirstBytes bytes)) (work_next job.place after.next) (events_next job.place after.next)
+    step : Steps s f (call job.place (HostRequest.Head path limit) (HostAnswer.FirstBytes bytes)) (work_next s.options.keep job.place after.next) (events_next job.place after.next)
     step =
-        reads_input job.place path limit bytes filling.staged (reverse first.rest) filling.heads job (work_next job.place after.next) (events_next job.place after.next)
+        reads_input job.place path limit bytes filling.staged (reverse first.rest) filling.heads job (work_next s.options.keep job.place after.next) (events_next job.place after.next)
         (is.due ∙ ap (λ (todo : List Name). input_heads_due job.place filling.staged todo filling.heads) first.turned)
         (known_there s f.events old (Some n) n job is.it r)
-        (subst (λ (k : ℕ). StartsOn s.options job.place job k filling.staged read (reverse first.rest) (work_next job.place after.next) (events_next job.place after.next))
+        (subst (λ (k : ℕ). StartsOn s.options job.place job k filling.staged read (reverse first.rest) (work_next s.options.keep job.place after.next) (events_next job.place after.next))
         (sym its_number) on)
 
     its_goes : Goes s (InForce s) (t ++ call job.place (HostRequest.Head path limit) (HostAnswer.FirstBytes bytes) ∷ [])
-        (progress_with f (work_next job.place after.next) (events_next job.place after.next))
-        (marks_after s (progress_with f (work_next job.place after.next) (events_next job.place after.next)) marks)
+        (progress_with f (work_next s.options.keep job.place after.next) (events_next job.place after.next))
+        (marks_after s (progress_with f (work_next s.options.keep job.place after.next) (events_next job.place after.next)) marks)
     its_goes =
-        goes_on s (call job.place (HostRequest.Head path limit) (HostAnswer.FirstBytes bytes)) (work_next job.place after.next) (events_next job.place after.next) goes
-        (working_allowed s f marks old n job (HostRequest.Head path limit) (JobPhase.Filling filling) its_number is) step
+        goes_on s (call job.place (HostRequest.Head path limit) (HostAnswer.FirstBytes bytes)) (work_next s.options.keep job.place after.next) (events_next job.place after.next) goes
+        (working_allowed s f marks old n job (HostRequest.Head path limit) (JobPhase.Filling filling) (staged_there s f.events old n job is.it r) is) step
 
     pub input_head_goes_on : Runs s (t ++ call job.place (HostRequest.Head path limit) (HostAnswer.FirstBytes bytes) ∷ []) new turn
     input_head_goes_on = record {
-      happened = progress_with f (work_next job.place after.next) (events_next job.place after.next);
-      marks = marks_after s (progress_with f (work_next job.place after.next) (events_next job.place after.next)) marks;
+      happened = progress_with f (work_next s.options.keep job.place after.next) (events_next job.place after.next);
+      marks = marks_after s (progress_with f (work_next s.options.keep job.place after.next) (events_next job.place after.next)) marks;
       goes = its_goes;
-      at = turns_at s given laws picks (t ++ call job.place (HostRequest.Head path limit) (HostAnswer.FirstBytes bytes) ∷ [])
-          (progress_with f (work_next job.place after.next) (events_next job.place after.next))
-          (marks_after s (progress_with f (work_next job.place after.next) (events_next job.place after.next)) marks) its_goes
+      at = turns_at s given same laws picks (t ++ call job.place (HostRequest.Head path limit) (HostAnswer.FirstBytes bytes) ∷ [])
+          (progress_with f (work_next s.options.keep job.place after.next) (events_next job.place after.next))
+          (marks_after s (progress_with f (work_next s.options.keep job.place after.next) (events_next job.place after.next)) marks) its_goes
           f.events old n job r is.it after.next turn new refl refl
           (starts_call s.options folder job after.site fits filling.staged read (reverse first.rest) after.next its_starts)
           (works_unstarted f.events s.options job folder filling.staged read (reverse first.rest) after.next on)

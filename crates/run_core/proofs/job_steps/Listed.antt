@@ -28,7 +28,7 @@ use Rattle.run_core.specs.inner.Keeps.{Reflects}
 use Rattle.run_core.specs.inner.Follows.{FollowsWork}
 use Rattle.run_core.specs.inner.Picks.{AfterListing}
 use Rattle.run_core.specs.inner.Standing.{IsWorking, Runs}
-use Rattle.run_core.proofs.events.Reflecting.{Laws, folder_there, known_there}
+use Rattle.run_core.proofs.events.Reflecting.{Laws, staged_there, known_there}
 use Rattle.run_core.proofs.job_steps.Calls.{working_allowed}
 use Rattle.run_core.proofs.job_steps.Firsts.{never_input, never_output}
 use Rattle.run_core.proofs.job_steps.Sites.{Fits, site_fits, collects_at, collects_call, works_started, row_fits}
@@ -46,7 +46,7 @@ module _ (s : Scene) (given : Given) (same : given.options ≡ s.options) (laws 
       fits : Fits s.options folder job after.site
       fits = site_fits s.options given same old n job after.site is.it after.is_site
 
-      on : CollectsOn job.place job (row_at f.events job.place) is.on.started millis found [] after.collects.wanted (work_next job.place after.next) (events_next job.place after.next)
+      on : CollectsOn s.options.keep job.place job (row_at f.events job.place) is.on.started millis found [] after.collects.wanted (work_next s.options.keep job.place after.next) (events_next job.place after.next)
       on = collects_at s.options folder job after.site fits (row_at f.events job.place) (row_fits s given f.events old (Some n) n job after.site is.it after.is_site r) f.events kept millis found [] after.collects.wanted after.next is.on after.collects.on
 
       wanted : AreHeadsWanted (listing_of found) is.on.started.inputs job.tool.outputs after.collects.wanted
@@ -54,29 +54,29 @@ module _ (s : Scene) (given : Given) (same : given.options ≡ s.options) (laws 
           subst (λ (inputs : Fields). AreHeadsWanted (listing_of found) inputs job.tool.outputs after.collects.wanted) is.on.kept_is.inputs
           (subst (λ (tool : Tool). AreHeadsWanted (listing_of found) kept.inputs tool.outputs after.collects.wanted) fits.tool after.collects.are)
 
-      step : Steps s f (call job.place (HostRequest.Scan its_folder) (HostAnswer.Listed found)) (work_next job.place after.next) (events_next job.place after.next)
+      step : Steps s f (call job.place (HostRequest.Scan its_folder) (HostAnswer.Listed found)) (work_next s.options.keep job.place after.next) (events_next job.place after.next)
       step =
-          scans job.place its_folder millis found job is.on.started after.collects.wanted (work_next job.place after.next) (events_next job.place after.next)
+          scans job.place its_folder millis found job is.on.started after.collects.wanted (work_next s.options.keep job.place after.next) (events_next job.place after.next)
           is.due (known_there s f.events old (Some n) n job is.it r) is.on.at wanted on
 
       its_goes : Goes s (InForce s) (t ++ call job.place (HostRequest.Scan its_folder) (HostAnswer.Listed found) ∷ [])
-          (progress_with f (work_next job.place after.next) (events_next job.place after.next))
-          (marks_after s (progress_with f (work_next job.place after.next) (events_next job.place after.next)) marks)
+          (progress_with f (work_next s.options.keep job.place after.next) (events_next job.place after.next))
+          (marks_after s (progress_with f (work_next s.options.keep job.place after.next) (events_next job.place after.next)) marks)
       its_goes =
-          goes_on s (call job.place (HostRequest.Scan its_folder) (HostAnswer.Listed found)) (work_next job.place after.next) (events_next job.place after.next) goes
-          (working_allowed s f marks old n job (HostRequest.Scan its_folder) (JobPhase.Scanning kept millis) (folder_there s f.events old (Some n) n job is.it r) is) step
+          goes_on s (call job.place (HostRequest.Scan its_folder) (HostAnswer.Listed found)) (work_next s.options.keep job.place after.next) (events_next job.place after.next) goes
+          (working_allowed s f marks old n job (HostRequest.Scan its_folder) (JobPhase.Scanning kept millis) (staged_there s f.events old n job is.it r) is) step
 
       scan_goes_on : Runs s (t ++ call job.place (HostRequest.Scan its_folder) (HostAnswer.Listed found) ∷ []) new turn
       scan_goes_on = record {
-        happened = progress_with f (work_next job.place after.next) (events_next job.place after.next);
-        marks = marks_after s (progress_with f (work_next job.place after.next) (events_next job.place after.next)) marks;
+        happened = progress_with f (work_next s.options.keep job.place after.next) (events_next job.place after.next);
+        marks = marks_after s (progress_with f (work_next s.options.keep job.place after.next) (events_next job.place after.next)) marks;
         goes = its_goes;
-        at = turns_at s given laws picks (t ++ call job.place (HostRequest.Scan its_folder) (HostAnswer.Listed found) ∷ [])
-            (progress_with f (work_next job.place after.next) (events_next job.place after.next))
-            (marks_after s (progress_with f (work_next job.place after.next) (events_next job.place after.next)) marks) its_goes
+        at = turns_at s given same laws picks (t ++ call job.place (HostRequest.Scan its_folder) (HostAnswer.Listed found) ∷ [])
+            (progress_with f (work_next s.options.keep job.place after.next) (events_next job.place after.next))
+            (marks_after s (progress_with f (work_next s.options.keep job.place after.next) (events_next job.place after.next)) marks) its_goes
             f.events old n job r is.it after.next turn new refl refl
             (collects_call s.options folder job after.site fits kept millis found [] after.collects.wanted after.next after.collects.on)
-            (works_started f.events job (row_at f.events job.place) kept is.on.started millis found [] after.collects.wanted after.next is.on after.collects.on.keeps on)
+            (works_started s.options.keep f.events job (row_at f.events job.place) kept is.on.started millis found [] after.collects.wanted after.next is.on after.collects.on.keeps on)
             after.turns;
       }
 

@@ -27,7 +27,7 @@ use Rattle.run_core.specs.inner.Follows.{FollowsWork}
 use Rattle.run_core.specs.inner.Keeps.{Reflects}
 use Rattle.run_core.specs.inner.Picks.{AfterOutputHead}
 use Rattle.run_core.specs.inner.Standing.{IsWorking, Runs}
-use Rattle.run_core.proofs.events.Reflecting.{Laws, folder_there, known_there}
+use Rattle.run_core.proofs.events.Reflecting.{Laws, staged_there, known_there}
 use Rattle.run_core.proofs.job_steps.Calls.{working_allowed}
 use Rattle.run_core.proofs.job_steps.Filled.{input_head_goes_on}
 use Rattle.run_core.proofs.job_steps.Firsts.{HasFirst, first_output}
@@ -58,34 +58,34 @@ module _ (s : Scene) (given : Given) (same : given.options ≡ s.options) (laws 
       its_collects : Collects after.site kept reading.millis reading.found read todo after.next
       its_collects = after.collects.each next_file.first.rest next_file.name next_file.first.is
 
-      on : CollectsOn job.place job (row_at f.events job.place) is.on.started reading.millis reading.found read todo (work_next job.place after.next) (events_next job.place after.next)
+      on : CollectsOn s.options.keep job.place job (row_at f.events job.place) is.on.started reading.millis reading.found read todo (work_next s.options.keep job.place after.next) (events_next job.place after.next)
       on = collects_at s.options folder job after.site fits (row_at f.events job.place) (row_fits s given f.events old (Some n) n job after.site is.it after.is_site r) f.events kept reading.millis reading.found read todo after.next is.on its_collects
 
-      step : Steps s f (call job.place (HostRequest.Head path limit) (HostAnswer.FirstBytes bytes)) (work_next job.place after.next) (events_next job.place after.next)
+      step : Steps s f (call job.place (HostRequest.Head path limit) (HostAnswer.FirstBytes bytes)) (work_next s.options.keep job.place after.next) (events_next job.place after.next)
       step =
-          reads_output job.place path limit bytes reading.millis reading.found next_file.name todo reading.heads job is.on.started (work_next job.place after.next)
+          reads_output job.place path limit bytes reading.millis reading.found next_file.name todo reading.heads job is.on.started (work_next s.options.keep job.place after.next)
           (events_next job.place after.next)
           (is.due ∙ ap (λ (names : List Name). output_heads_due job.place reading.millis reading.found names reading.heads) next_file.first.turned)
           (known_there s f.events old (Some n) n job is.it r) is.on.at on
 
       its_goes : Goes s (InForce s) (t ++ call job.place (HostRequest.Head path limit) (HostAnswer.FirstBytes bytes) ∷ [])
-          (progress_with f (work_next job.place after.next) (events_next job.place after.next))
-          (marks_after s (progress_with f (work_next job.place after.next) (events_next job.place after.next)) marks)
+          (progress_with f (work_next s.options.keep job.place after.next) (events_next job.place after.next))
+          (marks_after s (progress_with f (work_next s.options.keep job.place after.next) (events_next job.place after.next)) marks)
       its_goes =
-          goes_on s (call job.place (HostRequest.Head path limit) (HostAnswer.FirstBytes bytes)) (work_next job.place after.next) (events_next job.place after.next) goes
-          (working_allowed s f marks old n job (HostRequest.Head path limit) (JobPhase.Reading kept reading) (folder_there s f.events old (Some n) n job is.it r) is) step
+          goes_on s (call job.place (HostRequest.Head path limit) (HostAnswer.FirstBytes bytes)) (work_next s.options.keep job.place after.next) (events_next job.place after.next) goes
+          (working_allowed s f marks old n job (HostRequest.Head path limit) (JobPhase.Reading kept reading) (staged_there s f.events old n job is.it r) is) step
 
       output_head_goes_on : Runs s (t ++ call job.place (HostRequest.Head path limit) (HostAnswer.FirstBytes bytes) ∷ []) new turn
       output_head_goes_on = record {
-        happened = progress_with f (work_next job.place after.next) (events_next job.place after.next);
-        marks = marks_after s (progress_with f (work_next job.place after.next) (events_next job.place after.next)) marks;
+        happened = progress_with f (work_next s.options.keep job.place after.next) (events_next job.place after.next);
+        marks = marks_after s (progress_with f (work_next s.options.keep job.place after.next) (events_next job.place after.next)) marks;
         goes = its_goes;
-        at = turns_at s given laws picks (t ++ call job.place (HostRequest.Head path limit) (HostAnswer.FirstBytes bytes) ∷ [])
-            (progress_with f (work_next job.place after.next) (events_next job.place after.next))
-            (marks_after s (progress_with f (work_next job.place after.next) (events_next job.place after.next)) marks) its_goes
+        at = turns_at s given same laws picks (t ++ call job.place (HostRequest.Head path limit) (HostAnswer.FirstBytes bytes) ∷ [])
+            (progress_with f (work_next s.options.keep job.place after.next) (events_next job.place after.next))
+            (marks_after s (progress_with f (work_next s.options.keep job.place after.next) (events_next job.place after.next)) marks) its_goes
             f.events old n job r is.it after.next turn new refl refl
             (collects_call s.options folder job after.site fits kept reading.millis reading.found read todo after.next its_collects)
-            (works_started f.events job (row_at f.events job.place) kept is.on.started reading.millis reading.found read todo after.next is.on its_collects.keeps on)
+            (works_started s.options.keep f.events job (row_at f.events job.place) kept is.on.started reading.millis reading.found read todo after.next is.on its_collects.keeps on)
             after.turns;
       }
 

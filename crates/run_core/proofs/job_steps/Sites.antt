@@ -1,5 +1,5 @@
 -- A job in its folders: what comes next for its site is what comes next for it.
-use Rattle.std.proofs.Common.{◌≡◌, ◌∙◌, ℕ, List, refl, sym, ap, subst, Option, []}
+use Rattle.std.proofs.Common.{◌≡◌, ◌∙◌, ℕ, Bool, List, refl, sym, ap, subst, Option, []}
 use Rattle.collected_outputs.specs.Contents.{Heads}
 use Rattle.cwl_process.specs.declared.tool.Tool.{Tool}
 use Rattle.staging.specs.declared.found.Found.{Found}
@@ -7,7 +7,8 @@ use Rattle.job_graph.specs.Jobs.{Job}
 use Rattle.job_graph.specs.Words.{Fields, Name, JobPlace}
 use Rattle.run_rules.specs.declared.setting.Options.{Options}
 use Rattle.run_rules.specs.CollectsOn.{CollectsOn, collects}
-use Rattle.run_rules.specs.Events.{Event, Started, row_at, scan_due}
+use Rattle.run_rules.specs.Events.{Event, Started, Work, row_at, scan_due}
+use Rattle.run_rules.specs.Keeps.{Keeps, differs, keeps as is_kept, keeps_none}
 use Rattle.run_rules.specs.StartsOn.{StartsOn}
 use Rattle.run_rules.proofs.events.Places.{IsJob, one_job}
 use Rattle.run_core.specs.declared.site.Site.{Site}
@@ -62,11 +63,11 @@ module _ (options : Options) (folder : ℕ) (job : Job) (site : Site) (fits : Fi
 
   -- the staged job goes on by its rules
   pub starts_at : (staged : Fields) (read : Heads) (todo : List Name) (next : JobNext) → Starts site staged read todo next →
-      StartsOn options job.place job folder staged read todo (work_next job.place next) (events_next job.place next)
+      StartsOn options job.place job folder staged read todo (work_next options.keep job.place next) (events_next job.place next)
   starts_at staged read todo next starts =
-      subst (λ (o : Options). StartsOn o job.place job folder staged read todo (work_next job.place next) (events_next job.place next)) fits.options_are
-      (subst (λ (k : ℕ). StartsOn site.options.now job.place job k staged read todo (work_next job.place next) (events_next job.place next)) fits.folder_is
-      (subst (λ (j : Job). StartsOn site.options.now job.place j site.folder staged read todo (work_next job.place next) (events_next job.place next)) its_job
+      subst (λ (o : Options). StartsOn o job.place job folder staged read todo (work_next o.keep job.place next) (events_next job.place next)) fits.options_are
+      (subst (λ (k : ℕ). StartsOn site.options.now job.place job k staged read todo (work_next site.options.now.keep job.place next) (events_next job.place next)) fits.folder_is
+      (subst (λ (j : Job). StartsOn site.options.now job.place j site.folder staged read todo (work_next site.options.now.keep job.place next) (events_next job.place next)) its_job
       (starts.on job.place)))
 
   pub starts_call : (staged : Fields) (read : Heads) (todo : List Name) (next : JobNext) → Starts site staged read todo next → CallsNext options folder next
@@ -74,11 +75,12 @@ module _ (options : Options) (folder : ℕ) (job : Job) (site : Site) (fits : Fi
 
   -- and so does one whose child has ended
   pub collects_at : (row : Option Row) → (option_copied site.row) ≡ row → (es : List Event) (kept : Kept) (millis : ℕ) (found : List Found) (read : Heads) (todo : List Name) (next : JobNext) (begun : HasStarted es job.place kept) →
-      Collects site kept millis found read todo next → CollectsOn job.place job row begun.started millis found read todo (work_next job.place next) (events_next job.place next)
+      Collects site kept millis found read todo next → CollectsOn options.keep job.place job row begun.started millis found read todo (work_next options.keep job.place next) (events_next job.place next)
   collects_at row row_is es kept millis found read todo next begun gathers =
-      subst (λ (found_row : Option Row). CollectsOn job.place job found_row begun.started millis found read todo (work_next job.place next) (events_next job.place next)) row_is
-      (subst (λ (j : Job). CollectsOn job.place j (option_copied site.row) begun.started millis found read todo (work_next job.place next) (events_next job.place next)) its_job
-      (gathers.on job.place begun.started begun.kept_is))
+      subst (λ (o : Options). CollectsOn o.keep job.place job row begun.started millis found read todo (work_next o.keep job.place next) (events_next job.place next)) fits.options_are
+      (subst (λ (found_row : Option Row). CollectsOn site.options.now.keep job.place job found_row begun.started millis found read todo (work_next site.options.now.keep job.place next) (events_next job.place next)) row_is
+      (subst (λ (j : Job). CollectsOn site.options.now.keep job.place j (option_copied site.row) begun.started millis found read todo (work_next site.options.now.keep job.place next) (events_next job.place next)) its_job
+      (gathers.on job.place begun.started begun.kept_is)))
 
   pub collects_call : (kept : Kept) (millis : ℕ) (found : List Found) (read : Heads) (todo : List Name) (next : JobNext) → Collects site kept millis found read todo next →
       CallsNext options folder next
@@ -88,7 +90,7 @@ module _ (options : Options) (folder : ℕ) (job : Job) (site : Site) (fits : Fi
 
 -- a staged job has no child yet
 pub works_unstarted : (es : List Event) (options : Options) (job : Job) (folder : ℕ) (staged : Fields) (read : Heads) (todo : List Name) (next : JobNext) →
-    StartsOn options job.place job folder staged read todo (work_next job.place next) (events_next job.place next) → WorksNext es job.place next
+    StartsOn options job.place job folder staged read todo (work_next options.keep job.place next) (events_next job.place next) → WorksNext es job.place next
 works_unstarted es options job folder staged read todo (JobNext.Asks call (JobPhase.Filling filling)) on = tt
 works_unstarted es options job folder staged read todo (JobNext.Asks call (JobPhase.Starting kept)) on = tt
 works_unstarted es options job folder staged read todo (JobNext.Asks call (JobPhase.Scanning kept millis)) on = elim on [ ]
@@ -96,21 +98,28 @@ works_unstarted es options job folder staged read todo (JobNext.Asks call (JobPh
 works_unstarted es options job folder staged read todo (JobNext.Fails cause) on = tt
 works_unstarted es options job folder staged read todo (JobNext.Gives outputs row) on = tt
 works_unstarted es options job folder staged read todo (JobNext.Differs outputs) on = tt
-works_unstarted es options job folder staged read todo (JobNext.Repeats row) on = elim on [ ]
+works_unstarted es options job folder staged read todo (JobNext.Repeats row) on = tt
 
--- outputs that are collected lead to no scan
-no_scan : {place at : JobPlace} {job : Job} {row : Option Row} {started : Started} {millis so_long : ℕ} {found : List Found} {read : Heads} {todo : List Name} →
-    CollectsOn place job row started millis found read todo (scan_due at so_long) [] → ⊥
-no_scan (collects outputs work more is kept) = elim kept [ ]
+-- of outputs that are collected something is told
+keeps_tell : {keep : Bool} {place : JobPlace} {job : Job} {row : Option Row} {millis : ℕ} {found : List Found} {outputs : Fields} {work : Work} {more : List Event} →
+    Keeps keep place job row millis found outputs work more → more ≡ [] → ⊥
+keeps_tell (keeps_none once) none = cc
+keeps_tell (is_kept reusable agrees) none = cc
+keeps_tell (differs other reusable is differ) none = cc
 
-pub works_started : (es : List Event) (job : Job) (row : Option Row) (kept : Kept) (started : Started) (millis : ℕ) (found : List Found) (read : Heads) (todo : List Name) (next : JobNext) →
+-- so they lead to no scan
+no_scan : {keep : Bool} {place at : JobPlace} {job : Job} {row : Option Row} {started : Started} {millis so_long : ℕ} {found : List Found} {read : Heads} {todo : List Name} →
+    CollectsOn keep place job row started millis found read todo (scan_due at so_long) [] → ⊥
+no_scan (collects outputs work more is kept) = keeps_tell kept refl
+
+pub works_started : (keep : Bool) (es : List Event) (job : Job) (row : Option Row) (kept : Kept) (started : Started) (millis : ℕ) (found : List Found) (read : Heads) (todo : List Name) (next : JobNext) →
     HasStarted es job.place kept → KeepsStill kept next →
-    CollectsOn job.place job row started millis found read todo (work_next job.place next) (events_next job.place next) → WorksNext es job.place next
-works_started es job row kept started millis found read todo (JobNext.Asks call (JobPhase.Filling filling)) begun keeps on = tt
-works_started es job row kept started millis found read todo (JobNext.Asks call (JobPhase.Starting now)) begun keeps on = tt
-works_started es job row kept started millis found read todo (JobNext.Asks call (JobPhase.Scanning now so_long)) begun keeps on = absurd (no_scan on)
-works_started es job row kept started millis found read todo (JobNext.Asks call (JobPhase.Reading now reading)) begun keeps on = subst (HasStarted es job.place) (sym keeps) begun
-works_started es job row kept started millis found read todo (JobNext.Fails cause) begun keeps on = tt
-works_started es job row kept started millis found read todo (JobNext.Gives outputs put) begun keeps on = tt
-works_started es job row kept started millis found read todo (JobNext.Differs outputs) begun keeps on = tt
-works_started es job row kept started millis found read todo (JobNext.Repeats put) begun keeps on = tt
+    CollectsOn keep job.place job row started millis found read todo (work_next keep job.place next) (events_next job.place next) → WorksNext es job.place next
+works_started keep es job row kept started millis found read todo (JobNext.Asks call (JobPhase.Filling filling)) begun keeps on = tt
+works_started keep es job row kept started millis found read todo (JobNext.Asks call (JobPhase.Starting now)) begun keeps on = tt
+works_started keep es job row kept started millis found read todo (JobNext.Asks call (JobPhase.Scanning now so_long)) begun keeps on = absurd (no_scan on)
+works_started keep es job row kept started millis found read todo (JobNext.Asks call (JobPhase.Reading now reading)) begun keeps on = subst (HasStarted es job.place) (sym keeps) begun
+works_started keep es job row kept started millis found read todo (JobNext.Fails cause) begun keeps on = tt
+works_started keep es job row kept started millis found read todo (JobNext.Gives outputs put) begun keeps on = tt
+works_started keep es job row kept started millis found read todo (JobNext.Differs outputs) begun keeps on = tt
+works_started keep es job row kept started millis found read todo (JobNext.Repeats put) begun keeps on = tt

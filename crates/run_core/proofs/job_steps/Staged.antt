@@ -63,27 +63,27 @@ module _ (s : Scene) (given : Given) (same : given.options ≡ s.options) (laws 
     its_starts : Starts after.site plan.value [] (heads_wanted job.tool.inputs plan.value) after.next
     its_starts = subst (λ (tool : Tool). Starts after.site plan.value [] (heads_wanted tool.inputs plan.value) after.next) fits.tool after.starts
 
-    on : StartsOn s.options job.place job folder plan.value [] (heads_wanted job.tool.inputs plan.value) (work_next job.place after.next) (events_next job.place after.next)
+    on : StartsOn s.options job.place job folder plan.value [] (heads_wanted job.tool.inputs plan.value) (work_next s.options.keep job.place after.next) (events_next job.place after.next)
     on = starts_at s.options folder job after.site fits plan.value [] (heads_wanted job.tool.inputs plan.value) after.next its_starts
 
     abbrev more : List Event
     more = job_staged job.place folder ∷ events_next job.place after.next
 
-    step : Steps s f (call job.place (HostRequest.Stage plan folder) HostAnswer.Done) (work_next job.place after.next) more
+    step : Steps s f (call job.place (HostRequest.Stage plan folder) HostAnswer.Done) (work_next s.options.keep job.place after.next) more
     step =
-        stages job.place plan folder job (work_next job.place after.next) (events_next job.place after.next) (known_there s f.events old None n job is.it r) on
+        stages job.place plan folder job (work_next s.options.keep job.place after.next) (events_next job.place after.next) (known_there s f.events old None n job is.it r) on
 
-    its_goes : Goes s (InForce s) (t ++ call job.place (HostRequest.Stage plan folder) HostAnswer.Done ∷ []) (progress_with f (work_next job.place after.next) more)
-        (marks_after s (progress_with f (work_next job.place after.next) more) marks)
-    its_goes = goes_on s (call job.place (HostRequest.Stage plan folder) HostAnswer.Done) (work_next job.place after.next) more goes is.may step
+    its_goes : Goes s (InForce s) (t ++ call job.place (HostRequest.Stage plan folder) HostAnswer.Done ∷ []) (progress_with f (work_next s.options.keep job.place after.next) more)
+        (marks_after s (progress_with f (work_next s.options.keep job.place after.next) more) marks)
+    its_goes = goes_on s (call job.place (HostRequest.Stage plan folder) HostAnswer.Done) (work_next s.options.keep job.place after.next) more goes is.may step
 
     pub staging_goes_on : Runs s (t ++ call job.place (HostRequest.Stage plan (old.folders + 1)) HostAnswer.Done ∷ []) new turn
     staging_goes_on = record {
-      happened = progress_with f (work_next job.place after.next) more;
-      marks = marks_after s (progress_with f (work_next job.place after.next) more) marks;
+      happened = progress_with f (work_next s.options.keep job.place after.next) more;
+      marks = marks_after s (progress_with f (work_next s.options.keep job.place after.next) more) marks;
       goes = its_goes;
-      at = turns_at s given laws picks (t ++ call job.place (HostRequest.Stage plan folder) HostAnswer.Done ∷ [])
-          (progress_with f (work_next job.place after.next) more) (marks_after s (progress_with f (work_next job.place after.next) more) marks) its_goes
+      at = turns_at s given same laws picks (t ++ call job.place (HostRequest.Stage plan folder) HostAnswer.Done ∷ [])
+          (progress_with f (work_next s.options.keep job.place after.next) more) (marks_after s (progress_with f (work_next s.options.keep job.place after.next) more) marks) its_goes
           (f.events ++ job_staged job.place folder ∷ []) after.staged n job staged_is it_still after.next turn new refl
           (sym (append_assoc f.events (job_staged job.place folder ∷ []) (events_next job.place after.next)))
           (subst (λ (k : ℕ). CallsNext s.options k after.next) (sym folder_now)

@@ -24,7 +24,7 @@ use Rattle.run_core.specs.inner.Due.{IsKept, call_for, kept_of}
 use Rattle.run_core.specs.inner.Keeps.{Reflects}
 use Rattle.run_core.specs.inner.Picks.{AfterStart}
 use Rattle.run_core.specs.inner.Standing.{IsWorking, Runs}
-use Rattle.run_core.proofs.events.Reflecting.{folder_there, started_reflects}
+use Rattle.run_core.proofs.events.Reflecting.{staged_there, started_reflects}
 use Rattle.run_core.proofs.job_steps.Calls.{working_allowed}
 use Rattle.run_core.proofs.job_steps.Firsts.{input_starts_none, output_starts_none}
 use Rattle.run_core.proofs.job_steps.Turns.{PicksAt}
@@ -47,7 +47,7 @@ module _ (s : Scene) (given : Given) (picks : PicksAt s given) (t : List Pair) (
       its_goes : Goes s (InForce s) (t ++ pair ∷ []) (progress_with f nothing_due more) (marks_after s (progress_with f nothing_due more) marks)
       its_goes =
           goes_on s pair nothing_due more goes
-          (working_allowed s f marks old n job (HostRequest.Start launch) (JobPhase.Starting kept) (folder_there s f.events old (Some n) n job is.it r) is)
+          (working_allowed s f marks old n job (HostRequest.Start launch) (JobPhase.Starting kept) (staged_there s f.events old n job is.it r) is)
           (starts job.place kept.inputs launch ticket is.due)
 
       started_is : Reflects s (f.events ++ more) after.started None

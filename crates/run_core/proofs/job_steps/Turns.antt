@@ -1,16 +1,20 @@
 -- A job that goes on, has failed or gave its outputs: the machine is at its next turn.
-use Rattle.std.proofs.Common.{◌≡◌, ◌∙◌, ℕ, List, [], ◌∷◌, ◌++◌, Option, Some, None, sym, ap, subst, append-nil, Err}
+use Rattle.std.proofs.Common.{◌≡◌, ◌∙◌, ℕ, Bool, true, false, List, [], ◌∷◌, ◌++◌, Option, Some, None, sym, ap, subst, append-nil, Err}
 use Rattle.plan_checker.specs.declared.plan.Mark.{Mark}
 use Rattle.proc_host.specs.declared.call.HostRequest.{HostRequest}
 use Rattle.job_graph.specs.declared.unfolding.Unfolding.{Unfolding}
 use Rattle.job_graph.specs.Jobs.{Job}
-use Rattle.job_graph.specs.Words.{JobPlace, Fields}
+use Rattle.job_graph.specs.Words.{JobPlace, Fields, Name}
 use Rattle.run_rules.specs.declared.request.Pair.{Pair}
-use Rattle.run_rules.specs.Events.{Event, Progress, job_failed, job_repeated, job_succeeded, nothing_due, put_due, row_differs}
+use Rattle.run_rules.specs.Events.{Event, Progress, job_failed, job_repeated, job_succeeded, nothing_due, put_due, row_differs, folder_at, is_fetched, number_at}
+use Rattle.run_rules.specs.declared.setting.Options.{Options}
+use Rattle.run_rules.specs.Folders.{left_folder, out_folder}
+use Rattle.run_rules.specs.Keeps.{work_to_keep}
 use Rattle.run_rules.specs.Plans.{InForce}
 use Rattle.run_rules.specs.Run.{Goes}
 use Rattle.run_rules.specs.Scene.{Scene}
 use Rattle.run_rules.proofs.events.Places.{IsJob}
+use Rattle.run_rules.proofs.events.Readings.{fetched_after, number_after}
 use Rattle.run_core.specs.declared.state.Course.{Course}
 use Rattle.run_core.specs.declared.state.Given.{Given}
 use Rattle.run_core.specs.declared.state.JobNext.{JobNext}
@@ -22,11 +26,11 @@ use Rattle.run_core.specs.inner.Due.{Calls, CallsNext, events_next, work_next, w
 use Rattle.run_core.specs.inner.Keeps.{Reflects}
 use Rattle.run_core.specs.inner.Knows.{LearnsUnlessOver}
 use Rattle.run_core.specs.inner.Picks.{Picks, Turns, asks, fails, gives, Puts, PutsOrPicks, mismatches, repeats}
-use Rattle.run_core.specs.inner.Standing.{IsAt, WorksOn, working, putting}
-use Rattle.run_core.specs.inner.Turn.{permanent, works, puts}
+use Rattle.run_core.specs.inner.Standing.{IsAt, WorksOn, working, putting, storing}
+use Rattle.run_core.specs.inner.Turn.{permanent, works, keeps_row}
 use Rattle.run_core.proofs.events.Numbers.{place_there}
 use Rattle.run_core.proofs.events.Learning.{Teaches, job_is_still_known, outputs_teach, taught}
-use Rattle.run_core.proofs.events.Reflecting.{Laws, job_failed_reflects, reflects_same, repeated_reflects, mismatch_reflects}
+use Rattle.run_core.proofs.events.Reflecting.{Laws, job_failed_reflects, reflects_same, repeated_reflects, mismatch_reflects, staged_there}
 use Rattle.run_core.specs.inner.JobStates.{state_at}
 use Rattle.job_rows.specs.declared.row.Row.{Row}
 use Rattle.run_rules.specs.declared.outcome.RunFault.{RunFault}
@@ -42,7 +46,7 @@ abbrev pub WorksNext : List Event → JobPlace → JobNext → Type 0
 WorksNext es place (JobNext.Asks call phase) = WorksOn es place phase
 WorksNext es place next = Unit {0}
 
-module _ (s : Scene) (given : Given) (laws : Laws s) (picks : PicksAt s given) (t : List Pair) (f : Progress) (marks : List Mark) (goes : Goes s (InForce s) t f marks)
+module _ (s : Scene) (given : Given) (same_options : given.options ≡ s.options) (laws : Laws s) (picks : PicksAt s given) (t : List Pair) (f : Progress) (marks : List Mark) (goes : Goes s (InForce s) t f marks)
     (es : List Event) (old : Course) (n : ℕ) (job : Job) (r : Reflects s es old (Some n)) (it : IsJob (known_in old.known) n job) where
   there : place_at (known_in old.known) n ≡ job.place
   there = place_there (known_in old.known) n job it
@@ -67,23 +71,44 @@ module _ (s : Scene) (given : Given) (laws : Laws s) (picks : PicksAt s given) (
   turns_by e over turn new work events reflects picked =
       picks t f marks goes work over turn new (subst (λ (happened : List Event). Reflects s happened over None) (sym events) reflects) picked
 
-  -- its row is put next
-  putting_at : (e : Event) (row : Row) (over : Course) (turn : Turn) (new : Course) → f.work ≡ put_due job.place row → f.events ≡ es ++ e ∷ [] → Reflects s (es ++ e ∷ []) over None →
-      IsJob (known_in over.known) n job → Puts (place_at (known_in old.known) n) over n row turn new → IsAt s f marks new turn
-  putting_at e row over turn new work events reflects still put =
-      subst (λ (t : Turn). IsAt s f marks new t) (ap (λ (place : JobPlace). puts place n row) (sym there) ∙ sym put.is)
-      (putting n job row
-      (subst (λ (happened : List Event). Reflects s happened new None) (sym events) (reflects_same s (es ++ e ∷ []) over new None put.past put.known reflects))
-      (subst (λ (k : Option Unfolding). IsJob (known_in k) n job) (sym put.known) still) work)
+  -- its row is kept next
+  kept_by : (keep : Bool) (row : Row) (new : Course) → f.work ≡ work_to_keep keep job.place row → Reflects s f.events new None → IsJob (known_in new.known) n job →
+      IsAt s f marks new (keeps_row keep (folder_at s f.events job.place) job.place n row)
+  kept_by true row new work reflects its = storing n job row reflects its work
+  kept_by false row new work reflects its = putting n job row reflects its work
 
-  -- its outputs are there: its row is put next, if one is made of it
-  gives_by : (outputs : Fields) (row : Option Row) (over : Course) (turn : Turn) (new : Course) → f.work ≡ work_next job.place (JobNext.Gives outputs row) →
+  -- its outputs are still where it was staged last, after an event that stages nothing
+  folder_still : (e : Event) → number_at (es ++ e ∷ []) job.place ≡ number_at es job.place → is_fetched (es ++ e ∷ []) job.place ≡ is_fetched es job.place → f.events ≡ es ++ e ∷ [] →
+      folder_at s f.events job.place ≡ out_folder s.options.work (state_at old.jobs n).folder
+  folder_still e stages_none fetches_none events =
+      ap (λ (happened : List Event). folder_at s happened job.place) events
+      ∙ ap (λ b. left_folder s.options.work b (number_at (es ++ e ∷ []) job.place)) (fetches_none ∙ (staged_there s es old n job it r).1)
+      ∙ ap (λ (k : ℕ). out_folder s.options.work k) (stages_none ∙ (staged_there s es old n job it r).0)
+
+  -- after such an event its row is kept next
+  keeping_at : (e : Event) (row : Row) (over : Course) (turn : Turn) (new : Course) → f.work ≡ work_to_keep s.options.keep job.place row →
+      number_at (es ++ e ∷ []) job.place ≡ number_at es job.place → is_fetched (es ++ e ∷ []) job.place ≡ is_fetched es job.place → f.events ≡ es ++ e ∷ [] →
+      Reflects s (es ++ e ∷ []) over None →
+      IsJob (known_in over.known) n job → Puts given (place_at (known_in old.known) n) (state_at old.jobs n).folder over n row turn new → IsAt s f marks new turn
+  keeping_at e row over turn new work stages_none fetches_none events reflects still put =
+      subst (λ (t : Turn). IsAt s f marks new t)
+      (ap (λ (folder : Name). keeps_row s.options.keep folder job.place n row) (folder_still e stages_none fetches_none events)
+      ∙ ap (λ (o : Options). keeps_row o.keep (out_folder o.work (state_at old.jobs n).folder) job.place n row) (sym same_options)
+      ∙ ap (λ (place : JobPlace). keeps_row given.options.keep (out_folder given.options.work (state_at old.jobs n).folder) place n row) (sym there) ∙ sym put.is)
+      (kept_by s.options.keep row new work
+      (subst (λ (happened : List Event). Reflects s happened new None) (sym events)
+      (reflects_same s (es ++ e ∷ []) over new None put.past put.known reflects))
+      (subst (λ (k : Option Unfolding). IsJob (known_in k) n job) (sym put.known) still))
+
+  -- its outputs are there: its row is kept next, if one is made of it
+  gives_by : (outputs : Fields) (row : Option Row) (over : Course) (turn : Turn) (new : Course) → f.work ≡ work_next s.options.keep job.place (JobNext.Gives outputs row) →
       f.events ≡ es ++ job_succeeded job.place outputs ∷ [] → Reflects s (es ++ job_succeeded job.place outputs ∷ []) over None → IsJob (known_in over.known) n job →
-      PutsOrPicks given (place_at (known_in old.known) n) over n row turn new → IsAt s f marks new turn
+      PutsOrPicks given (place_at (known_in old.known) n) (state_at old.jobs n).folder over n row turn new → IsAt s f marks new turn
   gives_by outputs None over turn new work events reflects still picked = turns_by (job_succeeded job.place outputs) over turn new work events reflects picked
-  gives_by outputs (Some row) over turn new work events reflects still put = putting_at (job_succeeded job.place outputs) row over turn new work events reflects still put
+  gives_by outputs (Some row) over turn new work events reflects still put =
+      keeping_at (job_succeeded job.place outputs) row over turn new work (number_after es (job_succeeded job.place outputs ∷ []) job.place) (fetched_after es (job_succeeded job.place outputs ∷ []) job.place) events reflects still put
 
-  pub turns_at : (next : JobNext) (turn : Turn) (new : Course) → f.work ≡ work_next job.place next → f.events ≡ es ++ events_next job.place next →
+  pub turns_at : (next : JobNext) (turn : Turn) (new : Course) → f.work ≡ work_next s.options.keep job.place next → f.events ≡ es ++ events_next job.place next →
       CallsNext s.options (state_at old.jobs n).folder next → WorksNext es job.place next → Turns given old n next turn new → IsAt s f marks new turn
   turns_at next turn new work events calls on (asks call phase same_but past known) =
       goes_on_at call phase same_but past known work (events ∙ append-nil es) calls on
@@ -102,7 +127,7 @@ module _ (s : Scene) (given : Given) (laws : Laws s) (picks : PicksAt s given) (
       (job_is_still_known s laws es old (Some n) (job_succeeded job.place outputs) (record { place = job.place; outputs = outputs }) (with_hand n (past_of old)) r teaches
       given_it.there given_it.past given_it.known learned its n job it) picked
   turns_at next turn new work events calls on (repeats row brought next_turn course past known put) =
-      putting_at (job_repeated job.place) row brought next_turn course work events (repeated_reflects s es old brought n job it past known r)
+      keeping_at (job_repeated job.place) row brought next_turn course work (number_after es (job_repeated job.place ∷ []) job.place) (fetched_after es (job_repeated job.place ∷ []) job.place) events (repeated_reflects s es old brought n job it past known r)
       (subst (λ (k : Option Unfolding). IsJob (known_in k) n job) (sym known) it) put
   turns_at next turn new work events calls on (mismatches outputs failed next_turn course past known picked) =
       turns_by (row_differs job.place outputs) failed next_turn course work events

@@ -1,7 +1,7 @@
 -- What each answer leaves.
 use Rattle.std.specs.Prelude.{Contains}
-use Rattle.std.proofs.Common.{◌≡◌, ◌∙◌, List, [], Option, None, Result, Err, refl, sym, ap, subst, ℕ}
-use Rattle.proc_host.specs.Answers.{fault_of, is_measured, is_staged, is_started, has_ended, is_listed, is_read, is_delivered, has_failed}
+use Rattle.std.proofs.Common.{◌≡◌, ◌∙◌, true, false, List, [], Option, None, Result, Err, refl, sym, ap, subst, ℕ, Some}
+use Rattle.proc_host.specs.Answers.{fault_of, is_measured, is_staged, is_started, has_ended, is_listed, is_read, is_delivered, is_stored, has_failed, is_fetched}
 use Rattle.proc_host.specs.declared.call.Entry.{Entry}
 use Rattle.proc_host.specs.declared.call.HostAnswer.{HostAnswer}
 use Rattle.proc_host.specs.declared.call.HostFault.{HostFault}
@@ -18,6 +18,7 @@ use Rattle.run_rules.specs.declared.request.Answer.{Answer}
 use Rattle.run_rules.specs.declared.request.Request.{Request}
 use Rattle.job_graph.specs.Words.{JobPlace}
 use Rattle.run_rules.specs.declared.request.RecordRequest.{RecordRequest}
+use Rattle.job_rows.specs.declared.row.Row.{Row}
 use Rattle.run_core.specs.declared.state.Course.{Course}
 use Rattle.run_core.specs.declared.state.Flight.{Flight}
 use Rattle.run_core.specs.declared.state.Given.{Given}
@@ -26,14 +27,14 @@ use Rattle.run_core.specs.declared.state.Measuring.{Measuring}
 use Rattle.run_core.specs.declared.state.Phase.{Phase}
 use Rattle.run_core.specs.declared.state.Turn.{Turn}
 use Rattle.run_core.specs.inner.Attempts.{StaysBounded}
-use Rattle.run_core.specs.inner.Course.{Past, past_of}
+use Rattle.run_core.specs.inner.Course.{Past, known_in, past_of, place_at, store_note, late_note, fault_after, with_note}
 use Rattle.run_core.specs.inner.Follows.{AsksOf, FollowsFrom}
 use Rattle.run_core.specs.inner.Knows.{IsKnown}
 use Rattle.run_core.specs.inner.Measures.{MeasuresOn, all_measured, measures}
 use Rattle.run_core.specs.inner.Picks.{AfterEnd, AfterFault, badly, for_now, well}
 use Rattle.run_core.specs.inner.Standing.{Blames}
-use Rattle.run_core.proofs.standing.Books.{Books, books_end, books_landed, books_staged, books_start, books_unstaged}
-use Rattle.run_core.proofs.standing.Leaving.{FewKnown, KnowsSome, Leaves, MayKnow, books_course, books_unfolded, leaves_end, leaves_temporary, picks_leave, turns_leave, leaves_find, leaves_put}
+use Rattle.run_core.proofs.standing.Books.{Books, books_end, books_landed, books_staged, books_start, books_unstaged, books_noted, books_unfetched}
+use Rattle.run_core.proofs.standing.Leaving.{FewKnown, KnowsSome, Leaves, MayKnow, books_course, books_unfolded, leaves_end, leaves_temporary, picks_leave, turns_leave, leaves_find, leaves_put, leaves_store, leaves_drop, leaves_fetch}
 pub use Rattle.run_core.proofs.standing.Leaving.{known_still}
 
 -- an answer of the host's is in its log
@@ -77,11 +78,35 @@ puts_no_call course place (HostRequest.Fetch key folder files) number fits = fit
 puts_no_call course place (HostRequest.Store key folder files) number fits = fits
 puts_no_call course place (HostRequest.Deliver plan) number fits = fits
 
+-- nor while an archive is dropped
+pub drops_no_call : (course : Course) (place : JobPlace) (call : HostRequest) (number : ℕ) → AsksOf course (Request.Host place call) (Phase.Dropping number) → ⊥
+drops_no_call course place (HostRequest.Measure path) number fits = fits
+drops_no_call course place (HostRequest.Stage plan folder) number fits = fits
+drops_no_call course place (HostRequest.Start launch) number fits = fits
+drops_no_call course place HostRequest.Collect number fits = fits
+drops_no_call course place (HostRequest.Scan folder) number fits = fits
+drops_no_call course place (HostRequest.Head path limit) number fits = fits
+drops_no_call course place (HostRequest.Fetch key folder files) number fits = fits
+drops_no_call course place (HostRequest.Store key folder files) number fits = fits
+drops_no_call course place (HostRequest.Deliver plan) number fits = fits
+
+-- where files are to be fetched, nothing of the record
+pub fetches_no_row : (course : Course) (place : JobPlace) (request : RecordRequest) (number : ℕ) → AsksOf course (Request.Record place request) (Phase.Fetching number) → ⊥
+fetches_no_row course place (RecordRequest.Find key) number fits = fits
+fetches_no_row course place (RecordRequest.Put row) number fits = fits
+fetches_no_row course place (RecordRequest.DropArchive key) number fits = fits
+
 -- where a job is to be staged, nothing of the record
 pub stages_no_row : (course : Course) (place : JobPlace) (request : RecordRequest) (number : ℕ) → AsksOf course (Request.Record place request) (Phase.Staging number) → ⊥
 stages_no_row course place (RecordRequest.Find key) number fits = fits
 stages_no_row course place (RecordRequest.Put row) number fits = fits
 stages_no_row course place (RecordRequest.DropArchive key) number fits = fits
+
+-- nor where files are archived
+pub stores_no_row : (course : Course) (place : JobPlace) (request : RecordRequest) (number : ℕ) (row : Row) → AsksOf course (Request.Record place request) (Phase.Storing number row) → ⊥
+stores_no_row course place (RecordRequest.Find key) number row fits = fits
+stores_no_row course place (RecordRequest.Put other) number row fits = fits
+stores_no_row course place (RecordRequest.DropArchive key) number row fits = fits
 
 -- nor is the record
 pub asks_no_row : (course : Course) (place : JobPlace) (request : RecordRequest) (outcome : Result Outcome RunFault) →
@@ -102,12 +127,17 @@ module _ (given : Given) (old : Course) (entries : List Entry) (turn : Turn) (ne
   abbrev Left : Type 0
   Left = Leaves given.options entries turn new
 
-  after_fault : (fault : HostFault) → Contains (logged_answers entries) (HostAnswer.Failed fault) → Books given.options entries (past_of old) →
-      AfterFault given old fault turn new → Left
-  after_fault fault told books after =
+  books_fault : (o : Option (Result Outcome RunFault)) (place : JobPlace) (fault : HostFault) (past : Past) → IsToBlame entries fault [] → Books given.options entries past →
+      Books given.options entries (fault_after o place fault past)
+  books_fault None place fault past blame books = books_end given.options entries past (Err (RunFault.Host fault [])) blame books
+  books_fault (Some end) place fault past blame books = books_noted given.options entries past (late_note place fault) books
+
+  after_fault : (place : JobPlace) (fault : HostFault) → Contains (logged_answers entries) (HostAnswer.Failed fault) → Books given.options entries (past_of old) →
+      AfterFault given old place fault turn new → Left
+  after_fault place fault told books after =
       let blame : IsToBlame entries fault [] = record { failed = told; started = none_started entries } in
       picks_leave given.options entries given refl after.settled turn new few
-      (subst (λ (p : Past). Books given.options entries p) (sym after.past) (books_end given.options entries (past_of old) (Err (RunFault.Host fault [])) blame books))
+      (subst (λ (p : Past). Books given.options entries p) (sym after.past) (books_fault old.end place fault (past_of old) blame books))
       after.picks
 
   after_end : (landed : Course) (flight : Flight) (tool : Tool) (ending : ChildEnd) → (landed.end ≡ None → KnowsSome landed) →
@@ -125,38 +155,45 @@ module _ (given : Given) (old : Course) (entries : List Entry) (turn : Turn) (ne
   step_leaves asks (Phase.Measuring measuring) answer (by_host place request its (is_measured path measure)) fits goes knows told bounded blames follows =
       after_measure given old entries turn new few follows.next (record { bounded = bounded; blames = blames }) follows.on
   step_leaves asks (Phase.Measuring measuring) answer (by_host place request its (has_failed call)) fits goes knows told bounded blames follows =
-      after_fault (fault_of call) told (record { bounded = bounded; blames = blames }) follows
+      after_fault place (fault_of call) told (record { bounded = bounded; blames = blames }) follows
   step_leaves asks (Phase.Finding number) answer (by_host place request its can) fits goes knows told bounded blames follows = absurd (asks_no_call old place request number fits)
   step_leaves asks (Phase.Finding number) answer (by_record place request its can) fits goes knows told bounded blames follows =
       leaves_find given.options entries given refl old number its turn new few knows (record { bounded = bounded; blames = blames }) follows
   step_leaves asks (Phase.Putting number) answer (by_host place request its can) fits goes knows told bounded blames follows = absurd (puts_no_call old place request number fits)
   step_leaves asks (Phase.Putting number) answer (by_record place request its can) fits goes knows told bounded blames follows =
       leaves_put given.options entries given refl old number its turn new few (record { bounded = bounded; blames = blames }) follows
+  step_leaves asks (Phase.Dropping number) answer (by_host place request its can) fits goes knows told bounded blames follows = absurd (drops_no_call old place request number fits)
+  step_leaves asks (Phase.Dropping number) answer (by_record place request its can) fits goes knows told bounded blames follows =
+      leaves_drop given.options entries given refl old number its turn new few (record { bounded = bounded; blames = blames }) follows
+  step_leaves asks (Phase.Fetching number) answer (by_host place request its (is_fetched its_key folder files found among)) fits goes knows told bounded blames follows =
+      leaves_fetch given.options entries given refl old number found turn new few (record { bounded = bounded; blames = blames }) follows
+  step_leaves asks (Phase.Fetching number) answer (by_host place request its (has_failed call)) fits goes knows told bounded blames follows =
+      after_fault (fault_of call) told (books_unfetched given.options entries (past_of old) number (record { bounded = bounded; blames = blames })) follows
   step_leaves asks (Phase.Staging number) answer (by_host place request its (is_staged plan folder)) fits goes knows told bounded blames follows =
       turns_leave given.options entries given refl follows.staged number follows.next turn new few
       (known_still old follows.staged (ap (λ (p : Past). p.end) follows.past) follows.known knows)
       (subst (λ (p : Past). Books given.options entries p) (sym follows.past)
       (books_staged given.options entries (past_of old) number (record { bounded = bounded; blames = blames }))) follows.turns
   step_leaves asks (Phase.Staging number) answer (by_host place request its (has_failed call)) fits goes knows told bounded blames follows =
-      after_fault (fault_of call) told (books_unstaged given.options entries (past_of old) number (record { bounded = bounded; blames = blames })) follows
+      after_fault place (fault_of call) told (books_unstaged given.options entries (past_of old) number (record { bounded = bounded; blames = blames })) follows
   step_leaves asks (Phase.Working number (JobPhase.Filling filling)) answer (by_host place request its (is_read path limit bytes short)) fits goes knows told bounded blames follows =
       turns_leave given.options entries given refl old number follows.next turn new few knows (record { bounded = bounded; blames = blames }) follows.turns
   step_leaves asks (Phase.Working number (JobPhase.Filling filling)) answer (by_host place request its (has_failed call)) fits goes knows told bounded blames follows =
-      after_fault (fault_of call) told (record { bounded = bounded; blames = blames }) follows
+      after_fault place (fault_of call) told (record { bounded = bounded; blames = blames }) follows
   step_leaves asks (Phase.Working number (JobPhase.Starting kept)) answer (by_host place request its (is_started launch ticket fresh)) fits goes knows told bounded blames follows =
       picks_leave given.options entries given refl follows.started turn new few
       (subst (λ (p : Past). Books given.options entries p) (sym follows.past)
       (books_start given.options entries (past_of old) number kept ticket (record { bounded = bounded; blames = blames }))) follows.picks
   step_leaves asks (Phase.Working number (JobPhase.Starting kept)) answer (by_host place request its (has_failed call)) fits goes knows told bounded blames follows =
-      after_fault (fault_of call) told (record { bounded = bounded; blames = blames }) follows
+      after_fault place (fault_of call) told (record { bounded = bounded; blames = blames }) follows
   step_leaves asks (Phase.Working number (JobPhase.Scanning kept millis)) answer (by_host place request its (is_listed folder found)) fits goes knows told bounded blames follows =
       turns_leave given.options entries given refl old number follows.next turn new few knows (record { bounded = bounded; blames = blames }) follows.turns
   step_leaves asks (Phase.Working number (JobPhase.Scanning kept millis)) answer (by_host place request its (has_failed call)) fits goes knows told bounded blames follows =
-      after_fault (fault_of call) told (record { bounded = bounded; blames = blames }) follows
+      after_fault place (fault_of call) told (record { bounded = bounded; blames = blames }) follows
   step_leaves asks (Phase.Working number (JobPhase.Reading kept reading)) answer (by_host place request its (is_read path limit bytes short)) fits goes knows told bounded blames follows =
       turns_leave given.options entries given refl old number follows.next turn new few knows (record { bounded = bounded; blames = blames }) follows.turns
   step_leaves asks (Phase.Working number (JobPhase.Reading kept reading)) answer (by_host place request its (has_failed call)) fits goes knows told bounded blames follows =
-      after_fault (fault_of call) told (record { bounded = bounded; blames = blames }) follows
+      after_fault place (fault_of call) told (record { bounded = bounded; blames = blames }) follows
   step_leaves asks Phase.Collecting answer (by_host place request its (has_ended ending flies)) fits goes knows told bounded blames follows =
       let books : Books given.options entries (past_of follows.landed) =
       books_landed given.options entries (past_of old) ending.ticket follows.flight (past_of follows.landed) follows.taken (record { bounded = bounded; blames = blames }) in
@@ -168,7 +205,12 @@ module _ (given : Given) (old : Course) (entries : List Entry) (turn : Turn) (ne
   step_leaves asks (Phase.Delivering outputs) answer (by_host place request its (is_delivered plan)) fits goes knows told bounded blames follows =
       leaves_end given.options entries _ turn new (ap (λ (t : Turn). t.phase) follows.0) tt
   step_leaves asks (Phase.Delivering outputs) answer (by_host place request its (has_failed call)) fits goes knows told bounded blames follows =
-      after_fault (fault_of call) told (record { bounded = bounded; blames = blames }) follows
+      after_fault place (fault_of call) told (record { bounded = bounded; blames = blames }) follows
+  step_leaves asks (Phase.Storing number row) answer (by_host place request its (is_stored key folder files)) fits goes knows told bounded blames follows =
+      leaves_store given.options entries given refl old number (record row { archived = true }) (past_of old) turn new (record { bounded = bounded; blames = blames }) follows
+  step_leaves asks (Phase.Storing number row) answer (by_host place request its (has_failed call)) fits goes knows told bounded blames follows =
+      leaves_store given.options entries given refl old number (record row { archived = false }) (with_note (store_note (place_at (known_in old.known) number) (fault_of call)) (past_of old)) turn new
+      (books_noted given.options entries (past_of old) (store_note (place_at (known_in old.known) number) (fault_of call)) (record { bounded = bounded; blames = blames })) follows
   step_leaves asks Phase.Draining answer may fits goes knows told bounded blames follows = absurd (goes refl)
   step_leaves asks (Phase.Ended outcome) answer (by_host place request its can) fits goes knows told bounded blames follows = absurd (asks_none old place request outcome fits)
   step_leaves asks phase answer (by_host place request its can) fits goes knows told bounded blames follows = absurd fits

@@ -2,7 +2,7 @@
 use Rattle.std.specs.Prelude.{Contains, bytes_eq, slice_get, ◌≢◌}
 use Rattle.std.specs.List.{IsDistinct}
 use Rattle.std.specs.Map.{keys_of}
-use Rattle.std.proofs.Common.{◌≡◌, ◌∙◌, ◌⊎◌, inl, inr, ℕ, List, [], ◌∷◌, ◌++◌, reverse, Option, Some, None, Result, Ok, Err, refl, sym, ap, Bool, true, false}
+use Rattle.std.proofs.Common.{◌≡◌, ◌∙◌, ◌⊎◌, inl, inr, ◌+◌, ℕ, List, [], ◌∷◌, ◌++◌, reverse, Option, Some, None, Result, Ok, Err, refl, sym, ap, Bool, true, false}
 use Rattle.std.proofs.lemmas.Option.{slice_get-get_or}
 use Rattle.command_line.specs.Launch.{IsLaunch, IsRefused}
 use Rattle.command_line.specs.declared.fault.BuildFault.{BuildFault}
@@ -17,7 +17,7 @@ use Rattle.input_files.specs.declared.contents.TheConstants.{MOST_CONTENTS}
 use Rattle.input_files.specs.declared.fault.ContentsFault.{ContentsFault}
 use Rattle.plain_data.specs.ByName.{with_value}
 use Rattle.plan_checker.specs.declared.plan.Mark.{Mark}
-use Rattle.proc_host.specs.Answers.{CanAnswer, fault_of, is_measured, is_staged, is_started, has_ended, is_listed, is_read, is_delivered, has_failed}
+use Rattle.proc_host.specs.Answers.{CanAnswer, fault_of, is_measured, is_staged, is_started, has_ended, is_listed, is_read, is_delivered, is_stored, has_failed, is_fetched}
 use Rattle.proc_host.specs.ExitClass.{class_of}
 use Rattle.proc_host.specs.declared.call.HostAnswer.{HostAnswer}
 use Rattle.proc_host.specs.declared.call.HostRequest.{HostRequest}
@@ -33,9 +33,10 @@ use Rattle.run_rules.specs.declared.request.Pair.{Pair}
 use Rattle.run_rules.specs.declared.request.Request.{Request}
 use Rattle.run_rules.specs.declared.setting.Options.{Options}
 use Rattle.run_rules.specs.Allowed.{Allowed}
-use Rattle.run_rules.specs.Answers.{MayAnswer, by_host, by_record, is_found, is_refused, is_put}
+use Rattle.run_rules.specs.Answers.{MayAnswer, by_host, by_record, is_found, is_refused, is_put, is_dropped}
 use Rattle.run_rules.specs.CollectsOn.{CollectsOn, reads_on as reads_more, collects, collects_none, left_of}
-use Rattle.run_rules.specs.Events.{Event, Work, Started, Progress, file_measured, job_staged, job_started, child_exited, job_succeeded, job_failed, job_failed_for_now, result_delivered, host_failed, collect_failed, job_at, nothing_due, input_heads_due, number_at, scan_due, output_heads_due, start_due, row_found, no_row, find_failed, row_at, row_differs, put_due, put_failed, is_reusable}
+use Rattle.run_rules.specs.Events.{Event, Work, Started, Progress, file_measured, job_staged, job_started, child_exited, job_succeeded, job_failed, job_failed_for_now, result_delivered, host_failed, collect_failed, job_at, nothing_due, input_heads_due, number_at, scan_due, output_heads_due, start_due, row_found, no_row, find_failed, row_at, row_differs, put_due, put_failed, is_reusable, store_failed, archive_differs, drop_due, drop_failed, files_fetched, host_failed_late}
+use Rattle.run_rules.specs.End.{End, settled}
 use Rattle.run_rules.specs.Folders.{runtime_of}
 use Rattle.run_rules.specs.Plans.{InForce}
 use Rattle.run_rules.specs.Run.{Goes}
@@ -43,7 +44,7 @@ use Rattle.run_rules.proofs.events.Grows.{goes_on as grows_by}
 use Rattle.run_rules.proofs.events.Planned.{marks_after}
 use Rattle.run_rules.specs.Scene.{Scene}
 use Rattle.run_rules.specs.StartsOn.{StartsOn, reads_on, has_launch, has_no_launch, has_no_contents}
-use Rattle.run_rules.specs.Steps.{Steps, progress_with, measures_file, stages, reads_input, starts, exits_well, exits_for_now, exits_badly, scans, reads_output, delivers, loses_collect, call_fails, finds_none, finds, finds_wrong, find_fails, puts, put_fails}
+use Rattle.run_rules.specs.Steps.{Steps, progress_with, measures_file, stages, reads_input, starts, exits_well, exits_for_now, exits_badly, scans, reads_output, delivers, loses_collect, call_fails, finds_none, finds, finds_wrong, find_fails, puts, put_fails, stores, store_fails, fails_apart, fetches, fetches_other, drops, drop_fails, call_fails_late}
 use Rattle.run_rules.proofs.events.Places.{IsJob}
 use Rattle.job_key.specs.Key.{Key, key}
 use Rattle.job_reuse.specs.Sound.{IsSound}
@@ -63,12 +64,14 @@ use Rattle.run_core.specs.inner.Course.{known_in}
 use Rattle.run_core.specs.inner.Due.{call_for, work_of}
 use Rattle.run_core.specs.inner.Follows.{AsksOf}
 use Rattle.run_core.specs.inner.Keeps.{Reflects}
-use Rattle.run_core.specs.inner.Standing.{HasStarted, IsAt, IsWorking, Runs, collecting, delivering, ended, measuring, staging, working, finding, putting}
+use Rattle.run_core.specs.inner.Standing.{HasStarted, IsAt, IsWorking, Runs, collecting, delivering, ended, measuring, staging, working, finding, putting, storing, dropping, fetching}
 use Rattle.run_core.proofs.events.Reflecting.{FliesThere, flies_there, known_there}
+use Rattle.run_core.proofs.job_steps.Calls.{for_job, for_job_apart}
 use Rattle.run_core.specs.inner.JobStates.{state_at}
 use Rattle.job_reuse.specs.Laws.{OutputsAreTheSameOrNot}
+use Rattle.job_reuse.specs.Rows.{AreTheSame}
 use Rattle.job_reuse.specs.Rows.{made_row}
-use Rattle.run_rules.specs.Keeps.{Keeps, AgreesWith, keeps as is_kept, keeps_none, differs, told_of}
+use Rattle.run_rules.specs.Keeps.{Keeps, AgreesWith, keeps as is_kept, keeps_none, differs, told_of, work_to_keep}
 
 pub record GoesOn (s : Scene) (t : List Pair) : Type 0 where
   pub happened : Progress
@@ -82,10 +85,10 @@ record SomeStart (options : Options) (place : JobPlace) (job : Job) (number : �
   starts : StartsOn options place job number staged read todo work more
 
 -- a job's outputs, or what is read for them, whatever they are
-record SomeEnd (place : JobPlace) (job : Job) (row : Option Row) (started : Started) (millis : ℕ) (found : List Found) (read : Heads) (todo : List Name) : Type 0 where
+record SomeEnd (keep : Bool) (place : JobPlace) (job : Job) (row : Option Row) (started : Started) (millis : ℕ) (found : List Found) (read : Heads) (todo : List Name) : Type 0 where
   work : Work
   more : List Event
-  ends : CollectsOn place job row started millis found read todo work more
+  ends : CollectsOn keep place job row started millis found read todo work more
 
 module _ (options : Options) (place : JobPlace) (job : Job) (number : ℕ) (launches : LaunchOrRefusal) (ids : IsDistinct bytes_eq (keys_of job.tool.inputs)) where
   launched : (staged : Fields) (read : Heads) (own : Fields) → with_contents job.tool.inputs staged read ≡ Ok own →
@@ -104,32 +107,32 @@ module _ (options : Options) (place : JobPlace) (job : Job) (number : ℕ) (laun
   a_start staged read (path ∷ todo) = record { work = input_heads_due place staged (path ∷ todo) read; more = []; starts = reads_on path todo }
 
 -- what becomes of collected outputs, whatever it is
-record SomeKeeping (place : JobPlace) (job : Job) (row : Option Row) (millis : ℕ) (found : List Found) (outputs : Fields) : Type 0 where
+record SomeKeeping (keep : Bool) (place : JobPlace) (job : Job) (row : Option Row) (millis : ℕ) (found : List Found) (outputs : Fields) : Type 0 where
   work : Work
   more : List Event
-  keeps : Keeps place job row millis found outputs work more
+  keeps : Keeps keep place job row millis found outputs work more
 
-module _ (place : JobPlace) (job : Job) (millis : ℕ) (found : List Found) (outputs : Fields) (same : OutputsAreTheSameOrNot) where
-  agreed : (row : Option Row) → is_reusable job ≡ true → AgreesWith outputs row → SomeKeeping place job row millis found outputs
-  agreed row reusable agrees = record { work = put_due place (made_row (key job.tool job.inputs) outputs found millis false); more = told_of place outputs row ∷ []; keeps = is_kept reusable agrees }
+module _ (keep : Bool) (place : JobPlace) (job : Job) (millis : ℕ) (found : List Found) (outputs : Fields) (same : OutputsAreTheSameOrNot) where
+  agreed : (row : Option Row) → is_reusable job ≡ true → AgreesWith outputs row → SomeKeeping keep place job row millis found outputs
+  agreed row reusable agrees = record { work = work_to_keep keep place (made_row (key job.tool job.inputs) outputs found millis false); more = told_of place outputs row ∷ []; keeps = is_kept reusable agrees }
 
-  compared : (row : Row) → is_reusable job ≡ true → (row.outputs ≡ outputs) ⊎ (row.outputs ≢ outputs) → SomeKeeping place job (Some row) millis found outputs
+  compared : (row : Row) → is_reusable job ≡ true → (row.outputs ≡ outputs) ⊎ (row.outputs ≢ outputs) → SomeKeeping keep place job (Some row) millis found outputs
   compared row reusable (inl alike) = agreed (Some row) reusable alike
   compared row reusable (inr other) = record { work = nothing_due; more = row_differs place outputs ∷ []; keeps = differs row reusable refl other }
 
-  a_keeping : (row : Option Row) (reusable : Bool) → is_reusable job ≡ reusable → SomeKeeping place job row millis found outputs
+  a_keeping : (row : Option Row) (reusable : Bool) → is_reusable job ≡ reusable → SomeKeeping keep place job row millis found outputs
   a_keeping row false once = record { work = nothing_due; more = job_succeeded place outputs ∷ []; keeps = keeps_none once }
   a_keeping None true reusable = agreed None reusable tt
   a_keeping (Some row) true reusable = compared row reusable (same row.outputs outputs)
 
-module _ (place : JobPlace) (job : Job) (row : Option Row) (started : Started) (millis : ℕ) (found : List Found) (outputs : EveryFolderHasOutputsOrAFault) (same : OutputsAreTheSameOrNot) where
-  gathered : (read : Heads) (c : Collected) → IsCollected (left_of started found read) job.tool.outputs c → SomeEnd place job row started millis found read []
+module _ (keep : Bool) (place : JobPlace) (job : Job) (row : Option Row) (started : Started) (millis : ℕ) (found : List Found) (outputs : EveryFolderHasOutputsOrAFault) (same : OutputsAreTheSameOrNot) where
+  gathered : (read : Heads) (c : Collected) → IsCollected (left_of started found read) job.tool.outputs c → SomeEnd keep place job row started millis found read []
   gathered read (Ok its) is =
-      let some : SomeKeeping place job row millis found its = a_keeping place job millis found its same row (is_reusable job) refl in
+      let some : SomeKeeping keep place job row millis found its = a_keeping keep place job millis found its same row (is_reusable job) refl in
       record { work = some.work; more = some.more; ends = collects its some.work some.more is some.keeps }
   gathered read (Err fault) is = record { work = nothing_due; more = job_failed place (Cause.Collect (CollectCause.Output fault)) ∷ []; ends = collects_none fault is }
 
-  an_end : (read : Heads) (todo : List Name) → SomeEnd place job row started millis found read todo
+  an_end : (read : Heads) (todo : List Name) → SomeEnd keep place job row started millis found read todo
   an_end read [] = let its = outputs (left_of started found read) job.tool.outputs in gathered read its.0 its.1
   an_end read (name ∷ todo) = record { work = output_heads_due place millis found (name ∷ todo) read; more = []; ends = reads_more name todo }
 
@@ -149,17 +152,6 @@ pub output_next : (options : Options) (folder : ℕ) (call : HostRequest) (milli
 output_next options folder call millis found read [] is = absurd cc
 output_next options folder call millis found read (name ∷ todo) is = record { name = name; rest = todo; is = refl }
 
--- the call for the work on a job is no collect
-no_collect : (options : Options) (folder : ℕ) (work : Work) → call_for options folder work ≡ Some HostRequest.Collect → ⊥
-no_collect options folder nothing_due is = cc
-no_collect options folder (input_heads_due place staged [] read) is = cc
-no_collect options folder (input_heads_due place staged (path ∷ todo) read) is = cc
-no_collect options folder (start_due place inputs launch) is = cc
-no_collect options folder (scan_due place millis) is = cc
-no_collect options folder (output_heads_due place millis found [] read) is = cc
-no_collect options folder (output_heads_due place millis found (name ∷ todo) read) is = cc
-no_collect options folder (put_due place row) is = cc
-
 some_there : (jobs : List Job) (number : ℕ) (job : Job) → IsJob jobs number job → slice_get jobs number ≡ Some job
 some_there jobs number job it = slice_get-get_or jobs number job it.within ∙ ap Some it.is
 
@@ -171,9 +163,13 @@ module _ (s : Scene) (t : List Pair) (f : Progress) (marks : List Mark) (course 
   goes_with p work new allowed steps =
       record { happened = progress_with f work new; marks = marks_after s (progress_with f work new) marks; goes = grows_by s p work new goes allowed steps }
 
-  fails_anyway : (place : JobPlace) (call : HostRequest) → (call ≡ HostRequest.Collect → ⊥) → Allowed s f marks (Request.Host place call) →
+  fails_anyway : (place : JobPlace) (call : HostRequest) → fails_apart call ≡ false → Allowed s f marks (Request.Host place call) →
       GoesOn s (t ++ noted (Request.Host place call) (Answer.Host (HostAnswer.Failed (fault_of call))) ∷ [])
-  fails_anyway place call other allowed = goes_with _ nothing_due (host_failed place (fault_of call) ∷ []) allowed (call_fails place call other)
+  fails_anyway place call other allowed = by_end (settled s f.events) refl
+    where
+      by_end : (o : Option End) → settled s f.events ≡ o → GoesOn s (t ++ noted (Request.Host place call) (Answer.Host (HostAnswer.Failed (fault_of call))) ∷ [])
+      by_end None unsettled = goes_with _ nothing_due (host_failed place (fault_of call) ∷ []) allowed (call_fails place call other unsettled)
+      by_end (Some end) over = goes_with _ nothing_due (host_failed_late place (fault_of call) ∷ []) allowed (call_fails_late place call end other over)
 
   -- The work on a job
 
@@ -202,8 +198,8 @@ module _ (s : Scene) (t : List Pair) (f : Progress) (marks : List Mark) (course 
         GoesOn s (t ++ noted (Request.Host job.place (HostRequest.Scan folder)) (Answer.Host (HostAnswer.Listed found)) ∷ [])
     scan_anyway folder millis found kept due has allowed =
         let wants = can.heads (listing_of found) has.started.inputs job.tool.outputs in
-        let its : SomeEnd job.place job (row_at f.events job.place) has.started millis found [] wants.0 =
-        an_end job.place job (row_at f.events job.place) has.started millis found can.outputs can.same [] wants.0 in
+        let its : SomeEnd s.options.keep job.place job (row_at f.events job.place) has.started millis found [] wants.0 =
+        an_end s.options.keep job.place job (row_at f.events job.place) has.started millis found can.outputs can.same [] wants.0 in
         goes_with _ its.work its.more allowed (scans job.place folder millis found job has.started wants.0 its.work its.more due at_place has.at wants.1 its.ends)
 
     read_anyway : (path : Name) (limit : ℕ) (bytes : List ℕ) (kept : Kept) (reading : Reading) → IsNext (reverse reading.left) → HasStarted f.events job.place kept →
@@ -211,8 +207,8 @@ module _ (s : Scene) (t : List Pair) (f : Progress) (marks : List Mark) (course 
         Allowed s f marks (Request.Host job.place (HostRequest.Head path limit)) →
         GoesOn s (t ++ noted (Request.Host job.place (HostRequest.Head path limit)) (Answer.Host (HostAnswer.FirstBytes bytes)) ∷ [])
     read_anyway path limit bytes kept reading next has due allowed =
-        let its : SomeEnd job.place job (row_at f.events job.place) has.started reading.millis reading.found (with_value next.name bytes reading.heads) next.rest =
-        an_end job.place job (row_at f.events job.place) has.started reading.millis reading.found can.outputs can.same (with_value next.name bytes reading.heads) next.rest in
+        let its : SomeEnd s.options.keep job.place job (row_at f.events job.place) has.started reading.millis reading.found (with_value next.name bytes reading.heads) next.rest =
+        an_end s.options.keep job.place job (row_at f.events job.place) has.started reading.millis reading.found can.outputs can.same (with_value next.name bytes reading.heads) next.rest in
         goes_with _ its.work its.more allowed
         (reads_output job.place path limit bytes reading.millis reading.found next.name next.rest reading.heads job has.started its.work its.more
         (due ∙ ap (λ (todo : List Name). output_heads_due job.place reading.millis reading.found todo reading.heads) next.is) at_place has.at its.ends)
@@ -230,7 +226,7 @@ module _ (s : Scene) (t : List Pair) (f : Progress) (marks : List Mark) (course 
         read_anyway path limit bytes kept reading (output_next s.options (state_at course.jobs number).folder (HostRequest.Head path limit) reading.millis reading.found reading.heads (reverse reading.left) w.calls.due)
         w.on w.due allowed
     work_anyway call phase answer (has_failed its) w fits allowed =
-        fails_anyway job.place call (λ collects. no_collect s.options (state_at course.jobs number).folder (work_of [] call phase) (w.calls.due ∙ ap Some collects)) allowed
+        fails_anyway job.place call (for_job_apart call (for_job s.options (state_at course.jobs number).folder [] call phase w.calls.due)) allowed
     work_anyway call phase answer can_answer w fits allowed = absurd fits
 
   -- A child has ended
@@ -263,12 +259,21 @@ module _ (s : Scene) (t : List Pair) (f : Progress) (marks : List Mark) (course 
   row_anyway job its_key row known (inr unsound) allowed =
       goes_with _ nothing_due (find_failed job.place NotARecord ∷ []) allowed (finds_wrong job.place its_key row job known unsound)
 
+  -- what was fetched is what the row has, or it is not
+  fetch_anyway : (job : Job) (its_key : List ℕ) (number : ℕ) (files fetched : List Found) (row : Row) → row_at f.events job.place ≡ Some row →
+      AreTheSame row.files fetched ⊎ (AreTheSame row.files fetched → ⊥) → Allowed s f marks (Request.Host job.place (HostRequest.Fetch its_key number files)) →
+      GoesOn s (t ++ noted (Request.Host job.place (HostRequest.Fetch its_key number files)) (Answer.Host (HostAnswer.Fetched fetched)) ∷ [])
+  fetch_anyway job its_key number files fetched row there (inl same) allowed =
+      goes_with _ nothing_due (files_fetched job.place number ∷ []) allowed (fetches job.place its_key number files fetched row there same)
+  fetch_anyway job its_key number files fetched row there (inr other) allowed =
+      goes_with _ (drop_due job.place row.key) (archive_differs job.place row.key number ∷ []) allowed (fetches_other job.place its_key number files fetched row there other)
+
   pub at_goes_on : {turn : Turn} {answer : Answer} → CanGoOn course (job_in turn.phase) answer → IsAt s f marks course turn → AsksOf course turn.asks turn.phase →
       MayAnswer course.tickets.items turn.asks answer → Allowed s f marks turn.asks → GoesOn s (t ++ noted turn.asks answer ∷ [])
   at_goes_on can (measuring found which rest path m is f_is none past) fits (by_host place request answer (is_measured its measure)) allowed =
       goes_with _ nothing_due (file_measured path measure ∷ []) allowed (measures_file path measure)
   at_goes_on can (measuring found which rest path m is f_is none past) fits (by_host place request answer (has_failed call)) allowed =
-      fails_anyway [] (HostRequest.Measure path) (λ other. cc) allowed
+      fails_anyway [] (HostRequest.Measure path) refl allowed
   at_goes_on can (finding number job reflects next) fits (by_record place request answer (is_found its None)) allowed =
       goes_with _ nothing_due (no_row job.place ∷ []) allowed (finds_none job.place its)
   at_goes_on can (finding number job reflects next) fits (by_record place request answer (is_found its (Some row))) allowed =
@@ -278,6 +283,17 @@ module _ (s : Scene) (t : List Pair) (f : Progress) (marks : List Mark) (course 
   at_goes_on can (putting number job row reflects it due) fits (by_record place request answer (is_put its)) allowed = goes_with _ nothing_due [] allowed (puts job.place row)
   at_goes_on can (putting number job row reflects it due) fits (by_record place request answer (is_refused its refusal)) allowed =
       goes_with _ nothing_due (put_failed job.place refusal ∷ []) allowed (put_fails job.place row refusal)
+  at_goes_on can (fetching number job row reflects next) fits (by_host place request answer (is_fetched its_key folder files fetched among)) allowed =
+      fetch_anyway job row.key (course.folders + 1) row.files fetched row (reflects.rows.each number job next.it ∙ next.found) (can.files row.files fetched) allowed
+  at_goes_on can (fetching number job row reflects next) fits (by_host place request answer (has_failed call)) allowed =
+      fails_anyway job.place (HostRequest.Fetch row.key (course.folders + 1) row.files) refl allowed
+  at_goes_on can (dropping number job its_key reflects it due) fits (by_record place request answer (is_dropped its)) allowed = goes_with _ nothing_due [] allowed (drops job.place its_key)
+  at_goes_on can (dropping number job its_key reflects it due) fits (by_record place request answer (is_refused its refusal)) allowed =
+      goes_with _ nothing_due (drop_failed job.place refusal ∷ []) allowed (drop_fails job.place its_key refusal)
+  at_goes_on can (storing number job row reflects it due) fits (by_host place request answer (is_stored its folder files)) allowed =
+      goes_with _ (put_due job.place (record row { archived = true })) [] allowed (stores job.place _ _ _ row due)
+  at_goes_on can (storing number job row reflects it due) fits (by_host place request answer (has_failed call)) allowed =
+      goes_with _ (put_due job.place (record row { archived = false })) (store_failed job.place ∷ []) allowed (store_fails job.place _ _ _ row due)
   at_goes_on can (staging number job plan reflects is_staging) fits (by_host place request answer (is_staged its folder)) allowed =
       let start : SomeStart s.options job.place job folder plan.value [] (heads_wanted job.tool.inputs plan.value) =
       a_start s.options job.place job folder can.launches (can.ids job (some_there (known_in course.known) number job is_staging.it)) plan.value []
@@ -285,7 +301,7 @@ module _ (s : Scene) (t : List Pair) (f : Progress) (marks : List Mark) (course 
       goes_with _ start.work (job_staged job.place folder ∷ start.more) allowed
       (stages job.place plan folder job start.work start.more (known_there s f.events course None number job is_staging.it reflects) start.starts)
   at_goes_on can (staging number job plan reflects is_staging) fits (by_host place request answer (has_failed call)) allowed =
-      fails_anyway job.place _ (λ other. cc) allowed
+      fails_anyway job.place (HostRequest.Stage plan (course.folders + 1)) refl allowed
   at_goes_on can (working number job call phase reflects w) fits (by_host place request answer can_answer) allowed =
       work_anyway number job (Some number) reflects can w.it call phase answer can_answer w fits allowed
   at_goes_on can (collecting reflects may) fits (by_host place request answer (has_ended ending flies)) allowed = end_anyway reflects allowed ending flies
@@ -293,7 +309,7 @@ module _ (s : Scene) (t : List Pair) (f : Progress) (marks : List Mark) (course 
   at_goes_on can (delivering plan reflects may going all) fits (by_host place request answer (is_delivered its)) allowed =
       goes_with _ nothing_due (result_delivered plan ∷ []) allowed (delivers [] plan)
   at_goes_on can (delivering plan reflects may going all) fits (by_host place request answer (has_failed call)) allowed =
-      fails_anyway [] (HostRequest.Deliver plan) (λ other. cc) allowed
+      fails_anyway [] (HostRequest.Deliver plan) refl allowed
   at_goes_on can (ended end so noted) fits may allowed = elim may [ ]
 
 -- the transcript goes on by the answer

@@ -1,6 +1,6 @@
 -- What bounds a run and what it blames on its host, as what has happened goes on.
 use Rattle.std.specs.Prelude.{slice_get}
-use Rattle.std.proofs.Common.{◌≡◌, ℕ, true, ◌+◌, ◌<◌, ◌≤◌, List, Option, Some, None, Result, sym, subst, arith}
+use Rattle.std.proofs.Common.{◌≡◌, ℕ, true, false, ◌+◌, ◌<◌, ◌≤◌, List, Option, Some, None, Result, sym, subst, arith}
 use Rattle.plan_checker.specs.declared.graph.TheConstants.{MOST_VERTICES}
 use Rattle.proc_host.specs.declared.call.Entry.{Entry}
 use Rattle.job_graph.specs.Unfold.{or_else}
@@ -11,11 +11,11 @@ use Rattle.run_core.specs.declared.state.Flight.{Flight}
 use Rattle.run_core.specs.declared.job_states.JobState.{JobState}
 use Rattle.run_core.specs.declared.state.Kept.{Kept}
 use Rattle.run_core.specs.inner.Attempts.{IsBounded}
-use Rattle.run_core.specs.inner.Course.{Past, TakesOut, with_answer, with_end, with_giving_up, with_staging, with_start, with_note, with_hand}
+use Rattle.run_core.specs.inner.Course.{Past, TakesOut, with_answer, with_end, with_giving_up, with_staging, with_start, with_note, with_hand, with_load, with_loss}
 use Rattle.run_core.specs.inner.Standing.{BlamesSoFar, SettlesRightly}
-use Rattle.run_core.proofs.standing.Tries.{gave_up_before, gave_up_once_more, gave_up_staged, length_before, tries_before, tries_given_up, tries_staged, gave_up_brought, tries_brought}
-use Rattle.run_core.specs.inner.JobStates.{waits_in}
-use Rattle.run_core.proofs.States.{brought_length, given_up_length, staged_few}
+use Rattle.run_core.proofs.standing.Tries.{gave_up_before, gave_up_once_more, gave_up_staged, length_before, tries_before, tries_given_up, tries_staged, gave_up_brought, tries_brought, gave_up_before_missing, gave_up_loaded, gave_up_missed, length_before_missing, length_loaded, tries_before_missing, tries_loaded, tries_missed}
+use Rattle.run_core.specs.inner.JobStates.{state_at, waits_in}
+use Rattle.run_core.proofs.States.{brought_length, given_up_length, missed_few, staged_few}
 use Rattle.run_rules.specs.declared.request.RecordAnswer.{RecordAnswer}
 use Rattle.run_rules.specs.declared.outcome.Note.{Note}
 
@@ -26,6 +26,11 @@ pub record Books (options : Options) (entries : List Entry) (past : Past) : Type
 -- where the job of a number is to be staged
 pub record BooksAt (options : Options) (entries : List Entry) (past : Past) (number : ℕ) : Type 0 where
   pub bounded : IsBounded options (with_staging number past)
+  pub blames : BlamesSoFar entries past
+
+-- where its files are to be fetched
+pub record BooksFetching (options : Options) (entries : List Entry) (past : Past) (number : ℕ) : Type 0 where
+  pub bounded : IsBounded options (with_loss number past)
   pub blames : BlamesSoFar entries past
 
 settled_with : (entries : List Entry) (first : Option (Result Outcome RunFault)) (end its : Result Outcome RunFault) →
@@ -97,6 +102,48 @@ module _ (options : Options) (entries : List Entry) (past : Past) where
       jobs = staged_few past.jobs number (past.folders + 1) MOST_VERTICES (omega (arith, within, few)) books.bounded.jobs;
       retries = gave_up_staged options.retries past.jobs number (past.folders + 1) books.bounded.retries;
       folders = omega (arith, tries_staged past.jobs number (past.folders + 1) waits, books.bounded.folders);
+    };
+    blames = books.blames;
+  }
+
+  -- The files of one are fetched
+
+  pub books_missed : (number : ℕ) → BooksFetching options entries past number → Books options entries (with_loss number past)
+  books_missed number books = record { bounded = books.bounded; blames = record { settled = books.blames.settled } }
+
+  pub books_loaded : (number : ℕ) → BooksFetching options entries past number → Books options entries (with_load number past)
+  books_loaded number books =
+      let b : IsBounded options (with_loss number past) = books.bounded in
+      record {
+        bounded = record {
+          jobs = omega (arith, length_loaded past.jobs number (past.folders + 1), b.jobs);
+          retries = gave_up_loaded options.retries past.jobs number (past.folders + 1) b.retries;
+          folders = omega (arith, tries_loaded past.jobs number (past.folders + 1), b.folders);
+        };
+        blames = record { settled = books.blames.settled };
+      }
+
+  -- they are not, since the call failed
+  pub books_unfetched : (number : ℕ) → BooksFetching options entries past number → Books options entries past
+  books_unfetched number books =
+      let b : IsBounded options (with_loss number past) = books.bounded in
+      record {
+        bounded = record {
+          jobs = omega (arith, length_before_missing past.jobs number, b.jobs);
+          retries = gave_up_before_missing options.retries past.jobs number b.retries;
+          folders = omega (arith, tries_before_missing past.jobs number, b.folders);
+        };
+        blames = books.blames;
+      }
+
+  -- those that were not asked for before may be
+  pub books_untried : (number known : ℕ) → number < known → known ≤ MOST_VERTICES → (state_at past.jobs number).tried ≡ false → Books options entries past →
+      BooksFetching options entries past number
+  books_untried number known within few untried books = record {
+    bounded = record {
+      jobs = missed_few past.jobs number MOST_VERTICES (omega (arith, within, few)) books.bounded.jobs;
+      retries = gave_up_missed options.retries past.jobs number books.bounded.retries;
+      folders = omega (arith, tries_missed past.jobs number untried, books.bounded.folders);
     };
     blames = books.blames;
   }

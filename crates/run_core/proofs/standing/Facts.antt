@@ -25,11 +25,11 @@ use Rattle.run_core.specs.inner.Course.{Past, known_in, past_of}
 use Rattle.run_core.specs.inner.Due.{call_for, work_of}
 use Rattle.run_core.specs.inner.Keeps.{Reflects}
 use Rattle.run_core.specs.inner.Knows.{IsKnown}
-use Rattle.run_core.specs.inner.Standing.{IsAt, Runs, collecting, delivering, ended, measuring, staging, working, finding, putting}
+use Rattle.run_core.specs.inner.Standing.{IsAt, Runs, collecting, delivering, ended, measuring, staging, working, finding, putting, storing, dropping, fetching}
 use Rattle.run_core.proofs.standing.Anyway.{IsNext, input_next, output_next}
 use Rattle.run_core.proofs.standing.Few.{few_unfolded}
 use Rattle.run_core.proofs.standing.Fewer.{HasLast, LooksAtSome}
-use Rattle.run_core.proofs.standing.Leaving.{FewKnown, KnowsSome, MayKnow}
+use Rattle.run_core.proofs.standing.Leaving.{FewKnown, IsUntried, KnowsSome, MayKnow}
 
 last_of : (left : List Name) → IsNext (reverse left) → HasLast left
 last_of left next = record {
@@ -71,6 +71,9 @@ module _ (s : Scene) where
         known_few (s.walker (measures f.events)) (resolved f.events) course.known (reflects.knows next.going) in
         (next.left, omega (arith, next.it.within, few))
     looks_at (putting number job row reflects it due) = tt
+    looks_at (fetching number job row reflects next) = tt
+    looks_at (dropping number job its_key reflects it due) = tt
+    looks_at (storing number job row reflects it due) = tt
     looks_at (staging number job plan reflects is_staging) = tt
     looks_at (working number job call phase reflects w) = works_on_some s.options _ (past_of course) number call phase w.calls.due
     looks_at (collecting reflects may) = tt
@@ -82,6 +85,9 @@ module _ (s : Scene) where
     knows_at (measuring found which rest path m is f_is none past) asks = tt
     knows_at (finding number job reflects next) asks = knows_by f.events course None reflects
     knows_at (putting number job row reflects it due) asks = knows_by f.events course None reflects
+    knows_at (fetching number job row reflects next) asks = knows_by f.events course None reflects
+    knows_at (dropping number job its_key reflects it due) asks = knows_by f.events course None reflects
+    knows_at (storing number job row reflects it due) asks = knows_by f.events course None reflects
     knows_at (staging number job plan reflects is_staging) asks = knows_by f.events course None reflects
     knows_at (working number job call phase reflects w) asks = knows_by f.events course (Some number) reflects
     knows_at (collecting reflects may) asks = knows_by f.events course None reflects
@@ -93,6 +99,9 @@ module _ (s : Scene) where
         subst (λ (p : Past). IsDistinct nat_eq p.tickets) (sym past) nothing_apart
     apart_at (finding number job reflects next) asks = apart_by f.events course None reflects
     apart_at (putting number job row reflects it due) asks = apart_by f.events course None reflects
+    apart_at (fetching number job row reflects next) asks = apart_by f.events course None reflects
+    apart_at (dropping number job its_key reflects it due) asks = apart_by f.events course None reflects
+    apart_at (storing number job row reflects it due) asks = apart_by f.events course None reflects
     apart_at (staging number job plan reflects is_staging) asks = apart_by f.events course None reflects
     apart_at (working number job call phase reflects w) asks = apart_by f.events course (Some number) reflects
     apart_at (collecting reflects may) asks = apart_by f.events course None reflects
@@ -103,22 +112,47 @@ module _ (s : Scene) where
     going_at (measuring found which rest path m is f_is none past) drains = cc
     going_at (finding number job reflects next) drains = cc
     going_at (putting number job row reflects it due) drains = cc
+    going_at (fetching number job row reflects next) drains = cc
+    going_at (dropping number job its_key reflects it due) drains = cc
+    going_at (storing number job row reflects it due) drains = cc
     going_at (staging number job plan reflects is_staging) drains = cc
     going_at (working number job call phase reflects w) drains = cc
     going_at (collecting reflects may) drains = cc
     going_at (delivering plan reflects may going all) drains = cc
     going_at (ended end so noted) drains = cc
 
-    few_at : {marks : List Mark} {turn : Turn} → IsAt s f marks course turn → FewKnown turn course
-    few_at (measuring found which rest path m is f_is none past) number at = absurd cc
-    few_at (finding its_number job reflects next) number at = absurd cc
-    few_at (putting its_number job row reflects it due) number at = absurd cc
-    few_at (staging its_number job plan reflects is_staging) number at =
+    stages_few : {marks : List Mark} {turn : Turn} → IsAt s f marks course turn → (number : ℕ) → turn.phase ≡ Phase.Staging number → length (known_in course.known) ≤ MOST_VERTICES
+    stages_few (measuring found which rest path m is f_is none past) number at = absurd cc
+    stages_few (finding its_number job reflects next) number at = absurd cc
+    stages_few (putting its_number job row reflects it due) number at = absurd cc
+    stages_few (storing its_number job row reflects it due) number at = absurd cc
+    stages_few (fetching its_number job row reflects next) number at = absurd cc
+    stages_few (dropping its_number job its_key reflects it due) number at = absurd cc
+    stages_few (staging its_number job plan reflects is_staging) number at =
         known_few (s.walker (measures f.events)) (resolved f.events) course.known (reflects.knows is_staging.going)
-    few_at (working its_number job call phase reflects w) number at = absurd cc
-    few_at (collecting reflects may) number at = absurd cc
-    few_at (delivering plan reflects may going all) number at = absurd cc
-    few_at (ended end so noted) number at = absurd cc
+    stages_few (working its_number job call phase reflects w) number at = absurd cc
+    stages_few (collecting reflects may) number at = absurd cc
+    stages_few (delivering plan reflects may going all) number at = absurd cc
+    stages_few (ended end so noted) number at = absurd cc
+
+    fetches_untried : {marks : List Mark} {turn : Turn} → IsAt s f marks course turn → (number : ℕ) → turn.phase ≡ Phase.Fetching number → IsUntried course number
+    fetches_untried (measuring found which rest path m is f_is none past) number at = absurd cc
+    fetches_untried (finding its_number job reflects next) number at = absurd cc
+    fetches_untried (putting its_number job row reflects it due) number at = absurd cc
+    fetches_untried (fetching its_number job row reflects next) number at =
+        let same : its_number ≡ number = (let both : Phase.Fetching its_number ≡ Phase.Fetching number = at in cc) in
+        subst (IsUntried course) same (record {
+          untried = next.untried;
+          within = next.it.within;
+          few = known_few (s.walker (measures f.events)) (resolved f.events) course.known (reflects.knows next.going);
+        })
+    fetches_untried (storing its_number job row reflects it due) number at = absurd cc
+    fetches_untried (dropping its_number job its_key reflects it due) number at = absurd cc
+    fetches_untried (staging its_number job plan reflects is_staging) number at = absurd cc
+    fetches_untried (working its_number job call phase reflects w) number at = absurd cc
+    fetches_untried (collecting reflects may) number at = absurd cc
+    fetches_untried (delivering plan reflects may going all) number at = absurd cc
+    fetches_untried (ended end so noted) number at = absurd cc
 
 module _ (s : Scene) (t : List Pair) (course : Course) (turn : Turn) (r : Runs s t course turn) where
   pub looks_at_some : LooksAtSome (past_of course) turn.phase
@@ -128,7 +162,7 @@ module _ (s : Scene) (t : List Pair) (course : Course) (turn : Turn) (r : Runs s
   knows_some asks = knows_at s r.happened course r.at asks
 
   pub few_known : FewKnown turn course
-  few_known = few_at s r.happened course r.at
+  few_known = record { staged = stages_few s r.happened course r.at; fetched = fetches_untried s r.happened course r.at }
 
   pub tickets_apart : turn.asks ≢ Request.Finished → IsDistinct nat_eq course.tickets.items
   tickets_apart asks = apart_at s r.happened course r.at asks

@@ -1,8 +1,8 @@
 -- The children in flight after each answer.
 use Rattle.std.specs.Prelude.{nat_eq, is_some}
 use Rattle.std.specs.List.{IsDistinct}
-use Rattle.std.proofs.Common.{◌≡◌, ◌∙◌, ℕ, Bool, true, false, List, [], None, refl, sym, ap, Option, Some}
-use Rattle.proc_host.specs.Answers.{fault_of, is_measured, is_staged, is_started, has_ended, is_listed, is_read, is_delivered, has_failed}
+use Rattle.std.proofs.Common.{◌≡◌, ◌∙◌, ℕ, Bool, true, false, List, [], None, refl, sym, ap, Option, Some, Result}
+use Rattle.proc_host.specs.Answers.{fault_of, is_measured, is_staged, is_started, has_ended, is_listed, is_read, is_delivered, has_failed, is_stored, is_fetched}
 use Rattle.proc_host.specs.Tickets.{without}
 use Rattle.proc_host.specs.declared.call.HostAnswer.{HostAnswer}
 use Rattle.proc_host.specs.declared.call.HostFault.{HostFault}
@@ -25,12 +25,16 @@ use Rattle.run_core.specs.declared.state.JobPhase.{JobPhase}
 use Rattle.run_core.specs.declared.state.Measuring.{Measuring}
 use Rattle.run_core.specs.declared.state.Phase.{Phase}
 use Rattle.run_core.specs.declared.state.Turn.{Turn}
-use Rattle.run_core.specs.inner.Course.{GivesUp, Past, TakesOut, again, known_in, past_of, too_often, with_answer, place_at}
+use Rattle.run_rules.specs.declared.outcome.Outcome.{Outcome}
+use Rattle.run_rules.specs.declared.outcome.RunFault.{RunFault}
+use Rattle.run_core.specs.inner.Course.{GivesUp, Past, fault_after, TakesOut, again, known_in, past_of, too_often, with_answer, place_at}
 use Rattle.run_core.specs.inner.Follows.{AsksOf, FollowsFrom, IsLeftAfter}
 use Rattle.run_core.specs.inner.Knows.{IsUnfolded, LearnsUnlessOver, fails as unfold_fails, knows as unfold_knows}
+use Rattle.run_core.specs.inner.JobStates.{state_at}
 use Rattle.run_core.specs.inner.Measures.{MeasuresOn, all_measured, measures}
-use Rattle.run_core.specs.inner.Picks.{AfterEnd, AfterFault, AfterTemporary, Picks, Turns, asks, badly, drains, ends_so, fails, for_now, gives, has_result, stages, waits_for_one, well, AfterFind, finds, AfterPut, LearnsRow, PutsOrPicks, noted_by, mismatches, repeats}
-use Rattle.run_core.proofs.standing.Answered.{asks_none, asks_no_call, puts_no_call}
+use Rattle.run_core.specs.inner.Picks.{AfterEnd, AfterFault, AfterTemporary, Picks, Turns, asks, badly, drains, ends_so, fails, for_now, gives, has_result, stages, waits_for_one, well, AfterFind, fetches, finds, AfterDrop, AfterFetch, AfterPut, LearnsRow, PutsOrPicks, agrees, differs, dropped_by, noted_by, mismatches, repeats}
+use Rattle.staging.specs.declared.found.Found.{Found}
+use Rattle.run_core.proofs.standing.Answered.{asks_none, asks_no_call, drops_no_call, puts_no_call}
 use Rattle.run_core.proofs.standing.Leaving.{KnowsSome, MayKnow, is_none, known_still, learns_by, row_unlearned, settled_by_refusal}
 use Rattle.run_core.proofs.standing.Tickets.{one_less}
 use Rattle.job_rows.specs.declared.row.Row.{Row}
@@ -53,9 +57,10 @@ module _ (given : Given) where
   picks_fly old turn new (drains its_new settled flying same known) = same_tickets (past_of new) (past_of old) same
   picks_fly old turn new (ends_so end its_new is none cleared known same_notes) = cleared ∙ sym none
   picks_fly old turn new (finds number its_turn its_new going is_next finding same known) = same_tickets (past_of new) (past_of old) same
-  picks_fly old turn new (stages number its_turn its_new going looked slot lowest staging same known) = same_tickets (past_of new) (past_of old) same
-  picks_fly old turn new (waits_for_one its_new going looked flying none same known) = same_tickets (past_of new) (past_of old) same
-  picks_fly old turn new (has_result its_turn its_new going looked none to_stage result same known) = same_tickets (past_of new) (past_of old) same
+  picks_fly old turn new (fetches number its_turn its_new going looked is_next fetching same known) = same_tickets (past_of new) (past_of old) same
+  picks_fly old turn new (stages number its_turn its_new going looked unfetched slot lowest staging same known) = same_tickets (past_of new) (past_of old) same
+  picks_fly old turn new (waits_for_one its_new going looked unfetched flying none same known) = same_tickets (past_of new) (past_of old) same
+  picks_fly old turn new (has_result its_turn its_new going looked unfetched none to_stage result same known) = same_tickets (past_of new) (past_of old) same
 
   unfolded_fly : (walks : Walker) (learned : List Resolved) (old new : Course) → IsUnfolded walks learned old new → new.tickets.items ≡ old.tickets.items
   unfolded_fly walks learned old new (unfold_knows kept its_new knows known same) = same_tickets (past_of new) (past_of old) same
@@ -71,9 +76,9 @@ module _ (given : Given) where
           let some : KnowsSome old = knows going in
           unfolded_fly some.walks _ old new (learns_by some.walks some.learned one old new old.known refl some.is (l.learned going))
 
-  given_fly : (place : JobPlace) (over : Course) (number : ℕ) (row : Option Row) (turn : Turn) (new : Course) → PutsOrPicks given place over number row turn new → new.tickets.items ≡ over.tickets.items
-  given_fly place over number None turn new picks = picks_fly over turn new picks
-  given_fly place over number (Some row) turn new put = same_tickets (past_of new) (past_of over) put.past
+  given_fly : (place : JobPlace) (folder : ℕ) (over : Course) (number : ℕ) (row : Option Row) (turn : Turn) (new : Course) → PutsOrPicks given place folder over number row turn new → new.tickets.items ≡ over.tickets.items
+  given_fly place folder over number None turn new picks = picks_fly over turn new picks
+  given_fly place folder over number (Some row) turn new put = same_tickets (past_of new) (past_of over) put.past
 
   turns_fly : (old : Course) (number : ℕ) (next : JobNext) (turn : Turn) (new : Course) → (old.end ≡ None → KnowsSome old) → Turns given old number next turn new →
       new.tickets.items ≡ old.tickets.items
@@ -81,7 +86,7 @@ module _ (given : Given) where
   turns_fly old number next turn new knows (fails cause failed its_turn its_new is known picks) = picks_fly failed turn new picks ∙ ap (λ (p : Past). p.tickets) is
   turns_fly old number next turn new knows (mismatches outputs failed its_turn its_new is known picks) = picks_fly failed turn new picks ∙ ap (λ (p : Past). p.tickets) is
   turns_fly old number next turn new knows (gives outputs row learned its_turn its_new given_it picks) =
-      given_fly (place_at (known_in old.known) number) learned number row turn new picks
+      given_fly (place_at (known_in old.known) number) (state_at old.jobs number).folder learned number row turn new picks
       ∙ unless_over_fly given_it.there learned _ (known_still old given_it.there (ap (λ (p : Past). p.end) given_it.past) given_it.known knows) given_it.learns
       ∙ ap (λ (p : Past). p.tickets) given_it.past
   turns_fly old number next turn new knows (repeats row there its_turn its_new past known put) =
@@ -95,8 +100,13 @@ module _ (given : Given) where
   temporary_fly old number turn new after =
       picks_fly after.tried turn new after.picks ∙ gave_up_fly (past_of old) (known_in old.known) number given.options.retries after.gives_up
 
-  fault_fly : (old : Course) (fault : HostFault) (turn : Turn) (new : Course) → AfterFault given old fault turn new → new.tickets.items ≡ old.tickets.items
-  fault_fly old fault turn new after = picks_fly after.settled turn new after.picks ∙ ap (λ (p : Past). p.tickets) after.past
+  fault_tickets : (o : Option (Result Outcome RunFault)) (place : JobPlace) (fault : HostFault) (past : Past) → (fault_after o place fault past).tickets ≡ past.tickets
+  fault_tickets None place fault past = refl
+  fault_tickets (Some end) place fault past = refl
+
+  fault_fly : (old : Course) (place : JobPlace) (fault : HostFault) (turn : Turn) (new : Course) → AfterFault given old place fault turn new → new.tickets.items ≡ old.tickets.items
+  fault_fly old place fault turn new after =
+      picks_fly after.settled turn new after.picks ∙ ap (λ (p : Past). p.tickets) after.past ∙ fault_tickets old.end place fault (past_of old)
 
   answer_fly : (number : ℕ) (answer : RecordAnswer) (refusal : Option RecordRefusal) (past : Past) → (with_answer number answer refusal past).tickets ≡ past.tickets
   answer_fly number answer None past = refl
@@ -110,6 +120,19 @@ module _ (given : Given) where
   put_fly : (old : Course) (number : ℕ) (answer : RecordAnswer) (turn : Turn) (new : Course) → AfterPut given old number answer turn new → new.tickets.items ≡ old.tickets.items
   put_fly old number answer turn new after =
       picks_fly after.noted turn new after.picks ∙ ap (λ (p : Past). p.tickets) after.past ∙ note_fly (place_at (known_in old.known) number) answer (past_of old)
+
+  fetch_fly : (old : Course) (number : ℕ) (found : List Found) (turn : Turn) (new : Course) → AfterFetch given old number found turn new → new.tickets.items ≡ old.tickets.items
+  fetch_fly old number found turn new (agrees loaded its past known picks) = picks_fly loaded turn new picks ∙ ap (λ (p : Past). p.tickets) past
+  fetch_fly old number found turn new (differs other drops past known) = ap (λ (p : Past). p.tickets) past
+
+  dropped_fly : (place : JobPlace) (answer : RecordAnswer) (past : Past) → (dropped_by place answer past).tickets ≡ past.tickets
+  dropped_fly place (RecordAnswer.Found row) past = refl
+  dropped_fly place RecordAnswer.Done past = refl
+  dropped_fly place (RecordAnswer.Refused refusal) past = refl
+
+  drop_fly : (old : Course) (number : ℕ) (answer : RecordAnswer) (turn : Turn) (new : Course) → AfterDrop given old number answer turn new → new.tickets.items ≡ old.tickets.items
+  drop_fly old number answer turn new after =
+      picks_fly after.noted turn new after.picks ∙ ap (λ (p : Past). p.tickets) after.past ∙ dropped_fly (place_at (known_in old.known) number) answer (past_of old)
 
   learned_fly : (place : JobPlace) (answer : RecordAnswer) (old new : Course) → (old.end ≡ None → KnowsSome old) → LearnsRow place answer old new →
       new.tickets.items ≡ old.tickets.items
@@ -156,31 +179,36 @@ module _ (given : Given) where
         (phase ≡ Phase.Draining → ⊥) → MayKnow old phase → FollowsFrom given old (record { asks = request_asks; phase = phase }) answer turn new → After answer
     step_flies it (Phase.Measuring measuring) answer (by_host place request its (is_measured path measure)) fits goes knows follows =
         flies_on _ _ (measures_fly old follows.next turn new follows.on)
-    step_flies it (Phase.Measuring measuring) answer (by_host place request its (has_failed call)) fits goes knows follows = flies_on _ _ (fault_fly old _ turn new follows)
+    step_flies it (Phase.Measuring measuring) answer (by_host place request its (has_failed call)) fits goes knows follows = flies_on _ _ (fault_fly old place _ turn new follows)
     step_flies it (Phase.Finding number) answer (by_host place request its can) fits goes knows follows = absurd (asks_no_call old place request number fits)
     step_flies it (Phase.Finding number) answer (by_record place request its can) fits goes knows follows = flies_on _ _ (find_fly old number its turn new knows follows)
     step_flies it (Phase.Putting number) answer (by_host place request its can) fits goes knows follows = absurd (puts_no_call old place request number fits)
     step_flies it (Phase.Putting number) answer (by_record place request its can) fits goes knows follows = flies_on _ _ (put_fly old number its turn new follows)
+    step_flies it (Phase.Dropping number) answer (by_host place request its can) fits goes knows follows = absurd (drops_no_call old place request number fits)
+    step_flies it (Phase.Dropping number) answer (by_record place request its can) fits goes knows follows = flies_on _ _ (drop_fly old number its turn new follows)
+    step_flies it (Phase.Fetching number) answer (by_host place request its (is_fetched its_key folder files found among)) fits goes knows follows =
+        flies_on _ _ (fetch_fly old number found turn new follows)
+    step_flies it (Phase.Fetching number) answer (by_host place request its (has_failed call)) fits goes knows follows = flies_on _ _ (fault_fly old _ turn new follows)
     step_flies it (Phase.Staging number) answer (by_host place request its (is_staged plan folder)) fits goes knows follows =
         flies_on _ _ (turns_fly follows.staged number follows.next turn new (known_still old follows.staged (ap (λ (p : Past). p.end) follows.past) follows.known knows) follows.turns
         ∙ ap (λ (p : Past). p.tickets) follows.past)
-    step_flies it (Phase.Staging number) answer (by_host place request its (has_failed call)) fits goes knows follows = flies_on _ _ (fault_fly old _ turn new follows)
+    step_flies it (Phase.Staging number) answer (by_host place request its (has_failed call)) fits goes knows follows = flies_on _ _ (fault_fly old place _ turn new follows)
     step_flies it (Phase.Working number (JobPhase.Filling filling)) answer (by_host place request its (is_read path limit bytes short)) fits goes knows follows =
         flies_on _ _ (turns_fly old number follows.next turn new knows follows.turns)
     step_flies it (Phase.Working number (JobPhase.Filling filling)) answer (by_host place request its (has_failed call)) fits goes knows follows =
-        flies_on _ _ (fault_fly old _ turn new follows)
+        flies_on _ _ (fault_fly old place _ turn new follows)
     step_flies it (Phase.Working number (JobPhase.Starting kept)) answer (by_host place request its (is_started launch ticket fresh)) fits goes knows follows =
         flies_on _ _ (picks_fly follows.started turn new follows.picks ∙ ap (λ (p : Past). p.tickets) follows.past)
     step_flies it (Phase.Working number (JobPhase.Starting kept)) answer (by_host place request its (has_failed call)) fits goes knows follows =
-        flies_on _ _ (fault_fly old _ turn new follows)
+        flies_on _ _ (fault_fly old place _ turn new follows)
     step_flies it (Phase.Working number (JobPhase.Scanning kept millis)) answer (by_host place request its (is_listed folder found)) fits goes knows follows =
         flies_on _ _ (turns_fly old number follows.next turn new knows follows.turns)
     step_flies it (Phase.Working number (JobPhase.Scanning kept millis)) answer (by_host place request its (has_failed call)) fits goes knows follows =
-        flies_on _ _ (fault_fly old _ turn new follows)
+        flies_on _ _ (fault_fly old place _ turn new follows)
     step_flies it (Phase.Working number (JobPhase.Reading kept reading)) answer (by_host place request its (is_read path limit bytes short)) fits goes knows follows =
         flies_on _ _ (turns_fly old number follows.next turn new knows follows.turns)
     step_flies it (Phase.Working number (JobPhase.Reading kept reading)) answer (by_host place request its (has_failed call)) fits goes knows follows =
-        flies_on _ _ (fault_fly old _ turn new follows)
+        flies_on _ _ (fault_fly old place _ turn new follows)
     step_flies it Phase.Collecting answer (by_host place request its (has_ended ending flies)) fits goes knows follows =
         flies_on _ _ (end_fly follows.landed follows.flight follows.job.tool ending turn new
         (known_still old follows.landed (ap (λ (p : Past). p.end) follows.taken.is) follows.known knows) follows.ends
@@ -188,7 +216,9 @@ module _ (given : Given) where
     step_flies it Phase.Collecting answer (by_host place request its (has_failed call)) fits goes knows follows = lost_collect old new turn.asks place call fits follows.2 (ap (λ (t : Turn). t.asks) follows.0)
     step_flies it (Phase.Delivering outputs) answer (by_host place request its (is_delivered plan)) fits goes knows follows =
         flies_on _ _ (ap (λ (c : Course). c.tickets.items) follows.1)
-    step_flies it (Phase.Delivering outputs) answer (by_host place request its (has_failed call)) fits goes knows follows = flies_on _ _ (fault_fly old _ turn new follows)
+    step_flies it (Phase.Delivering outputs) answer (by_host place request its (has_failed call)) fits goes knows follows = flies_on _ _ (fault_fly old place _ turn new follows)
+    step_flies it (Phase.Storing number row) answer (by_host place request its (is_stored key folder files)) fits goes knows follows = flies_on _ _ (same_tickets (past_of new) (past_of old) follows.past)
+    step_flies it (Phase.Storing number row) answer (by_host place request its (has_failed call)) fits goes knows follows = flies_on _ _ (ap (λ (p : Past). p.tickets) follows.past)
     step_flies it Phase.Draining answer may fits goes knows follows = absurd (goes refl)
     step_flies it (Phase.Ended outcome) answer (by_host place request its can) fits goes knows follows = absurd (asks_none old place request outcome fits)
     step_flies it phase answer (by_host place request its can) fits goes knows follows = absurd fits

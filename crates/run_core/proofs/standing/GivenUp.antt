@@ -22,7 +22,7 @@ use Rattle.run_core.specs.inner.Inside.{Goes, Stands, mode_of, off_run, on_run, 
 use Rattle.run_core.specs.inner.Attempts.{StaysBounded, answers_left, many_files, most_stagings, weight_of, weight_of_past}
 use Rattle.run_core.specs.inner.Course.{Past, past_of}
 use Rattle.run_core.specs.inner.Follows.{told_of}
-use Rattle.run_core.specs.inner.Standing.{Blames, HasRoom, IsAt, IsLostAt, RanOut, Runs, collecting, delivering, draining, ended, lost, measuring, pairs_ahead, staging, working, finding, putting}
+use Rattle.run_core.specs.inner.Standing.{Blames, HasRoom, IsAt, IsLostAt, RanOut, Runs, collecting, delivering, draining, ended, lost, measuring, pairs_ahead, staging, working, finding, putting, storing, dropping, fetching}
 use Rattle.run_core.specs.inner.Turn.{ends, given_up, lost_with, waits}
 use Rattle.run_core.proofs.standing.Facts.{never_drains}
 use Rattle.run_core.proofs.standing.Lost.{some_there}
@@ -60,6 +60,9 @@ module _ (s : Scene) (f : Progress) (marks : List Mark) (course : Course) where
   asks_none_at (measuring found m rest path is left happened none nothing) outcome phase = absurd cc
   asks_none_at (finding n job r is_next) outcome phase = absurd cc
   asks_none_at (putting n job row r it due) outcome phase = absurd cc
+  asks_none_at (fetching n job row r is_next) outcome phase = absurd cc
+  asks_none_at (dropping n job its_key r it due) outcome phase = absurd cc
+  asks_none_at (storing n job row r it due) outcome phase = absurd cc
   asks_none_at (staging n job plan r st) outcome phase = absurd cc
   asks_none_at (working n job call phase r w) outcome is = absurd cc
   asks_none_at (collecting r may) outcome phase = absurd cc
@@ -233,6 +236,9 @@ module _ (core : Inside) (asks : core.turn.asks ≢ Request.Finished) where
     by_phase (Phase.Measuring looks) is = by_tickets core.course.tickets.items refl (still (Phase.Measuring looks) is (λ same. cc))
     by_phase (Phase.Finding number) is = by_tickets core.course.tickets.items refl (still (Phase.Finding number) is (λ same. cc))
     by_phase (Phase.Putting number) is = by_tickets core.course.tickets.items refl (still (Phase.Putting number) is (λ same. cc))
+    by_phase (Phase.Fetching number) is = by_tickets core.course.tickets.items refl (still (Phase.Fetching number) is (λ same. cc))
+    by_phase (Phase.Dropping number) is = by_tickets core.course.tickets.items refl (still (Phase.Dropping number) is (λ same. cc))
+    by_phase (Phase.Storing number row) is = by_tickets core.course.tickets.items refl (still (Phase.Storing number row) is (λ same. cc))
     by_phase (Phase.Staging number) is = by_tickets core.course.tickets.items refl (still (Phase.Staging number) is (λ same. cc))
     by_phase (Phase.Working number work) is = by_tickets core.course.tickets.items refl (still (Phase.Working number work) is (λ same. cc))
     by_phase Phase.Collecting is = by_tickets core.course.tickets.items refl (still Phase.Collecting is (λ same. cc))

@@ -1,7 +1,7 @@
 -- What each step leaves: the run stays bounded, what it blames on the host is so, and memory is not what it ends by.
 use Rattle.std.specs.Prelude.{IfErr, IsSome, is_some}
 use Rattle.std.specs.List.{list_all}
-use Rattle.std.proofs.Common.{◌≡◌, ◌∙◌, ℕ, ◌≤◌, Bool, true, false, List, [], ◌∷◌, ◌++◌, length, Option, Some, None, Result, Ok, Err, refl, sym, ap, subst, arith}
+use Rattle.std.proofs.Common.{◌≡◌, ◌∙◌, ℕ, ◌<◌, ◌≤◌, Bool, true, false, List, [], ◌∷◌, ◌++◌, length, Option, Some, None, Result, Ok, Err, refl, sym, ap, subst, arith}
 use Rattle.std.proofs.lemmas.Bool.{and_parts}
 use Rattle.plan_checker.specs.declared.graph.TheConstants.{MOST_VERTICES}
 use Rattle.proc_host.specs.declared.call.Entry.{Entry}
@@ -21,16 +21,21 @@ use Rattle.run_core.specs.declared.state.JobNext.{JobNext}
 use Rattle.run_core.specs.declared.state.Phase.{Phase}
 use Rattle.run_core.specs.declared.state.Turn.{Turn}
 use Rattle.run_core.specs.inner.Attempts.{StaysBounded}
-use Rattle.run_core.specs.inner.Course.{GivesUp, Past, again, families_in, known_in, past_of, too_often, with_answer, failure_by, place_at, put_note}
+use Rattle.run_core.specs.inner.Course.{GivesUp, Past, again, families_in, known_in, past_of, too_often, with_answer, failure_by, place_at, put_note, drop_note}
 use Rattle.run_core.specs.inner.Knows.{IsKnown, IsUnfolded, Learns, LearnsUnlessOver, end_by, fails as unfold_fails, knows as unfold_knows}
-use Rattle.run_core.specs.inner.Picks.{AfterTemporary, Delivers, Picks, Stages, Turns, asks, delivers, drains, ends_so, fails, gives, has_result, stages, succeeds_at_once, waits_for_one, AfterFind, Finds, finds, AfterPut, LearnsRow, PutsOrPicks, noted_by, mismatches, repeats}
+use Rattle.run_core.specs.inner.Picks.{AfterTemporary, Delivers, Picks, Stages, Turns, asks, delivers, drains, ends_so, fails, gives, has_result, stages, succeeds_at_once, waits_for_one, AfterFind, Finds, finds, AfterPut, LearnsRow, PutsOrPicks, noted_by, mismatches, repeats, PutsRow, fetches, AfterDrop, AfterFetch, agrees, differs, dropped_by}
+use Rattle.run_core.specs.inner.Fetches.{Fetches}
+use Rattle.staging.specs.declared.found.Found.{Found}
 use Rattle.run_core.specs.inner.Standing.{Blames, SettlesRightly}
-use Rattle.run_core.proofs.standing.Books.{Books, BooksAt, books_brought, books_end, books_given_up, books_waiting, books_looked, books_noted}
+use Rattle.run_core.proofs.standing.Books.{Books, BooksAt, BooksFetching, books_brought, books_loaded, books_missed, books_untried, books_end, books_given_up, books_waiting, books_looked, books_noted}
 use Rattle.job_rows.specs.declared.row.Row.{Row}
 use Rattle.run_rules.specs.declared.outcome.Cause.{Cause}
-use Rattle.job_graph.specs.Words.{JobPlace}
+use Rattle.job_graph.specs.Words.{JobPlace, Name}
+use Rattle.run_rules.specs.Folders.{out_folder}
+use Rattle.run_core.specs.inner.JobStates.{state_at}
+use Rattle.run_core.specs.inner.Turn.{keeps_row, puts}
 use Rattle.run_core.specs.inner.FoundRows.{row_in}
-use Rattle.run_core.specs.inner.JobStates.{IsLowest, is_there, parents_in, waits_in}
+use Rattle.run_core.specs.inner.JobStates.{IsLowest, is_there, parents_in, state_at, waits_in}
 use Rattle.run_core.proofs.events.Families.{as_many}
 
 -- with this turn and this course
@@ -40,9 +45,16 @@ pub record Leaves (options : Options) (entries : List Entry) (turn : Turn) (new 
   pub not_lost : turn.phase ≡ Phase.Ended (Err RunFault.OutOfMemory) → ⊥
   pub goes : turn.phase ≡ Phase.Draining → ⊥
 
--- where a job is to be staged, no more jobs are known than a graph may have
-abbrev pub FewKnown : Turn → Course → Type 0
-FewKnown turn new = (number : ℕ) → turn.phase ≡ Phase.Staging number → length (known_in new.known) ≤ MOST_VERTICES
+-- the files of the job of a number were not asked for before, and no more jobs are known than a graph may have
+pub record IsUntried (course : Course) (number : ℕ) : Type 0 where
+  pub untried : (state_at course.jobs number).tried ≡ false
+  pub within : number < length (known_in course.known)
+  pub few : length (known_in course.known) ≤ MOST_VERTICES
+
+-- where a job is to be staged, no more jobs are known than a graph may have; and so where its files are to be fetched
+pub record FewKnown (turn : Turn) (new : Course) : Type 0 where
+  pub staged : (number : ℕ) → turn.phase ≡ Phase.Staging number → length (known_in new.known) ≤ MOST_VERTICES
+  pub fetched : (number : ℕ) → turn.phase ≡ Phase.Fetching number → IsUntried new number
 
 -- what is known is what some places unfold
 pub record KnowsSome (course : Course) : Type 0 where
@@ -132,6 +144,13 @@ module _ (options : Options) (entries : List Entry) where
         subst (λ (t : Turn). Leaves options entries t new) (sym finding.is)
         (record { bounded = books.bounded; blames = books.blames; not_lost = λ lost. cc; goes = λ drains. cc })
 
+    leaves_fetching : (number : ℕ) (course new : Course) (turn : Turn) → Fetches course number turn → past_of new ≡ past_of course →
+        BooksFetching options entries (past_of course) number → Leaves options entries turn new
+    leaves_fetching number course new turn fetching same books =
+        let at : BooksFetching options entries (past_of new) number = subst (λ (p : Past). BooksFetching options entries p number) (sym same) books in
+        subst (λ (t : Turn). Leaves options entries t new) (sym fetching.is)
+        (record { bounded = at.bounded; blames = at.blames; not_lost = λ lost. cc; goes = λ drains. cc })
+
     leaves_delivery : (old new : Course) (turn : Turn) → Delivers given old turn → Books options entries (past_of new) → Leaves options entries turn new
     leaves_delivery old new turn (delivers its_turn files copies) books =
         subst (λ (t : Turn). Leaves options entries t new) (sym copies.is)
@@ -144,17 +163,22 @@ module _ (options : Options) (entries : List Entry) where
         record { bounded = now.bounded; blames = now.blames; not_lost = λ lost. cc; goes = λ drains. cc }
     picks_leave old turn new few books (ends_so end its_new is none cleared known same_notes) = leaves_end end turn new refl (books.blames.settled end is)
     picks_leave old turn new few books (finds number its_turn its_new going is_next finding same known) = leaves_finding number old new turn finding (books_course new old same books)
-    picks_leave old turn new few books (stages number its_turn its_new going looked slot lowest staging same known) =
+    picks_leave old turn new few books (fetches number its_turn its_new going looked is_next fetching same known) =
+        let its : IsUntried new number = few.fetched number (ap (λ (t : Turn). t.phase) fetching.is) in
+        let untried : (state_at old.jobs number).tried ≡ false = ap (λ (p : Past). (state_at p.jobs number).tried) (sym same) ∙ its.untried in
+        leaves_fetching number old new turn fetching same
+        (books_untried options entries (past_of old) number (length (known_in new.known)) its.within its.few untried books)
+    picks_leave old turn new few books (stages number its_turn its_new going looked unfetched slot lowest staging same known) =
         let phase : turn.phase ≡ Phase.Staging number = ap (λ (t : Turn). t.phase) staging.is in
         let most : length (known_in old.known) ≤ MOST_VERTICES =
-        subst (λ (k : Option Unfolding). length (known_in k) ≤ MOST_VERTICES) known (few number phase) in
+        subst (λ (k : Option Unfolding). length (known_in k) ≤ MOST_VERTICES) known (few.staged number phase) in
         let many : length (families_in old.known) ≡ length (known_in old.known) = as_many [] (known_in old.known) in
         leaves_staging number old new turn staging same
         (books_waiting options entries (past_of old) number (length (known_in old.known)) (omega (arith, lowest.within, many)) most (is_waiting old number lowest) books)
-    picks_leave old turn new few books (waits_for_one its_new going looked flying none same known) =
+    picks_leave old turn new few books (waits_for_one its_new going looked unfetched flying none same known) =
         let now : Books options entries (past_of new) = books_course new old same books in
         record { bounded = now.bounded; blames = now.blames; not_lost = λ lost. cc; goes = λ drains. cc }
-    picks_leave old turn new few books (has_result its_turn its_new going looked none to_stage result same known) =
+    picks_leave old turn new few books (has_result its_turn its_new going looked unfetched none to_stage result same known) =
         leaves_delivery old new turn result (books_course new old same books)
 
     -- A job gave up
@@ -230,14 +254,49 @@ module _ (options : Options) (entries : List Entry) where
         picks_leave after.noted turn new few
         (books_at (past_of after.noted) _ after.past (books_put (past_of old) (place_at (known_in old.known) number) answer books)) after.picks
 
-    -- a job's outputs are there
-    leaves_given : (place : JobPlace) (over : Course) (number : ℕ) (row : Option Row) (turn : Turn) (new : Course) → FewKnown turn new → Books options entries (past_of over) →
-        PutsOrPicks given place over number row turn new → Leaves options entries turn new
-    leaves_given place over number None turn new few books picks = picks_leave over turn new few books picks
-    leaves_given place over number (Some row) turn new few books put =
-        let now : Books options entries (past_of new) = books_course new over put.past books in
-        subst (λ (t : Turn). Leaves options entries t new) (sym put.is)
+    -- the files of a job were fetched, or others were
+    pub leaves_fetch : (old : Course) (number : ℕ) (found : List Found) (turn : Turn) (new : Course) → FewKnown turn new → BooksFetching options entries (past_of old) number →
+        AfterFetch given old number found turn new → Leaves options entries turn new
+    leaves_fetch old number found turn new few books (agrees loaded its past known picks) =
+        picks_leave loaded turn new few (books_at (past_of loaded) _ past (books_loaded options entries (past_of old) number books)) picks
+    leaves_fetch old number found turn new few books (differs other drops past known) =
+        let now : Books options entries (past_of new) = books_at (past_of new) _ past (books_missed options entries (past_of old) number books) in
+        subst (λ (t : Turn). Leaves options entries t new) (sym drops.is)
         (record { bounded = now.bounded; blames = now.blames; not_lost = λ lost. cc; goes = λ drains. cc })
+
+    books_dropped : (past : Past) (place : JobPlace) (answer : RecordAnswer) → Books options entries past → Books options entries (dropped_by place answer past)
+    books_dropped past place (RecordAnswer.Found row) books = books
+    books_dropped past place RecordAnswer.Done books = books
+    books_dropped past place (RecordAnswer.Refused refusal) books = books_noted options entries past (drop_note place refusal) books
+
+    pub leaves_drop : (old : Course) (number : ℕ) (answer : RecordAnswer) (turn : Turn) (new : Course) → FewKnown turn new → Books options entries (past_of old) →
+        AfterDrop given old number answer turn new → Leaves options entries turn new
+    leaves_drop old number answer turn new few books after =
+        picks_leave after.noted turn new few
+        (books_at (past_of after.noted) _ after.past (books_dropped (past_of old) (place_at (known_in old.known) number) answer books)) after.picks
+
+    -- a row is put, or its files are archived
+    leaves_put_next : (place : JobPlace) (number : ℕ) (row : Row) (new : Course) → Books options entries (past_of new) → Leaves options entries (puts place number row) new
+    leaves_put_next place number row new now = record { bounded = now.bounded; blames = now.blames; not_lost = λ lost. cc; goes = λ drains. cc }
+
+    leaves_kept : (keep : Bool) (folder : Name) (place : JobPlace) (number : ℕ) (row : Row) (new : Course) → Books options entries (past_of new) →
+        Leaves options entries (keeps_row keep folder place number row) new
+    leaves_kept true folder place number row new now = record { bounded = now.bounded; blames = now.blames; not_lost = λ lost. cc; goes = λ drains. cc }
+    leaves_kept false folder place number row new now = leaves_put_next place number row new now
+
+    pub leaves_store : (old : Course) (number : ℕ) (row : Row) (kept : Past) (turn : Turn) (new : Course) → Books options entries kept → PutsRow old number row kept turn new →
+        Leaves options entries turn new
+    leaves_store old number row kept turn new books after =
+        subst (λ (t : Turn). Leaves options entries t new) (sym after.is)
+        (leaves_put_next (place_at (known_in old.known) number) number row new (books_at (past_of new) kept after.past books))
+
+    -- a job's outputs are there
+    leaves_given : (place : JobPlace) (folder : ℕ) (over : Course) (number : ℕ) (row : Option Row) (turn : Turn) (new : Course) → FewKnown turn new → Books options entries (past_of over) →
+        PutsOrPicks given place folder over number row turn new → Leaves options entries turn new
+    leaves_given place folder over number None turn new few books picks = picks_leave over turn new few books picks
+    leaves_given place folder over number (Some row) turn new few books put =
+        subst (λ (t : Turn). Leaves options entries t new) (sym put.is)
+        (leaves_kept given.options.keep (out_folder given.options.work folder) place number row new (books_course new over put.past books))
 
     -- what a job that gives nothing settles blames nobody
     failure_settles : (row : Option Row) (place : JobPlace) (cause : Cause) → SettlesRightly entries (failure_by row place cause)
@@ -255,11 +314,11 @@ module _ (options : Options) (entries : List Entry) where
         picks_leave failed turn new few (books_at (past_of failed) _ is (books_end options entries (past_of old) _
         (failure_settles (row_in old.rows number) (place_at (known_in old.known) number) cause) books)) picks
     turns_leave old number next turn new few knows books (gives outputs row learned its_turn its_new given_it picks) =
-        leaves_given (place_at (known_in old.known) number) learned number row turn new few
+        leaves_given (place_at (known_in old.known) number) (state_at old.jobs number).folder learned number row turn new few
         (unless_over_books given_it.there learned _ (known_still old given_it.there (ap (λ (p : Past). p.end) given_it.past) given_it.known knows) given_it.learns
         (books_at (past_of given_it.there) _ given_it.past (books_brought options entries (past_of old) number books))) picks
     turns_leave old number next turn new few knows books (repeats row there its_turn its_new past known put) =
-        leaves_given (place_at (known_in old.known) number) there number (Some row) turn new few
+        leaves_given (place_at (known_in old.known) number) (state_at old.jobs number).folder there number (Some row) turn new few
         (books_at (past_of there) _ past (books_brought options entries (past_of old) number books)) put
     turns_leave old number next turn new few knows books (mismatches outputs failed its_turn its_new is known picks) =
         picks_leave failed turn new few (books_at (past_of failed) _ is (books_end options entries (past_of old) _ tt books)) picks

@@ -1,5 +1,5 @@
 -- How many files the open work on a job still looks at, by its rule.
-use Rattle.std.proofs.Common.{◌≡◌, ℕ, ◌+◌, ◌*◌, ◌≤◌, List, [], length, reverse, None, refl, ap, arith, Option}
+use Rattle.std.proofs.Common.{◌≡◌, ℕ, Bool, ◌+◌, ◌*◌, ◌≤◌, List, [], length, reverse, None, refl, ap, arith, Option}
 use Rattle.std.proofs.lemmas.List.{length-reverse}
 use Rattle.collected_outputs.specs.Contents.{Heads}
 use Rattle.proc_host.specs.declared.call.HostRequest.{HostRequest}
@@ -24,9 +24,9 @@ use Rattle.std.specs.Prelude.{option_copied}
 abbrev pub weight_next : JobNext → ℕ
 weight_next (JobNext.Asks call phase) = weight_of_job phase
 weight_next (JobNext.Fails cause) = 2
-weight_next (JobNext.Gives outputs row) = 3
+weight_next (JobNext.Gives outputs row) = 4
 weight_next (JobNext.Differs outputs) = 2
-weight_next (JobNext.Repeats row) = 3
+weight_next (JobNext.Repeats row) = 4
 
 -- Before it is started
 
@@ -58,7 +58,7 @@ calls_at_most options folder (JobNext.Differs outputs) calls = omega arith
 calls_at_most options folder (JobNext.Repeats row) calls = omega arith
 
 phase_at_most : (call : HostRequest) (phase : JobPhase) (todo : List Name) → FitsCall call phase → length (inputs_left (work_of [] call phase)) ≤ length todo →
-    weight_of_job phase ≤ many_files + 6 + length todo
+    weight_of_job phase ≤ many_files + 7 + length todo
 phase_at_most call (JobPhase.Filling filling) todo fits few =
     let turned : length (reverse filling.left) ≡ length filling.left = length-reverse filling.left in omega (arith, turned, few)
 phase_at_most call (JobPhase.Starting kept) todo fits few = omega arith
@@ -66,7 +66,7 @@ phase_at_most call (JobPhase.Scanning kept millis) todo fits few = omega arith
 phase_at_most call (JobPhase.Reading kept reading) todo fits few = omega (arith, fits)
 
 pub starts_at_most : (site : Site) (staged : Fields) (read : Heads) (todo : List Name) (next : JobNext) → Starts site staged read todo next →
-    weight_next next ≤ many_files + 6 + length todo
+    weight_next next ≤ many_files + 7 + length todo
 starts_at_most site staged read todo (JobNext.Asks call phase) starts =
     phase_at_most call phase todo starts.calls.fits (starts_left site.options.now [] _ site.folder staged read (starts.on []))
 starts_at_most site staged read todo (JobNext.Fails cause) starts = omega arith
@@ -76,14 +76,14 @@ starts_at_most site staged read todo (JobNext.Repeats row) starts = omega arith
 
 -- Once its child has ended
 
-module _ (place : JobPlace) (job : Job) (row : Option Row) (started : Started) (millis : ℕ) (found : List Found) (read : Heads) where
-  kept_tells : {outputs : Fields} {work : Work} {more : List Event} → Keeps place job row millis found outputs work more → more ≡ [] → ⊥
+module _ (keep : Bool) (place : JobPlace) (job : Job) (row : Option Row) (started : Started) (millis : ℕ) (found : List Found) (read : Heads) where
+  kept_tells : {outputs : Fields} {work : Work} {more : List Event} → Keeps keep place job row millis found outputs work more → more ≡ [] → ⊥
   kept_tells (keeps_none once) none = cc
   kept_tells (keeps reusable agrees) none = cc
   kept_tells (differs other reusable is differ) none = cc
 
   -- where nothing has happened, more is read
-  reads_still : {todo : List Name} {work : Work} {more : List Event} → CollectsOn place job row started millis found read todo work more → more ≡ [] →
+  reads_still : {todo : List Name} {work : Work} {more : List Event} → CollectsOn keep place job row started millis found read todo work more → more ≡ [] →
       work ≡ output_heads_due place millis found todo read
   reads_still (reads_more name more) none = refl
   reads_still (collects outputs work more is kept) none = absurd (kept_tells kept none)
@@ -94,8 +94,8 @@ outputs_left (output_heads_due place millis found todo read) = todo
 outputs_left work = []
 
 pub record IsLight (phase : JobPhase) (todo : List Name) : Type 0 where
-  pub by_names : weight_of_job phase ≤ 3 + length todo
-  pub by_lists : weight_of_job phase ≤ many_files + 2
+  pub by_names : weight_of_job phase ≤ 4 + length todo
+  pub by_lists : weight_of_job phase ≤ many_files + 3
 
 light : (call : HostRequest) (phase : JobPhase) (millis : ℕ) (found : List Found) (todo : List Name) (read : Heads) →
     work_of [] call phase ≡ output_heads_due [] millis found todo read → FitsCall call phase → IsLight phase todo
@@ -121,10 +121,10 @@ collects_light : (site : Site) (kept : Kept) (millis : ℕ) (found : List Found)
     Collects site kept millis found read todo (JobNext.Asks call phase) → IsLight phase todo
 collects_light site kept millis found read todo call phase it =
     light call phase millis found todo read
-    (reads_still [] _ (option_copied site.row) (some_start kept) millis found read (it.on [] (some_start kept) (kept_so kept)) refl) it.calls.fits
+    (reads_still site.options.now.keep [] _ (option_copied site.row) (some_start kept) millis found read (it.on [] (some_start kept) (kept_so kept)) refl) it.calls.fits
 
 pub collects_by_names : (site : Site) (kept : Kept) (millis : ℕ) (found : List Found) (read : Heads) (todo : List Name) (next : JobNext) → Collects site kept millis found read todo next →
-    weight_next next ≤ 3 + length todo
+    weight_next next ≤ 4 + length todo
 collects_by_names site kept millis found read todo (JobNext.Asks call phase) it = (collects_light site kept millis found read todo call phase it).by_names
 collects_by_names site kept millis found read todo (JobNext.Fails cause) it = omega arith
 collects_by_names site kept millis found read todo (JobNext.Gives outputs row) it = omega arith
@@ -132,7 +132,7 @@ collects_by_names site kept millis found read todo (JobNext.Differs outputs) it 
 collects_by_names site kept millis found read todo (JobNext.Repeats row) it = omega arith
 
 pub collects_by_lists : (site : Site) (kept : Kept) (millis : ℕ) (found : List Found) (read : Heads) (todo : List Name) (next : JobNext) → Collects site kept millis found read todo next →
-    weight_next next ≤ many_files + 2
+    weight_next next ≤ many_files + 3
 collects_by_lists site kept millis found read todo (JobNext.Asks call phase) it = (collects_light site kept millis found read todo call phase it).by_lists
 collects_by_lists site kept millis found read todo (JobNext.Fails cause) it = omega arith
 collects_by_lists site kept millis found read todo (JobNext.Gives outputs row) it = omega arith

@@ -17,7 +17,7 @@ use Rattle.run_core.specs.declared.state.Given.{Given}
 use Rattle.run_core.specs.declared.state.Phase.{Phase}
 use Rattle.run_core.specs.declared.state.Turn.{Turn}
 use Rattle.run_core.specs.inner.Attempts.{StaysBounded, most_stagings}
-use Rattle.run_core.specs.inner.Course.{Past, past_of, with_staging}
+use Rattle.run_core.specs.inner.Course.{Past, past_of, with_loss, with_staging}
 use Rattle.run_core.specs.inner.Follows.{AsksIn, IsReady, IsReadyFor, told_of}
 use Rattle.run_core.specs.inner.Standing.{IsLostAt, draining, lost, pairs_ahead}
 use Rattle.run_core.proofs.events.Reflecting.{Laws}
@@ -54,6 +54,9 @@ few_folders options past Phase.Draining limits goes asks bounded = absurd (goes 
 few_folders options past (Phase.Ended outcome) limits goes asks bounded = absurd (asks outcome refl)
 few_folders options past (Phase.Staging number) limits goes asks bounded =
     let more : past.folders + 1 ≤ most_stagings options = folders_at_most options (with_staging number past) bounded in
+    few_of options past limits (omega (arith, more))
+few_folders options past (Phase.Fetching number) limits goes asks bounded =
+    let more : past.folders + 1 ≤ most_stagings options = folders_at_most options (with_loss number past) bounded in
     few_of options past limits (omega (arith, more))
 few_folders options past phase limits goes asks bounded = few_of options past limits (folders_at_most options past bounded)
 

@@ -194,6 +194,9 @@ pub some_weight : (phase : Phase) → 0 < weight_of phase
 some_weight (Phase.Measuring measuring) = omega arith
 some_weight (Phase.Finding number) = omega arith
 some_weight (Phase.Putting number) = omega arith
+some_weight (Phase.Fetching number) = omega arith
+some_weight (Phase.Dropping number) = omega arith
+some_weight (Phase.Storing number row) = omega arith
 some_weight (Phase.Staging number) = omega arith
 some_weight (Phase.Working number phase) = some_weight_of_job phase
 some_weight Phase.Collecting = omega arith
@@ -235,7 +238,7 @@ ahead_now past (Phase.Ended outcome) goes asks = absurd (asks outcome refl)
 ahead_now past phase goes asks = refl
 
 pub lost_below : (a new flown rises rows stagings weight : ℕ) → a ≤ new → new ≤ flown + rises → rises < weight →
-    a < rows + (stagings + flown * (many_files + 3)) + weight
+    a < rows + (stagings + flown * (many_files + 4)) + weight
 lost_below a new flown rises rows stagings weight few risen below = omega (arith, few, risen, below)
 
 pub flies_if : (old : List ℕ) (next : Request) (answer : Answer) (new : List ℕ) → FliesAfter old next answer new → next ≢ Request.Finished → new ≡ flying_after old answer

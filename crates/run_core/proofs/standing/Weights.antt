@@ -17,15 +17,19 @@ use Rattle.run_core.specs.declared.state.Kept.{Kept}
 use Rattle.run_core.specs.declared.state.Phase.{Phase}
 use Rattle.run_core.specs.declared.state.Turn.{Turn}
 use Rattle.run_core.specs.inner.Attempts.{IsBounded, answers_left, many_files, most_stagings, tries_of, weight_of_past}
-use Rattle.run_core.specs.inner.Course.{GivesUp, Past, TakesOut, again, known_in, past_of, too_often, with_staging, with_start, with_answer, place_at}
+use Rattle.run_core.specs.inner.Course.{GivesUp, Past, TakesOut, again, known_in, past_of, too_often, with_staging, with_start, with_answer, place_at, with_load, with_loss}
 use Rattle.run_core.specs.inner.Knows.{IsUnfolded, LearnsUnlessOver, fails as unfold_fails, knows as unfold_knows}
-use Rattle.run_core.specs.inner.Picks.{AfterTemporary, Delivers, Picks, Stages, Turns, asks, delivers, drains, ends_so, fails, gives, has_result, stages, succeeds_at_once, waits_for_one, Finds, finds, LearnsRow, PutsOrPicks, mismatches, repeats}
+use Rattle.run_core.specs.inner.Picks.{AfterTemporary, Delivers, Picks, Stages, Turns, asks, delivers, drains, ends_so, fails, gives, has_result, stages, succeeds_at_once, waits_for_one, Finds, fetches, finds, LearnsRow, PutsOrPicks, mismatches, repeats}
+use Rattle.run_core.specs.inner.Fetches.{Fetches}
 use Rattle.run_core.proofs.standing.Leaving.{KnowsSome, is_none, known_still, learns_by}
 use Rattle.run_core.proofs.standing.Looked.{weight_next}
 use Rattle.run_core.proofs.standing.Tries.{tries_at_most}
 use Rattle.run_rules.specs.declared.request.RecordAnswer.{RecordAnswer}
 use Rattle.job_rows.specs.declared.row.Row.{Row}
-use Rattle.job_graph.specs.Words.{JobPlace}
+use Rattle.job_graph.specs.Words.{JobPlace, Name}
+use Rattle.run_rules.specs.Folders.{out_folder}
+use Rattle.run_core.specs.inner.JobStates.{state_at}
+use Rattle.run_core.specs.inner.Turn.{keeps_row}
 
 least : (w : ℕ) → 0 ≤ w
 least w = omega arith
@@ -39,10 +43,10 @@ same_at_most w = omega arith
 -- no more folders are made than there can be stagings
 pub folders_at_most : (options : Options) (past : Past) → IsBounded options past → past.folders ≤ most_stagings options
 folders_at_most options past bounded =
-    let tries : tries_of past.jobs ≤ length past.jobs * (options.retries + 1) = tries_at_most options.retries past.jobs bounded.retries in
-    let most : length past.jobs * (options.retries + 1) ≤ MOST_VERTICES * (options.retries + 1) =
-    mul-le (length past.jobs) (options.retries + 1) MOST_VERTICES (options.retries + 1) bounded.jobs (same_at_most (options.retries + 1)) in
-    steps past.folders (tries_of past.jobs) (length past.jobs * (options.retries + 1)) (MOST_VERTICES * (options.retries + 1)) bounded.folders tries most
+    let tries : tries_of past.jobs ≤ length past.jobs * (options.retries + 2) = tries_at_most options.retries past.jobs bounded.retries in
+    let most : length past.jobs * (options.retries + 2) ≤ MOST_VERTICES * (options.retries + 2) =
+    mul-le (length past.jobs) (options.retries + 2) MOST_VERTICES (options.retries + 2) bounded.jobs (same_at_most (options.retries + 2)) in
+    steps past.folders (tries_of past.jobs) (length past.jobs * (options.retries + 2)) (MOST_VERTICES * (options.retries + 2)) bounded.folders tries most
   where
     steps : (a b c d : ℕ) → a ≤ b → b ≤ c → c ≤ d → a ≤ d
     steps a b c d one two three = omega (arith, one, two, three)
@@ -66,28 +70,39 @@ pub staging_falls : (options : Options) (past : Past) (number : ℕ) → IsBound
     weight_of_past options (with_staging number past) + (2 * many_files + 8) ≤ weight_of_past options past
 staging_falls options past number bounded =
     beside_less (rows_left past) _ _ (2 * many_files + 8)
-    (falls_by_one (most_stagings options) past.folders (length past.tickets * (many_files + 3)) (folders_at_most options (with_staging number past) bounded))
+    (falls_by_one (most_stagings options) past.folders (length past.tickets * (many_files + 4)) (folders_at_most options (with_staging number past) bounded))
+
+-- and a fetch, which is what it is or not
+pub loss_falls : (options : Options) (past : Past) (number : ℕ) → IsBounded options (with_loss number past) →
+    weight_of_past options (with_loss number past) + (2 * many_files + 8) ≤ weight_of_past options past
+loss_falls options past number bounded =
+    beside_less (rows_left past) _ _ (2 * many_files + 8)
+    (falls_by_one (most_stagings options) past.folders (length past.tickets * (many_files + 4)) (folders_at_most options (with_loss number past) bounded))
+
+pub load_falls : (options : Options) (past : Past) (number : ℕ) → IsBounded options (with_loss number past) →
+    weight_of_past options (with_load number past) + (2 * many_files + 8) ≤ weight_of_past options past
+load_falls options past number bounded = loss_falls options past number bounded
 
 -- one child more
 
-more_by_one : (stagings flown more : ℕ) → more ≡ flown + 1 → stagings + more * (many_files + 3) ≡ stagings + flown * (many_files + 3) + (many_files + 3)
+more_by_one : (stagings flown more : ℕ) → more ≡ flown + 1 → stagings + more * (many_files + 4) ≡ stagings + flown * (many_files + 4) + (many_files + 4)
 more_by_one stagings flown more is = omega (arith, is)
 
 pub start_rises : (options : Options) (past : Past) (number : ℕ) (kept : Kept) (ticket : ℕ) →
-    weight_of_past options (with_start number kept ticket past) ≡ weight_of_past options past + (many_files + 3)
+    weight_of_past options (with_start number kept ticket past) ≡ weight_of_past options past + (many_files + 4)
 start_rises options past number kept ticket =
-    beside_same (rows_left past) _ _ (many_files + 3)
+    beside_same (rows_left past) _ _ (many_files + 4)
     (more_by_one ((most_stagings options - past.folders) * (2 * many_files + 8)) (length past.tickets) (length (past.tickets ++ ticket ∷ []))
     (length-append past.tickets (ticket ∷ [])))
 
 -- and one less
 pub landing_falls : (options : Options) (ticket : ℕ) (flight : Flight) (old new : Past) → TakesOut ticket flight old new →
-    weight_of_past options new + (many_files + 3) ≡ weight_of_past options old
+    weight_of_past options new + (many_files + 4) ≡ weight_of_past options old
 landing_falls options ticket flight old new taken =
     let left : length (remove old.tickets taken.index) + 1 ≡ length old.tickets =
     length-remove old.tickets taken.index (slice_get_within old.tickets taken.index ticket taken.ticket_there) in
-    subst (λ (p : Past). weight_of_past options p + (many_files + 3) ≡ weight_of_past options old) (sym taken.is)
-    (sym (beside_same (rows_left old) _ _ (many_files + 3)
+    subst (λ (p : Past). weight_of_past options p + (many_files + 4) ≡ weight_of_past options old) (sym taken.is)
+    (sym (beside_same (rows_left old) _ _ (many_files + 4)
     (more_by_one ((most_stagings options - old.folders) * (2 * many_files + 8)) (length (remove old.tickets taken.index)) (length old.tickets) (sym left))))
 
 -- the row of a job was looked for, which was not before
@@ -97,7 +112,7 @@ one_row_less most before number jobs left within = omega (arith, left, within)
 pub answer_falls : (options : Options) (past : Past) (number : ℕ) (answer : RecordAnswer) → past.looked_up ≤ number → number + 1 ≤ MOST_VERTICES →
     weight_of_past options (with_answer number answer None past) + 2 ≤ weight_of_past options past
 answer_falls options past number answer left within =
-    one_row_less MOST_VERTICES past.looked_up number ((most_stagings options - past.folders) * (2 * many_files + 8) + length past.tickets * (many_files + 3)) left within
+    one_row_less MOST_VERTICES past.looked_up number ((most_stagings options - past.folders) * (2 * many_files + 8) + length past.tickets * (many_files + 4)) left within
 
 -- What comes next
 
@@ -125,6 +140,12 @@ module _ (options : Options) (given : Given) where
       subst (λ (t : Turn). answers_left options (past_of new) t.phase ≤ Before course + 2) (sym finding.is)
       (subst (λ (p : Past). weight_of_past options p + 2 ≤ weight_of_past options (past_of course) + 2) (sym same) (same_at_most (weight_of_past options (past_of course) + 2)))
 
+  at_fetch : (number : ℕ) (course new : Course) (turn : Turn) → Fetches course number turn → past_of new ≡ past_of course →
+      answers_left options (past_of new) turn.phase ≤ Before course + 2
+  at_fetch number course new turn fetching same =
+      subst (λ (t : Turn). answers_left options (past_of new) t.phase ≤ Before course + 2) (sym fetching.is)
+      (subst (λ (p : Past). weight_of_past options p + 2 ≤ weight_of_past options (past_of course) + 2) (sym same) (same_at_most (weight_of_past options (past_of course) + 2)))
+
   at_delivery : (old new : Course) (turn : Turn) → Delivers given old turn → past_of new ≡ past_of old → answers_left options (past_of new) turn.phase ≤ Before old + 2
   at_delivery old new turn (delivers its_turn files copies) same =
       subst (λ (t : Turn). answers_left options (past_of new) t.phase ≤ Before old + 2) (sym copies.is)
@@ -138,18 +159,20 @@ module _ (options : Options) (given : Given) where
   picks_few old turn new (drains its_new settled flying same known) = raised (answers_left options (past_of new) Phase.Collecting) (Before old) (at_collect old new same)
   picks_few old turn new (ends_so end its_new is none cleared known same_notes) = least (Before old + 2)
   picks_few old turn new (finds number its_turn its_new going is_next finding same known) = at_find number old new turn finding same
-  picks_few old turn new (stages number its_turn its_new going looked slot lowest staging same known) = at_staging number old new turn staging same
-  picks_few old turn new (waits_for_one its_new going looked flying none same known) = raised (answers_left options (past_of new) Phase.Collecting) (Before old) (at_collect old new same)
-  picks_few old turn new (has_result its_turn its_new going looked none to_stage result same known) = at_delivery old new turn result same
+  picks_few old turn new (fetches number its_turn its_new going looked is_next fetching same known) = at_fetch number old new turn fetching same
+  picks_few old turn new (stages number its_turn its_new going looked unfetched slot lowest staging same known) = at_staging number old new turn staging same
+  picks_few old turn new (waits_for_one its_new going looked unfetched flying none same known) = raised (answers_left options (past_of new) Phase.Collecting) (Before old) (at_collect old new same)
+  picks_few old turn new (has_result its_turn its_new going looked unfetched none to_stage result same known) = at_delivery old new turn result same
 
   -- once the end is settled
   pub picks_settled : (old : Course) (turn : Turn) (new : Course) → IsSome old.end → Picks given old turn new → answers_left options (past_of new) turn.phase ≤ Before old + 1
   picks_settled old turn new over (drains its_new settled flying same known) = at_collect old new same
   picks_settled old turn new over (ends_so end its_new is none cleared known same_notes) = least (Before old + 1)
   picks_settled old turn new over (finds number its_turn its_new going is_next finding same known) = absurd (none_some old.end over going)
-  picks_settled old turn new over (stages number its_turn its_new going looked slot lowest staging same known) = absurd (none_some old.end over going)
-  picks_settled old turn new over (waits_for_one its_new going looked flying none same known) = absurd (none_some old.end over going)
-  picks_settled old turn new over (has_result its_turn its_new going looked none to_stage result same known) = absurd (none_some old.end over going)
+  picks_settled old turn new over (fetches number its_turn its_new going looked is_next fetching same known) = absurd (none_some old.end over going)
+  picks_settled old turn new over (stages number its_turn its_new going looked unfetched slot lowest staging same known) = absurd (none_some old.end over going)
+  picks_settled old turn new over (waits_for_one its_new going looked unfetched flying none same known) = absurd (none_some old.end over going)
+  picks_settled old turn new over (has_result its_turn its_new going looked unfetched none to_stage result same known) = absurd (none_some old.end over going)
 
   -- and no child is in flight
   pub picks_last : (old : Course) (turn : Turn) (new : Course) → IsSome old.end → old.tickets.items ≡ [] → Picks given old turn new →
@@ -157,9 +180,10 @@ module _ (options : Options) (given : Given) where
   picks_last old turn new over empty (drains its_new settled flying same known) = absurd (flying empty)
   picks_last old turn new over empty (ends_so end its_new is none cleared known same_notes) = least 0
   picks_last old turn new over empty (finds number its_turn its_new going is_next finding same known) = absurd (none_some old.end over going)
-  picks_last old turn new over empty (stages number its_turn its_new going looked slot lowest staging same known) = absurd (none_some old.end over going)
-  picks_last old turn new over empty (waits_for_one its_new going looked flying none same known) = absurd (none_some old.end over going)
-  picks_last old turn new over empty (has_result its_turn its_new going looked none to_stage result same known) = absurd (none_some old.end over going)
+  picks_last old turn new over empty (fetches number its_turn its_new going looked is_next fetching same known) = absurd (none_some old.end over going)
+  picks_last old turn new over empty (stages number its_turn its_new going looked unfetched slot lowest staging same known) = absurd (none_some old.end over going)
+  picks_last old turn new over empty (waits_for_one its_new going looked unfetched flying none same known) = absurd (none_some old.end over going)
+  picks_last old turn new over empty (has_result its_turn its_new going looked unfetched none to_stage result same known) = absurd (none_some old.end over going)
 
   -- A job goes on
 
@@ -193,16 +217,27 @@ module _ (options : Options) (given : Given) where
       subst (λ w. answers_left options (past_of new) turn.phase ≤ w + most) same
       (two_of (answers_left options (past_of new) turn.phase) (Before one) most two (picks_few one turn new picks))
 
-  -- a job's outputs are there: its row is put next, if one is made of it
-  given_from : (place : JobPlace) (one old : Course) (number : ℕ) (row : Option Row) (turn : Turn) (new : Course) (most : ℕ) → weight_of_past options (past_of one) ≡ Before old → 2 ≤ most → 3 ≤ most →
-      PutsOrPicks given place one number row turn new → answers_left options (past_of new) turn.phase ≤ Before old + most
-  given_from place one old number None turn new most same two three picks = picks_from one old turn new most same two picks
-  given_from place one old number (Some row) turn new most same two three put =
-      subst (λ (t : Turn). answers_left options (past_of new) t.phase ≤ Before old + most) (sym put.is)
-      (three_of (weight_of_past options (past_of new)) (Before old) most three (ap (weight_of_past options) put.past ∙ same))
+  -- the row of a job is kept next
+  kept_few : (keep : Bool) (folder : Name) (place : JobPlace) (number : ℕ) (row : Row) (past : Past) →
+      answers_left options past (keeps_row keep folder place number row).phase ≤ weight_of_past options past + 4
+  kept_few true folder place number row past = same_at_most (weight_of_past options past + 4)
+  kept_few false folder place number row past = fewer (weight_of_past options past)
     where
-      three_of : (a b most : ℕ) → 3 ≤ most → a ≡ b → a + 3 ≤ b + most
-      three_of a b most three is = omega (arith, three, is)
+      fewer : (w : ℕ) → w + 3 ≤ w + 4
+      fewer w = omega arith
+
+  -- a job's outputs are there: its row is kept next, if one is made of it
+  given_from : (place : JobPlace) (folder : ℕ) (one old : Course) (number : ℕ) (row : Option Row) (turn : Turn) (new : Course) (most : ℕ) → weight_of_past options (past_of one) ≡ Before old → 2 ≤ most → 4 ≤ most →
+      PutsOrPicks given place folder one number row turn new → answers_left options (past_of new) turn.phase ≤ Before old + most
+  given_from place folder one old number None turn new most same two four picks = picks_from one old turn new most same two picks
+  given_from place folder one old number (Some row) turn new most same two four put =
+      subst (λ (t : Turn). answers_left options (past_of new) t.phase ≤ Before old + most) (sym put.is)
+      (four_of (answers_left options (past_of new) (keeps_row given.options.keep (out_folder given.options.work folder) place number row).phase)
+      (weight_of_past options (past_of new)) (Before old) most (kept_few given.options.keep (out_folder given.options.work folder) place number row (past_of new)) four
+      (ap (weight_of_past options) put.past ∙ same))
+    where
+      four_of : (left a b most : ℕ) → left ≤ a + 4 → 4 ≤ most → a ≡ b → left ≤ b + most
+      four_of left a b most few four is = omega (arith, few, four, is)
 
   pub turns_few : (old : Course) (number : ℕ) (next : JobNext) (turn : Turn) (new : Course) (most : ℕ) → 2 ≤ most → weight_next next ≤ most →
       (old.end ≡ None → KnowsSome old) → Turns given old number next turn new → answers_left options (past_of new) turn.phase ≤ Before old + most
@@ -215,11 +250,11 @@ module _ (options : Options) (given : Given) where
   turns_few old number next turn new most two few knows (fails cause failed its_turn its_new is known picks) =
       picks_from failed old turn new most (ap (weight_of_past options) is) two picks
   turns_few old number next turn new most two few knows (gives outputs row learned its_turn its_new given_it picks) =
-      given_from (place_at (known_in old.known) number) learned old number row turn new most
+      given_from (place_at (known_in old.known) number) (state_at old.jobs number).folder learned old number row turn new most
       (unless_over_same given_it.there learned _ (known_still old given_it.there (ap (λ (p : Past). p.end) given_it.past) given_it.known knows) given_it.learns
       ∙ ap (weight_of_past options) given_it.past) two few picks
   turns_few old number next turn new most two few knows (repeats row there its_turn its_new past known put) =
-      given_from (place_at (known_in old.known) number) there old number (Some row) turn new most (ap (weight_of_past options) past) two few put
+      given_from (place_at (known_in old.known) number) (state_at old.jobs number).folder there old number (Some row) turn new most (ap (weight_of_past options) past) two few put
   turns_few old number next turn new most two few knows (mismatches outputs failed its_turn its_new is known picks) =
       picks_from failed old turn new most (ap (weight_of_past options) is) two picks
 

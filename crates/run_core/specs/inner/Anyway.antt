@@ -5,7 +5,7 @@ use Rattle.std.specs.Map.{keys_of}
 use Rattle.collected_outputs.specs.Laws.{EveryFolderHasOutputsOrAFault, SomeHeadsAreWanted}
 use Rattle.command_line.specs.Laws.{LaunchOrRefusal}
 use Rattle.job_graph.specs.Jobs.{Job}
-use Rattle.job_reuse.specs.Laws.{RowsAreSoundOrNot, OutputsAreTheSameOrNot}
+use Rattle.job_reuse.specs.Laws.{FilesAreTheSameOrNot, RowsAreSoundOrNot, OutputsAreTheSameOrNot}
 use Rattle.plain_data.specs.ByName.{IsByName}
 use Rattle.run_rules.specs.declared.request.Answer.{Answer}
 use Rattle.run_rules.specs.declared.request.RecordAnswer.{RecordAnswer}
@@ -32,4 +32,5 @@ pub record CanGoOn (course : Course) (number : ℕ) (answer : Answer) : Type 0 w
   pub heads : SomeHeadsAreWanted
   pub rows : RowsAreSoundOrNot
   pub same : OutputsAreTheSameOrNot
+  pub files : FilesAreTheSameOrNot
   pub row : HasRowInOrder answer

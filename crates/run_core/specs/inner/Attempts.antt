@@ -6,21 +6,27 @@ use Rattle.run_rules.specs.declared.setting.Options.{Options}
 use Rattle.run_core.specs.declared.state.JobPhase.{JobPhase}
 use Rattle.run_core.specs.declared.job_states.JobState.{JobState}
 use Rattle.run_core.specs.declared.state.Phase.{Phase}
-use Rattle.run_core.specs.inner.Course.{Past, with_staging}
+use Rattle.run_core.specs.inner.Course.{Past, with_loss, with_staging}
 
--- how many times jobs can be staged
+-- how many times jobs can be staged, and fetched
 abbrev pub most_stagings : Options → ℕ
-most_stagings options = MOST_VERTICES * (options.retries + 1)
+most_stagings options = MOST_VERTICES * (options.retries + 2)
 
 -- how often a job was staged beside the times that it gave up: once where it waits for nothing
 abbrev pub last_try : Bool → ℕ
 last_try true = 0
 last_try false = 1
 
--- how often these jobs were staged: once for each time that one gave up, and once more where it waits for nothing
+-- once where a fetch was asked for
+abbrev pub one_fetch : Bool → ℕ
+one_fetch true = 1
+one_fetch false = 0
+
+-- how often these jobs were staged or fetched, at most: once for each time that one gave up, once more where it waits for nothing, and once
+-- where a fetch was asked for
 abbrev pub tries_of : List JobState → ℕ
 tries_of [] = 0
-tries_of (job ∷ jobs) = job.gave_up + last_try job.waits + tries_of jobs
+tries_of (job ∷ jobs) = job.gave_up + last_try job.waits + one_fetch job.tried + tries_of jobs
 
 -- the jobs that were touched are jobs of a graph, and each was staged no oftener than it may be
 pub record IsBounded (options : Options) (past : Past) : Type 0 where
@@ -28,11 +34,12 @@ pub record IsBounded (options : Options) (past : Past) : Type 0 where
   pub retries : AllByRecursion (λ (job : JobState). job.gave_up ≤ options.retries) past.jobs
   pub folders : past.folders ≤ tries_of past.jobs
 
--- while it goes on; where a job is to be staged, with that job
+-- while it goes on; where a job is to be staged, or its files to be fetched, with that job
 abbrev pub StaysBounded : Options → Past → Phase → Type 0
 StaysBounded options past (Phase.Ended outcome) = Unit {0}
 StaysBounded options past Phase.Draining = Unit {0}
 StaysBounded options past (Phase.Staging number) = IsBounded options (with_staging number past)
+StaysBounded options past (Phase.Fetching number) = IsBounded options (with_loss number past)
 StaysBounded options past phase = IsBounded options past
 
 -- a phase looks at fewer files than a list can have
@@ -40,23 +47,26 @@ abbrev pub many_files : ℕ
 many_files = 2 ^ 64
 
 abbrev pub weight_of_job : JobPhase → ℕ
-weight_of_job (JobPhase.Filling filling) = many_files + 6 + length filling.left
-weight_of_job (JobPhase.Starting kept) = many_files + 6
-weight_of_job (JobPhase.Scanning kept millis) = many_files + 3
-weight_of_job (JobPhase.Reading kept reading) = 3 + length reading.left
+weight_of_job (JobPhase.Filling filling) = many_files + 7 + length filling.left
+weight_of_job (JobPhase.Starting kept) = many_files + 7
+weight_of_job (JobPhase.Scanning kept millis) = many_files + 4
+weight_of_job (JobPhase.Reading kept reading) = 4 + length reading.left
 
 abbrev pub weight_of : Phase → ℕ
 weight_of (Phase.Measuring measuring) = 2 + length measuring.left
 weight_of (Phase.Finding job) = 2
 weight_of (Phase.Putting job) = 3
+weight_of (Phase.Fetching job) = 2
+weight_of (Phase.Dropping job) = 3
 weight_of (Phase.Staging job) = 2
 weight_of (Phase.Working job phase) = weight_of_job phase
+weight_of (Phase.Storing job row) = 4
 weight_of phase = 1
 
--- each row is looked for once; each child in flight ends, is scanned and read
+-- each row is looked for once; each child in flight ends, is scanned, read, archived and put
 abbrev pub weight_of_past : Options → Past → ℕ
 weight_of_past options past =
-    (MOST_VERTICES - past.looked_up) * 2 + ((most_stagings options - past.folders) * (2 * many_files + 8) + length past.tickets * (many_files + 3))
+    (MOST_VERTICES - past.looked_up) * 2 + ((most_stagings options - past.folders) * (2 * many_files + 8) + length past.tickets * (many_files + 4))
 
 -- how many answers come at most; after memory ran out, the end of each child in flight
 abbrev pub answers_left : Options → Past → Phase → ℕ

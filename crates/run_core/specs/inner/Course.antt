@@ -1,9 +1,11 @@
 -- What a run has come to, and what each event makes of it.
-use Rattle.std.specs.Prelude.{Ok, Err, ◌≡◌, ◌<◌, ◌≤◌, ℕ, ◌+◌, cond, List, [], ◌∷◌, ◌++◌, Option, Some, None, Result, map, option_map, slice_get, unwrap_or}
-use Rattle.std.specs.List.{remove, zip}
+use Rattle.std.specs.Prelude.{Bool, false, Ok, Err, bytes_eq, ◌≡◌, ◌<◌, ◌≤◌, ℕ, ◌+◌, cond, List, [], ◌∷◌, ◌++◌, Option, Some, None, Result, map, option_map, slice_get, unwrap_or}
+use Rattle.std.specs.List.{list_any, remove, zip}
+use Rattle.std.specs.Option.{option_map_or}
 use Rattle.job_graph.specs.declared.unfolding.Unfolding.{Unfolding}
 use Rattle.job_rows.specs.declared.refusal.RecordRefusal.{RecordRefusal}
 use Rattle.job_rows.specs.declared.row.Row.{Row}
+use Rattle.proc_host.specs.declared.call.HostFault.{HostFault}
 use Rattle.run_rules.specs.declared.outcome.Cause.{Cause}
 use Rattle.run_rules.specs.declared.outcome.Note.{Note}
 use Rattle.run_rules.specs.declared.outcome.NoteKind.{NoteKind}
@@ -18,7 +20,7 @@ use Rattle.run_core.specs.declared.state.Flight.{Flight}
 use Rattle.run_core.specs.declared.job_states.JobState.{JobState}
 use Rattle.run_core.specs.declared.state.Kept.{Kept}
 use Rattle.run_core.specs.inner.FoundRows.{row_in, rows_after}
-use Rattle.run_core.specs.inner.JobStates.{brought_in, given_up_in, staged_in}
+use Rattle.run_core.specs.inner.JobStates.{brought_in, given_up_in, loaded_in, missed_in, staged_in}
 
 -- the known jobs, by number
 abbrev pub known_in : Option Unfolding → List Job
@@ -37,6 +39,7 @@ pub record Past : Type 0 where
   pub folders : ℕ
   pub looked_up : ℕ
   pub rows : List (Option Row)
+  pub lost : List (List ℕ)
   pub notes : List Note
   pub end : Option (Result Outcome RunFault)
 
@@ -48,12 +51,13 @@ past_of course = record {
   folders = course.folders;
   looked_up = course.looked_up;
   rows = course.rows;
+  lost = course.lost.items;
   notes = course.notes.items;
   end = course.end;
 }
 
 abbrev pub nothing_past : Past
-nothing_past = record { tickets = []; flights = []; jobs = []; folders = 0; looked_up = 0; rows = []; notes = []; end = None }
+nothing_past = record { tickets = []; flights = []; jobs = []; folders = 0; looked_up = 0; rows = []; lost = []; notes = []; end = None }
 
 -- the place of the job of a number
 abbrev pub place_at : List Job → ℕ → JobPlace
@@ -68,6 +72,12 @@ abbrev pub number_in : List Job → List JobState → JobPlace → ℕ
 number_in [] states place = 0
 number_in (job ∷ jobs) [] place = 0
 number_in (job ∷ jobs) (state ∷ states) place = cond (is_same_place job.place place) state.folder (number_in jobs states place)
+
+-- whether these are the folders of a fetch
+abbrev pub fetched_in : List Job → List JobState → JobPlace → Bool
+fetched_in [] states place = false
+fetched_in (job ∷ jobs) [] place = false
+fetched_in (job ∷ jobs) (state ∷ states) place = cond (is_same_place job.place place) state.fetched (fetched_in jobs states place)
 
 -- the first failure settles the end
 abbrev pub with_end : Result Outcome RunFault → Past → Past
@@ -86,6 +96,22 @@ with_note note past = record past { notes = past.notes ++ note ∷ [] }
 abbrev pub put_note : JobPlace → RecordRefusal → Note
 put_note place refusal = record { place = place; kind = NoteKind.Put refusal }
 
+-- the files of the job at a place could not be archived
+abbrev pub store_note : JobPlace → HostFault → Note
+store_note place fault = record { place = place; kind = NoteKind.Store fault }
+
+-- a call for the job at a place failed once the end was settled
+abbrev pub late_note : JobPlace → HostFault → Note
+late_note place fault = record { place = place; kind = NoteKind.Late fault }
+
+-- a call for the job at a place failed: that settles the end, and where it was settled before, it is noted
+abbrev pub fault_after : Option (Result Outcome RunFault) → JobPlace → HostFault → Past → Past
+fault_after None place fault past = with_end (Err (RunFault.Host fault [])) past
+fault_after (Some end) place fault past = with_note (late_note place fault) past
+
+abbrev pub with_fault : JobPlace → HostFault → Past → Past
+with_fault place fault past = fault_after past.end place fault past
+
 -- the end by a job that gives no outputs: a mismatch where a row was found for it
 abbrev pub failure_by : Option Row → JobPlace → Cause → Result Outcome RunFault
 failure_by None place cause = Ok (Outcome.PermanentFail place cause)
@@ -93,6 +119,29 @@ failure_by (Some row) place cause = Err (RunFault.Mismatch place)
 
 abbrev pub failure_in : Past → ℕ → JobPlace → Cause → Result Outcome RunFault
 failure_in past number place cause = failure_by (row_in past.rows number) place cause
+
+-- the files of the job of a number were fetched
+abbrev pub with_load : ℕ → Past → Past
+with_load number past = record past { folders = past.folders + 1; jobs = loaded_in number (past.folders + 1) past.jobs }
+
+-- the key of the row that was found for the job of a number; empty where there is none
+abbrev pub key_in : List (Option Row) → ℕ → List ℕ
+key_in rows number = option_map_or (λ (row : Row). row.key) (row_in rows number) []
+
+-- what was fetched is not what its row has
+abbrev pub with_loss : ℕ → Past → Past
+with_loss number past = record past {
+  folders = past.folders + 1;
+  jobs = missed_in number past.jobs;
+  lost = past.lost ++ key_in past.rows number ∷ [];
+}
+
+abbrev pub is_lost_in : List (List ℕ) → List ℕ → Bool
+is_lost_in lost key = list_any (λ other. bytes_eq other key) lost
+
+-- the record refused to note that the archive of the row of the job at a place is gone
+abbrev pub drop_note : JobPlace → RecordRefusal → Note
+drop_note place refusal = record { place = place; kind = NoteKind.Drop refusal }
 
 abbrev pub with_staging : ℕ → Past → Past
 with_staging number past = record past { folders = past.folders + 1; jobs = staged_in number (past.folders + 1) past.jobs }

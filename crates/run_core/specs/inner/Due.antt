@@ -1,5 +1,5 @@
 -- What the open work on one job is, as the rules of a run have it: what its phase and its call stand for, and what may come next.
-use Rattle.std.specs.Prelude.{◌≡◌, ◌<◌, ◌^◌, ℕ, List, [], ◌∷◌, ◌++◌, Option, Some, None, Ok, Err, length, reverse, unwrap_or, ◌≢◌, option_copied}
+use Rattle.std.specs.Prelude.{◌≡◌, ◌<◌, ◌^◌, ℕ, Bool, List, [], ◌∷◌, ◌++◌, Option, Some, None, Ok, Err, length, reverse, unwrap_or, ◌≢◌, option_copied}
 use Rattle.collected_outputs.specs.Collected.{IsCollected}
 use Rattle.collected_outputs.specs.HeadsWanted.{AreHeadsWanted, limit_of}
 use Rattle.collected_outputs.specs.Listing.{listing_of}
@@ -20,7 +20,7 @@ use Rattle.run_rules.specs.declared.setting.Options.{Options}
 use Rattle.job_graph.specs.Words.{Name, Fields, JobPlace}
 use Rattle.collected_outputs.specs.Contents.{Heads}
 use Rattle.run_rules.specs.CollectsOn.{CollectsOn}
-use Rattle.run_rules.specs.Events.{Event, job_failed, job_succeeded, Work, nothing_due, input_heads_due, start_due, scan_due, output_heads_due, Started, row_differs, put_due, job_repeated}
+use Rattle.run_rules.specs.Events.{Event, job_failed, job_succeeded, Work, nothing_due, input_heads_due, start_due, scan_due, output_heads_due, Started, row_differs, put_due, job_repeated, store_due, drop_due}
 use Rattle.run_rules.specs.Folders.{out_folder, runtime_of}
 use Rattle.job_graph.specs.Jobs.{Job}
 use Rattle.run_rules.specs.StartsOn.{StartsOn}
@@ -31,7 +31,7 @@ use Rattle.run_core.specs.declared.state.JobPhase.{JobPhase}
 use Rattle.run_core.specs.declared.state.Kept.{Kept}
 use Rattle.run_core.specs.declared.state.Reading.{Reading}
 use Rattle.job_rows.specs.declared.row.Row.{Row}
-use Rattle.run_rules.specs.Keeps.{Keeps}
+use Rattle.run_rules.specs.Keeps.{Keeps, work_to_keep}
 
 -- the work on the job at a place that a call and a phase stand for
 abbrev pub work_of : JobPlace → HostRequest → JobPhase → Work
@@ -52,14 +52,17 @@ call_for options folder (output_heads_due place millis found [] read) = None
 call_for options folder (output_heads_due place millis found (name ∷ todo) read) =
     Some (HostRequest.Head (path_in (out_folder options.work folder) name) (limit_of name))
 call_for options folder (put_due place row) = None
+call_for options folder (drop_due place its_key) = None
+call_for options folder (store_due place row) = None
 
-abbrev pub work_next : JobPlace → JobNext → Work
-work_next place (JobNext.Asks call phase) = work_of place call phase
-work_next place (JobNext.Fails cause) = nothing_due
-work_next place (JobNext.Gives outputs None) = nothing_due
-work_next place (JobNext.Gives outputs (Some row)) = put_due place row
-work_next place (JobNext.Differs outputs) = nothing_due
-work_next place (JobNext.Repeats row) = put_due place row
+-- the work that comes next, where an archive is kept or not
+abbrev pub work_next : Bool → JobPlace → JobNext → Work
+work_next keep place (JobNext.Asks call phase) = work_of place call phase
+work_next keep place (JobNext.Fails cause) = nothing_due
+work_next keep place (JobNext.Gives outputs None) = nothing_due
+work_next keep place (JobNext.Gives outputs (Some row)) = work_to_keep keep place row
+work_next keep place (JobNext.Differs outputs) = nothing_due
+work_next keep place (JobNext.Repeats row) = work_to_keep keep place row
 
 abbrev pub events_next : JobPlace → JobNext → List Event
 events_next place (JobNext.Asks call phase) = []
@@ -122,14 +125,14 @@ job_at_site site place = record { place = place; tool = site.tool.now; inputs = 
 -- the staged job goes on so, where these first bytes of its inputs were read and those of these paths are not
 pub record Starts (site : Site) (staged : Fields) (read : Heads) (todo : List Name) (next : JobNext) : Type 0 where
   pub on : (place : JobPlace) →
-      StartsOn site.options.now place (job_at_site site place) site.folder staged read todo (work_next place next) (events_next place next)
+      StartsOn site.options.now place (job_at_site site place) site.folder staged read todo (work_next site.options.now.keep place next) (events_next place next)
   pub calls : CallsNext site.options.now site.folder next
 
 -- the job whose child ended well after so long goes on so, where this was found, these first bytes were read and those of these names are
 -- not
 pub record Collects (site : Site) (kept : Kept) (millis : ℕ) (found : List Found) (read : Heads) (todo : List Name) (next : JobNext) : Type 0 where
   pub on : (place : JobPlace) (started : Started) → IsKept kept started →
-      CollectsOn place (job_at_site site place) (option_copied site.row) started millis found read todo (work_next place next) (events_next place next)
+      CollectsOn site.options.now.keep place (job_at_site site place) (option_copied site.row) started millis found read todo (work_next site.options.now.keep place next) (events_next place next)
   pub calls : CallsNext site.options.now site.folder next
   pub keeps : KeepsStill kept next
 
@@ -171,7 +174,8 @@ told_in (Some found) outputs row = JobNext.Repeats row
 
 -- the collected outputs of the job at this site are kept so
 pub record KeepsAt (site : Site) (millis : ℕ) (found : List Found) (outputs : Fields) (next : JobNext) : Type 0 where
-  pub on : (place : JobPlace) → Keeps place (job_at_site site place) (option_copied site.row) millis found outputs (work_next place next) (events_next place next)
+  pub on : (place : JobPlace) →
+      Keeps site.options.now.keep place (job_at_site site place) (option_copied site.row) millis found outputs (work_next site.options.now.keep place next) (events_next place next)
   pub asks_nothing : AsksNothing next
 
 -- the outputs are collected, or there is a cause why there are none

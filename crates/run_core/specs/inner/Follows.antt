@@ -1,5 +1,5 @@
 -- What the machine turns to after each answer.
-use Rattle.std.specs.Prelude.{◌≡◌, ◌≤◌, ◌<◌, ◌+◌, ◌^◌, ℕ, List, [], Result, Some, Ok, Err, Contains, length, slice_get}
+use Rattle.std.specs.Prelude.{◌≡◌, ◌≤◌, ◌<◌, ◌+◌, ◌^◌, ℕ, true, false, List, [], Result, Some, Ok, Err, Contains, length, slice_get}
 use Rattle.std.specs.List.{remove}
 use Rattle.proc_host.specs.Tickets.{without}
 use Rattle.proc_host.specs.declared.call.HostAnswer.{HostAnswer}
@@ -12,15 +12,16 @@ use Rattle.run_rules.specs.declared.request.RecordAnswer.{RecordAnswer}
 use Rattle.run_rules.specs.declared.request.RecordRequest.{RecordRequest}
 use Rattle.run_rules.specs.declared.request.Request.{Request}
 use Rattle.run_rules.specs.Answers.{flying_after}
+use Rattle.job_graph.specs.Words.{JobPlace}
 use Rattle.run_core.specs.declared.state.Course.{Course}
 use Rattle.run_core.specs.declared.state.Flight.{Flight}
 use Rattle.run_core.specs.declared.state.Given.{Given}
 use Rattle.run_core.specs.declared.state.JobPhase.{JobPhase}
 use Rattle.run_core.specs.declared.state.Phase.{Phase}
 use Rattle.run_core.specs.declared.state.Turn.{Turn}
-use Rattle.run_core.specs.inner.Course.{Past, known_in, past_of}
+use Rattle.run_core.specs.inner.Course.{Past, known_in, past_of, place_at, store_note, with_note}
 use Rattle.run_core.specs.inner.Measures.{TakesMeasure}
-use Rattle.run_core.specs.inner.Picks.{AfterChild, AfterFault, AfterFind, AfterInputHead, AfterListing, AfterOutputHead, AfterStaging, AfterStart, AfterPut}
+use Rattle.run_core.specs.inner.Picks.{AfterChild, AfterFault, AfterFind, AfterInputHead, AfterListing, AfterOutputHead, AfterStaging, AfterStart, AfterPut, PutsRow, AfterFetch, AfterDrop}
 use Rattle.run_core.specs.inner.Standing.{pairs_ahead}
 use Rattle.run_core.specs.inner.Turn.{ends, lost_after, succeeds}
 
@@ -45,6 +46,8 @@ abbrev pub AsksOf : Course → Request → Phase → Type 0
 AsksOf course (Request.Host place (HostRequest.Measure path)) (Phase.Measuring measuring) = Unit {0}
 AsksOf course (Request.Record place (RecordRequest.Find key)) (Phase.Finding job) = job < length (known_in course.known)
 AsksOf course (Request.Record place (RecordRequest.Put row)) (Phase.Putting job) = job < length (known_in course.known)
+AsksOf course (Request.Record place (RecordRequest.DropArchive key)) (Phase.Dropping job) = job < length (known_in course.known)
+AsksOf course (Request.Host place (HostRequest.Fetch key number files)) (Phase.Fetching job) = job < length (known_in course.known)
 AsksOf course (Request.Host place (HostRequest.Stage plan folder)) (Phase.Staging job) = CanStage course job
 AsksOf course (Request.Host place (HostRequest.Head path limit)) (Phase.Working job (JobPhase.Filling filling)) = job < length course.jobs
 AsksOf course (Request.Host place (HostRequest.Start launch)) (Phase.Working job (JobPhase.Starting kept)) = job < length course.jobs
@@ -54,7 +57,13 @@ AsksOf course (Request.Host place HostRequest.Collect) Phase.Collecting = Unit {
 AsksOf course (Request.Host place HostRequest.Collect) Phase.Draining = Unit {0}
 AsksOf course (Request.Host place (HostRequest.Deliver plan)) (Phase.Delivering outputs) = Unit {0}
 AsksOf course Request.Finished (Phase.Ended outcome) = Unit {0}
+AsksOf course (Request.Host place (HostRequest.Store key folder files)) (Phase.Storing job row) = job < length (known_in course.known)
 AsksOf course asks phase = ⊥
+
+-- the job whose files are archived is known
+abbrev pub StoresKnown : Course → Phase → Type 0
+StoresKnown course (Phase.Storing job row) = job < length (known_in course.known)
+StoresKnown course phase = Unit {0}
 
 abbrev pub AsksIn : Course → Turn → Type 0
 AsksIn course turn = AsksOf course turn.asks turn.phase
@@ -64,15 +73,23 @@ pub record Drains (old : Course) (ending : ChildEnd) (turn : Turn) (new : Course
   pub tickets : new.tickets.items ≡ without ending.ticket old.tickets.items
   pub is : turn ≡ lost_after (past_of new)
 
--- a call failed; after a failed collect nobody waits for the children in flight any more
-abbrev pub AfterFailure : Given → Course → Phase → HostFault → Turn → Course → Type 0
-AfterFailure given old Phase.Collecting fault turn new = (turn ≡ ends (Err (RunFault.Host fault old.tickets.items))) × (new.known ≡ old.known) × (new.tickets.items ≡ []) × ((past_of new).notes ≡ (past_of old).notes)
-AfterFailure given old Phase.Draining fault turn new = (turn ≡ ends (Err RunFault.OutOfMemory)) × (new.tickets.items ≡ [])
-AfterFailure given old phase fault turn new = AfterFault given old fault turn new
+-- the place of the job that is asked for
+abbrev pub asked_at : Request → JobPlace
+asked_at (Request.Host place call) = place
+asked_at (Request.Record place command) = place
+asked_at Request.Finished = []
+
+-- a call failed; after a failed collect nobody waits for the children in flight any more, and where a job's files could not be archived, its row
+-- is put all the same
+abbrev pub AfterFailure : Given → Course → Request → Phase → HostFault → Turn → Course → Type 0
+AfterFailure given old asks Phase.Collecting fault turn new = (turn ≡ ends (Err (RunFault.Host fault old.tickets.items))) × (new.known ≡ old.known) × (new.tickets.items ≡ []) × ((past_of new).notes ≡ (past_of old).notes)
+AfterFailure given old asks Phase.Draining fault turn new = (turn ≡ ends (Err RunFault.OutOfMemory)) × (new.tickets.items ≡ [])
+AfterFailure given old asks (Phase.Storing number row) fault turn new =
+    PutsRow old number (record row { archived = false }) (with_note (store_note (place_at (known_in old.known) number) fault) (past_of old)) turn new
+AfterFailure given old asks phase fault turn new = AfterFault given old (asked_at asks) fault turn new
 
 -- the open work on a job goes on, by what it waits for
 abbrev pub FollowsWork : Given → Course → ℕ → JobPhase → HostAnswer → Turn → Course → Type 0
-FollowsWork given old number work (HostAnswer.Failed fault) turn new = AfterFault given old fault turn new
 FollowsWork given old number (JobPhase.Filling filling) (HostAnswer.FirstBytes bytes) turn new = AfterInputHead given old number filling bytes turn new
 FollowsWork given old number (JobPhase.Starting kept) (HostAnswer.Started ticket) turn new = AfterStart given old number kept ticket turn new
 FollowsWork given old number (JobPhase.Scanning kept millis) (HostAnswer.Listed found) turn new = AfterListing given old number kept millis found turn new
@@ -81,19 +98,22 @@ FollowsWork given old number work answer turn new = ⊥
 
 -- what follows from an answer, by where the machine was
 abbrev pub FollowsIn : Given → Course → Phase → HostAnswer → Request → Turn → Course → Type 0
-FollowsIn given old phase (HostAnswer.Failed fault) asks turn new = AfterFailure given old phase fault turn new
+FollowsIn given old phase (HostAnswer.Failed fault) asks turn new = AfterFailure given old asks phase fault turn new
 FollowsIn given old (Phase.Measuring measuring) (HostAnswer.Measured measure) asks turn new = TakesMeasure given old measuring measure turn new
+FollowsIn given old (Phase.Fetching number) (HostAnswer.Fetched found) asks turn new = AfterFetch given old number found turn new
 FollowsIn given old (Phase.Staging number) HostAnswer.Done (Request.Host place (HostRequest.Stage plan folder)) turn new = AfterStaging given old number plan.value turn new
 FollowsIn given old (Phase.Working number work) answer asks turn new = FollowsWork given old number work answer turn new
 FollowsIn given old Phase.Collecting (HostAnswer.Ended ending) asks turn new = AfterChild given old ending turn new
 FollowsIn given old Phase.Draining (HostAnswer.Ended ending) asks turn new = Drains old ending turn new
 FollowsIn given old (Phase.Delivering outputs) HostAnswer.Done asks turn new = (turn ≡ succeeds outputs) × (new ≡ old)
+FollowsIn given old (Phase.Storing number row) HostAnswer.Done asks turn new = PutsRow old number (record row { archived = true }) (past_of old) turn new
 FollowsIn given old phase answer asks turn new = ⊥
 
 -- what follows from an answer of the record's
 abbrev pub FollowsRecord : Given → Course → Phase → RecordAnswer → Turn → Course → Type 0
 FollowsRecord given old (Phase.Finding number) answer turn new = AfterFind given old number answer turn new
 FollowsRecord given old (Phase.Putting number) answer turn new = AfterPut given old number answer turn new
+FollowsRecord given old (Phase.Dropping number) answer turn new = AfterDrop given old number answer turn new
 FollowsRecord given old phase answer turn new = ⊥
 
 abbrev pub FollowsFrom : Given → Course → Turn → Answer → Turn → Course → Type 0
@@ -114,7 +134,7 @@ IsOfAFind (RecordAnswer.Found row) = Unit {0}
 IsOfAFind (RecordAnswer.Refused refusal) = Unit {0}
 IsOfAFind RecordAnswer.Done = ⊥
 
--- and a put
+-- and a put, or a drop
 abbrev pub IsOfAPut : RecordAnswer → Type 0
 IsOfAPut RecordAnswer.Done = Unit {0}
 IsOfAPut (RecordAnswer.Refused refusal) = Unit {0}
@@ -124,6 +144,7 @@ IsOfAPut (RecordAnswer.Found row) = ⊥
 abbrev pub WaitsForRecord : Course → Phase → RecordAnswer → Type 0
 WaitsForRecord course (Phase.Finding number) answer = (number < length (known_in course.known)) × IsOfAFind answer
 WaitsForRecord course (Phase.Putting number) answer = (number < length (known_in course.known)) × IsOfAPut answer
+WaitsForRecord course (Phase.Dropping number) answer = (number < length (known_in course.known)) × IsOfAPut answer
 WaitsForRecord course phase answer = ⊥
 
 abbrev pub IsStaging : Request → Type 0

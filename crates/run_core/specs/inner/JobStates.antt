@@ -7,7 +7,7 @@ use Rattle.run_core.specs.declared.job_states.JobState.{JobState}
 
 -- of a job that was never touched
 abbrev pub untouched : JobState
-untouched = record { waits = true; at_hand = false; folder = 0; gave_up = 0 }
+untouched = record { waits = true; at_hand = false; tried = false; folder = 0; fetched = false; gave_up = 0 }
 
 abbrev pub state_at : List JobState → ℕ → JobState
 state_at states n = slice_index_or states n untouched
@@ -17,8 +17,8 @@ waits_in states n = (state_at states n).waits
 
 -- the job of a number has these folders, and waits no more
 abbrev pub staged_in : ℕ → ℕ → List JobState → List JobState
-staged_in zero folder [] = record { waits = false; at_hand = false; folder = folder; gave_up = 0 } ∷ []
-staged_in zero folder (job ∷ jobs) = record job { waits = false; folder = folder } ∷ jobs
+staged_in zero folder [] = record { waits = false; at_hand = false; tried = false; folder = folder; fetched = false; gave_up = 0 } ∷ []
+staged_in zero folder (job ∷ jobs) = record job { waits = false; folder = folder; fetched = false } ∷ jobs
 staged_in (suc number) folder [] = untouched ∷ staged_in number folder []
 staged_in (suc number) folder (job ∷ jobs) = job ∷ staged_in number folder jobs
 
@@ -27,6 +27,23 @@ abbrev pub given_up_in : ℕ → List JobState → List JobState
 given_up_in number [] = []
 given_up_in zero (job ∷ jobs) = record job { waits = true; gave_up = job.gave_up + 1 } ∷ jobs
 given_up_in (suc number) (job ∷ jobs) = job ∷ given_up_in number jobs
+
+-- the files of the job of a number were fetched to this folder: it waits no more, and they are at hand
+abbrev pub load_state : ℕ → JobState → JobState
+load_state folder job = record job { waits = false; at_hand = true; tried = true; folder = folder; fetched = true }
+
+abbrev pub loaded_in : ℕ → ℕ → List JobState → List JobState
+loaded_in zero folder [] = load_state folder untouched ∷ []
+loaded_in zero folder (job ∷ jobs) = load_state folder job ∷ jobs
+loaded_in (suc number) folder [] = untouched ∷ loaded_in number folder []
+loaded_in (suc number) folder (job ∷ jobs) = job ∷ loaded_in number folder jobs
+
+-- what was fetched for the job of a number was not what its row has
+abbrev pub missed_in : ℕ → List JobState → List JobState
+missed_in zero [] = record untouched { tried = true } ∷ []
+missed_in zero (job ∷ jobs) = record job { tried = true } ∷ jobs
+missed_in (suc number) [] = untouched ∷ missed_in number []
+missed_in (suc number) (job ∷ jobs) = job ∷ missed_in number jobs
 
 -- the outputs of the job of a number are at hand
 abbrev pub brought_in : ℕ → List JobState → List JobState

@@ -1,9 +1,9 @@
 -- What the machine keeps of the events of its run.
-use Rattle.std.specs.Prelude.{◌≡◌, ◌≤◌, ◌+◌, ℕ, true, false, List, Option, Some, None, Contains, is_some, length, map, option_map}
+use Rattle.std.specs.Prelude.{◌≡◌, ◌≤◌, ◌+◌, ◌||◌, ℕ, true, false, List, Option, Some, None, Contains, is_some, length, map, option_map}
 use Rattle.std.specs.List.{list_any}
 use Rattle.job_graph.specs.Jobs.{Job}
 use Rattle.run_rules.specs.End.{is_lost_collect, settled}
-use Rattle.run_rules.specs.Events.{Event, Started, are_measured, delivered_at, measures, resolved, started_at, unfolding_at, row_at}
+use Rattle.run_rules.specs.Events.{Event, Started, are_measured, delivered_at, is_lost, measures, resolved, started_at, unfolding_at, row_at}
 use Rattle.run_rules.specs.Reports.{outcome_of, notes_of}
 use Rattle.run_rules.specs.Scene.{Scene}
 use Rattle.run_rules.proofs.events.Course.{Course as Books, Keeps as AreKept}
@@ -13,7 +13,7 @@ use Rattle.run_rules.proofs.events.Places.{IsJob}
 use Rattle.run_rules.proofs.events.Tally.{readings}
 use Rattle.run_core.specs.declared.state.Course.{Course}
 use Rattle.run_core.specs.declared.state.Flight.{Flight}
-use Rattle.run_core.specs.inner.Course.{Past, known_in, past_of}
+use Rattle.run_core.specs.inner.Course.{Past, is_lost_in, known_in, past_of}
 use Rattle.run_core.specs.inner.Due.{IsKept}
 use Rattle.run_core.specs.inner.JobStates.{is_there, state_at, waits_in}
 use Rattle.run_core.specs.inner.Knows.{IsKnown}
@@ -31,6 +31,7 @@ course_of past at_work gave_up = record {
   waits = waits_in past.jobs;
   at_hand = is_there past.jobs;
   folder = λ n. (state_at past.jobs n).folder;
+  fetched = λ n. (state_at past.jobs n).fetched;
   gave_up = gave_up;
   folders = past.folders;
   at_work = at_work;
@@ -68,6 +69,17 @@ pub record AreFound (jobs : List Job) (es : List Event) (rows : List (Option Row
   pub few : length rows ≤ looked_up
   pub each : (n : ℕ) (job : Job) → IsJob jobs n job → row_at es job.place ≡ row_in rows n
 
+-- the files of a job were asked for: they are at hand, or the archive of its row is lost
+pub record IsTriedOnce (past : Past) (number : ℕ) : Type 0 where
+  pub row : Row
+  pub found : row_in past.rows number ≡ Some row
+  pub gone : (is_there past.jobs number || is_lost_in past.lost row.key) ≡ true
+
+pub record AreTriedOnce (past : Past) : Type 0 where
+  pub each : (number : ℕ) → (state_at past.jobs number).tried ≡ true → IsTriedOnce past number
+  -- and where files are of a fetch, the job's outputs are at hand
+  pub there : (number : ℕ) → (state_at past.jobs number).fetched ≡ true → is_there past.jobs number ≡ true
+
 -- a course is what has happened, with the number of the job that is worked on: no collect has failed, nothing was delivered, and unless
 -- the end is settled each input file is measured and all is known by the rules
 pub record Reflects (s : Scene) (es : List Event) (course : Course) (at_work : Option ℕ) : Type 0 where
@@ -79,3 +91,5 @@ pub record Reflects (s : Scene) (es : List Event) (course : Course) (at_work : O
   pub looks : LooksUp (known_in course.known) es course.looked_up
   pub rows : AreFound (known_in course.known) es course.rows course.looked_up
   pub notes : course.notes.items ≡ notes_of es
+  pub lost : (key : List ℕ) → is_lost es key ≡ is_lost_in course.lost.items key
+  pub tried : AreTriedOnce (past_of course)

@@ -24,7 +24,7 @@ use Rattle.run_rules.specs.declared.request.Request.{Request}
 use Rattle.run_rules.specs.declared.setting.Options.{Options}
 use Rattle.run_rules.specs.Delivered.{any_file, located, source_place}
 use Rattle.run_rules.specs.Events.{is_reusable}
-use Rattle.run_rules.specs.Folders.{in_folder, out_folder}
+use Rattle.run_rules.specs.Folders.{in_folder, left_folder, out_folder}
 use Rattle.job_graph.specs.Jobs.{Job}
 use Rattle.job_graph.specs.Made.{fields_moved}
 use Rattle.job_graph.specs.Words.{Name, Fields, JobPlace, last_by_name}
@@ -40,16 +40,18 @@ use Rattle.run_core.specs.declared.state.Kept.{Kept}
 use Rattle.run_core.specs.declared.state.Phase.{Phase}
 use Rattle.run_core.specs.declared.state.Reading.{Reading}
 use Rattle.run_core.specs.declared.state.Turn.{Turn}
-use Rattle.run_core.specs.inner.Course.{GivesUp, TakesOut, families_in, known_in, number_in, past_of, place_at, with_answer, with_end, with_staging, with_start, failure_in, put_note, with_note, with_hand, Past}
+use Rattle.run_core.specs.inner.Course.{GivesUp, TakesOut, families_in, fetched_in, known_in, number_in, past_of, place_at, with_answer, with_end, with_staging, with_start, failure_in, put_note, with_note, with_hand, with_load, with_loss, drop_note, Past, with_fault}
+use Rattle.run_core.specs.inner.Fetches.{AgreesAt, Drops, Fetches, IsNextToFetch, NoneToFetch}
 use Rattle.run_core.specs.inner.Due.{CollectsFirst, CollectsPast, Scans, Starts, StartsPast}
-use Rattle.run_core.specs.inner.JobStates.{IsLowest, NoneReady}
+use Rattle.run_core.specs.inner.JobStates.{IsLowest, NoneReady, state_at}
 use Rattle.run_core.specs.inner.Knows.{GivesAt, LearnsUnlessOver, outputs_in}
-use Rattle.run_core.specs.inner.Turn.{collects, ends, root_asks, succeeds, works, puts}
+use Rattle.run_core.specs.inner.Turn.{collects, ends, root_asks, succeeds, works, puts, keeps_row}
 use Rattle.run_core.specs.inner.FoundRows.{row_in}
 
 -- the folder that has the outputs of the job at a place
 abbrev pub folder_in : Options → Course → JobPlace → Name
-folder_in options course place = out_folder options.work (number_in (known_in course.known) course.jobs place)
+folder_in options course place =
+    left_folder options.work (fetched_in (known_in course.known) course.jobs place) (number_in (known_in course.known) course.jobs place)
 
 -- the values, where files that jobs made are at their paths
 abbrev pub sources_in : Options → Course → Fields → Fields
@@ -121,23 +123,26 @@ pub data Picks (given : Given) (old : Course) : Turn → Course → Type 0 where
       (past_of new).notes ≡ (past_of old).notes → Picks given old (ends end) new
   finds : (number : ℕ) (turn : Turn) (new : Course) → old.end ≡ None → IsNextToFind old number → Finds old number turn → past_of new ≡ past_of old →
       new.known ≡ old.known → Picks given old turn new
-  stages : (number : ℕ) (turn : Turn) (new : Course) → old.end ≡ None → NoneToFind old → length old.tickets.items < given.options.slots →
+  fetches : (number : ℕ) (turn : Turn) (new : Course) → old.end ≡ None → NoneToFind old → IsNextToFetch given old number → Fetches old number turn →
+      past_of new ≡ past_of old → new.known ≡ old.known → Picks given old turn new
+  stages : (number : ℕ) (turn : Turn) (new : Course) → old.end ≡ None → NoneToFind old → NoneToFetch given old → length old.tickets.items < given.options.slots →
       IsLowest (families_in old.known) old.jobs number → Stages given old number turn → past_of new ≡ past_of old → new.known ≡ old.known → Picks given old turn new
-  waits_for_one : (new : Course) → old.end ≡ None → NoneToFind old → old.tickets.items ≢ [] → NoneToStage given old → past_of new ≡ past_of old → new.known ≡ old.known →
+  waits_for_one : (new : Course) → old.end ≡ None → NoneToFind old → NoneToFetch given old → old.tickets.items ≢ [] → NoneToStage given old → past_of new ≡ past_of old → new.known ≡ old.known →
       Picks given old collects new
-  has_result : (turn : Turn) (new : Course) → old.end ≡ None → NoneToFind old → old.tickets.items ≡ [] → NoneToStage given old → Delivers given old turn →
+  has_result : (turn : Turn) (new : Course) → old.end ≡ None → NoneToFind old → NoneToFetch given old → old.tickets.items ≡ [] → NoneToStage given old → Delivers given old turn →
       past_of new ≡ past_of old → new.known ≡ old.known → Picks given old turn new
 
--- the row of the job of a number, which is at this place, is put
-pub record Puts (place : JobPlace) (old : Course) (number : ℕ) (row : Row) (turn : Turn) (new : Course) : Type 0 where
-  pub is : turn ≡ puts place number row
+-- the row of the job of a number, which is at this place and was staged in this folder, is kept: it is put, once its files are archived where an
+-- archive is kept
+pub record Puts (given : Given) (place : JobPlace) (folder : ℕ) (old : Course) (number : ℕ) (row : Row) (turn : Turn) (new : Course) : Type 0 where
+  pub is : turn ≡ keeps_row given.options.keep (out_folder given.options.work folder) place number row
   pub past : past_of new ≡ past_of old
   pub known : new.known ≡ old.known
 
 -- where there is one, and else nothing is due
-abbrev pub PutsOrPicks : Given → JobPlace → Course → ℕ → Option Row → Turn → Course → Type 0
-PutsOrPicks given place old number None turn new = Picks given old turn new
-PutsOrPicks given place old number (Some row) turn new = Puts place old number row turn new
+abbrev pub PutsOrPicks : Given → JobPlace → ℕ → Course → ℕ → Option Row → Turn → Course → Type 0
+PutsOrPicks given place folder old number None turn new = Picks given old turn new
+PutsOrPicks given place folder old number (Some row) turn new = Puts given place folder old number row turn new
 
 -- a job goes on, or it has failed, or its outputs are there
 pub data Turns (given : Given) (old : Course) (number : ℕ) : JobNext → Turn → Course → Type 0 where
@@ -147,9 +152,9 @@ pub data Turns (given : Given) (old : Course) (number : ℕ) : JobNext → Turn 
       past_of failed ≡ with_end (failure_in (past_of old) number (place_at (known_in old.known) number) cause) (past_of old) → failed.known ≡ old.known →
       Picks given failed turn new → Turns given old number (JobNext.Fails cause) turn new
   gives : (outputs : Fields) (row : Option Row) (learned : Course) (turn : Turn) (new : Course) → GivesAt number outputs old learned →
-      PutsOrPicks given (place_at (known_in old.known) number) learned number row turn new → Turns given old number (JobNext.Gives outputs row) turn new
+      PutsOrPicks given (place_at (known_in old.known) number) (state_at old.jobs number).folder learned number row turn new → Turns given old number (JobNext.Gives outputs row) turn new
   repeats : (row : Row) (there : Course) (turn : Turn) (new : Course) → past_of there ≡ with_hand number (past_of old) → there.known ≡ old.known →
-      Puts (place_at (known_in old.known) number) there number row turn new → Turns given old number (JobNext.Repeats row) turn new
+      Puts given (place_at (known_in old.known) number) (state_at old.jobs number).folder there number row turn new → Turns given old number (JobNext.Repeats row) turn new
   mismatches : (outputs : Fields) (failed : Course) (turn : Turn) (new : Course) →
       past_of failed ≡ with_end (Err (RunFault.Mismatch (place_at (known_in old.known) number))) (past_of old) → failed.known ≡ old.known →
       Picks given failed turn new → Turns given old number (JobNext.Differs outputs) turn new
@@ -272,9 +277,33 @@ pub record AfterPut (given : Given) (old : Course) (number : ℕ) (answer : Reco
   pub known : noted.known ≡ old.known
   pub picks : Picks given noted turn new
 
--- a call other than a collect failed
-pub record AfterFault (given : Given) (old : Course) (fault : HostFault) (turn : Turn) (new : Course) : Type 0 where
+-- the row of the job of a number is put next, and this is kept of the events
+pub record PutsRow (old : Course) (number : ℕ) (row : Row) (kept : Past) (turn : Turn) (new : Course) : Type 0 where
+  pub is : turn ≡ puts (place_at (known_in old.known) number) number row
+  pub past : past_of new ≡ kept
+  pub known : new.known ≡ old.known
+
+-- the files of the row of the job of a number were fetched, or others were there: its archive is dropped next
+pub data AfterFetch (given : Given) (old : Course) (number : ℕ) (found : List Found) (turn : Turn) (new : Course) : Type 0 where
+  agrees : (loaded : Course) → AgreesAt old number found → past_of loaded ≡ with_load number (past_of old) → loaded.known ≡ old.known → Picks given loaded turn new →
+      AfterFetch given old number found turn new
+  differs : (AgreesAt old number found → ⊥) → Drops old number turn → past_of new ≡ with_loss number (past_of old) → new.known ≡ old.known →
+      AfterFetch given old number found turn new
+
+-- the record has answered whether it is noted that the archive is gone
+abbrev pub dropped_by : JobPlace → RecordAnswer → Past → Past
+dropped_by place (RecordAnswer.Refused refusal) past = with_note (drop_note place refusal) past
+dropped_by place answer past = past
+
+pub record AfterDrop (given : Given) (old : Course) (number : ℕ) (answer : RecordAnswer) (turn : Turn) (new : Course) : Type 0 where
+  pub noted : Course
+  pub past : past_of noted ≡ dropped_by (place_at (known_in old.known) number) answer (past_of old)
+  pub known : noted.known ≡ old.known
+  pub picks : Picks given noted turn new
+
+-- a call for the job at this place, other than a collect or a store, failed
+pub record AfterFault (given : Given) (old : Course) (place : JobPlace) (fault : HostFault) (turn : Turn) (new : Course) : Type 0 where
   pub settled : Course
-  pub past : past_of settled ≡ with_end (Err (RunFault.Host fault [])) (past_of old)
+  pub past : past_of settled ≡ with_fault place fault (past_of old)
   pub known : settled.known ≡ old.known
   pub picks : Picks given settled turn new

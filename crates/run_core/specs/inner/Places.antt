@@ -1,5 +1,5 @@
 -- Where the files of values go: from the job that made them to their paths, and to locations.
-use Rattle.std.specs.Prelude.{ℕ, List, map}
+use Rattle.std.specs.Prelude.{ℕ, Bool, List, map}
 use Rattle.cwl_value.specs.declared.place.Place.{Place}
 use Rattle.cwl_value.specs.declared.value.Value.{Value, roll-Value}
 use Rattle.cwl_value.specs.declared.value.FileVal.{FileVal, fold-FileVal, out-FileVal, roll-FileVal}
@@ -7,12 +7,13 @@ use Rattle.cwl_value.specs.declared.value.DirVal.{DirVal, fold-DirVal}
 use Rattle.job_graph.specs.KnownJobs.{job_of}
 use Rattle.job_graph.specs.Words.{JobPlace}
 use Rattle.run_rules.specs.Delivered.{source_place, location_place}
-use Rattle.run_rules.specs.Folders.{out_folder}
+use Rattle.run_rules.specs.Folders.{left_folder}
 use Rattle.job_graph.specs.Made.{file_moved, dir_moved}
 use Rattle.run_core.specs.declared.places.Sources.{Sources}
 use Rattle.run_core.specs.declared.places.Way.{Way}
 use Rattle.run_core.specs.declared.places.Way.TheVariants as way
-use Rattle.run_core.specs.inner.Course.{number_in}
+use Rattle.run_core.specs.declared.folders.Left.{Left}
+use Rattle.run_core.specs.inner.Course.{fetched_in, number_in}
 
 -- what is not a value itself
 
@@ -26,13 +27,20 @@ dir_elsewhere move = fold-DirVal Value DirVal FileVal roll-Value (dir_moved move
 abbrev pub file_with : FileVal → Place → List Value → FileVal
 file_with file place secondary = roll-FileVal (record (out-FileVal file) { place = place; secondary = secondary })
 
--- the number of the folders of the job at a place
+-- the number of the folders of the job at a place, and whether these are of a fetch
 abbrev pub number_at_source : Sources → JobPlace → ℕ
 number_at_source sources place = number_in (map (λ known. job_of known.job) sources.known.now) sources.jobs.now place
 
+abbrev pub fetched_at_source : Sources → JobPlace → Bool
+fetched_at_source sources place = fetched_in (map (λ known. job_of known.job) sources.known.now) sources.jobs.now place
+
+abbrev pub left_at_source : Sources → JobPlace → Left
+left_at_source sources place = record { fetched = fetched_at_source sources place; number = number_at_source sources place }
+
 -- what a job made is at its path
 abbrev pub left_place : Sources → Place → Place
-left_place sources place = source_place (λ job. out_folder sources.work.now (number_at_source sources job)) place
+left_place sources place =
+    source_place (λ job. left_folder sources.work.now (fetched_at_source sources job) (number_at_source sources job)) place
 
 abbrev pub place_by : Way → Place → Place
 place_by (way.Left sources) place = left_place sources place

@@ -1,5 +1,5 @@
 -- Where the machine is in its run.
-use Rattle.std.specs.Prelude.{◌≡◌, ◌≢◌, ◌<◌, ◌≤◌, ◌+◌, ℕ, false, List, [], ◌∷◌, ◌++◌, Some, None, Result, Ok, Err, IfErr, length, vec_len, vec_capacity}
+use Rattle.std.specs.Prelude.{◌≡◌, ◌≢◌, ◌<◌, ◌≤◌, ◌+◌, ℕ, true, false, List, [], ◌∷◌, ◌++◌, Some, None, Result, Ok, Err, IfErr, length, vec_len, vec_capacity}
 use Rattle.plan_checker.specs.declared.plan.Mark.{Mark}
 use Rattle.proc_host.specs.declared.call.Entry.{Entry}
 use Rattle.proc_host.specs.declared.call.HostRequest.{HostRequest}
@@ -13,12 +13,12 @@ use Rattle.run_rules.specs.declared.request.Pair.{Pair}
 use Rattle.job_key.specs.Key.{key}
 use Rattle.run_rules.specs.declared.request.RecordRequest.{RecordRequest}
 use Rattle.run_rules.specs.declared.request.Request.{Request}
-use Rattle.run_rules.specs.Allowed.{MayFind, MayStage, MayCollect, MayDeliver}
+use Rattle.run_rules.specs.Allowed.{MayFetch, MayFind, MayStage, MayCollect, MayDeliver}
 use Rattle.run_rules.specs.Blame.{BlamesRightly, IsToBlame}
 use Rattle.run_rules.specs.Delivered.{located}
 use Rattle.run_rules.specs.End.{End}
 use Rattle.run_rules.specs.EndsSo.{EndsSo}
-use Rattle.run_rules.specs.Events.{Event, Progress, Started, is_reusable, nothing_due, started_at, put_due}
+use Rattle.run_rules.specs.Events.{Event, Progress, Started, is_reusable, nothing_due, started_at, put_due, store_due, folder_at, drop_due}
 use Rattle.run_rules.specs.Plans.{InForce}
 use Rattle.run_rules.specs.Reports.{AreWaits, outcome_of, notes_of}
 use Rattle.run_rules.specs.Run.{Goes}
@@ -34,8 +34,10 @@ use Rattle.run_core.specs.inner.Course.{Past, families_in, known_in, nothing_pas
 use Rattle.run_core.specs.inner.Due.{Calls, IsKept, work_of}
 use Rattle.run_core.specs.inner.Keeps.{Reflects}
 use Rattle.run_core.specs.inner.Measured.{IsMeasuring, measured_by}
-use Rattle.run_core.specs.inner.Turn.{collects, ends, waits, works, puts}
-use Rattle.run_core.specs.inner.JobStates.{IsLowest, NoneWaits, state_at}
+use Rattle.run_core.specs.inner.Turn.{collects, ends, waits, works, puts, stores}
+use Rattle.run_core.specs.inner.JobStates.{IsLowest, NoneWaits, state_at, waits_in}
+use Rattle.run_core.specs.inner.Fetches.{NoneLoads}
+use Rattle.run_core.specs.inner.FoundRows.{row_in}
 use Rattle.job_rows.specs.declared.row.Row.{Row}
 
 -- what is kept of the child of a job that has ended well
@@ -73,6 +75,17 @@ pub record FindsNext (s : Scene) (f : Progress) (course : Course) (number : ℕ)
   pub first : (other : ℕ) (its : Job) → IsJob (known_in course.known) other its → course.looked_up ≤ other → other < number → is_reusable its ≡ false
   pub going : course.end ≡ None
 
+-- a job whose files are fetched: the lowest one that waits and can be loaded
+pub record FetchesNext (s : Scene) (f : Progress) (marks : List Mark) (course : Course) (number : ℕ) (job : Job) (row : Row) : Type 0 where
+  pub it : IsJob (known_in course.known) number job
+  pub found : row_in course.rows number ≡ Some row
+  pub may : MayFetch s f marks job.place row.key (course.folders + 1) row.files
+  pub waits : waits_in course.jobs number ≡ true
+  pub untried : (state_at course.jobs number).tried ≡ false
+  pub lowest : NoneLoads course number
+  pub kept : s.options.keep ≡ true
+  pub going : course.end ≡ None
+
 -- what it waits for is what its run has come to: a rule for each phase
 pub data IsAt (s : Scene) (f : Progress) (marks : List Mark) (course : Course) : Turn → Type 0 where
   measuring : (found : List (Name × Measure)) (measuring : Measuring) (rest : List Name) (path : Name) → IsMeasuring s found measuring →
@@ -82,6 +95,12 @@ pub data IsAt (s : Scene) (f : Progress) (marks : List Mark) (course : Course) :
       IsAt s f marks course (record { asks = Request.Record job.place (RecordRequest.Find (key job.tool job.inputs)); phase = Phase.Finding number })
   putting : (number : ℕ) (job : Job) (row : Row) → Reflects s f.events course None → IsJob (known_in course.known) number job → f.work ≡ put_due job.place row →
       IsAt s f marks course (puts job.place number row)
+  fetching : (number : ℕ) (job : Job) (row : Row) → Reflects s f.events course None → FetchesNext s f marks course number job row →
+      IsAt s f marks course (record { asks = Request.Host job.place (HostRequest.Fetch row.key (course.folders + 1) row.files); phase = Phase.Fetching number })
+  dropping : (number : ℕ) (job : Job) (its_key : List ℕ) → Reflects s f.events course None → IsJob (known_in course.known) number job → f.work ≡ drop_due job.place its_key →
+      IsAt s f marks course (record { asks = Request.Record job.place (RecordRequest.DropArchive its_key); phase = Phase.Dropping number })
+  storing : (number : ℕ) (job : Job) (row : Row) → Reflects s f.events course None → IsJob (known_in course.known) number job → f.work ≡ store_due job.place row →
+      IsAt s f marks course (stores job.place number (folder_at s f.events job.place) row)
   staging : (number : ℕ) (job : Job) (plan : StagePlan) → Reflects s f.events course None → IsStaging s f marks course number job plan →
       IsAt s f marks course (record { asks = Request.Host job.place (HostRequest.Stage plan (course.folders + 1)); phase = Phase.Staging number })
   working : (number : ℕ) (job : Job) (call : HostRequest) (phase : JobPhase) → Reflects s f.events course (Some number) →

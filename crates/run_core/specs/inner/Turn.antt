@@ -1,12 +1,12 @@
 -- What the machine may wait for.
-use Rattle.std.specs.Prelude.{Ok, ℕ, List, [], ◌∷◌, Result, Err}
+use Rattle.std.specs.Prelude.{Ok, ℕ, Bool, true, false, List, [], ◌∷◌, Result, Err}
 use Rattle.cwl_value.specs.declared.value.Value.{Value}
 use Rattle.proc_host.specs.declared.call.HostRequest.{HostRequest}
 use Rattle.run_rules.specs.declared.outcome.Cause.{Cause}
 use Rattle.run_rules.specs.declared.outcome.Outcome.{Outcome}
 use Rattle.run_rules.specs.declared.outcome.RunFault.{RunFault}
 use Rattle.run_rules.specs.declared.request.Request.{Request}
-use Rattle.job_graph.specs.Words.{JobPlace}
+use Rattle.job_graph.specs.Words.{Name, JobPlace}
 use Rattle.run_core.specs.declared.state.JobPhase.{JobPhase}
 use Rattle.run_core.specs.declared.state.Phase.{Phase}
 use Rattle.run_core.specs.declared.state.Turn.{Turn}
@@ -39,6 +39,15 @@ works place number call phase = record { asks = Request.Host place call; phase =
 -- the row of the job at a place is put
 abbrev pub puts : JobPlace → ℕ → Row → Turn
 puts place number row = record { asks = Request.Record place (RecordRequest.Put row); phase = Phase.Putting number }
+
+-- what the row of the job at a place lists, in this folder, is archived; then the row is put
+abbrev pub stores : JobPlace → ℕ → Name → Row → Turn
+stores place number folder row = record { asks = Request.Host place (HostRequest.Store row.key folder row.files); phase = Phase.Storing number row }
+
+-- the row of a job is kept, where an archive is kept or not
+abbrev pub keeps_row : Bool → Name → JobPlace → ℕ → Row → Turn
+keeps_row true folder place number row = stores place number folder row
+keeps_row false folder place number row = puts place number row
 
 abbrev pub permanent : JobPlace → Cause → Result Outcome RunFault
 permanent place cause = Ok (Outcome.PermanentFail place cause)

@@ -4,6 +4,7 @@ use Rattle.std.specs.List.{list_any}
 use Rattle.std.proofs.Common.{◌≡◌, ◌∙◌, ◌+◌, ℕ, true, false, List, [], length, filter, Some, None, refl, sym, ap, subst, arith}
 use Rattle.plan_checker.specs.declared.plan.Mark.{Mark}
 use Rattle.staging.specs.Plan.{IsPlan}
+use Rattle.staging.specs.declared.found.Found.{Found}
 use Rattle.staging.specs.declared.plan.StagePlan.{StagePlan}
 use Rattle.run_rules.specs.declared.request.Request.{Request}
 use Rattle.job_graph.specs.Words.{Fields, JobPlace}
@@ -12,10 +13,10 @@ use Rattle.run_rules.specs.Folders.{in_folder}
 use Rattle.job_graph.specs.Jobs.{Job}
 use Rattle.run_rules.specs.Scene.{Scene}
 use Rattle.run_rules.specs.Delivered.{any_file, source_place}
-use Rattle.run_rules.specs.Events.{Work, nothing_due, Progress, in_flight, is_at_hand, is_held, is_looked_up, is_reusable, is_staging, delivered_at, folder_at, unfolding_at}
+use Rattle.run_rules.specs.Events.{Work, nothing_due, Progress, in_flight, is_at_hand, is_held, is_looked_up, is_reusable, is_numbered, delivered_at, folder_at, unfolding_at}
 use Rattle.run_rules.specs.End.{End, settled, IsDelivery, is_lost_collect}
 use Rattle.job_key.specs.Key.{key}
-use Rattle.run_rules.specs.Allowed.{IsFree, IsOpen, MayFind, MayStage, IsBusy, MayCollect, MayDeliver, due, due_in}
+use Rattle.run_rules.specs.Allowed.{IsFree, IsOpen, MayFetch, MayFind, MayStage, IsBusy, MayCollect, MayDeliver, due, due_in}
 use Rattle.run_rules.specs.Parents.{IsParent}
 use Rattle.run_rules.specs.Plans.{mark_at}
 use Rattle.plan_checker.specs.declared.plan.Mark.TheVariants.{Compute}
@@ -48,7 +49,7 @@ module _ (s : Scene) (f : Progress) (marks : List Mark) where
   -- a job may be staged that the plan computes and that is not held
   pub may_stage : (n : ℕ) (job : Job) (plan : StagePlan) (number : ℕ) → IsFree s f → AreApart (jobs_in s f) →
       IsJob (jobs_in s f) n job → mark_at s marks f.events job.place ≡ Compute → is_held f.events job.place ≡ false → AreParentsAtHand s f job → length (in_flight f.events) < s.options.slots →
-      number ≡ length (filter is_staging f.events) + 1 → IsPlan false (in_folder s.options.work number) (fields_moved (source_place (folder_at s f.events)) job.inputs) plan →
+      number ≡ length (filter is_numbered f.events) + 1 → IsPlan false (in_folder s.options.work number) (fields_moved (source_place (folder_at s f.events)) job.inputs) plan →
       MayStage s f marks job.place plan number
   may_stage n job plan number free apart it computed away parents slot next staged = record {
     free = free;
@@ -62,17 +63,23 @@ module _ (s : Scene) (f : Progress) (marks : List Mark) where
     staged = staged;
   }
 
+  -- that no files may be fetched
+  abbrev pub NoneMayFetch : Type 0
+  NoneMayFetch = (place : JobPlace) (its_key : List ℕ) (number : ℕ) (files : List Found) → MayFetch s f marks place its_key number files → ⊥
+
   -- none may where no slot is free
-  pub busy_when_full : IsFree s f → s.options.slots ≤ length (in_flight f.events) → IsBusy s f marks
-  busy_when_full free full = record {
+  pub busy_when_full : IsFree s f → NoneMayFetch → s.options.slots ≤ length (in_flight f.events) → IsBusy s f marks
+  busy_when_full free unfetched full = record {
     free = free;
+    no_fetch = unfetched;
     no_stage = λ place plan number may. absurd (omega (arith, may.slot, full));
   }
 
   -- or each known job is held, or its parents are not at hand
-  pub busy_when_none_may : IsFree s f → ((n : ℕ) (job : Job) → IsJob (jobs_in s f) n job → is_held f.events job.place ≡ false → AreParentsAtHand s f job → ⊥) → IsBusy s f marks
-  busy_when_none_may free none = record {
+  pub busy_when_none_may : IsFree s f → NoneMayFetch → ((n : ℕ) (job : Job) → IsJob (jobs_in s f) n job → is_held f.events job.place ≡ false → AreParentsAtHand s f job → ⊥) → IsBusy s f marks
+  busy_when_none_may free unfetched none = record {
     free = free;
+    no_fetch = unfetched;
     no_stage = λ place plan number may.
         let it : IsFound (jobs_in s f) place may.job = found_is (jobs_in s f) place may.job may.known in
         let at : may.job.place ≡ place = same_place may.job.place place it.same in

@@ -8,7 +8,7 @@ use Rattle.job_graph.specs.Words.{JobPlace, is_same_place}
 use Rattle.job_rows.specs.declared.row.Row.{Row}
 use Rattle.plan_checker.specs.declared.plan.Mark.{Mark}
 use Rattle.run_rules.specs.declared.request.Pair.{Pair}
-use Rattle.run_rules.specs.Events.{Event, Progress, job_repeated, job_succeeded, row_found, brings, is_at_hand, resolved, resolves, row_at, row_if}
+use Rattle.run_rules.specs.Events.{Event, Progress, files_fetched, job_repeated, job_succeeded, row_found, brings, is_at_hand, resolved, resolves, row_at, row_if}
 use Rattle.run_rules.specs.Run.{Goes}
 use Rattle.run_rules.specs.Scene.{Scene}
 use Rattle.run_rules.proofs.Measuring.{Fits, FitsAt, goes_fitting}
@@ -94,6 +94,9 @@ module _ (s : Scene) where
   brought es (job_repeated p) place fits is =
       subst (λ (at : JobPlace). IsThere (es ++ job_repeated p ∷ []) at) (same_place p place is)
       (stays_there es (job_repeated p) p (row_is_there es p fits.row fits.found))
+  brought es (files_fetched p number) place fits is =
+      subst (λ (at : JobPlace). IsThere (es ++ files_fetched p number ∷ []) at) (same_place p place is)
+      (stays_there es (files_fetched p number) p (row_is_there es p fits.row fits.found))
   brought es _ place fits is = absurd cc
 
   there_one : (es : List Event) (e : Event) → FitsAt s es e → AreThere es → AreThere (es ++ e ∷ [])

@@ -10,8 +10,8 @@ use Rattle.proc_host.specs.Tickets.{IsFresh}
 use Rattle.job_graph.specs.Words.{Fields, JobPlace, is_same_place}
 use Rattle.job_graph.specs.Jobs.{Job}
 use Rattle.job_graph.specs.Unfold.{is_at}
-use Rattle.run_rules.specs.Events.{job_staged, job_started, child_exited, job_failed_for_now, job_repeated}
-use Rattle.run_rules.proofs.events.ByNumber.{flies_by, gives_up_by, number_by}
+use Rattle.run_rules.specs.Events.{job_staged, job_started, child_exited, job_failed_for_now, job_repeated, files_fetched, archive_differs}
+use Rattle.run_rules.proofs.events.ByNumber.{fetched_by, flies_by, gives_up_by, number_by}
 use Rattle.run_rules.proofs.events.Flights.{Flight, FlyApart, flies_more, is_flying, landed_flies_no_more, landed_is_one_less, landing_leaves_apart, others_fly_on, start_flies_apart, tickets_more}
 use Rattle.run_rules.proofs.events.Known.{IsFront, found_still, numbered_still}
 use Rattle.run_rules.proofs.events.Places.{AreApart, not_found, IsFound, found_is, IsJob, one_job, same_by_number, same_itself}
@@ -31,6 +31,8 @@ pub record Course : Type 0 where
   -- the number of the folders that each was staged in last, and how often it gave up
   pub folder : ℕ → ℕ
   pub gave_up : ℕ → ℕ
+  -- whether these folders are of a fetch
+  pub fetched : ℕ → Bool
   -- how many folders were made
   pub folders : ℕ
   -- the job that is worked on: it is neither waiting nor in flight nor at hand
@@ -55,6 +57,7 @@ pub record IsUntouched (r : Readings) (place : JobPlace) : Type 0 where
   pub away : r.at_hand place ≡ false
   pub unstaged : r.number place ≡ 0
   pub untried : r.gave_up place ≡ 0
+  pub unfetched : r.fetched place ≡ false
 
 -- nothing has happened to the job of this number
 pub record IsNew (c : Course) (n : ℕ) : Type 0 where
@@ -62,6 +65,7 @@ pub record IsNew (c : Course) (n : ℕ) : Type 0 where
   pub untried : c.gave_up n ≡ 0
   pub waits : c.waits n ≡ true
   pub away : c.at_hand n ≡ false
+  pub unfetched : c.fetched n ≡ false
 
 abbrev pub holds : Readings → JobPlace → Bool
 holds r place = is_flying r.flying place || r.at_hand place
@@ -74,6 +78,7 @@ pub record Keeps (jobs : List Job) (r : Readings) (c : Course) : Type 0 where
   pub number : (n : ℕ) (job : Job) → IsJob jobs n job → r.number job.place ≡ c.folder n
   pub gave_up : (n : ℕ) (job : Job) → IsJob jobs n job → r.gave_up job.place ≡ c.gave_up n
   pub hand : (n : ℕ) (job : Job) → IsJob jobs n job → r.at_hand job.place ≡ c.at_hand n
+  pub fetches : (n : ℕ) (job : Job) → IsJob jobs n job → r.fetched job.place ≡ c.fetched n
   -- what waits is not held
   pub waiting : (n : ℕ) (job : Job) → IsJob jobs n job → c.waits n ≡ true → holds r job.place ≡ false
   -- a number that is no job's yet is that of a job to which nothing has happened
@@ -96,8 +101,9 @@ gives_over jobs r c k = record {
   number = k.number;
   gave_up = k.gave_up;
   hand = k.hand;
+  fetches = k.fetches;
   waiting = k.waiting;
-  unnumbered = λ n past. let it : IsNew c n = k.unnumbered n past in record { unstaged = it.unstaged; untried = it.untried; waits = it.waits; away = it.away };
+  unnumbered = λ n past. let it : IsNew c n = k.unnumbered n past in record { unstaged = it.unstaged; untried = it.untried; waits = it.waits; away = it.away; unfetched = it.unfetched };
   worked = λ n job it at_work. absurd cc;
   worked_on = λ n at_work. absurd cc;
   held = λ over n job it taken other. absurd cc;
@@ -241,6 +247,7 @@ module _ (jobs : List Job) (r : Readings) (c : Course) (k : Keeps jobs r c) wher
   when_staged n number = record c {
     waits = λ m. cond (n == m) false (c.waits m);
     folder = λ m. cond (n == m) number (c.folder m);
+    fetched = λ m. cond (n == m) false (c.fetched m);
     folders = suc c.folders;
     at_work = Some n;
   }
@@ -255,6 +262,7 @@ module _ (jobs : List Job) (r : Readings) (c : Course) (k : Keeps jobs r c) wher
         untried = old.untried;
         waits = ap (λ b. cond b false (c.waits m)) differs ∙ old.waits;
         away = old.away;
+        unfetched = ap (λ b. cond b false (c.fetched m)) differs ∙ old.unfetched;
       }
 
   held_still : (n m : ℕ) (other : Job) → c.at_work ≡ None → c.over ≡ false → IsJob jobs m other → (test : Bool) → (n == m) ≡ test →
@@ -273,6 +281,8 @@ module _ (jobs : List Job) (r : Readings) (c : Course) (k : Keeps jobs r c) wher
     number = λ m other its. number_by jobs k.apart n m job other it its (r.number other.place) number ∙ ap (λ x. cond (n == m) number x) (k.number m other its);
     gave_up = k.gave_up;
     hand = k.hand;
+    fetches = λ m other its.
+        fetched_by jobs k.apart n m job other it its (r.fetched other.place) false ∙ ap (λ b. cond (n == m) false b) (k.fetches m other its);
     waiting = λ m other its waits. k.waiting m other its (taken_before (n == m) (c.waits m) waits).1;
     unnumbered = λ m past. new_still n job number m it past;
     worked = λ m other its at_work. let same : n ≡ m = some_n n m at_work in
@@ -286,6 +296,7 @@ module _ (jobs : List Job) (r : Readings) (c : Course) (k : Keeps jobs r c) wher
       away = old.away;
       untried = old.untried;
       unstaged = ap (λ b. cond b number (r.number place)) (not_found place jobs n job none it.within it.is) ∙ old.unstaged;
+      unfetched = ap (λ b. cond b false (r.fetched place)) (not_found place jobs n job none it.within it.is) ∙ old.unfetched;
     };
   }
 
@@ -304,12 +315,14 @@ module _ (jobs : List Job) (r : Readings) (c : Course) (k : Keeps jobs r c) wher
     gave_up = λ m other its. ap (λ b. cond b (suc (r.gave_up other.place)) (r.gave_up other.place)) (gives_up_by jobs k.apart n m job other it its)
         ∙ ap (λ x. cond (n == m) (suc x) x) (k.gave_up m other its);
     hand = k.hand;
+    fetches = k.fetches;
     waiting = k.waiting;
     unnumbered = λ m past. let old : IsNew c m = k.unnumbered m past in record {
       unstaged = old.unstaged;
       untried = ap (λ b. cond b (suc (c.gave_up m)) (c.gave_up m)) (ne_eqb n m (λ same. omega (arith, past, it.within, same))) ∙ old.untried;
       waits = old.waits;
       away = old.away;
+      unfetched = old.unfetched;
     };
     worked = k.worked;
     worked_on = k.worked_on;
@@ -318,6 +331,7 @@ module _ (jobs : List Job) (r : Readings) (c : Course) (k : Keeps jobs r c) wher
     unknown = λ place none. let old : IsUntouched r place = k.unknown place none in record {
       lands = old.lands;
       away = old.away;
+      unfetched = old.unfetched;
       unstaged = old.unstaged;
       untried = ap (λ b. cond b (suc (r.gave_up place)) (r.gave_up place)) (not_found place jobs n job none it.within it.is) ∙ old.untried;
     };
@@ -342,12 +356,14 @@ module _ (jobs : List Job) (r : Readings) (c : Course) (k : Keeps jobs r c) wher
     number = k.number;
     gave_up = k.gave_up;
     hand = k.hand;
+    fetches = k.fetches;
     waiting = λ m other its waits. waiting_again n m job other it its at_work (given_or_not (n == m) (c.waits m) waits);
     unnumbered = λ m past. let old : IsNew c m = k.unnumbered m past in record {
       unstaged = old.unstaged;
       untried = old.untried;
       waits = given_always (n == m) (c.waits m) old.waits;
       away = old.away;
+      unfetched = old.unfetched;
     };
     worked = λ m other its never. absurd cc;
     worked_on = λ m never. absurd cc;
@@ -404,6 +420,7 @@ module _ (jobs : List Job) (r : Readings) (c : Course) (k : Keeps jobs r c) wher
         number = k.number;
         gave_up = k.gave_up;
         hand = k.hand;
+        fetches = k.fetches;
         waiting = λ m other its waits.
             let old : (is_flying r.flying other.place ≡ false) × (r.at_hand other.place ≡ false) =
             or_parts (is_flying r.flying other.place) (r.at_hand other.place) (k.waiting m other its waits) in
@@ -411,7 +428,7 @@ module _ (jobs : List Job) (r : Readings) (c : Course) (k : Keeps jobs r c) wher
             or_from (is_flying (r.flying ++ (ticket, job.place) ∷ []) other.place) (r.at_hand other.place)
             (flies_by jobs k.apart n m job other it its r.flying ticket
             ∙ or_from (is_flying r.flying other.place) ((n == m) || false) old.0 (or_from (n == m) false differs refl)) old.1;
-        unnumbered = λ m past. let old : IsNew c m = k.unnumbered m past in record { unstaged = old.unstaged; untried = old.untried; waits = old.waits; away = old.away };
+        unnumbered = λ m past. let old : IsNew c m = k.unnumbered m past in record { unstaged = old.unstaged; untried = old.untried; waits = old.waits; away = old.away; unfetched = old.unfetched };
         worked = λ m other its never. absurd cc;
         worked_on = λ m never. absurd cc;
         held = λ over m other its within not_it. started_held n job ticket it over m other its within at_work (n == m) refl;
@@ -423,6 +440,7 @@ module _ (jobs : List Job) (r : Readings) (c : Course) (k : Keeps jobs r c) wher
           away = old.away;
           unstaged = old.unstaged;
           untried = old.untried;
+          unfetched = old.unfetched;
         };
       }
 
@@ -453,11 +471,12 @@ module _ (jobs : List Job) (r : Readings) (c : Course) (k : Keeps jobs r c) wher
         number = k.number;
         gave_up = k.gave_up;
         hand = k.hand;
+        fetches = k.fetches;
         waiting = λ m other its waits.
             let old : (is_flying r.flying other.place ≡ false) × (r.at_hand other.place ≡ false) =
             or_parts (is_flying r.flying other.place) (r.at_hand other.place) (k.waiting m other its waits) in
             or_from (is_flying (remove r.flying index) other.place) (r.at_hand other.place) (fewer_fly r.flying index other.place old.0) old.1;
-        unnumbered = λ m past. let old : IsNew c m = k.unnumbered m past in record { unstaged = old.unstaged; untried = old.untried; waits = old.waits; away = old.away };
+        unnumbered = λ m past. let old : IsNew c m = k.unnumbered m past in record { unstaged = old.unstaged; untried = old.untried; waits = old.waits; away = old.away; unfetched = old.unfetched };
         worked = λ m other its now. let same : n ≡ m = some_n n m now in
             subst (λ (j : Job). (is_flying (remove r.flying index) j.place || r.at_hand j.place) ≡ false) (one_job jobs n m job other same it its)
             (or_from (is_flying (remove r.flying index) job.place) (r.at_hand job.place) lands
@@ -474,6 +493,7 @@ module _ (jobs : List Job) (r : Readings) (c : Course) (k : Keeps jobs r c) wher
           away = old.away;
           unstaged = old.unstaged;
           untried = old.untried;
+          unfetched = old.unfetched;
         };
       })
 
@@ -511,6 +531,7 @@ module _ (jobs : List Job) (r : Readings) (c : Course) (k : Keeps jobs r c) wher
       hand = λ m other its.
           ap (λ b. b || r.at_hand other.place) (same_by_number jobs k.apart n m job other it its) ∙ ap (λ b. (n == m) || b) (k.hand m other its)
           ∙ or_is_cond (n == m) (c.at_hand m);
+      fetches = k.fetches;
       waiting = λ m other its waits.
           let old : (is_flying r.flying other.place ≡ false) × (r.at_hand other.place ≡ false) =
           or_parts (is_flying r.flying other.place) (r.at_hand other.place) (k.waiting m other its waits) in
@@ -522,6 +543,7 @@ module _ (jobs : List Job) (r : Readings) (c : Course) (k : Keeps jobs r c) wher
         untried = old.untried;
         waits = old.waits;
         away = ap (λ b. cond b true (c.at_hand m)) (ne_eqb n m (λ same. omega (arith, past, it.within, same))) ∙ old.away;
+        unfetched = old.unfetched;
       };
       worked = λ m other its never. absurd cc;
       worked_on = λ m never. absurd cc;
@@ -532,8 +554,102 @@ module _ (jobs : List Job) (r : Readings) (c : Course) (k : Keeps jobs r c) wher
         away = or_from (is_same_place job.place place) (r.at_hand place) (not_found place jobs n job none it.within it.is) old.away;
         unstaged = old.unstaged;
         untried = old.untried;
+        unfetched = old.unfetched;
       };
     }
+
+  -- the files of a job that waits were fetched
+  abbrev pub when_loaded : ℕ → ℕ → Course
+  when_loaded n number = record c {
+    waits = λ m. cond (n == m) false (c.waits m);
+    at_hand = λ m. cond (n == m) true (c.at_hand m);
+    folder = λ m. cond (n == m) number (c.folder m);
+    fetched = λ m. cond (n == m) true (c.fetched m);
+    folders = suc c.folders;
+  }
+
+  module _ (n : ℕ) (job : Job) (number : ℕ) (it : IsJob jobs n job) (free : c.waits n ≡ true) (idle : c.at_work ≡ None) where
+    held_loaded : c.over ≡ false → (m : ℕ) (other : Job) → IsJob jobs m other → (test : Bool) → (n == m) ≡ test → cond test false (c.waits m) ≡ false →
+        (is_flying r.flying other.place || (is_same_place job.place other.place || r.at_hand other.place)) ≡ true
+    held_loaded over m other its true same taken =
+        or_right (is_flying r.flying other.place) (is_same_place job.place other.place || r.at_hand other.place)
+        (or_left (is_same_place job.place other.place) (r.at_hand other.place) (same_by_number jobs k.apart n m job other it its ∙ same))
+    held_loaded over m other its false differs taken =
+        ap (λ b. is_flying r.flying other.place || (b || r.at_hand other.place)) (same_by_number jobs k.apart n m job other it its ∙ differs)
+        ∙ k.held over m other its taken (λ now. let never : None ≡ Some m = sym idle ∙ now in absurd cc)
+
+    coming_loaded : (place : JobPlace) (test : Bool) → is_same_place job.place place ≡ test → is_flying r.flying place ≡ true →
+        (is_same_place job.place place || r.at_hand place) ≡ false
+    coming_loaded place true same flies =
+        let lands : is_flying r.flying place ≡ false =
+        subst (λ (p : JobPlace). is_flying r.flying p ≡ false) (same_place job.place place same)
+        (or_parts (is_flying r.flying job.place) (r.at_hand job.place) (k.waiting n job it free)).0 in
+        let never : true ≡ false = sym flies ∙ lands in absurd cc
+    coming_loaded place false differs flies = or_from (is_same_place job.place place) (r.at_hand place) differs (k.coming place flies)
+
+    pub keeps_loaded : Keeps jobs (reads_after r (files_fetched job.place number)) (when_loaded n number)
+    keeps_loaded = record {
+      apart = k.apart;
+      alone = k.alone;
+      flights = k.flights;
+      folders = ap suc k.folders;
+      number = λ m other its. number_by jobs k.apart n m job other it its (r.number other.place) number ∙ ap (λ x. cond (n == m) number x) (k.number m other its);
+      gave_up = k.gave_up;
+      hand = λ m other its.
+          ap (λ b. b || r.at_hand other.place) (same_by_number jobs k.apart n m job other it its) ∙ ap (λ b. (n == m) || b) (k.hand m other its)
+          ∙ or_is_cond (n == m) (c.at_hand m);
+      fetches = λ m other its.
+          fetched_by jobs k.apart n m job other it its (r.fetched other.place) true ∙ ap (λ b. cond (n == m) true b) (k.fetches m other its);
+      waiting = λ m other its waits.
+          let was : ((n == m) ≡ false) × (c.waits m ≡ true) = taken_before (n == m) (c.waits m) waits in
+          let old : (is_flying r.flying other.place ≡ false) × (r.at_hand other.place ≡ false) =
+          or_parts (is_flying r.flying other.place) (r.at_hand other.place) (k.waiting m other its was.1) in
+          or_from (is_flying r.flying other.place) (is_same_place job.place other.place || r.at_hand other.place) old.0
+          (or_from (is_same_place job.place other.place) (r.at_hand other.place) (same_by_number jobs k.apart n m job other it its ∙ was.0) old.1);
+      unnumbered = λ m past.
+          let old : IsNew c m = k.unnumbered m past in
+          let differs : (n == m) ≡ false = ne_eqb n m (λ same. omega (arith, past, it.within, same)) in
+          record {
+            unstaged = ap (λ b. cond b number (c.folder m)) differs ∙ old.unstaged;
+            untried = old.untried;
+            waits = ap (λ b. cond b false (c.waits m)) differs ∙ old.waits;
+            away = ap (λ b. cond b true (c.at_hand m)) differs ∙ old.away;
+            unfetched = ap (λ b. cond b true (c.fetched m)) differs ∙ old.unfetched;
+          };
+      worked = λ m other its now. let never : None ≡ Some m = sym idle ∙ now in absurd cc;
+      worked_on = λ m now. let never : None ≡ Some m = sym idle ∙ now in absurd cc;
+      held = λ over m other its taken not_it. held_loaded over m other its (n == m) refl taken;
+      coming = λ place flies. coming_loaded place (is_same_place job.place place) refl flies;
+      unknown = λ place none. let old : IsUntouched r place = k.unknown place none in record {
+        lands = old.lands;
+        away = or_from (is_same_place job.place place) (r.at_hand place) (not_found place jobs n job none it.within it.is) old.away;
+        unstaged = ap (λ b. cond b number (r.number place)) (not_found place jobs n job none it.within it.is) ∙ old.unstaged;
+        untried = old.untried;
+        unfetched = ap (λ b. cond b true (r.fetched place)) (not_found place jobs n job none it.within it.is) ∙ old.unfetched;
+      };
+    }
+
+  -- what was fetched is not what a row has
+  pub keeps_missed : (place : JobPlace) (its_key : List ℕ) (number : ℕ) → Keeps jobs (reads_after r (archive_differs place its_key number)) (record c { folders = suc c.folders })
+  keeps_missed place its_key number = record {
+    apart = k.apart;
+    alone = k.alone;
+    flights = k.flights;
+    folders = ap suc k.folders;
+    number = k.number;
+    gave_up = k.gave_up;
+    hand = k.hand;
+    fetches = k.fetches;
+    waiting = k.waiting;
+    unnumbered = λ m past. let old : IsNew c m = k.unnumbered m past in
+        record { unstaged = old.unstaged; untried = old.untried; waits = old.waits; away = old.away; unfetched = old.unfetched };
+    worked = k.worked;
+    worked_on = k.worked_on;
+    held = k.held;
+    coming = k.coming;
+    unknown = λ at none. let old : IsUntouched r at = k.unknown at none in
+        record { lands = old.lands; away = old.away; unstaged = old.unstaged; untried = old.untried; unfetched = old.unfetched };
+  }
 
   -- more is known
   module _ (more : List Job) (idle : c.at_work ≡ None) (leads : IsFront jobs more) (apart : AreApart more) where
@@ -563,6 +679,12 @@ module _ (jobs : List Job) (r : Readings) (c : Course) (k : Keeps jobs r c) wher
       | inr new ↦ (k.unknown other.place (new_place jobs more m other leads apart its new)).away ∙ sym (k.unnumbered m new).away
     ]
 
+    fetched_still : (m : ℕ) (other : Job) → IsJob more m other → r.fetched other.place ≡ c.fetched m
+    fetched_still m other its = elim (known_or_new jobs more m other leads its) [
+      | inl before ↦ k.fetches m other before
+      | inr new ↦ (k.unknown other.place (new_place jobs more m other leads apart its new)).unfetched ∙ sym (k.unnumbered m new).unfetched
+    ]
+
     held_before : c.over ≡ false → (m : ℕ) (other : Job) → IsJob more m other → c.waits m ≡ false → (c.at_work ≡ Some m → ⊥) → holds r other.place ≡ true
     held_before over m other its taken not_it = elim (known_or_new jobs more m other leads its) [
       | inl before ↦ k.held over m other before taken not_it
@@ -578,11 +700,12 @@ module _ (jobs : List Job) (r : Readings) (c : Course) (k : Keeps jobs r c) wher
       number = number_still;
       gave_up = gave_up_still;
       hand = hand_still;
+      fetches = fetched_still;
       waiting = free_before;
       unnumbered = λ m past.
           let longer : length more ≡ length jobs + length leads.rest = ap length leads.is ∙ length-append jobs leads.rest in
           let old : IsNew c m = k.unnumbered m (omega (arith, past, longer)) in
-          record { unstaged = old.unstaged; untried = old.untried; waits = old.waits; away = old.away };
+          record { unstaged = old.unstaged; untried = old.untried; waits = old.waits; away = old.away; unfetched = old.unfetched };
       worked = λ m other its now. let never : None ≡ Some m = sym idle ∙ now in absurd cc;
       worked_on = k.worked_on;
       held = held_before;
@@ -597,7 +720,7 @@ unfolding IsDistinct
 none_alike eq = tt
 
 abbrev pub first_course : Course
-first_course = record { tickets = []; numbers = []; waits = λ n. true; at_hand = λ n. false; folder = λ n. 0; gave_up = λ n. 0; folders = 0; at_work = None; over = false }
+first_course = record { tickets = []; numbers = []; waits = λ n. true; at_hand = λ n. false; folder = λ n. 0; gave_up = λ n. 0; fetched = λ n. false; folders = 0; at_work = None; over = false }
 
 pub keeps_at_first : (jobs : List Job) → AreApart jobs → Keeps jobs (readings []) first_course
 keeps_at_first jobs apart = record {
@@ -608,11 +731,12 @@ keeps_at_first jobs apart = record {
   number = λ n job it. refl;
   gave_up = λ n job it. refl;
   hand = λ n job it. refl;
+  fetches = λ n job it. refl;
   waiting = λ n job it waits. refl;
-  unnumbered = λ n past. record { unstaged = refl; untried = refl; waits = refl; away = refl };
+  unnumbered = λ n past. record { unstaged = refl; untried = refl; waits = refl; away = refl; unfetched = refl };
   worked = λ n job it never. absurd cc;
   worked_on = λ n never. absurd cc;
   held = λ over n job it taken not_it. let never : true ≡ false = taken in absurd cc;
   coming = λ place flies. refl;
-  unknown = λ place none. record { lands = refl; away = refl; unstaged = refl; untried = refl };
+  unknown = λ place none. record { lands = refl; away = refl; unstaged = refl; untried = refl; unfetched = refl };
 }

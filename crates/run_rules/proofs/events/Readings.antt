@@ -1,12 +1,12 @@
 -- What is read off the events after more of them: each reading goes on from where it was.
 use Rattle.std.specs.Prelude.{◌||◌}
 use Rattle.std.specs.List.{list_any}
-use Rattle.std.proofs.Common.{◌≡◌, ◌∙◌, ◌+◌, List, [], ◌++◌, length, filter, fold, None, ap, length-append}
+use Rattle.std.proofs.Common.{◌≡◌, ◌∙◌, ◌+◌, List, [], ◌++◌, false, length, filter, fold, None, ap, length-append}
 use Rattle.std.proofs.lemmas.List.Elements.{filter-append, filter_map-append}
 use Rattle.std.proofs.lemmas.List.Folds.{list_any-append}
 use Rattle.std.proofs.lemmas.List.Sums.{fold-append}
 use Rattle.job_graph.specs.Words.{Name, JobPlace}
-use Rattle.run_rules.specs.Events.{Event, measures_after, measures, measures_path, is_measured, resolves, resolved, flight_after, in_flight, brings, is_at_hand, number_if, number_at, started_if, started_at, delivered_if, delivered_at, is_staging}
+use Rattle.run_rules.specs.Events.{Event, measures_after, measures, measures_path, is_measured, resolves, resolved, flight_after, in_flight, brings, is_at_hand, number_if, number_at, fetched_if, is_fetched, started_if, started_at, delivered_if, delivered_at, is_numbered}
 use Rattle.run_rules.specs.End.{gives_up, is_lost_collect}
 
 module _ (es new : List Event) where
@@ -15,6 +15,9 @@ module _ (es new : List Event) where
 
   pub number_after : (place : JobPlace) → number_at (es ++ new) place ≡ fold (number_if place) (number_at es place) new
   number_after place = fold-append (number_if place) 0 es new
+
+  pub fetched_after : (place : JobPlace) → is_fetched (es ++ new) place ≡ fold (fetched_if place) (is_fetched es place) new
+  fetched_after place = fold-append (fetched_if place) false es new
 
   pub started_after : (place : JobPlace) → started_at (es ++ new) place ≡ fold (started_if place) (started_at es place) new
   started_after place = fold-append (started_if place) None es new
@@ -37,8 +40,8 @@ module _ (es new : List Event) where
   pub lost_after : list_any is_lost_collect (es ++ new) ≡ (list_any is_lost_collect es || list_any is_lost_collect new)
   lost_after = list_any-append is_lost_collect es new
 
-  pub stagings_after : length (filter is_staging (es ++ new)) ≡ length (filter is_staging es) + length (filter is_staging new)
-  stagings_after = ap length (filter-append is_staging es new) ∙ length-append (filter is_staging es) (filter is_staging new)
+  pub stagings_after : length (filter is_numbered (es ++ new)) ≡ length (filter is_numbered es) + length (filter is_numbered new)
+  stagings_after = ap length (filter-append is_numbered es new) ∙ length-append (filter is_numbered es) (filter is_numbered new)
 
   pub gave_up_after : (place : JobPlace) →
       length (filter (gives_up place) (es ++ new)) ≡ length (filter (gives_up place) es) + length (filter (gives_up place) new)

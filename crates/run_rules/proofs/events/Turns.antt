@@ -11,7 +11,7 @@ use Rattle.job_graph.specs.Jobs.{Job}
 use Rattle.run_rules.specs.Scene.{Scene}
 use Rattle.run_rules.specs.Events.{Progress}
 use Rattle.run_rules.specs.Allowed.{IsFree, IsBusy}
-use Rattle.run_rules.proofs.events.Asks.{busy_when_full}
+use Rattle.run_rules.proofs.events.Asks.{NoneMayFetch, busy_when_full}
 use Rattle.run_rules.proofs.events.Course.{Course, IsAt, Keeps, flies_there, keys_removed}
 use Rattle.run_rules.proofs.events.Flights.{Flight, is_flying, landed_is_one_less, tickets_landed}
 use Rattle.run_rules.proofs.events.Places.{IsJob}
@@ -80,5 +80,5 @@ module _ (jobs : List Job) (r : Readings) (c : Course) (k : Keeps jobs r c) wher
 
 module _ (s : Scene) (f : Progress) (marks : List Mark) (c : Course) (k : Keeps (jobs_in s f) (readings f.events) c) (free : IsFree s f) where
   -- nothing more can be staged where the slots are taken
-  pub busy_when_taken : s.options.slots ≤ length c.tickets → IsBusy s f marks
-  busy_when_taken taken = busy_when_full s f marks free (omega (arith, taken, so_many (jobs_in s f) (readings f.events) c k))
+  pub busy_when_taken : NoneMayFetch s f marks → s.options.slots ≤ length c.tickets → IsBusy s f marks
+  busy_when_taken unfetched taken = busy_when_full s f marks free unfetched (omega (arith, taken, so_many (jobs_in s f) (readings f.events) c k))

@@ -10,6 +10,7 @@ use Rattle.document_table.specs.declared.form.Form.TheVariants as form
 use Rattle.document_table.specs.declared.form.Kind.TheVariants as kind
 use Rattle.cwl_process.specs.Acting.{asked_in}
 use Rattle.cwl_process.specs.Processes.{process_in, step_in}
+use Rattle.cwl_process.specs.Workflows.{own_id}
 use Rattle.cwl_process.specs.declared.process.Process as process
 use Rattle.cwl_process.proofs.Forms.{entry_is_of, made_differ, none_differ, seen_differ, workflow_steps}
 use Rattle.cwl_process.proofs.Levels.{at_nothing, at_tool, at_workflow, ok_same, stepped}
@@ -34,14 +35,14 @@ read_process-returns t c =
 pub read_steps-read_step-requires : goal.read_steps-read_step-requires
 read_steps-read_step-requires t c = (
   omega arith,
-  entry_is_of kind.Step (view c.args.value.now) c.in_ok-found.found.items c.as_slice-entry-items.result.now c.loop-entry.entry-index c.entry-item.result c.requires
+  entry_is_of kind.Step (view c.args.value.now) c.in_ok-found.found.items c.as_slice-entry-items.result.now c.loop-entry.entry-index c.entry-item.result (assumption c.requires)
       c.as_slice-entry-items.ensures.value c.in_ok-found.ensures.value c.loop-entry-test.true c.entry-item.is,
 )
 
 pub read_steps-from_distinct-requires : goal.read_steps-from_distinct-requires
 read_steps-from_distinct-requires t c =
-    made_differ (step_in (process_in c.args.levels) c.args.around.now) _ c.loop-entry.made.items _ c.loop-entry.invariant
-    (seen_differ kind.Step (view c.args.value.now) c.in_ok-found.found.items c.as_slice-entry-items.result.now c.as_slice-entry-items.ensures.value c.in_ok-found.ensures.value (c.in_ok-found.ensures.ids c.requires))
+    made_differ (step_in (process_in c.args.levels) c.args.id.now c.args.around.now) _ c.loop-entry.made.items _ c.loop-entry.invariant
+    (seen_differ kind.Step (view c.args.value.now) c.in_ok-found.found.items c.as_slice-entry-items.result.now c.as_slice-entry-items.ensures.value c.in_ok-found.ensures.value (c.in_ok-found.ensures.ids (assumption c.requires)))
 
 pub steps_at-from_distinct-requires : goal.steps_at-from_distinct-requires
 steps_at-from_distinct-requires t c = none_differ _ c.new.ensures.items
@@ -52,6 +53,7 @@ steps_at-read_steps-requires t c = (omega arith, subst (MayHaveForm (form.Object
 pub steps_at-returns : goal.steps_at-returns
 steps_at-returns t c =
     ok_same _ _ _
-    (ap (λ asked. stepped (step_in (process_in c.args.levels) asked) (entries kind.Step (view c.in-Some.found.now))) c.in_ok-asked.ensures
-    ∙ ap (λ o. option_map_or (λ v. stepped (step_in (process_in c.args.levels) (asked_in c.args.around.now (view c.args.value.now))) (entries kind.Step v)) o []) c.in-Some.ensures)
+    (ap (λ asked. stepped (step_in (process_in c.args.levels) c.own_id.result.now asked) (entries kind.Step (view c.in-Some.found.now))) c.in_ok-asked.ensures
+    ∙ ap (λ id. stepped (step_in (process_in c.args.levels) id (asked_in c.args.around.now (view c.args.value.now))) (entries kind.Step (view c.in-Some.found.now))) c.own_id.ensures
+    ∙ ap (λ o. option_map_or (λ v. stepped (step_in (process_in c.args.levels) (own_id (view c.args.value.now)) (asked_in c.args.around.now (view c.args.value.now))) (entries kind.Step v)) o []) c.in-Some.ensures)
     c.read_steps.ensures

@@ -25,5 +25,5 @@ decreases-read_workflow l = 6 * l.levels + 5
 
 abbrev pub invariant-read_steps-loop-entry : goal.invariant-read_steps-loop-entry
 invariant-read_steps-loop-entry l =
-    l.made.items ++ map (λ e. (e.0, step_in (process_in l.levels) l.around e.1)) (map entry_seen (drop l.entry-index l.entry-items))
-    ≡ map (λ e. (e.0, step_in (process_in l.levels) l.around e.1)) (map entry_seen l.entry-items)
+    l.made.items ++ map (λ e. (e.0, step_in (process_in l.levels) l.id l.around e.1)) (map entry_seen (drop l.entry-index l.entry-items))
+    ≡ map (λ e. (e.0, step_in (process_in l.levels) l.id l.around e.1)) (map entry_seen l.entry-items)

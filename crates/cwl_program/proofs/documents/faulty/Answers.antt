@@ -10,6 +10,11 @@ returns-in-Document c =
     wrong_document c.args._document.now c.args.base.now c.args.docs.now _ _
     (subst (λ (f : LinkFault). IsRefused (Refused f) c.args._document.now c.args.base.now c.args.docs.now) c.in-Document.is c.requires) tt c.wrong.ensures
 
+pub returns-in-NoItem : goal.returns-in-NoItem
+returns-in-NoItem c =
+    wrong_document c.args._document.now c.args.base.now c.args.docs.now _ _
+    (subst (λ (f : LinkFault). IsRefused (Refused f) c.args._document.now c.args.base.now c.args.docs.now) c.in-NoItem.is c.requires) tt c.wrong-in-NoItem.ensures
+
 pub returns-in-TooDeep : goal.returns-in-TooDeep
 returns-in-TooDeep c =
     wrong_document c.args._document.now c.args.base.now c.args.docs.now _ _

@@ -5,4 +5,4 @@ use Rattle.document_table.proofs.entry.mapped_entries.Given as goal
 
 abbrev pub invariant-loop-name : goal.invariant-loop-name
 invariant-loop-name l =
-    map entry_seen l.found.items ++ mapped_entries (members_view l.name-iterator) ≡ mapped_entries (members_view l.members.entries)
+    map entry_seen l.found.items ++ mapped_entries l.kind (members_view l.name-iterator) ≡ mapped_entries l.kind (members_view l.members.entries)

@@ -1,22 +1,35 @@
-use Rattle.std.proofs.Common.{◌∙◌, ℕ, List, Err, ap}
+use Rattle.std.proofs.Common.{◌≡◌, ◌∙◌, ℕ, List, Err, sym, ap, subst}
 use Rattle.run_rules.specs.declared.outcome.RunFault.{RunFault}
+use Rattle.run_core.specs.declared.state.Phase.{Phase}
 use Rattle.run_core.specs.inner.Course.{Past, past_of, with_end}
+use Rattle.run_core.specs.inner.Follows.{AfterFailure, StoresKnown}
 use Rattle.run_core.proofs.Choices.{fault_by, if_lost}
 use Rattle.run_core.proofs.Lists.{if_ok, on_err}
 use Rattle.run_core.proofs.steps.failed.Goals as goal
 
-pub returns-in_default : goal.returns-in_default
-returns-in_default c = record {
+pub returns-in_ok-note_fault-in_default : goal.returns-in_ok-note_fault-in_default
+returns-in_ok-note_fault-in_default c = record {
   is = if_ok c.pick.result
       (λ next picks.
-      fault_by c.args.given.now c.args.course.now c.args.phase c.args.fault next c.pick.new.course c.in_default.not-Collecting c.in_default.not-Draining
+      fault_by c.args.given.now c.args.course.now c.args.asks.now c.args.phase c.args.fault next c.pick.new.course c.in_default.not-Collecting c.in_default.not-Draining c.in_default.not-Storing
       (record {
-        settled = c.settle.new.course;
-        past = c.settle.ensures.past ∙ ap (λ (running : List ℕ). with_end (Err (RunFault.Host c.args.fault running)) (past_of c.args.course.now)) c.new-in_default.ensures;
-        known = c.settle.ensures.known;
+        settled = c.note_fault.new.course;
+        past = c.in_ok-note_fault-in_default.ensures.past;
+        known = c.in_ok-note_fault-in_default.ensures.known;
         picks = picks;
       }))
       c.pick.ensures.is;
-  flying = if_lost c.pick.result (λ same. same ∙ ap (λ (p : Past). p.tickets) c.settle.ensures.past) c.pick.ensures.flying;
+  flying = if_lost c.pick.result (λ same. same ∙ c.in_ok-note_fault-in_default.ensures.flying) c.pick.ensures.flying;
   going = on_err c.pick.result c.in_default.not-Draining;
+}
+
+pub unarchived-requires : goal.unarchived-requires
+unarchived-requires c = subst (λ (p : Phase). StoresKnown c.args.course.now p) c.in-Storing.is c.requires.stores
+
+pub returns-in-Storing : goal.returns-in-Storing
+returns-in-Storing c = record {
+  is = if_ok c.unarchived.result
+      (λ next puts. subst (λ (p : Phase). AfterFailure c.args.given.now c.args.course.now c.args.asks.now p c.args.fault next c.unarchived.new.course) (sym c.in-Storing.is) puts) c.unarchived.ensures.is;
+  flying = c.unarchived.ensures.flying;
+  going = on_err c.unarchived.result (λ drains. let never : Phase.Storing c.in-Storing.number c.in-Storing.row ≡ Phase.Draining = sym c.in-Storing.is ∙ drains in cc);
 }

@@ -5,6 +5,9 @@ use Rattle.run_core.proofs.steps.staged_by.Goals as goal
 pub site_of-requires-clause-number : goal.site_of-requires-clause-number
 site_of-requires-clause-number c = staged_number c.args.number c.args.course.now c.note_staging.new.course c.in_ok-note_staging.ensures.past
 
+pub turn_of-requires-clause-staged : goal.turn_of-requires-clause-staged
+turn_of-requires-clause-staged c = staged_number c.args.number c.args.course.now c.note_staging.new.course c.in_ok-note_staging.ensures.past
+
 pub returns-clause-is : goal.returns-clause-is
 returns-clause-is c =
     if_ok c.turn_of.result (λ turn turns. record {

@@ -3,7 +3,7 @@ use Rattle.std.specs.Prelude.{if◌then◌else◌}
 use Rattle.std.specs.List.{after_first, before_first, position_or_len}
 use Rattle.cwl_process.specs.declared.links.Source.{Source}
 use Rattle.cwl_process.proofs.Slashes.{no_slash}
-use Rattle.cwl_process.proofs.read_links.source_of.Goals as goal
+use Rattle.cwl_process.proofs.read_links.split_source.Goals as goal
 
 pub returns-in_ok-from_text-in-None : goal.returns-in_ok-from_text-in-None
 returns-in_ok-from_text-in-None c =

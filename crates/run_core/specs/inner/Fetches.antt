@@ -1,0 +1,62 @@
+-- Which files are fetched, and what comes of it.
+use Rattle.std.specs.Prelude.{◌≡◌, ◌&&◌, ◌+◌, ◌<◌, ℕ, Bool, true, false, not, List, Option, Some, None, length, slice_get}
+use Rattle.proc_host.specs.declared.call.HostRequest.{HostRequest}
+use Rattle.staging.specs.declared.found.Found.{Found}
+use Rattle.job_graph.specs.Jobs.{Job}
+use Rattle.job_reuse.specs.Rows.{AreTheSame}
+use Rattle.job_rows.specs.declared.row.Row.{Row}
+use Rattle.run_rules.specs.declared.request.RecordRequest.{RecordRequest}
+use Rattle.run_rules.specs.declared.request.Request.{Request}
+use Rattle.run_core.specs.declared.state.Course.{Course}
+use Rattle.run_core.specs.declared.state.Given.{Given}
+use Rattle.run_core.specs.declared.state.Phase.{Phase}
+use Rattle.run_core.specs.declared.state.Turn.{Turn}
+use Rattle.run_core.specs.inner.Course.{is_lost_in, key_in, known_in}
+use Rattle.run_core.specs.inner.FoundRows.{row_in}
+use Rattle.run_core.specs.inner.JobStates.{waits_in}
+
+abbrev pub archived_in : List (List ℕ) → Option Row → Bool
+archived_in lost None = false
+archived_in lost (Some row) = row.archived && not (is_lost_in lost row.key)
+
+-- whether the job of a number has an archived row, whose archive was not found to be another
+abbrev pub can_load : Course → ℕ → Bool
+can_load course number = archived_in course.lost.items (row_in course.rows number)
+
+-- none of the first so many jobs waits and can be loaded
+abbrev pub NoneLoads : Course → ℕ → Type 0
+NoneLoads course count = (n : ℕ) → n < count → (waits_in course.jobs n && can_load course n) ≡ false
+
+-- no archive is kept, or no known job waits that can be loaded
+pub data NoneToFetch (given : Given) (course : Course) : Type 0 where
+  none_kept : given.options.keep ≡ false → NoneToFetch given course
+  none_loads : NoneLoads course (length (known_in course.known)) → NoneToFetch given course
+
+-- the lowest known job that waits and can be loaded
+pub record IsNextToFetch (given : Given) (course : Course) (number : ℕ) : Type 0 where
+  pub keeps : given.options.keep ≡ true
+  pub within : number < length (known_in course.known)
+  pub loads : (waits_in course.jobs number && can_load course number) ≡ true
+  pub lowest : NoneLoads course number
+
+-- the files of the row of the job of a number are fetched
+pub record Fetches (course : Course) (number : ℕ) (turn : Turn) : Type 0 where
+  pub job : Job
+  pub known : slice_get (known_in course.known) number ≡ Some job
+  pub row : Row
+  pub found : row_in course.rows number ≡ Some row
+  pub is : turn ≡ record { asks = Request.Host job.place (HostRequest.Fetch row.key (course.folders + 1) row.files); phase = Phase.Fetching number }
+
+-- these are the files of a row
+abbrev pub AreOf : Option Row → List Found → Type 0
+AreOf None found = ⊥
+AreOf (Some row) found = AreTheSame row.files found
+
+abbrev pub AgreesAt : Course → ℕ → List Found → Type 0
+AgreesAt course number found = AreOf (row_in course.rows number) found
+
+-- the archive of the row of the job of a number is dropped
+pub record Drops (course : Course) (number : ℕ) (turn : Turn) : Type 0 where
+  pub job : Job
+  pub known : slice_get (known_in course.known) number ≡ Some job
+  pub is : turn ≡ record { asks = Request.Record job.place (RecordRequest.DropArchive (key_in course.rows number)); phase = Phase.Dropping number }
