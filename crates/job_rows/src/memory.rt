@@ -64,6 +64,7 @@ impl Record for MemoryRecord {
     fn find(&mut self, key: &Text) -> Result<Option<Row>, RecordError>
         ensures logged { self.new.log ≡ self.old.log
             ++ entries_of command.Find key.now (told_of result) }
+        ensures sound { Unit {0} → Unit {0} }
         ensures finds { Unit {0} → (map : RowMap) → IsMapOf self.old.rows map
             → Finds map key.now result × IsMapOf self.new.rows map }
         ensures found { IfOk result (λ found. found ≡ value_at key.now self.old.rows) }
@@ -79,6 +80,7 @@ impl Record for MemoryRecord {
     fn put(&mut self, row: &Row) -> Result<(), RecordError>
         ensures logged { self.new.log ≡ self.old.log
             ++ entries_of command.Put row.now.key (told_of result) }
+        ensures sound { Unit {0} → Unit {0} }
         ensures puts { Unit {0} → (map : RowMap) → IsMapOf self.old.rows map
             → Puts (IsMapOf self.new.rows) map row.now result }
         ensures set { OnOk result (self.new.rows
@@ -95,6 +97,7 @@ impl Record for MemoryRecord {
     fn drop_archive(&mut self, key: &Text) -> Result<(), RecordError>
         ensures logged { self.new.log ≡ self.old.log
             ++ entries_of command.DropArchive key.now (told_of result) }
+        ensures sound { Unit {0} → Unit {0} }
         ensures drops { Unit {0} → (map : RowMap) → IsMapOf self.old.rows map
             → Drops (IsMapOf self.new.rows) map key.now result }
         ensures done { OnOk result (Unarchives key.now self.old.rows self.new.rows) }

@@ -10,7 +10,7 @@ use plain_data::Text;
 /// Where a run looks jobs up and puts them: a finite map from key to row.
 ///
 /// Each call makes room for its entry in the log, acts, and adds the entry. One that runs out of memory adds none. A
-/// call that is refused changes no row.
+/// call that is refused changes no row. What the record is kept on is sound after a call only where it was before.
 pub trait Record {
     /// What was asked so far, oldest first.
     ghost log: { Self → List Entry };
@@ -25,6 +25,7 @@ pub trait Record {
     fn find(&mut self, key: &Text) -> Result<Option<Row>, RecordError>
         ensures logged { log self.new ≡ log self.old
             ++ entries_of command.Find key.now (told_of result) }
+        ensures sound { is_sound self.new → is_sound self.old }
         ensures finds { is_sound self.new → (map : RowMap) → holds self.old map
             → Finds map key.now result × holds self.new map };
 
@@ -32,6 +33,7 @@ pub trait Record {
     fn put(&mut self, row: &Row) -> Result<(), RecordError>
         ensures logged { log self.new ≡ log self.old
             ++ entries_of command.Put row.now.key (told_of result) }
+        ensures sound { is_sound self.new → is_sound self.old }
         ensures puts { is_sound self.new → (map : RowMap) → holds self.old map
             → Puts (holds self.new) map row.now result };
 
@@ -39,6 +41,7 @@ pub trait Record {
     fn drop_archive(&mut self, key: &Text) -> Result<(), RecordError>
         ensures logged { log self.new ≡ log self.old
             ++ entries_of command.DropArchive key.now (told_of result) }
+        ensures sound { is_sound self.new → is_sound self.old }
         ensures drops { is_sound self.new → (map : RowMap) → holds self.old map
             → Drops (holds self.new) map key.now result };
 }

@@ -3,7 +3,11 @@ use Rattle.sqlite.specs.Held.{state}
 use Rattle.job_rows.specs.Map.{Drops}
 use Rattle.job_record.specs.Rows.{HoldsRows}
 use Rattle.job_record.proofs.KeptRows.{drops_rows}
+use Rattle.job_record.proofs.Opens.{was_clean}
 use Rattle.job_record.proofs.rows.JobRecordRecord.drop_archive.Goals as goal
+
+pub returns-clause-sound : goal.returns-clause-sound
+returns-clause-sound g c = was_clean _ _ _ c.drop_archive.ensures.survives
 
 pub returns-clause-drops : goal.returns-clause-drops
 returns-clause-drops g c clean map h =

@@ -3,7 +3,11 @@ use Rattle.sqlite.specs.Held.{state}
 use Rattle.job_rows.specs.Map.{Finds}
 use Rattle.job_record.specs.Rows.{HoldsRows}
 use Rattle.job_record.proofs.KeptRows.{finds_rows}
+use Rattle.job_record.proofs.Opens.{was_clean}
 use Rattle.job_record.proofs.rows.JobRecordRecord.find.Goals as goal
+
+pub returns-clause-sound : goal.returns-clause-sound
+returns-clause-sound g c = was_clean _ _ _ c.find.ensures.survives
 
 pub returns-clause-finds : goal.returns-clause-finds
 returns-clause-finds g c clean map h =

@@ -3,7 +3,11 @@ use Rattle.sqlite.specs.Held.{state}
 use Rattle.job_rows.specs.Map.{Puts}
 use Rattle.job_record.specs.Rows.{HoldsRows}
 use Rattle.job_record.proofs.KeptRows.{puts_rows}
+use Rattle.job_record.proofs.Opens.{was_clean}
 use Rattle.job_record.proofs.rows.JobRecordRecord.put.Goals as goal
+
+pub returns-clause-sound : goal.returns-clause-sound
+returns-clause-sound g c = was_clean _ _ _ c.put.ensures.survives
 
 pub returns-clause-puts : goal.returns-clause-puts
 returns-clause-puts g c clean map h =
