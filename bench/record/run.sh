@@ -5,7 +5,7 @@
 set -euo pipefail
 here=$(cd "$(dirname "$0")" && pwd)
 top=$(cd "$here/../.." && pwd)
-program=$("$top/scripts/build" record_rows)
+program=$("$top/scripts/build" library_rows)
 program=$top/$program
 folder=$(mktemp -d -p "${BENCH_FOLDER:-$here}")
 trap 'rm -rf "$folder"' EXIT

@@ -16,19 +16,14 @@ mod texts;
 mod tree;
 mod values;
 
-use row_io::{Answers, Row, RowFault, answer_rows};
+use row_io::{Row, RowFault};
 use std::alloc::Global;
-use std::io;
-use std::process::ExitCode;
 
-struct Calls;
-
-impl Answers for Calls {
-    fn answer(&self, alloc: Global, row: &Row) -> Result<String, RowFault> {
-        match of_values(alloc, row) {
-            Err(RowFault::UnknownCall) => of_files(alloc, row),
-            answer => answer,
-        }
+/// The answer of a row, or `UnknownCall` where its call is none of these.
+pub fn answer(alloc: Global, row: &Row) -> Result<String, RowFault> {
+    match of_values(alloc, row) {
+        Err(RowFault::UnknownCall) => of_files(alloc, row),
+        answer => answer,
     }
 }
 
@@ -51,8 +46,4 @@ fn of_files(alloc: Global, row: &Row) -> Result<String, RowFault> {
         "tree" => tree::answer(alloc, row),
         _ => files::answer(alloc, row),
     }
-}
-
-fn main(rt: HostRuntime) -> io::Result<ExitCode> {
-    answer_rows(&rt, &Calls)
 }

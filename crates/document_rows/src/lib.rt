@@ -4,10 +4,8 @@
 //! of the fault, with its cause in words and its place; of a tool whose command is asked for, the code alone.
 #![tactic(auto)]
 
-use row_io::{Answers, Row, RowFault, answer_rows};
+use row_io::{Row, RowFault};
 use std::alloc::Global;
-use std::io;
-use std::process::ExitCode;
 
 mod accepted;
 mod arguments;
@@ -22,14 +20,11 @@ mod types;
 mod unfold;
 mod values;
 
-struct Calls;
-
-impl Answers for Calls {
-    fn answer(&self, alloc: Global, row: &Row) -> Result<String, RowFault> {
-        match of_documents(alloc, row) {
-            Err(RowFault::UnknownCall) => of_processes(alloc, row),
-            answer => answer,
-        }
+/// The answer of a row, or `UnknownCall` where its call is none of these.
+pub fn answer(alloc: Global, row: &Row) -> Result<String, RowFault> {
+    match of_documents(alloc, row) {
+        Err(RowFault::UnknownCall) => of_processes(alloc, row),
+        answer => answer,
     }
 }
 
@@ -55,8 +50,4 @@ fn of_processes(alloc: Global, row: &Row) -> Result<String, RowFault> {
         "step_input" | "value_froms" | "when_value" => step_inputs::answer(alloc, row),
         _ => Err(RowFault::UnknownCall),
     }
-}
-
-fn main(rt: HostRuntime) -> io::Result<ExitCode> {
-    answer_rows(&rt, &Calls)
 }
