@@ -1,4 +1,5 @@
 pub mod Blamed
+pub mod ByMap
 pub mod Calls
 pub mod Commands
 pub mod Covers

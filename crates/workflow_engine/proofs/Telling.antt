@@ -31,6 +31,7 @@ lines_more t pair = filter_map-append (λ (p : Pair). command_entry p.request p.
 pub took_told : (old : Machine) (answer : Answer) (result : Result (Unit {0}) RunFault) (new : Machine) → Took old answer result new → IsTold old (Ok answer) new
 took_told old answer result new took = record {
   setting = took.setting;
+  pairs = took.pair;
   entries = took.entries;
   lines = ap lines_of took.pair ∙ lines_more old.transcript (record { request = old.asks; answer = answer });
   flying = flies_by result new.asks _ took.flying took.finished;
@@ -44,6 +45,7 @@ waits_by old new (Err fault) gave going = absurd (going gave.finished)
 pub gave_up_told : (old : Machine) (error : AllocError) (result : Result (Unit {0}) RunFault) (new : Machine) → GaveUp old result new → IsTold old (Err error) new
 gave_up_told old error result new gave = record {
   setting = gave.setting;
+  pairs = gave.same ∙ sym (append-nil old.transcript);
   entries = ap entries_of gave.same ∙ sym (append-nil (entries_of old.transcript));
   lines = ap lines_of gave.same ∙ sym (append-nil (lines_of old.transcript));
   flying = waits_by old new result gave;

@@ -1,3 +1,4 @@
 pub mod Blame
+pub mod ByMap
 pub mod Gains
 pub mod inner

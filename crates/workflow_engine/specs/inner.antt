@@ -1,3 +1,4 @@
 pub mod Held
+pub mod Mapped
 pub mod Numbered
 pub mod Told

@@ -1,7 +1,9 @@
 //! One question to the record.
 ghost use Rattle.std.specs.Prelude.{◌≡◌, ◌++◌, IfOk};
 ghost use Rattle.run_rules.specs.Answers.{CanTell};
+ghost use Rattle.job_rows.specs.Map.{RowMap};
 ghost use Rattle.workflow_engine.specs.Gains.{done_by, found_by, refused_by, lines_by};
+ghost use Rattle.workflow_engine.specs.inner.Mapped.{IsToldBy};
 
 use job_rows::{Record, RecordError, Row};
 use run_core::{RecordAnswer, RecordRequest};
@@ -14,6 +16,9 @@ pub(crate) fn ask_record<R: Record>(
 ) -> Result<RecordAnswer, AllocError>
     ensures logged { R.log rows.new ≡ R.log rows.old ++ lines_by request.now result }
     ensures answers { IfOk result (CanTell request.now) }
+    ensures sound { R.is_sound rows.new → R.is_sound rows.old }
+    ensures by_map { R.is_sound rows.new → (map : RowMap) → R.holds rows.old map
+        → IsToldBy request.now result (R.holds rows.new) map }
 {
     match request {
         RecordRequest::Find(key) => found(rows.find(key)),

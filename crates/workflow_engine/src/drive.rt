@@ -9,7 +9,7 @@ ghost use Rattle.workflow_engine.specs.Blame.{HasRisingTickets, IsHostsFault};
 ghost use Rattle.workflow_engine.specs.inner.Held.{Covers};
 ghost use Rattle.workflow_engine.specs.inner.Numbered.{AreNumbered};
 ghost use Rattle.workflow_engine.specs.inner.Told.{IsTold, MayBeTold};
-ghost use Rattle.workflow_engine.specs.Gains.{RunsOn};
+ghost use Rattle.workflow_engine.specs.ByMap.{KeepsToMap, RunsByMap};
 
 use crate::ask_next::ask_next;
 use crate::tickets::close_all;
@@ -30,8 +30,9 @@ use std::mem;
 /// tickets that nobody waits for any more, or the record's refusal. `Err(OutOfMemory)` says only that an allocation failed;
 /// what was asked is a valid prefix of a run, after which only the ends of children were waited for.
 ///
-/// The record is asked for the row of each job whose tool lets an earlier result be used; what it answers is checked, and not
-/// used yet.
+/// The record is asked for the row of each job whose tool lets an earlier result be used, and to keep the row of each that was
+/// computed. As long as what it is kept on returns what was written, each of its answers is by its map, and the map at the end is
+/// that of the start after the commands that were done.
 ///
 /// The watcher is told of each question to the host and of each answer as they come.
 pub fn run<H: Host, R: Record, W: Watch>(
@@ -46,7 +47,8 @@ pub fn run<H: Host, R: Record, W: Watch>(
     requires idle { H.running host.old ≡ [] }
     requires accepted { fault_in process.now ≡ None }
     requires limits { IsWithinLimits options }
-    ensures run { RunsOn (H.log host.old) (H.log host.new) (R.log rows.old) (R.log rows.new)
+    ensures run { RunsByMap (H.log host.old) (H.log host.new) (R.log rows.old) (R.log rows.new)
+        (R.is_sound rows.old) (R.is_sound rows.new) (R.holds rows.old) (R.holds rows.new)
         process.now inputs.now options result }
     // A fault is the host's only where its failures rose, by this very fault.
     ensures fault { IfErr result (IsHostsFault (H.log host.old) (H.log host.new)) }
@@ -75,6 +77,8 @@ fn drive<H: Host, R: Record, W: Watch>(
     ensures setting { core.new.setting ≡ core.old.setting }
     ensures logged { H.log host.new ≡ H.log host.old ++ entries_of core.new.transcript }
     ensures recorded { R.log rows.new ≡ R.log rows.old ++ lines_of core.new.transcript }
+    ensures by_map { KeepsToMap (R.is_sound rows.old) (R.is_sound rows.new) (R.holds rows.old)
+        (R.holds rows.new) core.new.transcript }
     ensures numbered { AreNumbered (starts (H.log host.old)) (entries_of core.new.transcript) }
     ensures finished { core.new.asks ≡ Request.Finished }
     ensures covered { Covers held.new.items (H.running host.new) }

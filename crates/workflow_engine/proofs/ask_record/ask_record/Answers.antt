@@ -1,3 +1,4 @@
+use Rattle.workflow_engine.proofs.ByMap.{drop_by, find_by, put_by}
 use Rattle.workflow_engine.proofs.Commands.{drop_told, find_told, put_told}
 use Rattle.workflow_engine.proofs.ask_record.ask_record.Goals as goal
 
@@ -10,3 +11,16 @@ returns-in-Put-clause-answers g c = rw (c.in-Put.is, c.done.ensures) (put_told c
 pub returns-in-DropArchive-clause-answers : goal.returns-in-DropArchive-clause-answers
 returns-in-DropArchive-clause-answers g c =
     rw (c.in-DropArchive.is, c.done-in-DropArchive.ensures) (drop_told c.in-DropArchive.key c.drop_archive.result)
+
+pub returns-in-Find-clause-by_map : goal.returns-in-Find-clause-by_map
+returns-in-Find-clause-by_map g c sound map held =
+    rw (c.in-Find.is, c.found.ensures) (find_by (g.R.Record.holds c.find.new.self) map c.in-Find.key c.find.result (c.find.ensures.finds sound map held))
+
+pub returns-in-Put-clause-by_map : goal.returns-in-Put-clause-by_map
+returns-in-Put-clause-by_map g c sound map held =
+    rw (c.in-Put.is, c.done.ensures) (put_by (g.R.Record.holds c.put.new.self) map c.in-Put.row c.put.result (c.put.ensures.puts sound map held))
+
+pub returns-in-DropArchive-clause-by_map : goal.returns-in-DropArchive-clause-by_map
+returns-in-DropArchive-clause-by_map g c sound map held =
+    rw (c.in-DropArchive.is, c.done-in-DropArchive.ensures)
+    (drop_by (g.R.Record.holds c.drop_archive.new.self) map c.in-DropArchive.key c.drop_archive.result (c.drop_archive.ensures.drops sound map held))
