@@ -9,7 +9,7 @@ use crate::given::{Call, Given, Places};
 use crate::on_machine::with_options;
 use crate::outdir::{outdir_for, without_outdir};
 use crate::run_end::RunEnd;
-use crate::run_words::{retries_of, slots_of};
+use crate::run_words::{keeps_archive, retries_of, slots_of};
 use crate::work_folder::{leave, mark_made, without_work};
 use job_rows::Record;
 use plain_data::Text;
@@ -115,6 +115,6 @@ fn options_of(alloc: Global, places: &Places, call: &Call<'_>) -> Result<Options
         retries: retries_of(call.words),
         base: 1,
         rate: 100_000,
-        keep: call.words.archive.is_some(),
+        keep: keeps_archive(call.words),
     })
 }

@@ -1,4 +1,4 @@
-ghost use Rattle.std.specs.Prelude.{◌≡◌, ◌≤◌, IfOk, IfErr, Some, false, option_map};
+ghost use Rattle.std.specs.Prelude.{◌≡◌, ◌≤◌, IfOk, IfErr, Some, false, is_some, option_map};
 ghost use Rattle.clap.specs.Words.{app_of, found_of, kind_of, rows_of, rule_of};
 ghost use Rattle.cwl_program.specs.Flags.{IsLocal};
 ghost use Rattle.cwl_program.specs.RunWords.{IsChosen, named_rule, numbered_rule, placed_rule, run_command, run_wish, telling_in, wish_of_run, with_archive, with_document, with_folders, with_keep, with_keep_failed, with_numbers, with_options, with_progress, with_record, with_slots, with_verbose};
@@ -294,6 +294,16 @@ pub fn retries_of(words: &RunWords) -> u64
     match words.retries {
         None => 0,
         Some(text) => read_or(text, 0, MOST_RETRIES, 0),
+    }
+}
+
+/// Whether the files of jobs are kept: where the words name an archive.
+pub fn keeps_archive(words: &RunWords) -> bool
+    ensures { result ≡ is_some (option_map (λ s. s.now) words.now.archive) }
+{
+    match words.archive {
+        None => false,
+        Some(_) => true,
     }
 }
 

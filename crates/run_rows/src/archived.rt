@@ -102,6 +102,7 @@ fn notes_json(alloc: Global, notes: &[Note]) -> Result<String, RowFault> {
 fn failure_of(kind: &NoteKind) -> (&'static str, &'static str) {
     match kind {
         NoteKind::Put(refusal) => ("Put", refusal.code()),
+        NoteKind::Drop(refusal) => ("Drop", refusal.code()),
         NoteKind::Store(fault) => ("Store", fault.code()),
         NoteKind::Late(fault) => ("Late", fault.code()),
     }
