@@ -468,9 +468,9 @@ module _ (s : Scene) where
   pub drop_failed_reflects : (es : List Event) (old new : Course) (place : JobPlace) (refusal : RecordRefusal) → past_of new ≡ with_note (drop_note place refusal) (past_of old) →
       new.known ≡ old.known → Reflects s es old None → Reflects s (es ++ drop_failed place refusal ∷ []) new None
   drop_failed_reflects es old new place refusal past known r =
-      noted_reflects es old new (drop_failed place refusal) (drop_note place refusal)
+      noted_reflects es old new None (drop_failed place refusal) (drop_note place refusal)
       (record { aside = refl; quiet = refl; teaches = refl; measures = refl; collects = refl; delivers = refl; started = λ last at. refl; answers = refl; notes = refl })
-      past known r
+      past known r r.keeps
 
   -- the files of a job's row were fetched
   pub loaded_reflects : (es : List Event) (old new : Course) (n : ℕ) (job : Job) (row : Row) → IsJob (known_in old.known) n job → waits_in old.jobs n ≡ true → row_in old.rows n ≡ Some row →

@@ -168,7 +168,7 @@ module _ (given : Given) (old : Course) (entries : List Entry) (turn : Turn) (ne
   step_leaves asks (Phase.Fetching number) answer (by_host place request its (is_fetched its_key folder files found among)) fits goes knows told bounded blames follows =
       leaves_fetch given.options entries given refl old number found turn new few (record { bounded = bounded; blames = blames }) follows
   step_leaves asks (Phase.Fetching number) answer (by_host place request its (has_failed call)) fits goes knows told bounded blames follows =
-      after_fault (fault_of call) told (books_unfetched given.options entries (past_of old) number (record { bounded = bounded; blames = blames })) follows
+      after_fault place (fault_of call) told (books_unfetched given.options entries (past_of old) number (record { bounded = bounded; blames = blames })) follows
   step_leaves asks (Phase.Staging number) answer (by_host place request its (is_staged plan folder)) fits goes knows told bounded blames follows =
       turns_leave given.options entries given refl follows.staged number follows.next turn new few
       (known_still old follows.staged (ap (λ (p : Past). p.end) follows.past) follows.known knows)

@@ -302,7 +302,7 @@ module _ (given : Given) (old : Course) where
     step_fewer asks (Phase.Fetching number) answer (by_host place request its (is_fetched its_key folder files found among)) fits goes knows bounded some follows =
         fetch_fewer number found turn new bounded follows
     step_fewer asks (Phase.Fetching number) answer (by_host place request its (has_failed call)) fits goes knows bounded some follows =
-        fault_fewer (fault_of call) turn new 2 (omega arith) follows
+        fault_fewer place (fault_of call) turn new 2 (omega arith) follows
     step_fewer asks (Phase.Staging number) answer (by_host place request its (is_staged plan folder)) fits goes knows bounded some follows =
         below_staging (answers_left given.options (past_of new) turn.phase) (weight_of_past given.options (past_of follows.staged)) Before
         (turns_few given.options given follows.staged number follows.next turn new (2 * many_files + 6) (omega arith)

@@ -188,7 +188,7 @@ module _ (given : Given) where
     step_flies it (Phase.Dropping number) answer (by_record place request its can) fits goes knows follows = flies_on _ _ (drop_fly old number its turn new follows)
     step_flies it (Phase.Fetching number) answer (by_host place request its (is_fetched its_key folder files found among)) fits goes knows follows =
         flies_on _ _ (fetch_fly old number found turn new follows)
-    step_flies it (Phase.Fetching number) answer (by_host place request its (has_failed call)) fits goes knows follows = flies_on _ _ (fault_fly old _ turn new follows)
+    step_flies it (Phase.Fetching number) answer (by_host place request its (has_failed call)) fits goes knows follows = flies_on _ _ (fault_fly old place _ turn new follows)
     step_flies it (Phase.Staging number) answer (by_host place request its (is_staged plan folder)) fits goes knows follows =
         flies_on _ _ (turns_fly follows.staged number follows.next turn new (known_still old follows.staged (ap (λ (p : Past). p.end) follows.past) follows.known knows) follows.turns
         ∙ ap (λ (p : Past). p.tickets) follows.past)
