@@ -17,7 +17,12 @@ returns-in_err-core-clause-run g c =
         logged = sym (append-nil (g.H.Host.log c.args.host.now));
         lines = [];
         recorded = sym (append-nil (g.R.Record.log c.args.rows.now));
-        run = nothing_asked c.args.process.now c.args.inputs.now c.args.options;
+        run = record {
+          transcript = [];
+          entries = refl;
+          commands = refl;
+          concluded = nothing_asked c.args.process.now c.args.inputs.now c.args.options;
+        };
       };
       map = nothing_kept _ _ [] refl;
     })
