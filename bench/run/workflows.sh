@@ -6,6 +6,7 @@ set -euo pipefail
 top=$(cd "$(dirname "$0")/../.." && pwd)
 program=${PROGRAM:-$top/$("$top/scripts/build" 2>/dev/null)}
 [ -x "$program" ] || { echo "there is no program: make says why"; exit 1; }
+. "$top/bench/run/times.sh"
 here=$(mktemp -d)
 trap 'rm -rf "$here"' EXIT
 cd "$here"
@@ -44,27 +45,16 @@ for name, made in rules.items():
 END
 }
 
-# The milliseconds that the words take, the median of 3.
-median() {
-    for _ in 1 2 3; do
-        rm -rf o* .ninja_log .ninja_deps
-        local start=$(date +%s%N)
-        "$@" >/dev/null
-        echo $((($(date +%s%N) - start) / 1000000))
-    done | sort -n | sed -n 2p
-}
-
-ratio() { awk -v a="$1" -v b="$2" 'BEGIN { printf "%.2f", a / b }'; }
-
+fresh='rm -rf o* .ninja_log .ninja_deps'
 for n in ${SIZES:-100 300}; do
     written "$n"
     for name in scatter chain; do
-        ours=$(median "$program" run --slots 4 --outdir out "$name.json" "$name.inputs")
-        peer=$(median make -s -j4 -f "$name.mk")
-        line="$name of $n: $ours ms; make -j4 $peer ms, ratio $(ratio "$ours" "$peer")"
+        ours=$(median "$fresh" "$program" run --slots 4 --outdir out "$name.json" "$name.inputs")
+        peer=$(median "$fresh" make -s -j4 -f "$name.mk")
+        line="$name of $n: $(millis "$ours") ms; make -j4 $(millis "$peer") ms, ratio $(ratio "$ours" "$peer")"
         if command -v ninja >/dev/null; then
-            peer=$(median ninja --quiet -j4 -f "$name.ninja")
-            line="$line; ninja -j4 $peer ms, ratio $(ratio "$ours" "$peer")"
+            peer=$(median "$fresh" ninja --quiet -j4 -f "$name.ninja")
+            line="$line; ninja -j4 $(millis "$peer") ms, ratio $(ratio "$ours" "$peer")"
         fi
         echo "$line"
     done
