@@ -1,6 +1,6 @@
 -- What is picked, by the tests that lead there.
-use Rattle.std.specs.Prelude.{◌≢◌, OnErr}
-use Rattle.std.proofs.Common.{◌≡◌, ◌∙◌, ℕ, [], None, Result, Ok, Err, refl, sym, ap, subst}
+use Rattle.std.specs.Prelude.{OnErr}
+use Rattle.std.proofs.Common.{◌≡◌, ◌∙◌, ℕ, None, Result, Ok, Err, refl, sym, ap, subst}
 use Rattle.proc_host.specs.declared.call.HostFault.{HostFault}
 use Rattle.proc_host.specs.declared.call.HostRequest.{HostRequest}
 use Rattle.job_graph.specs.Words.{JobPlace}
@@ -11,28 +11,21 @@ use Rattle.run_core.specs.declared.state.JobNext.{JobNext}
 use Rattle.run_core.specs.declared.state.JobPhase.{JobPhase}
 use Rattle.run_core.specs.declared.state.Phase.{Phase}
 use Rattle.run_core.specs.declared.state.Turn.{Turn}
-use Rattle.run_core.specs.inner.Course.{known_in, place_at}
+use Rattle.run_core.specs.inner.Course.{known_in, past_of, place_at}
 use Rattle.run_core.specs.inner.Follows.{AfterFailure, asked_at}
-use Rattle.run_core.specs.inner.Picks.{AfterFault, Delivers, MayBeNext, NoneToStage, Picks, Stages, Turns, asks, has_result, stages, waits_for_one, Finds, IsNextToFind, NoneToFind, fetches, finds}
-use Rattle.run_core.specs.inner.Fetches.{Fetches, IsNextToFetch, NoneToFetch}
+use Rattle.run_core.specs.inner.Picks.{AfterFault, Chooses, Picks, Turns, asks, chooses, Finds, IsNextToFind, NoneToFind, finds}
+use Rattle.run_core.specs.inner.Planning.{Replans}
 use Rattle.run_rules.specs.declared.request.Request.{Request}
-use Rattle.run_core.specs.inner.Turn.{collects, works}
+use Rattle.run_core.specs.inner.Turn.{works}
 
 module _ (given : Given) (course : Course) (going : course.end ≡ None) where
   pub picks_find : (number : ℕ) (turn : Turn) → IsNextToFind course number → Finds course number turn → Picks given course turn course
   picks_find number turn next f = finds number turn course going next f refl refl
 
-  pub picks_fetch : NoneToFind course → (number : ℕ) (turn : Turn) → IsNextToFetch given course number → Fetches course number turn → Picks given course turn course
-  picks_fetch looked number turn next f = fetches number turn course going looked next f refl refl
-
-  pub picks_stage : NoneToFind course → NoneToFetch given course → (number : ℕ) (turn : Turn) → MayBeNext given course number → Stages given course number turn → Picks given course turn course
-  picks_stage looked unfetched number turn may st = stages number turn course going looked unfetched may.slot may.lowest st refl refl
-
-  pub picks_result : NoneToFind course → NoneToFetch given course → (turn : Turn) → NoneToStage given course → course.tickets.items ≡ [] → Delivers given course turn → Picks given course turn course
-  picks_result looked unfetched turn none nobody d = has_result turn course going looked unfetched nobody none d refl refl
-
-  pub picks_wait : NoneToFind course → NoneToFetch given course → NoneToStage given course → course.tickets.items ≢ [] → Picks given course collects course
-  picks_wait looked unfetched none some = waits_for_one course going looked unfetched some none refl refl
+  pub picks_by_plan : NoneToFind course → (planned : Course) → Replans given course planned → (turn : Turn) (new : Course) → new ≡ planned → Chooses given planned turn →
+      Picks given course turn new
+  picks_by_plan looked planned replans turn new same chosen =
+      chooses planned turn new going looked replans chosen (ap past_of same) (ap (λ (c : Course). c.known) same)
 
 -- where memory ran out
 pub if_lost : {X E : Type 0} (result : Result X E) {A B : Type 0} → (A → B) → OnErr result A → OnErr result B

@@ -1,8 +1,8 @@
 -- What becomes of collected outputs, by what was tested.
-use Rattle.std.specs.Prelude.{not, option_copied, ◌≢◌}
-use Rattle.std.proofs.Common.{◌≡◌, ◌∙◌, ◌↔◌, ◌⊎◌, IsTrue, inl, inr, ℕ, Bool, true, false, List, [], ◌∷◌, Option, Some, None, refl, sym, ap, subst}
+use Rattle.std.specs.Prelude.{option_copied}
+use Rattle.std.proofs.Common.{◌≡◌, ◌∙◌, ◌↔◌, IsTrue, inl, inr, ℕ, Bool, true, false, List, [], ◌∷◌, Option, Some, None, refl, sym, subst}
 use Rattle.cwl_process.specs.Acting.{reuse_of}
-use Rattle.job_graph.specs.Words.{Fields, JobPlace}
+use Rattle.job_graph.specs.Words.{Fields}
 use Rattle.job_key.specs.Key.{key}
 use Rattle.job_reuse.specs.Laws.{OutputsAreTheSameOrNot}
 use Rattle.job_reuse.specs.Rows.{made_row}
@@ -12,7 +12,7 @@ use Rattle.run_rules.specs.Events.{job_repeated, job_succeeded}
 use Rattle.run_rules.specs.Keeps.{AgreesWith, Keeps, differs, keeps, keeps_none, work_to_keep}
 use Rattle.run_core.specs.declared.site.Site.{Site}
 use Rattle.run_core.specs.declared.state.JobNext.{JobNext}
-use Rattle.run_core.specs.inner.Due.{DiffersAt, KeepsAt, events_next, job_at_site, told_in, work_next}
+use Rattle.run_core.specs.inner.Due.{DiffersAt, KeepsAt, job_at_site, told_in}
 
 module _ (site : Site) (millis : ℕ) (found : List Found) (outputs : Fields) (reusable : Bool) (its : reusable ≡ reuse_of site.tool.now.asked) where
   pub kept_none : reusable ≡ false → KeepsAt site millis found outputs (JobNext.Gives outputs None)

@@ -4,12 +4,15 @@ pub mod Choosing
 pub mod FoundRows
 pub mod Holding
 pub mod Kept
+pub mod KnownGraphs
 pub mod Lists
 pub mod Loops
 pub mod Lost
 pub mod Noted
 pub mod Numbers
 pub mod Once
+pub mod Plans
+pub mod PlansKept
 pub mod Reusable
 pub mod Rooms
 pub mod Same

@@ -1,6 +1,6 @@
 -- The number of a job's folders, and whether they are of a fetch, looked for among the jobs that were touched.
 use Rattle.std.specs.Prelude.{◌<◌}
-use Rattle.std.proofs.Common.{◌≡◌, ◌∙◌, ◌+◌, ℕ, Bool, false, cond, List, [], ◌∷◌, length, get_or, drop, map, ◌⊎◌, inl, inr, refl, sym, ap}
+use Rattle.std.proofs.Common.{◌≡◌, ◌∙◌, ◌+◌, ℕ, false, cond, List, [], ◌∷◌, length, get_or, drop, map, ◌⊎◌, inl, inr, refl, sym, ap}
 use Rattle.job_graph.specs.declared.growth.KnownJob.{KnownJob}
 use Rattle.job_graph.specs.KnownJobs.{job_of}
 use Rattle.job_graph.specs.Jobs.{Job}

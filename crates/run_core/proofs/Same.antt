@@ -4,19 +4,23 @@ use Rattle.run_core.specs.declared.state.Course.{Course}
 use Rattle.run_core.specs.declared.state.Given.{Given}
 use Rattle.run_core.specs.declared.state.Measuring.{Measuring}
 use Rattle.run_core.specs.declared.state.Turn.{Turn}
-use Rattle.run_core.specs.inner.Course.{Past, past_of}
+use Rattle.run_core.specs.inner.Course.{Past, TellsAlike, past_of}
 use Rattle.run_core.specs.inner.Measures.{Begins, MeasuresOn, all_measured, measures}
-use Rattle.run_core.specs.inner.Picks.{Picks, drains, ends_so, has_result, stages, waits_for_one, fetches, finds}
+use Rattle.run_core.specs.inner.Picks.{Picks, chooses, drains, ends_so, finds}
+
+tells_alike : (old new other : Past) → other ≡ new → TellsAlike old new → TellsAlike old other
+tells_alike old new other same alike = record {
+  notes = ap (λ (p : Past). p.notes) same ∙ alike.notes;
+  planned = ap (λ (p : Past). p.planned) same ∙ alike.planned;
+  plans = ap (λ (p : Past). p.plans) same ∙ alike.plans;
+}
 
 module _ (given : Given) (old new other : Course) (past : past_of other ≡ past_of new) (known : other.known ≡ new.known) where
   pub picks_same : (turn : Turn) → Picks given old turn new → Picks given old turn other
   picks_same turn (drains n settled flies same kept) = drains other settled flies (past ∙ same) (known ∙ kept)
-  picks_same turn (ends_so end n is none left kept noted) = ends_so end other is none (ap (λ (p : Past). p.tickets) past ∙ left) (known ∙ kept) (ap (λ (p : Past). p.notes) past ∙ noted)
+  picks_same turn (ends_so end n is none left kept noted) = ends_so end other is none (ap (λ (p : Past). p.tickets) past ∙ left) (known ∙ kept) (tells_alike (past_of old) (past_of n) (past_of other) past noted)
   picks_same turn (finds number t n still is_next it same kept) = finds number t other still is_next it (past ∙ same) (known ∙ kept)
-  picks_same turn (fetches number t n still looked is_next it same kept) = fetches number t other still looked is_next it (past ∙ same) (known ∙ kept)
-  picks_same turn (stages number t n still looked unfetched slot lowest it same kept) = stages number t other still looked unfetched slot lowest it (past ∙ same) (known ∙ kept)
-  picks_same turn (waits_for_one n still looked unfetched flies none same kept) = waits_for_one other still looked unfetched flies none (past ∙ same) (known ∙ kept)
-  picks_same turn (has_result t n still looked unfetched landed none its same kept) = has_result t other still looked unfetched landed none its (past ∙ same) (known ∙ kept)
+  picks_same turn (chooses planned t n still looked replans chosen same kept) = chooses planned t other still looked replans chosen (past ∙ same) (known ∙ kept)
 
 module _ (given : Given) (old new other : Course) (past : past_of other ≡ past_of new) (known : other.known ≡ new.known) where
   measures_same : (measuring : Measuring) (turn : Turn) → MeasuresOn given old measuring turn new → MeasuresOn given old measuring turn other

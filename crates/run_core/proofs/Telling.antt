@@ -1,6 +1,6 @@
 -- What comes of a course where one more place is told to what is known, and where it is known first.
 use Rattle.std.specs.Prelude.{IsSome, OnErr, slice_get}
-use Rattle.std.proofs.Common.{◌≡◌, ◌∙◌, ℕ, Bool, true, false, List, Option, Some, None, Result, Ok, Err, refl, sym, ap, subst}
+use Rattle.std.proofs.Common.{◌≡◌, ◌∙◌, ℕ, true, false, List, Option, Some, None, Result, Ok, Err, refl, sym, ap, subst}
 use Rattle.job_graph.specs.Jobs.{Job, Walker}
 use Rattle.job_graph.specs.Unfold.{Resolved, unfolded}
 use Rattle.job_graph.specs.Unfolding.{AnswersAlike, Blames, Learns as LearnsPlace}

@@ -1,6 +1,7 @@
 -- That a run goes on: a lemma for each rule of what the machine turns to.
 pub mod Same
 pub mod Picking
+pub mod Planning
 pub mod Measured
 pub mod Delivered
 pub mod Asked

@@ -1,6 +1,7 @@
 -- What each call of the machine does.
-use Rattle.std.specs.Prelude.{◌≡◌, ◌≢◌, ◌<◌, ◌≤◌, ℕ, List, [], ◌∷◌, ◌++◌, Result, Err, IfErr, OnOk, OnErr}
+use Rattle.std.specs.Prelude.{◌≡◌, ◌≢◌, ◌<◌, ◌≤◌, ℕ, List, [], ◌∷◌, ◌++◌, Option, Some, None, Result, Err, IfErr, OnOk, OnErr}
 use Rattle.document_links.specs.declared.process.Process.{Process}
+use Rattle.plan_checker.specs.Certificate.{IsCertificate}
 use Rattle.plan_checker.specs.declared.plan.Mark.{Mark}
 use Rattle.run_rules.specs.declared.outcome.RunFault.{RunFault}
 use Rattle.run_rules.specs.declared.request.Answer.{Answer}
@@ -10,7 +11,7 @@ use Rattle.run_rules.specs.declared.setting.Options.{Options}
 use Rattle.run_rules.specs.Allowed.{Allowed, MayFetch, MayStage}
 use Rattle.run_rules.specs.Answers.{MayAnswer, flying_after}
 use Rattle.run_rules.specs.Events.{Progress, unfolding_at}
-use Rattle.run_rules.specs.Plans.{number_of}
+use Rattle.run_rules.specs.Plans.{PlansSoFar, no_plans, number_of}
 use Rattle.run_rules.specs.Reports.{AreWaits, entries_of}
 use Rattle.run_rules.specs.Run.{IsRunSoFar}
 use Rattle.run_rules.specs.Scene.{Scene, scene_of}
@@ -20,7 +21,7 @@ use Rattle.staging.specs.declared.plan.StagePlan.{StagePlan}
 use Rattle.proc_host.specs.declared.call.HostAnswer.{HostAnswer}
 use Rattle.proc_host.specs.declared.call.HostFault.{HostFault}
 use Rattle.proc_host.specs.declared.call.HostRequest.{HostRequest}
-use Rattle.run_core.specs.Machine.{Machine, is_draining, is_over}
+use Rattle.run_core.specs.Machine.{Machine, PlanNow, is_draining, is_over}
 
 -- it gave up as out of memory, and waits for no child any more
 abbrev pub IsLost : Machine → Type 0
@@ -30,6 +31,28 @@ IsLost core = core.mode ≡ is_over (Err RunFault.OutOfMemory)
 pub record IsDraining (core : Machine) : Type 0 where
   pub mode : core.mode ≡ is_draining
   pub asks : core.asks ≡ Request.Host [] HostRequest.Collect
+
+-- what was planned last: its graph and marks, with charges that certify it; nothing before the first planning point
+pub record ShowsPlan (plans : PlansSoFar) (now : PlanNow) : Type 0 where
+  pub graph : now.graph ≡ plans.graph
+  pub marks : now.marks ≡ plans.marks
+  pub certified : IsCertificate now.graph now.marks now.charges
+
+abbrev pub Shows : PlansSoFar → Option PlanNow → Type 0
+Shows plans None = plans ≡ no_plans
+Shows plans (Some now) = ShowsPlan plans now
+
+-- memory has not run out
+pub record HasNotRunOut (core : Machine) : Type 0 where
+  pub goes : core.mode ≡ is_draining → ⊥
+  pub not_lost : IsLost core → ⊥
+
+-- what it asked and was answered is a run so far, and it shows what was planned there last
+pub record HasPlans (core : Machine) : Type 0 where
+  pub happened : Progress
+  pub plans : PlansSoFar
+  pub run : IsRunSoFar core.setting core.transcript happened plans
+  pub shows : Shows plans core.plan
 
 -- where a job is to be staged, none that was known before it may be; and so where its files are to be fetched
 abbrev pub IsFirst : Scene → Progress → List Mark → Request → Type 0
@@ -41,12 +64,12 @@ IsFirst s f marks (Request.Host place (HostRequest.Fetch key number files)) =
     number_of place (unfolding_at s f.events).jobs ≤ number_of other (unfolding_at s f.events).jobs
 IsFirst s f marks request = Unit {0}
 
--- what it asked and was answered is a run so far, after which it may ask what it asks, and of the jobs that may be staged, or fetched, asks for
--- the first one; or memory ran out, and after a run so far it only waits for the children in flight
+-- what it asked and was answered is a run so far, whose plan it shows and after which it may ask what it asks, and of the jobs that may be staged,
+-- or fetched, asks for the first one; or memory ran out, and after a run so far it only waits for the children in flight
 pub data MayAsk (core : Machine) : Type 0 where
-  allowed : (happened : Progress) (marks : List Mark) → IsRunSoFar core.setting core.transcript happened marks →
-      Allowed (scene_of core.setting) happened marks core.asks → IsFirst (scene_of core.setting) happened marks core.asks → MayAsk core
-  drains : (front waits : List Pair) (happened : Progress) (marks : List Mark) → IsRunSoFar core.setting front happened marks → AreWaits waits →
+  allowed : (happened : Progress) (plans : PlansSoFar) → IsRunSoFar core.setting core.transcript happened plans → Shows plans core.plan →
+      Allowed (scene_of core.setting) happened plans.marks core.asks → IsFirst (scene_of core.setting) happened plans.marks core.asks → MayAsk core
+  drains : (front waits : List Pair) (happened : Progress) (plans : PlansSoFar) → IsRunSoFar core.setting front happened plans → AreWaits waits →
       core.transcript ≡ front ++ waits → core.flying ≢ [] → core.asks ≡ Request.Host [] HostRequest.Collect → MayAsk core
 
 -- a machine for this process, before any answer

@@ -10,10 +10,12 @@ pub mod JobStates
 pub mod Keeps
 pub mod Knows
 pub mod LowestWaiting
+pub mod Marks
 pub mod Measured
 pub mod Measures
 pub mod Picks
 pub mod Places
+pub mod Planning
 pub mod Standing
 pub mod Turn
 pub mod Turns

@@ -11,9 +11,10 @@ use collected_outputs::{every_folder_has_outputs_or_a_fault, some_heads_are_want
 use command_line::every_tool_has_a_launch_or_is_refused;
 use cwl_process::Tool;
 use job_reuse::{files_are_the_same_or_not, outputs_are_the_same_or_not, rows_are_sound_or_not};
+use plan_checker::each_has_least;
 
 /// Something follows from each answer: the phase's job has a launch or is refused one, a folder has outputs or there is a fault
-/// why not, a row is one of its job's tool or is none, and fetched files are a row's or are not.
+/// why not, a row is one of its job's tool or is none, fetched files are a row's or are not, and each graph has a Least plan.
 pub(crate) fn can_go_on(course: &Course<'_>, phase: &Phase, answer: &Answer)
     ensures { CanGoOn course.now (job_in phase.now) answer.now }
 {
@@ -27,6 +28,7 @@ pub(crate) fn can_go_on(course: &Course<'_>, phase: &Phase, answer: &Answer)
     rows_are_sound_or_not();
     outputs_are_the_same_or_not();
     files_are_the_same_or_not();
+    each_has_least();
 }
 
 /// The outputs of a row that was found are in the order of their names.

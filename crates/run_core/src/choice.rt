@@ -4,7 +4,7 @@ ghost use Rattle.job_graph.specs.KnownJobs.{job_of as job_seen};
 ghost use Rattle.job_graph.specs.Jobs.{Job};
 ghost use Rattle.run_core.specs.declared.state.Given.{Given as Run};
 ghost use Rattle.run_core.specs.inner.Course.{known_in as jobs_in};
-ghost use Rattle.run_core.specs.inner.Picks.{MayBeNext, NoneToStage, Picks, Stages, sources_in};
+ghost use Rattle.run_core.specs.inner.Picks.{Chooses, MayBeNext, NoneToStage, Picks, Stages, sources_in};
 ghost use Rattle.run_core.specs.inner.Turn.{collects, ends};
 ghost use Rattle.run_rules.specs.Folders.{in_folder};
 ghost use Rattle.staging.specs.Plan.{IsPlan};
@@ -15,6 +15,7 @@ use crate::fetching::{fetching, next_to_fetch};
 use crate::finding::{finding, next_to_find};
 use crate::folders::in_folder;
 use crate::places::{Sources, Way, moved_fields};
+use crate::planning::{marks_in, replan};
 use crate::state::{Course, Given, Phase, Turn};
 use crate::turn::{collecting, ended};
 use crate::{Options, Request};
@@ -26,9 +27,7 @@ use std::alloc::{AllocError, Global};
 use std::mem;
 
 /// What comes next: after a failure the children in flight are waited for; else the row of a known job is looked for that
-/// was not; else the files of the lowest job that waits and can be loaded are fetched; else the lowest job that waits and
-/// whose parents are at hand is staged, where a slot is free; else a child in flight is waited for; and at last the result is
-/// delivered.
+/// was not; else the plan is made anew, and its next step comes.
 pub(crate) fn pick(
     alloc: Global,
     given: &Given<'_>,
@@ -44,6 +43,18 @@ pub(crate) fn pick(
     if let Some(number) = next_to_find(course) {
         return finding(alloc, course, number);
     }
+    replan(alloc, given, course)?;
+    choose(alloc, given, course)
+}
+
+/// What comes next by the plan in force: the files of the lowest job that waits and is loaded are fetched; else the lowest job
+/// that waits, is computed and whose parents are at hand is staged, where a slot is free; else a child in flight is waited for;
+/// and at last the result is delivered.
+fn choose(alloc: Global, given: &Given<'_>, course: &mut Course<'_>) -> Result<Turn, AllocError>
+    requires { course.old.folders + 1 < 2 ^ 64 }
+    ensures is { IfOk result (Chooses given.now course.old) }
+    ensures same { course.new ≡ course.old }
+{
     if let Some(number) = next_to_fetch(given, course) {
         return fetching(alloc, course, number);
     }
@@ -79,7 +90,9 @@ fn next_to_stage(given: &Given<'_>, course: &mut Course<'_>) -> Option<usize>
     if course.tickets.len() as u64 >= given.options.slots {
         return None;
     }
-    course.jobs.first_ready(known_in(&course.known))
+    course
+        .jobs
+        .first_ready(known_in(&course.known), marks_in(&course.planned))
 }
 
 /// The folders of a job are made, and its input files are copied there.

@@ -36,6 +36,8 @@ pub(crate) fn at_first<'a>(alloc: Global) -> Course<'a>
         rows: FoundRows::new(alloc),
         lost: Vec::new(alloc),
         notes: Vec::new(alloc),
+        planned: None,
+        plans: Vec::new(alloc),
         known: None,
         end: None,
     }

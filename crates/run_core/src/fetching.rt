@@ -1,22 +1,24 @@
 //! The files of a job's row are fetched, where they are archived: they are the row's, or its archive is lost.
 ghost use Rattle.std.specs.Prelude.{◌≡◌, ◌↔◌, ◌<◌, ◌+◌, ◌^◌, true, IsTrue, IfOk, MatchOption, OnErr, length};
 ghost use Rattle.run_core.specs.inner.Course.{known_in as jobs_in, is_lost_in};
-ghost use Rattle.run_core.specs.inner.Fetches.{AgreesAt, Drops, Fetches, IsNextToFetch, NoneToFetch, can_load};
+ghost use Rattle.run_core.specs.inner.Fetches.{AgreesAt, Drops, Fetches, IsNextToFetch, NoneToFetch, can_load, loads_in};
 ghost use Rattle.run_core.specs.inner.Picks.{AfterFetch};
 
 use crate::choice::pick;
 use crate::course::{job_of, key_of_row, known_in, note_load, note_loss};
+use crate::planning::{is_loaded, marks_in};
 use crate::state::{Course, Given, Phase, Turn};
 use crate::{RecordRequest, Request};
 use cwl_value::copy_job;
 use job_reuse::files_agree;
 use plain_data::{Items, Text};
+use plan_checker::Mark;
 use proc_host::fetch_request;
 use staging::Found;
 use std::alloc::{AllocError, Global};
 use std::mem;
 
-/// The lowest known job that waits and can be loaded.
+/// The lowest known job that waits and is loaded.
 pub(crate) fn next_to_fetch(given: &Given<'_>, course: &Course<'_>) -> Option<usize>
     ensures { MatchOption result (NoneToFetch given.now course.now)
         (IsNextToFetch given.now course.now) }
@@ -24,16 +26,24 @@ pub(crate) fn next_to_fetch(given: &Given<'_>, course: &Course<'_>) -> Option<us
     if !given.options.keep {
         return None;
     }
+    let marks = marks_in(&course.planned);
     for number in 0..known_in(&course.known).len() {
-        if course.jobs.waits(number) && can_load(course, number) {
+        if loads(course, marks, number) {
             return Some(number);
         }
     }
     None
 }
 
+/// Whether the job of a number waits, is loaded, and can be.
+fn loads(course: &Course<'_>, marks: &[Mark], number: usize) -> bool
+    ensures { result ≡ loads_in marks.now course.now number }
+{
+    course.jobs.waits(number) && (is_loaded(marks, number) && can_load(course, number))
+}
+
 /// Whether the job of a number has an archived row, whose archive was not found to be another.
-fn can_load(course: &Course<'_>, number: usize) -> bool
+pub(crate) fn can_load(course: &Course<'_>, number: usize) -> bool
     ensures { result ≡ can_load course.now number }
 {
     match course.rows.get(number) {

@@ -2,9 +2,11 @@
 ghost use Rattle.std.specs.Prelude.{◌≡◌, ◌<◌, ◌≤◌, ◌+◌, ◌^◌, ℕ, [], OnOk, MatchOption, length, map};
 ghost use Rattle.std.specs.List.{list_all};
 ghost use Rattle.job_graph.specs.KnownJobs.{known_of};
-ghost use Rattle.run_core.specs.inner.JobStates.{IsLowest, NoneReady, NoneWaits, brought_in, given_up_in, loaded_in, missed_in, is_there, staged_in, state_at, waits_in};
+ghost use Rattle.run_core.specs.inner.JobStates.{IsLowest, NoneReady, NoneWaits, brought_in, given_up_in, loaded_in, missed_in, is_ready, is_there, staged_in, state_at, waits_in};
 
+use crate::planning::is_computed;
 use job_graph::KnownJob;
+use plan_checker::Mark;
 use std::alloc::{AllocError, Global};
 use std::marker::Model;
 
@@ -83,17 +85,17 @@ impl JobStates {
         self.states[number].folder
     }
 
-    /// The lowest of the known jobs that waits and whose parents are at hand.
-    pub(crate) fn first_ready(&mut self, known: &[KnownJob<'_>]) -> Option<usize>
+    /// The lowest of the known jobs that waits, is computed by a plan of these marks, and whose parents are at hand.
+    pub(crate) fn first_ready(&mut self, known: &[KnownJob<'_>], marks: &[Mark]) -> Option<usize>
         ensures same { self.new ≡ self.old }
         ensures found { MatchOption result
-            (NoneReady (map known_of known.now) self.old (length known.now))
-            (IsLowest (map known_of known.now) self.old) }
+            (NoneReady marks.now (map known_of known.now) self.old (length known.now))
+            (IsLowest marks.now (map known_of known.now) self.old) }
     {
         while self.lowest < self.states.len() && !self.states[self.lowest].waits {
             self.lowest += 1;
         }
-        first_ready(self.states.as_slice(), self.lowest, known)
+        first_ready(self.states.as_slice(), self.lowest, known, marks)
     }
 
     /// The job has these folders, and waits no more.
@@ -137,6 +139,13 @@ impl JobStates {
         self.reach(number)?;
         self.states[number].tried = true;
         Ok(())
+    }
+
+    /// Whether the outputs of the job are at hand.
+    pub(crate) fn is_there(&self, number: usize) -> bool
+        ensures { result ≡ is_there self.now number }
+    {
+        is_there(self.states.as_slice(), number)
     }
 
     /// Whether the job waits.
@@ -183,19 +192,34 @@ impl JobStates {
     }
 }
 
-/// The first of the known jobs, from a number on, that waits and whose parents are at hand; below that number none waits.
-fn first_ready(states: &[JobState], from: usize, known: &[KnownJob<'_>]) -> Option<usize>
+/// The first of the known jobs, from a number on, that waits, is computed and whose parents are at hand; below that number none
+/// waits.
+fn first_ready(
+    states: &[JobState],
+    from: usize,
+    known: &[KnownJob<'_>],
+    marks: &[Mark],
+) -> Option<usize>
     requires { NoneWaits states.now from }
     ensures { MatchOption result
-        (NoneReady (map known_of known.now) states.now (length known.now))
-        (IsLowest (map known_of known.now) states.now) }
+        (NoneReady marks.now (map known_of known.now) states.now (length known.now))
+        (IsLowest marks.now (map known_of known.now) states.now) }
 {
     for number in from..known.len() {
-        if waits(states, number) && are_there(states, known[number].parents.as_slice()) {
+        if is_ready(states, marks, known, number) {
             return Some(number);
         }
     }
     None
+}
+
+/// Whether the known job of a number waits, is computed and its parents are at hand.
+fn is_ready(states: &[JobState], marks: &[Mark], known: &[KnownJob<'_>], number: usize) -> bool
+    requires { number < length known.now }
+    ensures { result ≡ is_ready marks.now (map known_of known.now) states.now number }
+{
+    waits(states, number)
+        && (is_computed(marks, number) && are_there(states, known[number].parents.as_slice()))
 }
 
 fn waits(states: &[JobState], number: usize) -> bool

@@ -23,6 +23,7 @@ mod job_states;
 mod keeping;
 mod measuring;
 mod places;
+mod planning;
 mod rows;
 mod runner;
 mod site;

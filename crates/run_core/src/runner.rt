@@ -1,4 +1,4 @@
-ghost use Rattle.std.specs.Prelude.{◌≡◌, ◌≢◌, ◌↔◌, ◌+◌, ◌<◌, ◌≤◌, ◌∷◌, ◌++◌, [], None, Err, IfOk, IfErr, OnOk, length, vec_len, vec_capacity};
+ghost use Rattle.std.specs.Prelude.{◌≡◌, ◌≢◌, ◌↔◌, ◌+◌, ◌<◌, ◌≤◌, ◌∷◌, ◌++◌, [], None, Err, IfOk, IfErr, OnOk, length, option_map, vec_len, vec_capacity};
 ghost use Rattle.proc_host.specs.declared.call.HostRequest.{HostRequest};
 ghost use Rattle.run_rules.specs.declared.outcome.RunFault.{RunFault};
 ghost use Rattle.run_rules.specs.declared.request.Request.{Request};
@@ -7,8 +7,9 @@ ghost use Rattle.run_rules.specs.Blame.{BlamesRightly, Rise, given_tickets};
 ghost use Rattle.run_rules.specs.Reports.{entries_of, reported, Concludes};
 ghost use Rattle.job_graph.specs.Words.{JobPlace};
 ghost use Rattle.run_core.specs.declared.state.Phase.{Phase};
-ghost use Rattle.run_core.specs.Core.{IsLost, MayAsk, MayTake, Begins, StaysLost, Took, GaveUp};
+ghost use Rattle.run_core.specs.Core.{HasNotRunOut, HasPlans, IsLost, MayAsk, MayTake, Begins, StaysLost, Took, GaveUp};
 ghost use Rattle.run_core.specs.Limits.{IsWithinLimits};
+ghost use Rattle.run_core.specs.Machine.{plan_of};
 ghost use Rattle.run_core.specs.inner.Course.{past_of};
 ghost use Rattle.run_core.specs.inner.Follows.{AsksIn, AsksOf, HasPairs, IsReadyFor, MakesRoom, Moves, told_of};
 ghost use Rattle.run_core.specs.inner.Measures.{Begins as BeginsAt};
@@ -22,11 +23,13 @@ use crate::measuring::begun;
 use crate::state::{Course, Given, Phase, Turn};
 use crate::steps::answered;
 use crate::turn::{ended, given_up, lost};
-use crate::{Answer, Note, Options, Outcome, Pair, Report, Request, RunFault};
+use crate::{Answer, Note, Options, Outcome, Pair, PlanNote, Report, Request, RunFault};
 use cwl_value::Value;
 use document_links::Process;
 use job_graph::see_ids;
 use plain_data::{Items, Keyed};
+use plan_checker::{Charges, Graph, Plan};
+use run_plan::Rates;
 use run_rules::an_honest_run_is_reported_rightly;
 use std::alloc::{AllocError, Global};
 use std::marker::Model;
@@ -75,10 +78,13 @@ impl<'a> RunCore<'a> {
         ensures err { IfErr result (λ fault. fault ≡ RunFault.OutOfMemory) }
     {
         see_ids(process);
+        let rates = Rates::new(options.base, options.rate);
         let given = Given {
             process,
             inputs,
             options,
+            rates,
+            answers: 0,
         };
         let mut pairs = Vec::new(alloc);
         let mut course = at_first(alloc);
@@ -121,6 +127,19 @@ impl<'a> RunCore<'a> {
         self.course.tickets.as_slice()
     }
 
+    /// The present job graph of the last planning point, the plan in force, and charges that certify it; none before the first
+    /// such point.
+    pub fn plan_now(&self) -> Option<(&Graph, &Plan, &Charges)>
+        ensures plan { option_map (λ lent. plan_of lent.0.now lent.1.now lent.2.now) result
+            ≡ self.now.plan }
+        ensures planned { HasNotRunOut self.now → HasPlans self.now }
+    {
+        match &self.course.planned {
+            None => None,
+            Some(made) => Some((&made.graph, &made.plan, &made.charges)),
+        }
+    }
+
     /// Returns how many jobs are known so far, those that have ended among them.
     pub fn known(&self) -> usize {
         match &self.course.known {
@@ -153,6 +172,7 @@ impl<'a> RunCore<'a> {
         ensures { Took self.old answer result self.new }
     {
         can_go_on(&self.course, &self.turn.phase, &answer);
+        self.given.answers = self.pairs.len() as u64 + 1;
         let request = step(
             self.alloc,
             &self.given,
@@ -191,7 +211,7 @@ impl<'a> RunCore<'a> {
     {
         an_honest_run_is_reported_rightly();
         let RunCore {
-            alloc,
+            alloc: _,
             given,
             pairs,
             course,
@@ -199,7 +219,7 @@ impl<'a> RunCore<'a> {
         } = self;
         mem::drop(given);
         mem::drop(pairs);
-        reported(alloc, phase_outcome(turn), course)
+        reported(phase_outcome(turn), course)
     }
 }
 
@@ -326,29 +346,35 @@ fn told_of(phase: &Phase) -> Result<(), RunFault>
 }
 
 /// The report of what came of the process.
-fn reported(
-    alloc: Global,
-    outcome: Result<Outcome, RunFault>,
-    course: Course<'_>,
-) -> Result<Report, RunFault>
-    ensures { result ≡ reported (past_of course.entry).notes outcome }
+fn reported(outcome: Result<Outcome, RunFault>, course: Course<'_>) -> Result<Report, RunFault>
+    ensures { result ≡ reported (past_of course.entry).plans (past_of course.entry).notes outcome }
 {
+    let Noted { plans, notes } = noted_in(course);
     match outcome {
         Ok(outcome) => Ok(Report {
             outcome,
-            plans: Items::new(alloc),
-            notes: Items::from_vec(notes_of(course)),
+            plans: Items::from_vec(plans),
+            notes: Items::from_vec(notes),
         }),
         Err(fault) => {
-            mem::drop(course);
+            mem::drop(plans);
+            mem::drop(notes);
             Err(fault)
         }
     }
 }
 
-/// What went wrong without changing the end.
-fn notes_of(course: Course<'_>) -> Vec<Note>
-    ensures { result.items ≡ (past_of course.entry).notes }
+/// What is noted of a run.
+#[derive(Drop)]
+struct Noted {
+    plans: Vec<PlanNote>,
+    notes: Vec<Note>,
+}
+
+/// The costs of the plans, and what went wrong without changing the end.
+fn noted_in(course: Course<'_>) -> Noted
+    ensures plans { result.plans.items ≡ (past_of course.entry).plans }
+    ensures notes { result.notes.items ≡ (past_of course.entry).notes }
 {
     let Course {
         tickets,
@@ -359,6 +385,8 @@ fn notes_of(course: Course<'_>) -> Vec<Note>
         rows,
         lost,
         notes,
+        planned,
+        plans,
         known,
         end,
     } = course;
@@ -367,9 +395,10 @@ fn notes_of(course: Course<'_>) -> Vec<Note>
     mem::drop(jobs);
     mem::drop(rows);
     mem::drop(lost);
+    mem::drop(planned);
     mem::drop(known);
     mem::drop(end);
-    notes
+    Noted { plans, notes }
 }
 
 /// What came of the process by the last turn.

@@ -2,13 +2,14 @@
 
 use crate::found_rows::FoundRows;
 use crate::job_states::JobStates;
-use crate::{Cause, Note, Options, Outcome, Request, RunFault};
+use crate::{Cause, Note, Options, Outcome, PlanNote, Request, RunFault};
 use cwl_value::Value;
 use document_links::Process;
 use job_graph::Unfolding;
 use job_rows::Row;
 use plain_data::{Items, Keyed, Text};
 use proc_host::HostRequest;
+use run_plan::{Planned, Rates};
 use staging::{Found, Measure};
 
 /// What a run is of.
@@ -17,6 +18,10 @@ pub(crate) struct Given<'a> {
     pub process: &'a Process,
     pub inputs: &'a Keyed<Value>,
     pub options: Options,
+    /// What loading costs, by its options.
+    pub rates: Rates,
+    /// How many answers were taken, the one at hand among them.
+    pub answers: u64,
 }
 
 /// What is kept of a started job until its outputs are collected.
@@ -154,6 +159,10 @@ pub(crate) struct Course<'a> {
     pub lost: Vec<Text>,
     /// What went wrong without changing the end.
     pub notes: Vec<Note>,
+    /// The plan in force, of the last planning point.
+    pub planned: Option<Planned>,
+    /// The cost of each plan, by planning point.
+    pub plans: Vec<PlanNote>,
     /// The jobs that are known, once all input files are measured.
     pub known: Option<Unfolding<'a>>,
     /// The failure that settled the end.

@@ -5,7 +5,9 @@ ghost use Rattle.run_core.specs.declared.state.Phase.{Phase as Waits};
 ghost use Rattle.run_core.specs.inner.Course.{known_in};
 ghost use Rattle.run_core.specs.inner.Follows.{AfterFailure, AnswersWork, AsksOf, CanStage, Drains, FollowsFrom, FollowsIn, FollowsWork, IsLeftAfter, IsOneLess, IsReady, IsReadyFor, IsStaging, StoresKnown};
 ghost use Rattle.run_core.specs.inner.Picks.{AfterChild, AfterInputHead, AfterListing, AfterOutputHead, AfterStaging, AfterStart, AfterTemporary, IsScanned, IsSite, Turns};
+ghost use Rattle.run_core.specs.inner.Planning.{Replans};
 ghost use Rattle.run_core.specs.inner.Standing.{HasRoom};
+ghost use Rattle.run_core.specs.inner.Turn.{succeeds};
 ghost use Rattle.proc_host.specs.declared.call.HostAnswer.{HostAnswer as HostSays};
 ghost use Rattle.run_rules.specs.declared.request.Answer.{Answer as Told};
 ghost use Rattle.run_rules.specs.Answers.{MayAnswer};
@@ -19,6 +21,7 @@ use crate::course::{
 };
 use crate::fetching::fetched;
 use crate::measuring::measured;
+use crate::planning::replan;
 use crate::rows::told;
 use crate::site::Site;
 use crate::starts::{filled, filled_first};
@@ -91,9 +94,31 @@ fn follows<'a>(
         (Phase::Working(job, work), answer) => works_on(alloc, given, course, job, work, answer),
         (Phase::Collecting, HostAnswer::Ended(ending)) => landed(alloc, given, course, ending),
         (Phase::Draining, HostAnswer::Ended(ending)) => Ok(drained(alloc, course, ending)),
-        (Phase::Delivering(outputs), HostAnswer::Done) => Ok(succeeded(outputs)),
+        (Phase::Delivering(outputs), HostAnswer::Done) => {
+            delivered(alloc, given, course, outputs)
+        }
         (Phase::Storing(job, row), HostAnswer::Done) => archived(alloc, course, job, row),
         _ => unreachable!(),
+    }
+}
+
+/// The result's files are at their targets: the run has ended, and what was done without is planned once more.
+fn delivered(
+    alloc: Global,
+    given: &Given<'_>,
+    course: &mut Course<'_>,
+    outputs: Value,
+) -> Result<Turn, AllocError>
+    ensures is { IfOk result (λ turn. (turn ≡ succeeds outputs)
+        × Replans given.now course.old course.new) }
+    ensures flying { OnErr result (course.new.tickets.items ≡ course.old.tickets.items) }
+{
+    match replan(alloc, given, course) {
+        Ok(()) => Ok(succeeded(outputs)),
+        Err(error) => {
+            mem::drop(outputs);
+            Err(error)
+        }
     }
 }
 

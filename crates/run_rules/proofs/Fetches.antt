@@ -1,11 +1,12 @@
 -- Two jobs, one of which has an archived row: when its files are fetched, where they are, and what comes of an archive that is another.
-use Rattle.std.proofs.Common.{◌≡◌, ℕ, true, List, [], ◌∷◌, ◌++◌, Some, None, length, refl, lit<}
+use Rattle.std.proofs.Common.{◌≡◌, ℕ, Bool, true, List, [], ◌∷◌, ◌++◌, Option, Some, None, length, refl, lit<}
 use Rattle.std.specs.Fmt.{digits}
 use Rattle.std.specs.Prelude.{codes, false, filter}
 use Rattle.job_reuse.specs.Rows.{AreTheSame, made_row}
 use Rattle.job_rows.specs.declared.refusal.RecordRefusal.TheVariants.{Store}
 use Rattle.job_rows.specs.declared.row.Row.{Row}
 use Rattle.plan_checker.specs.declared.plan.Mark.{Mark}
+use Rattle.plan_checker.specs.declared.vertex.Vertex.{Vertex}
 use Rattle.plan_checker.specs.declared.plan.Mark.TheVariants.{Compute, Load}
 use Rattle.proc_host.specs.declared.call.HostAnswer.{HostAnswer}
 use Rattle.proc_host.specs.declared.call.HostRequest.{HostRequest}
@@ -17,9 +18,9 @@ use Rattle.run_rules.specs.declared.request.RecordRequest.{RecordRequest}
 use Rattle.run_rules.specs.declared.request.Request.{Request}
 use Rattle.run_rules.specs.declared.setting.Options.{Options}
 use Rattle.run_rules.specs.Allowed.{MayFetch, due}
+use Rattle.run_rules.specs.Costs.{graph_at}
 use Rattle.run_rules.specs.End.{settled}
 use Rattle.run_rules.specs.Events.{Event, archive_differs, can_load, drop_due, drop_failed, files_fetched, folder_at, is_at_hand, is_numbered, job_staged, no_row, Progress, resolved, row_found}
-use Rattle.run_rules.specs.Plans.{InForce}
 use Rattle.run_rules.specs.Reports.{notes_of}
 use Rattle.run_rules.specs.Scene.{Scene}
 use Rattle.run_rules.specs.Steps.{call, command, drop_fails, drops, fetches, fetches_other}
@@ -69,14 +70,19 @@ not_what_has_no_archive = refl
 not_where_none_is_kept : can_load s found a ≡ false
 not_where_none_is_kept = refl
 
--- so the plan loads it and computes the other, and where no archive is kept it computes both
-one_is_loaded : InForce kept (at found) (Load ∷ Compute ∷ [])
-one_is_loaded = refl
+-- To load it costs the base, and one more for its byte; to compute it costs what its row says, and the other what is said of a job without a
+-- row. What a row has tells of is known, and no output of the process is the job's, so it is not needed
 
-both_are_computed : InForce s (at found) (Compute ∷ Compute ∷ [])
-both_are_computed = refl
+abbrev job_vertex : Option ℕ → Bool → Vertex
+job_vertex load needed = record { load = load; compute = 1000; parents = []; needed = needed }
 
--- All files that its row has are fetched, under the row's key, to the first folder
+they_cost : graph_at kept found ≡ job_vertex (Some 2) false ∷ job_vertex None true ∷ []
+they_cost = refl
+
+and_where_no_archive_is_kept : graph_at s found ≡ job_vertex None false ∷ job_vertex None true ∷ []
+and_where_no_archive_is_kept = refl
+
+-- All files that its row has are fetched, under the row's key, to the first folder, where the plan in force loads it
 
 it_is_fetched : MayFetch kept (at found) (Load ∷ Compute ∷ []) a k 1 left
 it_is_fetched = record {
@@ -127,7 +133,7 @@ not_twice may = let never : true ≡ false = may.not_held in cc
 not_where_none_is_kept_either : {key : List ℕ} {number : ℕ} {files : List Found} → MayFetch s (at found) (Compute ∷ Compute ∷ []) a key number files → ⊥
 not_where_none_is_kept_either may = let never : Compute ≡ Load = may.loaded in cc
 
--- What is there is not what the row has: the archive is dropped next, and the job is computed
+-- What is there is not what the row has: the archive is dropped next, and the job can't be loaded any more
 
 abbrev other : List Event
 other = found ++ archive_differs a k 1 ∷ []
@@ -150,8 +156,8 @@ it_is_not_at_hand = refl
 it_cannot_be_loaded_again : can_load kept other a ≡ false
 it_cannot_be_loaded_again = refl
 
-it_is_computed : InForce kept (at other) (Compute ∷ Compute ∷ [])
-it_is_computed = refl
+it_has_no_load_cost_any_more : graph_at kept other ≡ job_vertex None false ∷ job_vertex None true ∷ []
+it_has_no_load_cost_any_more = refl
 
 not_from_there_again : {key : List ℕ} {number : ℕ} {files : List Found} → MayFetch kept (at other) (Compute ∷ Compute ∷ []) a key number files → ⊥
 not_from_there_again may = let never : Compute ≡ Load = may.loaded in cc
@@ -184,5 +190,5 @@ it_is_noted = refl
 it_settles_nothing : settled kept refused ≡ None
 it_settles_nothing = refl
 
-and_the_job_is_computed : InForce kept (at refused) (Compute ∷ Compute ∷ [])
-and_the_job_is_computed = refl
+and_the_job_can_not_be_loaded : graph_at kept refused ≡ job_vertex None false ∷ job_vertex None true ∷ []
+and_the_job_can_not_be_loaded = refl

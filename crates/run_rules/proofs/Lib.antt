@@ -5,7 +5,19 @@ pub mod Few
 pub mod TranscriptTells
 pub mod Measuring
 pub mod Named
+pub mod Apart
 pub mod Makers
+pub mod LoadCosts
+pub mod Free
+pub mod Brought
+pub mod FetchedOnce
+pub mod Flying
+pub mod FailedFew
+pub mod Working
+pub mod StartedFew
+pub mod Undone
+pub mod FirstPlans
+pub mod Fronts
 pub mod Rising
 pub mod Places
 pub mod Staying
@@ -21,6 +33,7 @@ pub mod Reported
 pub mod TwoJobs
 pub mod OtherOutputs
 pub mod Fetches
+pub mod ReuseChain
 pub mod MeasuredFile
 pub mod Rows
 pub mod events

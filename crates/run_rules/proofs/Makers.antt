@@ -1,32 +1,29 @@
 -- What made a File or Directory in the inputs of a known job is a job that was known before it, in each run before which nothing was made.
-use Rattle.std.specs.Prelude.{◌||◌, ◌<◌, ◌≤◌, Contains, is_some, slice_get}
+use Rattle.std.specs.Prelude.{◌<◌, Contains, is_some}
 use Rattle.std.specs.List.{AllByRecursion}
 use Rattle.std.proofs.Common.{◌≡◌, ◌∙◌, ◌⊎◌, inl, inr, ℕ, Bool, true, false, cond, List, [], ◌∷◌, ◌++◌, length, find, Option, Some, None, option_map, refl, sym, ap, subst, arith, append_assoc, append-nil}
-use Rattle.std.proofs.lemmas.Bool.{or_parts}
 use Rattle.std.proofs.lemmas.List.Elements.{All-from_recursion}
 use Rattle.input_files.specs.Measured.{Measures}
 use Rattle.job_graph.specs.Jobs.{Job}
-use Rattle.job_graph.specs.Made.{any_made, holds_made}
-use Rattle.job_graph.specs.Makers.{AreNamed, AreUnmade, HasUnmadeDefaults, IsLearned, any_default}
-use Rattle.job_graph.specs.Equations.{walker}
+use Rattle.job_graph.specs.Made.{any_made}
+use Rattle.job_graph.specs.Makers.{AreNamed, AreUnmade, IsLearned}
 use Rattle.job_graph.specs.Unfold.{Resolved, Unfolded, nothing_known, unfolded}
-use Rattle.job_graph.specs.Words.{Fields, JobPlace, is_same_place}
-use Rattle.document_links.specs.declared.process.Process.{Process}
+use Rattle.job_graph.specs.Words.{JobPlace, is_same_place}
 use Rattle.plan_checker.specs.declared.plan.Mark.{Mark}
 use Rattle.run_rules.specs.declared.request.Pair.{Pair}
-use Rattle.run_rules.specs.declared.setting.Setting.{Setting}
-use Rattle.run_rules.specs.Events.{Event, file_measured, job_succeeded, row_found, Progress, are_measured, job_at, measures, resolved, resolves, unfolding_at}
+use Rattle.run_rules.specs.Events.{Event, file_measured, job_succeeded, row_found, Progress, are_measured, job_at, measures, resolved, unfolding_at}
 use Rattle.run_rules.specs.Parents.{HasParentAt}
-use Rattle.run_rules.specs.Plans.{InForce, number_of}
+use Rattle.run_rules.specs.Plans.{PlansSoFar, number_of}
 use Rattle.run_rules.specs.Run.{Goes}
-use Rattle.run_rules.specs.Scene.{NothingWasMadeBefore, Scene, scene_of}
+use Rattle.run_rules.specs.Scene.{Scene}
+use Rattle.run_rules.proofs.Apart.{apart_at}
 use Rattle.run_rules.proofs.Measuring.{Fits, FitsAt, IsKnownAt, goes_fitting}
 use Rattle.run_rules.proofs.Named.{NamedAt, all_named, goes_named, named_resolved}
 use Rattle.run_rules.proofs.Places.{same_place}
-use Rattle.run_rules.proofs.Staying.{measured_if_known, unfolding_if}
-use Rattle.run_rules.proofs.events.Course.{known_or_new, none_alike}
+use Rattle.run_rules.proofs.Staying.{unfolding_if}
+use Rattle.run_rules.proofs.events.Course.{known_or_new}
 use Rattle.run_rules.proofs.events.Known.{IsFront, is_measure, known_jobs_stay, numbered_still}
-use Rattle.run_rules.proofs.events.Places.{AreApart, IsFound, IsJob, found_at, found_is, number_is, read_job}
+use Rattle.run_rules.proofs.events.Places.{AreApart, IsFound, IsJob, found_is, number_is, read_job}
 use Rattle.run_rules.proofs.events.Readings.{resolved_after}
 
 -- what makers there are: a law of the walk, and that known jobs are at different places
@@ -68,10 +65,6 @@ in_either (r ∷ one) other place is =
         is_some (option_map (λ (y : Resolved). y.outputs) (cond b (Some x) found)) ≡ true
     either_way true x found its = refl
     either_way false x found its = its
-
-no_job_apart : (jobs : List Job) → length jobs ≡ 0 → AreApart jobs
-no_job_apart [] empty = none_alike is_same_place
-no_job_apart (x ∷ jobs) empty = absurd (omega (arith, empty))
 
 module _ (s : Scene) (laws : MakesBefore s) where
   -- the jobs that are known after these events
@@ -177,17 +170,13 @@ module _ (s : Scene) (laws : MakesBefore s) where
   stand_first : Stand []
   stand_first = record { makers = first_by (are_measured s []) refl; places = λ place is. absurd cc; named = tt }
 
-  apart_by : (es : List Event) (measured : Bool) → are_measured s es ≡ measured → AreApart (jobs_at es)
-  apart_by es true all = subst (λ (u : Unfolded). AreApart u.jobs) (sym (unfolding_if s es all)) (laws.differ (measures es) (resolved es))
-  apart_by es false none = no_job_apart (jobs_at es) (ap (λ b. length (cond b (unfolded (s.walker (measures es)) (resolved es)) nothing_known).jobs) none)
-
-  pub makers_before : {Plans : Progress → List Mark → Type 0} {t : List Pair} {f : Progress} {marks : List Mark} → Goes s Plans t f marks → (job : Job) → Contains (jobs_at f.events) job →
+  pub makers_before : {Plans : Progress → List Mark → Type 0} {t : List Pair} {f : Progress} {plans : PlansSoFar} → Goes s Plans t f plans → (job : Job) → Contains (jobs_at f.events) job →
       (maker : JobPlace) → any_made maker job.inputs ≡ true → HasParentAt (jobs_at f.events) job maker
   makers_before {Plans = Plans} {f = f} goes job there maker made =
       let it : IsJob (jobs_at f.events) there.0 job = record { within = there.1; is = there.2 } in
       let stand : Stand f.events = stand_later [] f.events (goes_fitting s Plans goes) (goes_named s goes) stand_first in
       let before : IsBefore (jobs_at f.events) there.0 maker = stand.makers there.0 job it maker made in
-      let its_number : number_of job.place (jobs_at f.events) ≡ there.0 = number_is (jobs_at f.events) (apart_by f.events (are_measured s f.events) refl) there.0 job it in
+      let its_number : number_of job.place (jobs_at f.events) ≡ there.0 = number_is (jobs_at f.events) (apart_at s laws.differ f.events) there.0 job it in
       record {
         parent = before.some.job;
         is = record {

@@ -19,6 +19,7 @@ use Rattle.run_rules.specs.CollectsOn.{CollectsOn, reads_on as collects_reading,
 use Rattle.run_rules.specs.Steps.{Steps, measures_file, stages, reads_input, starts, exits_well, exits_for_now, exits_badly, scans, reads_output, delivers, loses_collect, call_fails, finds_none, finds, finds_wrong, find_fails, puts, put_fails, stores, store_fails, fetches, fetches_other, drops, drop_fails, call_fails_late}
 use Rattle.plan_checker.specs.declared.plan.Mark.{Mark}
 use Rattle.run_rules.specs.Allowed.{Allowed}
+use Rattle.run_rules.specs.Plans.{PlansSoFar}
 use Rattle.run_rules.specs.Run.{Goes, begins, asks}
 use Rattle.run_rules.specs.Keeps.{Keeps, keeps, keeps_none, differs, told_of}
 use Rattle.job_rows.specs.declared.row.Row.{Row}
@@ -193,7 +194,7 @@ module _ (s : Scene) where
   collects_fit es place job known (collects outputs work more is kept) = keeps_fit es place job known kept
   collects_fit es place job known (collects_none fault is) = (known, tt)
 
-  not_measured : (es : List Event) (path : Name) → Contains s.paths path → is_measured es path ≡ false → are_measured s es ≡ true → ⊥
+  pub not_measured : (es : List Event) (path : Name) → Contains s.paths path → is_measured es path ≡ false → are_measured s es ≡ true → ⊥
   not_measured es path there none all =
       let is : is_measured es path ≡ true =
       All-contains (λ (p : Name). is_measured es p ≡ true) s.paths path (AllPass-from_list_all (is_measured es) s.paths all) there in
@@ -235,6 +236,6 @@ module _ (s : Scene) where
   step_fits f marks may (store_fails place key folder files row due) = (tt, tt)
 
   module _ (Plans : Progress → List Mark → Type 0) where
-    pub goes_fitting : {t : List Pair} {f : Progress} {marks : List Mark} → Goes s Plans t f marks → Fits [] f.events
-    goes_fitting (begins marks plans) = tt
-    goes_fitting (asks t f old p work new marks goes allowed steps plans) = both_fit [] f.events new (goes_fitting goes) (step_fits f old allowed steps)
+    pub goes_fitting : {t : List Pair} {f : Progress} {plans : PlansSoFar} → Goes s Plans t f plans → Fits [] f.events
+    goes_fitting (begins plans its) = tt
+    goes_fitting (asks t f old p work new plans goes allowed steps its) = both_fit [] f.events new (goes_fitting goes) (step_fits f old.marks allowed steps)

@@ -3,7 +3,7 @@ use Rattle.std.specs.Prelude.{◌&&◌, ◌||◌, is_some}
 use Rattle.std.specs.List.{AllByRecursion}
 use Rattle.std.specs.Map.{values_of}
 use Rattle.std.specs.Option.{IfSome, option_map_or}
-use Rattle.std.proofs.Common.{◌≡◌, ◌∙◌, ℕ, Bool, true, false, cond, List, [], ◌∷◌, ◌++◌, map, find, Option, Some, None, option_map, Ok, refl, sym, ap, rules}
+use Rattle.std.proofs.Common.{◌≡◌, ◌∙◌, ℕ, Bool, true, false, List, [], ◌∷◌, ◌++◌, map, Option, Some, None, option_map, Ok, refl, sym, ap, rules}
 use Rattle.std.proofs.lemmas.List.Elements.{All-from_recursion, recursion_from_All}
 use Rattle.plain_data.specs.ByName.{map_values}
 use Rattle.plan_checker.specs.declared.plan.Mark.{Mark}
@@ -40,6 +40,7 @@ use Rattle.run_rules.specs.Events.{Event, file_measured, job_staged, job_started
 use Rattle.run_rules.specs.StartsOn.{StartsOn, reads_on as starts_reading, has_launch, has_no_launch, has_no_contents}
 use Rattle.run_rules.specs.CollectsOn.{CollectsOn, left_of, reads_on as collects_reading, collects, collects_none}
 use Rattle.run_rules.specs.Steps.{Steps, measures_file, stages, reads_input, starts, exits_well, exits_for_now, exits_badly, scans, reads_output, delivers, loses_collect, call_fails, finds_none, finds, finds_wrong, find_fails, puts, put_fails, stores, store_fails, fetches, fetches_other, drops, drop_fails, call_fails_late}
+use Rattle.run_rules.specs.Plans.{PlansSoFar}
 use Rattle.run_rules.specs.Run.{Goes, begins, asks}
 use Rattle.run_rules.specs.Keeps.{Keeps, keeps, keeps_none, differs, told_of}
 use Rattle.job_reuse.specs.Sound.{IsSound, all_stand, is_dir_there, is_file_there}
@@ -230,9 +231,9 @@ module _ (s : Scene) where
   steps_named (store_fails place key folder files row due) = (tt, tt)
 
   module _ {Plans : Progress → List Mark → Type 0} where
-    pub goes_named : {t : List Pair} {f : Progress} {marks : List Mark} → Goes s Plans t f marks → AllByRecursion NamedAt f.events
-    goes_named (begins marks plans) = tt
-    goes_named (asks t f old p work new marks goes may steps plans) = all_named f.events new (goes_named goes) (steps_named steps)
+    pub goes_named : {t : List Pair} {f : Progress} {plans : PlansSoFar} → Goes s Plans t f plans → AllByRecursion NamedAt f.events
+    goes_named (begins plans its) = tt
+    goes_named (asks t f old p work new plans goes may steps its) = all_named f.events new (goes_named goes) (steps_named steps)
 
 pub named_resolved : (es : List Event) → AllByRecursion NamedAt es → AllByRecursion (λ (r : Resolved). AreUnmade r.outputs) (resolved es)
 named_resolved [] all = tt
@@ -259,6 +260,6 @@ named_resolved (archive_differs place its_key number ∷ es) all = named_resolve
 named_resolved (drop_failed place refusal ∷ es) all = named_resolved es all.1
 
 -- the outputs that a run has learned are named
-pub learned_are_named : (s : Scene) {Plans : Progress → List Mark → Type 0} {t : List Pair} {f : Progress} {marks : List Mark} → Goes s Plans t f marks → AreNamed (resolved f.events)
+pub learned_are_named : (s : Scene) {Plans : Progress → List Mark → Type 0} {t : List Pair} {f : Progress} {plans : PlansSoFar} → Goes s Plans t f plans → AreNamed (resolved f.events)
 learned_are_named s {f = f} goes =
     All-from_recursion (λ (r : Resolved). AreUnmade r.outputs) (resolved f.events) (named_resolved f.events (goes_named s goes))

@@ -18,7 +18,7 @@ IsBelow one later = one < later
 
 -- Rising lists
 
-front_rises : (xs ys : List ℕ) → Rise (xs ++ ys) → Rise xs
+pub front_rises : (xs ys : List ℕ) → Rise (xs ++ ys) → Rise xs
 front_rises xs ys rises i j d before within =
     let there : j < length (xs ++ ys) = omega (arith, within, length-append xs ys) in
     let low : get_or (xs ++ ys) i d ≡ get_or xs i d = get_or_append_left xs ys d i (omega (arith, before, within)) in

@@ -76,6 +76,7 @@ use Rattle.run_rules.specs.Allowed.{MayStage, MayFetch}
 use Rattle.job_key.specs.Key.{key}
 use Rattle.job_reuse.specs.Rows.{made_row}
 use Rattle.job_rows.specs.declared.row.Row.{Row}
+use Rattle.run_rules.specs.declared.outcome.PlanNote.{PlanNote}
 use Rattle.run_rules.specs.Reports.{report_of, reported}
 use Rattle.run_rules.specs.Scene.{Scene, is_made_before, scene_of}
 use Rattle.run_rules.proofs.Leads.{Leads, stays, follows}
@@ -250,10 +251,10 @@ before = no_row [] ∷ job_staged [] 1 ∷ job_started [] abc its_launch 1 ∷ c
 abbrev whole : List Event
 whole = before ++ result_delivered its_plan ∷ []
 
-its_report : report_of whole (succeeds_with made_out put_out)
-    ≡ reported [] (Ok (Outcome.Success (roll-Value (Value-F.Fields (out_at (Place.Url (codes "file:///out/out.txt")))))))
-its_report =
-    ap (λ (file : Value). reported [] (Ok (Outcome.Success (roll-Value (Value-F.Fields (with_file file))))))
+its_report : (plans : List PlanNote) → report_of plans whole (succeeds_with made_out put_out)
+    ≡ reported plans [] (Ok (Outcome.Success (roll-Value (Value-F.Fields (out_at (Place.Url (codes "file:///out/out.txt")))))))
+its_report plans =
+    ap (λ (file : Value). reported plans [] (Ok (Outcome.Success (roll-Value (Value-F.Fields (with_file file))))))
     (file_moves location_place (Place.Path (codes "/out/out.txt")) out)
 
 its_result : (unfolding_at s whole).result ≡ Some made_out

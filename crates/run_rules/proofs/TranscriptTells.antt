@@ -27,6 +27,7 @@ use Rattle.run_rules.specs.CollectsOn.{CollectsOn, reads_on as collects_reading,
 use Rattle.run_rules.specs.Steps.{Steps, measures_file, stages, reads_input, starts, exits_well, exits_for_now, exits_badly, scans, reads_output, delivers, loses_collect, call_fails, call, progress_with, finds_none, finds, finds_wrong, find_fails, puts, put_fails, stores, store_fails, fetches, fetches_other, drops, drop_fails, call_fails_late}
 use Rattle.plan_checker.specs.declared.plan.Mark.{Mark}
 use Rattle.run_rules.specs.Allowed.{Allowed, due_in}
+use Rattle.run_rules.specs.Plans.{PlansSoFar}
 use Rattle.run_rules.specs.Run.{Goes, begins, asks}
 use Rattle.run_rules.specs.RanWell.{RanWell, HadRow}
 use Rattle.run_rules.specs.Keeps.{Keeps, keeps, keeps_none, differs, told_of, work_to_keep}
@@ -314,15 +315,15 @@ module _ (codes : JobPlace → ExitCodes) where
   -- of a run whose events are the first of these, where the jobs that are known after any first events have these codes
   module _ (s : Scene) (all : List Event) (its_codes : (es rest : List Event) → es ++ rest ≡ all → (place : JobPlace) (job : Job) →
       job_at s es place ≡ Some job → job.tool.exit_codes ≡ codes place) (Plans : Progress → List Mark → Type 0) where
-    pub knows : {t : List Pair} {f : Progress} {marks : List Mark} → Goes s Plans t f marks → (rest : List Event) → f.events ++ rest ≡ all → Knows t f
-    knows (begins marks plans) rest is = record {
+    pub knows : {t : List Pair} {f : Progress} {plans : PlansSoFar} → Goes s Plans t f plans → (rest : List Event) → f.events ++ rest ≡ all → Knows t f
+    knows (begins plans its) rest is = record {
       flights = λ x there. absurd (none_in x there);
       work = tt;
       success = λ place outputs there. absurd (none_in _ there);
       rows = λ place row there. absurd (none_in _ there);
     }
-    knows (asks t f old p work new marks goes allowed steps plans) rest is =
+    knows (asks t f old p work new plans goes allowed steps its) rest is =
         let front : f.events ++ (new ++ rest) ≡ all = sym (append_assoc f.events new rest) ∙ is in
         let before : Knows (t ++ p ∷ []) f = knows_still t p f (knows goes (new ++ rest) front) in
         later (t ++ p ∷ []) f work new before
-        (step_told (t ++ p ∷ []) s f (λ place job known. its_codes f.events (new ++ rest) front place job known) old before (Contains-push t p) allowed steps)
+        (step_told (t ++ p ∷ []) s f (λ place job known. its_codes f.events (new ++ rest) front place job known) old.marks before (Contains-push t p) allowed steps)

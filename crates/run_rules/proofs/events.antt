@@ -12,10 +12,13 @@ pub mod Tally
 pub mod Course
 pub mod Lookups
 -- ---- what may be asked, and how a run grows
+pub mod Vertices
 pub mod Planned
 pub mod Asks
 pub mod Turns
 pub mod AtHand
 pub mod Ready
 pub mod Staged
+pub mod Kept
 pub mod Grows
+pub mod Graphs

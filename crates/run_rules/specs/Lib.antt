@@ -8,6 +8,7 @@ pub mod CollectsOn
 pub mod Steps
 pub mod End
 pub mod EndsSo
+pub mod Costs
 pub mod Plans
 pub mod Parents
 pub mod Allowed
@@ -16,5 +17,8 @@ pub mod Honest
 pub mod Recorded
 pub mod Reports
 pub mod RanWell
+pub mod HowOften
+pub mod PlannedFirst
+pub mod Followed
 pub mod Answers
 pub mod Blame

@@ -1,13 +1,17 @@
--- The plan in force: a mark for each known job, made anew at each planning point.
-use Rattle.std.specs.Prelude.{ℕ, ◌+◌, ◌≡◌, ◌&&◌, ◌||◌, Bool, true, false, not, cond, List, [], ◌∷◌, map, is_none}
+-- The plan in force: a mark for each known job, made anew at each planning point. It is the cheapest way to get from what is held, archived and
+-- to be computed to what is still needed (Helix, Xin et al., 2018).
+use Rattle.std.specs.Prelude.{ℕ, ◌+◌, ◌&&◌, Bool, true, false, not, cond, List, [], ◌∷◌, is_none}
 use Rattle.std.specs.List.{list_any}
-use Rattle.plan_checker.specs.Plan.{mark}
+use Rattle.plan_checker.specs.Least.{IsLeast}
+use Rattle.plan_checker.specs.Plan.{cost, mark}
 use Rattle.plan_checker.specs.declared.plan.Mark.{Mark}
-use Rattle.plan_checker.specs.declared.plan.Mark.TheVariants.{Load, Compute}
+use Rattle.plan_checker.specs.declared.vertex.Vertex.{Vertex}
 use Rattle.job_graph.specs.Jobs.{Job}
 use Rattle.job_graph.specs.Unfold.{is_at}
 use Rattle.job_graph.specs.Words.{JobPlace}
-use Rattle.run_rules.specs.Events.{Event, Work, nothing_due, Progress, are_looked_up, can_load, is_at_hand, is_held, unfolding_at}
+use Rattle.run_rules.specs.declared.outcome.PlanNote.{PlanNote}
+use Rattle.run_rules.specs.Costs.{graph_at}
+use Rattle.run_rules.specs.Events.{Event, Work, nothing_due, Progress, are_looked_up, is_at_hand, unfolding_at}
 use Rattle.run_rules.specs.End.{is_lost_collect, settled}
 use Rattle.run_rules.specs.Scene.{Scene}
 
@@ -23,8 +27,21 @@ abbrev pub is_idle : Work → Bool
 is_idle nothing_due = true
 is_idle _ = false
 
-abbrev pub mark_if : Bool → Mark
-mark_if loads = cond loads Load Compute
+-- what was planned so far
+pub record PlansSoFar : Type 0 where
+  -- the graph that was planned last
+  pub graph : List Vertex
+  -- the marks of its plan, which is in force
+  pub marks : List Mark
+  -- what each plan costs, and how many answers came before it
+  pub notes : List PlanNote
+
+abbrev pub no_plans : PlansSoFar
+no_plans = record { graph = []; marks = []; notes = [] }
+
+-- the note of a plan that is made after so many answers
+abbrev pub plan_note : ℕ → List Vertex → List Mark → PlanNote
+plan_note after graph marks = record { after = after; cost = cost graph marks }
 
 module _ (s : Scene) where
   -- nothing is due, no collect has failed, the end isn't settled, no row is looked for any more, and some known job is not at hand
@@ -35,13 +52,6 @@ module _ (s : Scene) where
   abbrev pub mark_at : List Mark → List Event → JobPlace → Mark
   mark_at marks es place = mark marks (number_of place (unfolding_at s es).jobs)
 
-  -- what is held, or can be loaded, is loaded, and all else is computed
-  abbrev pub loads : List Event → JobPlace → Bool
-  loads es place = is_held es place || can_load s es place
-
-  abbrev pub LoadsAll : Progress → List Mark → Type 0
-  LoadsAll f marks = marks ≡ map (λ job. mark_if (loads f.events job.place)) (unfolding_at s f.events).jobs
-
-  -- the plan that a run has in force from a planning point on
+  -- the plan that a run has in force from a planning point on: the Least one of the present job graph
   abbrev pub InForce : Progress → List Mark → Type 0
-  InForce = LoadsAll
+  InForce f marks = IsLeast (graph_at s f.events) marks

@@ -10,6 +10,7 @@ use Rattle.run_rules.specs.declared.request.Pair.{Pair}
 use Rattle.run_rules.specs.declared.outcome.Outcome.{Outcome}
 use Rattle.run_rules.specs.declared.outcome.Note.{Note}
 use Rattle.run_rules.specs.declared.outcome.NoteKind.{NoteKind}
+use Rattle.run_rules.specs.declared.outcome.PlanNote.{PlanNote}
 use Rattle.run_rules.specs.declared.outcome.Report.{Report}
 use Rattle.run_rules.specs.declared.outcome.RunFault.{RunFault}
 use Rattle.run_rules.specs.declared.setting.Options.{Options}
@@ -21,7 +22,7 @@ use Rattle.input_files.specs.Measured.{Measures}
 use Rattle.run_rules.specs.Delivered.{located, object_of}
 use Rattle.run_rules.specs.Events.{Event, put_failed, store_failed, Progress, measures, drop_failed, host_failed_late}
 use Rattle.run_rules.specs.End.{End, succeeds_with, fails_permanently, fails_temporarily, beyond_limits, ended_by_host, mismatches, ended_by_record}
-use Rattle.plan_checker.specs.declared.plan.Mark.{Mark}
+use Rattle.run_rules.specs.Plans.{PlansSoFar}
 use Rattle.run_rules.specs.Recorded.{Line, lines_of}
 use Rattle.run_rules.specs.Run.{IsRunSoFar, IsRun}
 use Rattle.run_rules.specs.Honest.{IsHonest}
@@ -60,14 +61,14 @@ note_of _ = None
 abbrev pub notes_of : List Event → List Note
 notes_of es = filter_map note_of es
 
--- the report of what came of it, with these notes
-abbrev pub reported : List Note → Result Outcome RunFault → Result Report RunFault
-reported notes (Ok outcome) = Ok (record { outcome = outcome; plans = []; notes = notes })
-reported notes (Err fault) = Err fault
+-- the report of what came of it, with these notes of its plans and of what went wrong
+abbrev pub reported : List PlanNote → List Note → Result Outcome RunFault → Result Report RunFault
+reported plans notes (Ok outcome) = Ok (record { outcome = outcome; plans = plans; notes = notes })
+reported plans notes (Err fault) = Err fault
 
--- what is reported of an end, after these events
-abbrev pub report_of : List Event → End → Result Report RunFault
-report_of es end = reported (notes_of es) (outcome_of end)
+-- what is reported of an end, after these plans and events
+abbrev pub report_of : List PlanNote → List Event → End → Result Report RunFault
+report_of plans es end = reported plans (notes_of es) (outcome_of end)
 
 -- what an outcome says of computing every job, where the input files were measured so: a success is its value, both without
 -- places, and where a job fails permanently there is none
@@ -93,12 +94,12 @@ AreWaits (pair ∷ more) = IsWait pair × AreWaits more
 -- how a transcript is reported
 pub data Concludes (setting : Setting) (t : List Pair) : Result Report RunFault → Type 0 where
   -- out of memory, so there may be no end; it is a valid prefix of a run, and then the children in flight were waited for
-  lost : (front waits : List Pair) (f : Progress) (marks : List Mark) → IsRunSoFar setting front f marks → AreWaits waits → t ≡ front ++ waits →
+  lost : (front waits : List Pair) (f : Progress) (plans : PlansSoFar) → IsRunSoFar setting front f plans → AreWaits waits → t ≡ front ++ waits →
       Concludes setting t (Err RunFault.OutOfMemory)
   -- it is a whole run, its end is reported, and in each world where it is honest the report is right
   whole : (end : End) (run : IsRun setting t end) →
-      ((world : World) → IsHonest setting world run.happened.events → IsRight setting (measures run.happened.events) world (report_of run.happened.events end)) →
-      Concludes setting t (report_of run.happened.events end)
+      ((world : World) → IsHonest setting world run.happened.events → IsRight setting (measures run.happened.events) world (report_of run.plans.notes run.happened.events end)) →
+      Concludes setting t (report_of run.plans.notes run.happened.events end)
 
 -- the logs of a host and of a record gained these entries by a run of this process, which is reported so
 pub record GainsRun (process : Process) (inputs : Fields) (options : Options) (gained : List Entry) (lines : List Line) (result : Result Report RunFault) : Type 0 where

@@ -1,6 +1,6 @@
 //! What follows from the definitions alone, for any run: each law is the contract of a function that
 //! does nothing, or only calls laws of `job_graph`.
-ghost use Rattle.std.specs.Prelude.{◌≡◌, ◌≢◌, ℕ, true, List, Ok, Some, Contains};
+ghost use Rattle.std.specs.Prelude.{◌≡◌, ◌≢◌, ◌+◌, ◌≤◌, ◌↔◌, ℕ, true, List, [], ◌∷◌, ◌++◌, Ok, Some, Contains, is_some, length};
 ghost use Rattle.run_rules.specs.declared.request.Pair.{Pair};
 ghost use Rattle.run_rules.specs.declared.request.Request.{Request};
 ghost use Rattle.run_rules.specs.declared.setting.Setting.{Setting};
@@ -22,17 +22,25 @@ ghost use Rattle.job_graph.specs.Equations.{walker};
 ghost use Rattle.job_graph.specs.Eval.{World};
 ghost use Rattle.job_graph.specs.Jobs.{Job};
 ghost use Rattle.job_graph.specs.Made.{any_made};
-ghost use Rattle.job_graph.specs.Unfold.{Resolved, too_many_jobs, unfolded};
+ghost use Rattle.job_graph.specs.LoadCosts.{IsLoadCost};
+ghost use Rattle.job_graph.specs.Unfold.{Resolved, outputs_at, too_many_jobs, unfolded};
 ghost use Rattle.job_graph.specs.Words.{Fields, JobPlace};
-ghost use Rattle.run_rules.specs.Allowed.{Allowed};
+ghost use Rattle.run_rules.specs.Allowed.{Allowed, IsBusy};
+ghost use Rattle.run_rules.specs.Costs.{cost_to_load};
 ghost use Rattle.run_rules.specs.Delivered.{located, object_of};
 ghost use Rattle.run_rules.specs.End.{End, succeeds_with};
 ghost use Rattle.run_rules.specs.EndsSo.{EndsSo, IsDelivered};
-ghost use Rattle.run_rules.specs.Events.{Event, Progress, measures, unfolding_at};
+ghost use Rattle.run_rules.specs.Events.{Event, Progress, in_flight, is_at_hand, is_held, measures, resolved as resolved_places, unfolding_at};
 ghost use Rattle.run_rules.specs.Honest.{IsHonest, Means};
 ghost use Rattle.plan_checker.specs.declared.plan.Mark.{Mark};
-ghost use Rattle.run_rules.specs.Reports.{IsRight, report_of};
+ghost use Rattle.plan_checker.specs.declared.plan.Mark.TheVariants.{Compute};
+ghost use Rattle.run_rules.specs.Blame.{Rise, given_tickets};
+ghost use Rattle.run_rules.specs.HowOften.{is_fetch_of, is_start_of, times};
+ghost use Rattle.run_rules.specs.Reports.{IsRight, entries_of, report_of};
 ghost use Rattle.run_rules.specs.Parents.{HasParentAt};
+ghost use Rattle.run_rules.specs.Followed.{FollowsCheapest};
+ghost use Rattle.run_rules.specs.PlannedFirst.{are_looks};
+ghost use Rattle.run_rules.specs.Plans.{PlansSoFar, is_planning, mark_at, plan_note};
 ghost use Rattle.run_rules.specs.Run.{IsRun, IsRunSoFar};
 ghost use Rattle.run_rules.specs.Scene.{NothingWasMadeBefore, Scene, scene_of};
 ghost use Rattle.run_rules.specs.RanWell.{HasOutputs};
@@ -94,7 +102,7 @@ pub fn an_honest_run_is_reported_rightly()
         (world : World)
         → ids_differ setting.process ≡ true → IsHonest setting world run.happened.events
         → IsRight setting (measures run.happened.events) world
-        (report_of run.happened.events end) }
+        (report_of run.plans.notes run.happened.events end) }
 {
     known_jobs_agree();
     results_are_eval();
@@ -114,9 +122,9 @@ pub fn delivery_keeps_the_value()
 /// before it; of each run before which nothing was made. So where jobs are staged, all that is in their inputs is at hand
 /// (`MayStage`).
 pub fn makers_are_parents()
-    ensures { (setting : Setting) (t : List Pair) (f : Progress) (marks : List Mark) (job : Job)
+    ensures { (setting : Setting) (t : List Pair) (f : Progress) (plans : PlansSoFar) (job : Job)
         (maker : JobPlace)
-        → IsRunSoFar setting t f marks → NothingWasMadeBefore (scene_of setting)
+        → IsRunSoFar setting t f plans → NothingWasMadeBefore (scene_of setting)
         → Contains (unfolding_at (scene_of setting) f.events).jobs job
         → any_made maker job.inputs ≡ true
         → HasParentAt (unfolding_at (scene_of setting) f.events).jobs job maker }
@@ -137,3 +145,80 @@ pub fn nothing_read_was_made_before()
           options = options;
         })) }
 {}
+
+/// Says that what it costs to load is one number: the base and the bytes over the rate, rounded up, the whole held to the
+/// highest cost.
+pub fn load_costs_are_rounded_up()
+    ensures { (base rate bytes cost : ℕ) → 1 ≤ rate → IsLoadCost base rate bytes cost
+        ↔ (cost ≡ cost_to_load base rate bytes) }
+{}
+
+/// Says that no plan in force computes a job that is held: to load it costs nothing.
+pub fn no_held_job_is_computed()
+    ensures { (setting : Setting) (t : List Pair) (f : Progress) (plans : PlansSoFar) (job : Job)
+        → IsRunSoFar setting t f plans → is_planning (scene_of setting) f ≡ true
+        → Contains (unfolding_at (scene_of setting) f.events).jobs job
+        → is_held f.events job.place ≡ true
+        → mark_at (scene_of setting) plans.marks f.events job.place ≢ Compute }
+{
+    known_places_differ();
+}
+
+/// Says that the files of no place are fetched twice.
+pub fn no_place_is_fetched_twice()
+    ensures { (setting : Setting) (t : List Pair) (f : Progress) (plans : PlansSoFar)
+        (place : JobPlace)
+        → IsRunSoFar setting t f plans → times (is_fetch_of place) t ≤ 1 }
+{
+    known_places_differ();
+}
+
+/// Says that no place is started more often than once and its retries, where the tickets of children rise as a host's do.
+pub fn no_place_is_started_too_often()
+    ensures { (setting : Setting) (t : List Pair) (f : Progress) (plans : PlansSoFar)
+        (place : JobPlace)
+        → IsRunSoFar setting t f plans → Rise (given_tickets (entries_of t))
+        → times (is_start_of place) t ≤ 1 + setting.options.retries }
+{}
+
+/// Says that a run follows cheapest plans: the first pairs of a run are a run so far, and where they end at a planning point, the
+/// plan that is followed from there on obeys the rules of plans, and no plan for the present job graph costs less. Its cost is
+/// noted.
+pub fn plans_followed_are_cheapest()
+    ensures { (setting : Setting) (front rest : List Pair) (f : Progress) (plans : PlansSoFar)
+        → IsRunSoFar setting (front ++ rest) f plans
+        → FollowsCheapest setting front plans.notes }
+{}
+
+/// Says that after looks alone, measures and finds, there is one plan where a plan is made at all: that of the first planning
+/// point.
+pub fn looks_make_one_plan()
+    ensures { (setting : Setting) (t : List Pair) (f : Progress) (plans : PlansSoFar)
+        → IsRunSoFar setting t f plans → are_looks t ≡ true
+        → is_planning (scene_of setting) f ≡ true
+        → plans.notes ≡ plan_note (length t) plans.graph plans.marks ∷ [] }
+{}
+
+/// Says that nothing is left undone where nothing more can be fetched or staged and no child is in flight: each known job is
+/// resolved.
+pub fn nothing_is_left_undone()
+    ensures { (setting : Setting) (t : List Pair) (f : Progress) (plans : PlansSoFar) (job : Job)
+        → 1 ≤ setting.options.slots → IsRunSoFar setting t f plans
+        → IsBusy (scene_of setting) f plans.marks → in_flight f.events ≡ []
+        → Contains (unfolding_at (scene_of setting) f.events).jobs job
+        → is_some (outputs_at (resolved_places f.events) job.place) ≡ true }
+{
+    known_places_differ();
+}
+
+/// Says that in a success the outputs of each job that made a file of the result are at hand: its child gave them in this run,
+/// or they were fetched.
+pub fn delivered_files_are_at_hand()
+    ensures { (setting : Setting) (t : List Pair) (outputs delivered : Fields)
+        (run : IsRun setting t (succeeds_with outputs delivered)) (job : Job)
+        → 1 ≤ setting.options.slots
+        → Contains (unfolding_at (scene_of setting) run.happened.events).jobs job
+        → any_made job.place outputs ≡ true → is_at_hand run.happened.events job.place ≡ true }
+{
+    known_places_differ();
+}

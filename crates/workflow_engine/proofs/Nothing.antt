@@ -7,16 +7,20 @@ use Rattle.run_rules.specs.declared.outcome.RunFault.{RunFault}
 use Rattle.run_rules.specs.declared.setting.Options.{Options}
 use Rattle.job_graph.specs.Words.{Fields}
 use Rattle.run_rules.specs.Events.{at_first}
-use Rattle.run_rules.proofs.events.Grows.{first_goes}
-use Rattle.run_rules.proofs.events.Planned.{marks_after}
+use Rattle.plan_checker.specs.Laws.{EachHasLeast}
+use Rattle.run_core.proofs.KnownGraphs.{known_make_graphs}
+use Rattle.run_rules.proofs.events.Graphs.{are_graphs}
+use Rattle.run_rules.proofs.events.Grows.{GoesSo, first_comes, goes_anyway}
+use Rattle.run_rules.specs.Plans.{no_plans}
 use Rattle.run_rules.specs.Scene.{Scene, scene_of}
 use Rattle.run_rules.specs.Reports.{Concludes, lost}
 
-pub nothing_asked : (process : Process) (inputs : Fields) (options : Options) →
+pub nothing_asked : EachHasLeast → (process : Process) (inputs : Fields) (options : Options) →
     Concludes (record { process = process; inputs = inputs; options = options }) [] (Err RunFault.OutOfMemory)
-nothing_asked process inputs options =
+nothing_asked least process inputs options =
     let s : Scene = scene_of (record { process = process; inputs = inputs; options = options }) in
-    lost [] [] at_first (marks_after s at_first []) (first_goes s) tt refl
+    let first : GoesSo s [] at_first = goes_anyway s least (are_graphs s known_make_graphs) [] at_first no_plans (first_comes s) in
+    lost [] [] at_first first.plans first.goes tt refl
 
 pub err_is : (result : Result Report RunFault) (P : RunFault → Type 0) (fault : RunFault) → IsErrAnd result P →
     ((e : RunFault) → P e → e ≡ fault) → result ≡ Err fault

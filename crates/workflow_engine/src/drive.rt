@@ -18,6 +18,7 @@ use cwl_value::Value;
 use document_links::Process;
 use job_rows::Record;
 use plain_data::Keyed;
+use plan_checker::each_has_least;
 use proc_host::{Host, Ticket};
 use run_core::{Answer, Options, Report, Request, RunCore, RunFault};
 use std::alloc::{AllocError, Global};
@@ -55,6 +56,7 @@ pub fn run<H: Host, R: Record, W: Watch>(
     ensures rising { IfErr result HasRisingTickets }
     ensures closed { H.running host.new ≡ [] }
 {
+    each_has_least();
     let mut core = RunCore::new(alloc, process, inputs, options)?;
     let mut held = Vec::new(alloc);
     drive(host, rows, &mut core, &mut held, watcher);

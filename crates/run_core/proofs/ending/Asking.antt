@@ -1,14 +1,14 @@
 -- What the machine asks may be asked, and it waits for a child only where one is in flight.
 use Rattle.std.specs.Prelude.{◌≢◌}
-use Rattle.std.proofs.Common.{◌≡◌, [], refl}
+use Rattle.std.proofs.Common.{◌≡◌, [], refl, ap}
 use Rattle.proc_host.specs.declared.call.HostRequest.{HostRequest}
 use Rattle.job_graph.specs.Words.{JobPlace}
 use Rattle.run_rules.specs.declared.request.Request.{Request}
 use Rattle.run_rules.specs.Scene.{scene_of}
 use Rattle.run_core.specs.declared.runner.RunCore.TheInside.{Inside}
 use Rattle.run_core.specs.declared.state.Turn.{Turn}
-use Rattle.run_core.specs.Core.{MayAsk, allowed, drains}
-use Rattle.run_core.specs.inner.Inside.{Goes, Stands, off_run, on_run, seen, setting_in}
+use Rattle.run_core.specs.Core.{HasNotRunOut, HasPlans, MayAsk, allowed, drains}
+use Rattle.run_core.specs.inner.Inside.{Goes, Stands, mode_of, off_run, on_run, seen, setting_in}
 use Rattle.run_core.specs.inner.Course.{Past, past_of}
 use Rattle.run_core.specs.inner.Standing.{IsLostAt, draining, lost}
 use Rattle.run_core.proofs.going.Asked.{collects_some}
@@ -40,12 +40,26 @@ module _ (core : Inside) where
 
   may_ask_so : Stands core → Goes core → core.turn.asks ≢ Request.Finished → MayAsk (seen core)
   may_ask_so stands (on_run runs) asks =
-      allowed runs.happened runs.marks runs.goes
-      (allows core.given (laws_of core.given stands.accepted stands.ids) stands.limits.least_slots core.pairs.items core.course core.turn runs asks)
-      (is_first core.given (laws_of core.given stands.accepted stands.ids) stands.limits.least_slots core.pairs.items core.course core.turn runs asks)
+      allowed runs.happened runs.plans runs.goes runs.planned.0
+      (allows core.given stands.rates (laws_of core.given stands.accepted stands.ids) stands.limits.least_slots core.pairs.items core.course core.turn runs asks)
+      (is_first core.given stands.rates (laws_of core.given stands.accepted stands.ids) stands.limits.least_slots core.pairs.items core.course core.turn runs asks)
   may_ask_so stands (off_run out) asks =
-      drains out.front out.tail out.happened out.marks out.goes out.collects out.pairs (lost_some (past_of core.course) out.at asks)
+      drains out.front out.tail out.happened out.plans out.goes out.collects out.pairs (lost_some (past_of core.course) out.at asks)
       (lost_collects (past_of core.course) out.at asks)
 
   pub may_ask : Stands core → core.turn.asks ≢ Request.Finished → MayAsk (seen core)
   may_ask stands = may_ask_so stands stands.going
+
+-- What it shows
+
+module _ (core : Inside) where
+  plans_so : Goes core → HasNotRunOut (seen core) → HasPlans (seen core)
+  plans_so (on_run runs) going = record { happened = runs.happened; plans = runs.plans; run = runs.goes; shows = runs.planned.0 }
+  plans_so (off_run out) going = absurd (lost_by core.turn refl (out.at))
+    where
+      lost_by : (turn : Turn) → core.turn ≡ turn → IsLostAt (past_of core.course) turn → ⊥
+      lost_by turn is (draining some) = going.goes (ap (λ (t : Turn). mode_of t.phase) is)
+      lost_by turn is lost = going.not_lost (ap (λ (t : Turn). mode_of t.phase) is)
+
+  pub has_plans : Stands core → HasNotRunOut (seen core) → HasPlans (seen core)
+  has_plans stands = plans_so stands.going

@@ -25,12 +25,13 @@ use Rattle.run_core.specs.inner.Course.{Past, past_of}
 use Rattle.run_core.specs.inner.Turn.{IsEnded}
 use Rattle.run_core.specs.inner.Standing.{IsAt, IsLostAt, Runs, collecting, delivering, draining, ended, lost, measuring, staging, working, finding, putting, storing, dropping, fetching}
 use Rattle.run_rules.specs.declared.outcome.Note.{Note}
+use Rattle.run_rules.specs.declared.outcome.PlanNote.{PlanNote}
 
 -- the law that what is reported of a run is right in each world where it is honest
 abbrev pub ReportsRightly : Type 0
 ReportsRightly =
     (setting : Setting) (t : List Pair) (end : End) (run : IsRun setting t end) (world : World) → ids_differ setting.process ≡ true →
-    IsHonest setting world run.happened.events → IsRight setting (measures run.happened.events) world (report_of run.happened.events end)
+    IsHonest setting world run.happened.events → IsRight setting (measures run.happened.events) world (report_of run.plans.notes run.happened.events end)
 
 -- On the run
 
@@ -52,7 +53,7 @@ module _ (s : Scene) (f : Progress) (marks : List Mark) (course : Course) where
   ended_at result (staging n job plan r st) phase = absurd cc
   ended_at result (working n job call phase r w) is = absurd cc
   ended_at result (collecting r may) phase = absurd cc
-  ended_at result (delivering plan r may going all) phase = absurd cc
+  ended_at result (delivering plan r may going) phase = absurd cc
   ended_at result (ended end so noted) phase = record { end = end; so = so; noted = noted; is = let same : outcome_of end ≡ result = cc in same }
 
   asks_no_more : {turn : Turn} → IsAt s f marks course turn → turn.asks ≡ Request.Finished → IsEnded turn.phase
@@ -65,24 +66,27 @@ module _ (s : Scene) (f : Progress) (marks : List Mark) (course : Course) where
   asks_no_more (staging n job plan r st) asks = absurd cc
   asks_no_more (working n job call phase r w) asks = absurd cc
   asks_no_more (collecting r may) asks = absurd cc
-  asks_no_more (delivering plan r may going all) asks = absurd cc
+  asks_no_more (delivering plan r may going) asks = absurd cc
   asks_no_more (ended end so noted) asks = tt
 
 whole_run : (law : ReportsRightly) (setting : Setting) (t : List Pair) (course : Course) (turn : Turn) (result : Result Outcome RunFault) → ids_differ setting.process ≡ true →
-    Runs (scene_of setting) t course turn → turn.phase ≡ Phase.Ended result → Concludes setting t (reported (past_of course).notes result)
+    Runs (scene_of setting) t course turn → turn.phase ≡ Phase.Ended result → Concludes setting t (reported (past_of course).plans (past_of course).notes result)
 whole_run law setting t course turn result ids runs phase =
-    let its : HasEnded (scene_of setting) runs.happened runs.marks (past_of course).notes result = ended_at (scene_of setting) runs.happened runs.marks course result runs.at phase in
-    let run : IsRun setting t its.end = record { happened = runs.happened; marks = runs.marks; goes = runs.goes; ended = its.so } in
-    subst (λ (notes : List Note). Concludes setting t (reported notes result)) (sym its.noted)
-    (subst (λ (result : Result Outcome RunFault). Concludes setting t (reported (notes_of runs.happened.events) result)) its.is
-    (whole its.end run (λ world honest. law setting t its.end run world ids honest)))
+    let its : HasEnded (scene_of setting) runs.happened runs.plans.marks (past_of course).notes result =
+    ended_at (scene_of setting) runs.happened runs.plans.marks course result runs.at phase in
+    let run : IsRun setting t its.end = record { happened = runs.happened; plans = runs.plans; goes = runs.goes; ended = its.so } in
+    subst (λ (plans : List PlanNote). Concludes setting t (reported plans (past_of course).notes result)) (sym runs.planned.1)
+    (subst (λ (notes : List Note). Concludes setting t (reported runs.plans.notes notes result)) (sym its.noted)
+    (subst (λ (result : Result Outcome RunFault). Concludes setting t (reported runs.plans.notes (notes_of runs.happened.events) result)) its.is
+    (whole its.end run (λ world honest. law setting t its.end run world ids honest))))
 
 -- Off the run
 
-lost_at : (setting : Setting) (t : List Pair) (past : Past) (notes : List Note) {turn : Turn} (result : Result Outcome RunFault) → IsLostAt past turn → turn.phase ≡ Phase.Ended result →
-    Concludes setting t (Err RunFault.OutOfMemory) → Concludes setting t (reported notes result)
-lost_at setting t past notes result (draining some) phase told = absurd cc
-lost_at setting t past notes result lost phase told = let same : Err RunFault.OutOfMemory ≡ result = cc in subst (λ (its : Result Outcome RunFault). Concludes setting t (reported notes its)) same told
+lost_at : (setting : Setting) (t : List Pair) (past : Past) (plans : List PlanNote) (notes : List Note) {turn : Turn} (result : Result Outcome RunFault) → IsLostAt past turn →
+    turn.phase ≡ Phase.Ended result → Concludes setting t (Err RunFault.OutOfMemory) → Concludes setting t (reported plans notes result)
+lost_at setting t past plans notes result (draining some) phase told = absurd cc
+lost_at setting t past plans notes result lost phase told =
+    let same : Err RunFault.OutOfMemory ≡ result = cc in subst (λ (its : Result Outcome RunFault). Concludes setting t (reported plans notes its)) same told
 
 lost_asks_no_more : (past : Past) {turn : Turn} → IsLostAt past turn → turn.asks ≡ Request.Finished → IsEnded turn.phase
 lost_asks_no_more past (draining some) asks = absurd cc
@@ -92,22 +96,22 @@ lost_asks_no_more past lost asks = tt
 
 module _ (core : Inside) where
   lost_so : Goes core → Concludes (setting_in core.given) core.pairs.items (Err RunFault.OutOfMemory)
-  lost_so (on_run runs) = reports.lost core.pairs.items [] runs.happened runs.marks runs.goes tt (sym (append-nil core.pairs.items))
-  lost_so (off_run out) = reports.lost out.front out.tail out.happened out.marks out.goes out.collects out.pairs
+  lost_so (on_run runs) = reports.lost core.pairs.items [] runs.happened runs.plans runs.goes tt (sym (append-nil core.pairs.items))
+  lost_so (off_run out) = reports.lost out.front out.tail out.happened out.plans out.goes out.collects out.pairs
 
   concludes_so : (law : ReportsRightly) (result : Result Outcome RunFault) → ids_differ core.given.process.now ≡ true → Goes core → core.turn.phase ≡ Phase.Ended result →
-      Concludes (setting_in core.given) core.pairs.items (reported (past_of core.course).notes result)
+      Concludes (setting_in core.given) core.pairs.items (reported (past_of core.course).plans (past_of core.course).notes result)
   concludes_so law result ids (on_run runs) phase = whole_run law (setting_in core.given) core.pairs.items core.course core.turn result ids runs phase
   concludes_so law result ids (off_run out) phase =
-      lost_at (setting_in core.given) core.pairs.items (past_of core.course) (past_of core.course).notes result out.at phase (lost_so (off_run out))
+      lost_at (setting_in core.given) core.pairs.items (past_of core.course) (past_of core.course).plans (past_of core.course).notes result out.at phase (lost_so (off_run out))
 
   -- where it has ended
   pub concludes : (law : ReportsRightly) (result : Result Outcome RunFault) → Stands core → core.turn.phase ≡ Phase.Ended result →
-      Concludes (setting_in core.given) core.pairs.items (reported (past_of core.course).notes result)
+      Concludes (setting_in core.given) core.pairs.items (reported (past_of core.course).plans (past_of core.course).notes result)
   concludes law result stands = concludes_so law result stands.ids stands.going
 
   ended_so : Goes core → core.turn.asks ≡ Request.Finished → IsEnded core.turn.phase
-  ended_so (on_run runs) asks = asks_no_more (scene_of (setting_in core.given)) runs.happened runs.marks core.course runs.at asks
+  ended_so (on_run runs) asks = asks_no_more (scene_of (setting_in core.given)) runs.happened runs.plans.marks core.course runs.at asks
   ended_so (off_run out) asks = lost_asks_no_more (past_of core.course) out.at asks
 
   pub has_ended : Stands core → core.turn.asks ≡ Request.Finished → IsEnded core.turn.phase
@@ -116,11 +120,11 @@ module _ (core : Inside) where
 -- Of the report
 
 -- only out of memory is reported as that
-pub reports_lost : (notes : List Note) (result : Result Outcome RunFault) → reported notes result ≡ Err RunFault.OutOfMemory → result ≡ Err RunFault.OutOfMemory
-reports_lost notes (Ok outcome) is = absurd cc
-reports_lost notes (Err fault) is = let same : fault ≡ RunFault.OutOfMemory = cc in ap Err same
+pub reports_lost : (plans : List PlanNote) (notes : List Note) (result : Result Outcome RunFault) → reported plans notes result ≡ Err RunFault.OutOfMemory → result ≡ Err RunFault.OutOfMemory
+reports_lost plans notes (Ok outcome) is = absurd cc
+reports_lost plans notes (Err fault) is = let same : fault ≡ RunFault.OutOfMemory = cc in ap Err same
 
 -- a fault is reported as it is
-pub reports_fault : (P : RunFault → Type 0) (notes : List Note) (result : Result Outcome RunFault) → IfErr result P → IfErr (reported notes result) P
-reports_fault P notes (Ok outcome) holds = tt
-reports_fault P notes (Err fault) holds = holds
+pub reports_fault : (P : RunFault → Type 0) (plans : List PlanNote) (notes : List Note) (result : Result Outcome RunFault) → IfErr result P → IfErr (reported plans notes result) P
+reports_fault P plans notes (Ok outcome) holds = tt
+reports_fault P plans notes (Err fault) holds = holds

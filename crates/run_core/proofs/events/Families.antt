@@ -1,16 +1,19 @@
 -- The parents of a known job by their numbers, and the test whether it may be staged.
-use Rattle.std.specs.Prelude.{◌&&◌, ◌<◌, slice_get, take, option_map}
+use Rattle.std.specs.Prelude.{◌&&◌, ◌<◌, take}
 use Rattle.std.specs.List.{list_all}
-use Rattle.std.specs.Option.{option_map_or}
-use Rattle.std.proofs.Common.{◌≡◌, ◌∙◌, ◌+◌, ℕ, zero, suc, Bool, true, false, cond, List, [], ◌∷◌, ◌++◌, length, Option, Some, None, refl, sym, ap, subst, arith, append_assoc, append-nil}
+use Rattle.std.proofs.Common.{◌≡◌, ◌∙◌, ◌+◌, ℕ, zero, suc, Bool, true, false, cond, List, [], ◌∷◌, ◌++◌, length, refl, sym, ap, arith, append_assoc, append-nil}
 use Rattle.std.proofs.lemmas.Bool.{and_from, and_parts}
 use Rattle.job_graph.specs.Jobs.{Job}
 use Rattle.job_graph.specs.Made.{any_made}
-use Rattle.job_graph.specs.Unfold.{Known, known_from, parents_among, parents_from}
+use Rattle.job_graph.specs.Unfold.{known_from, parents_from}
 use Rattle.job_graph.specs.Words.{Fields}
 use Rattle.run_rules.proofs.events.Places.{IsJob}
 use Rattle.run_core.specs.declared.job_states.JobState.{JobState}
 use Rattle.run_core.specs.inner.JobStates.{is_ready, is_there, parents_in, waits_in}
+use Rattle.run_core.specs.inner.Marks.{is_compute}
+use Rattle.plan_checker.specs.Plan.{mark}
+use Rattle.plan_checker.specs.declared.plan.Mark.{Mark}
+use Rattle.plan_checker.specs.declared.plan.Mark.TheVariants.{Compute, Load, Prune}
 
 -- all makers pass a test where each that made something does
 all_by : (b : Bool) (n : ℕ) (m : Job) (ms : List Job) (inputs : Fields) (test : ℕ → Bool) → any_made m.place inputs ≡ b →
@@ -85,30 +88,47 @@ pub as_many : (earlier jobs : List Job) → length (known_from earlier jobs) ≡
 as_many earlier [] = refl
 as_many earlier (x ∷ jobs) = ap suc (as_many (earlier ++ x ∷ []) jobs)
 
-module _ (jobs : List Job) (states : List JobState) (n : ℕ) (job : Job) (it : IsJob jobs n job) where
+-- what is computed is marked so
+pub computes : (m : Mark) → is_compute m ≡ true → m ≡ Compute
+computes Load is = absurd cc
+computes Compute is = refl
+computes Prune is = absurd cc
+
+module _ (marks : List Mark) (jobs : List Job) (states : List JobState) (n : ℕ) (job : Job) (it : IsJob jobs n job) where
   its_parents : parents_in (known_from [] jobs) n ≡ parents_from 0 (take n jobs) job.inputs
   its_parents = parents_are [] jobs n job it
 
-  pub ready_waits : is_ready (known_from [] jobs) states n ≡ true → waits_in states n ≡ true
-  ready_waits ready = (and_parts (waits_in states n) (list_all (is_there states) (parents_in (known_from [] jobs) n)) ready).0
+  abbrev there_all : Bool
+  there_all = list_all (is_there states) (parents_in (known_from [] jobs) n)
+
+  parts : is_ready marks (known_from [] jobs) states n ≡ true → (waits_in states n ≡ true) × ((is_compute (mark marks n) && there_all) ≡ true)
+  parts ready = and_parts (waits_in states n) (is_compute (mark marks n) && there_all) ready
+
+  pub ready_waits : is_ready marks (known_from [] jobs) states n ≡ true → waits_in states n ≡ true
+  ready_waits ready = (parts ready).0
+
+  pub ready_computes : is_ready marks (known_from [] jobs) states n ≡ true → mark marks n ≡ Compute
+  ready_computes ready = computes (mark marks n) (and_parts (is_compute (mark marks n)) there_all (parts ready).1).0
 
   -- where it is ready, each job before it that made a file in its inputs is at hand
-  pub ready_parents : is_ready (known_from [] jobs) states n ≡ true → (p : ℕ) (parent : Job) → IsJob jobs p parent → p < n → any_made parent.place job.inputs ≡ true →
+  pub ready_parents : is_ready marks (known_from [] jobs) states n ≡ true → (p : ℕ) (parent : Job) → IsJob jobs p parent → p < n → any_made parent.place job.inputs ≡ true →
       is_there states p ≡ true
   ready_parents ready p parent there below made =
       let all : list_all (is_there states) (parents_from 0 (take n jobs) job.inputs) ≡ true =
-      ap (list_all (is_there states)) (sym its_parents) ∙ (and_parts (waits_in states n) (list_all (is_there states) (parents_in (known_from [] jobs) n)) ready).1 in
+      ap (list_all (is_there states)) (sym its_parents) ∙ (and_parts (is_compute (mark marks n)) there_all (parts ready).1).1 in
       let same : p ≡ 0 + p = omega arith in
       ap (is_there states) same ∙ each_passes 0 (take n jobs) job.inputs (is_there states) all p parent (front_there jobs n p parent there below) made
 
-  -- and it is ready where it waits and they are
-  pub ready_if : waits_in states n ≡ true → ((p : ℕ) (parent : Job) → IsJob jobs p parent → p < n → any_made parent.place job.inputs ≡ true → is_there states p ≡ true) →
-      is_ready (known_from [] jobs) states n ≡ true
-  ready_if waits each =
-      and_from (waits_in states n) (list_all (is_there states) (parents_in (known_from [] jobs) n)) waits
+  -- and it is ready where it waits, is computed and they are
+  pub ready_if : waits_in states n ≡ true → mark marks n ≡ Compute →
+      ((p : ℕ) (parent : Job) → IsJob jobs p parent → p < n → any_made parent.place job.inputs ≡ true → is_there states p ≡ true) →
+      is_ready marks (known_from [] jobs) states n ≡ true
+  ready_if waits computed each =
+      and_from (waits_in states n) (is_compute (mark marks n) && there_all) waits
+      (and_from (is_compute (mark marks n)) there_all (ap is_compute computed)
       (ap (list_all (is_there states)) its_parents
       ∙ all_pass 0 (take n jobs) job.inputs (is_there states)
       (λ i maker there made.
       let before : IsJob jobs i maker × i < n = there_before jobs n i maker there in
       let same : 0 + i ≡ i = omega arith in
-      ap (is_there states) same ∙ each i maker before.0 before.1 made))
+      ap (is_there states) same ∙ each i maker before.0 before.1 made)))

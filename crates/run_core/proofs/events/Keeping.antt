@@ -30,7 +30,8 @@ use Rattle.run_rules.proofs.events.Turns.{so_many}
 use Rattle.run_core.specs.declared.state.Flight.{Flight}
 use Rattle.run_core.specs.declared.job_states.JobState.{JobState}
 use Rattle.run_core.specs.declared.state.Kept.{Kept}
-use Rattle.run_core.specs.inner.Course.{Past, TakesOut, nothing_past, with_end, with_giving_up, with_staging, with_start, with_answer, with_hand, with_load, with_loss, with_note}
+use Rattle.run_plan.specs.declared.planned.Planned.{Planned}
+use Rattle.run_core.specs.inner.Course.{Past, TakesOut, nothing_past, with_end, with_giving_up, with_staging, with_start, with_answer, with_hand, with_load, with_loss, with_note, with_plan}
 use Rattle.run_core.specs.inner.Due.{IsKept}
 use Rattle.run_core.specs.inner.Keeps.{Keeps, KeepsFlight, course_of, worked}
 use Rattle.run_core.specs.inner.Standing.{HasStarted}
@@ -368,6 +369,20 @@ module _ (s : Scene) (es : List Event) (jobs : List Job) where
     flights = flights_still es (es ++ e ∷ []) jobs jobs past.flights same (front_itself jobs) k.flights;
     front = front_still e none k.front;
     end = k.end ∙ ap (option_map outcome_of) (sym still);
+  }
+
+  -- a plan was made
+  pub planned_keeps : (past : Past) (at_work : Option ℕ) (after : ℕ) (made : Planned) → Keeps s es jobs past at_work → Keeps s es jobs (with_plan after made past) at_work
+  planned_keeps past at_work after made k = record {
+    gave_up = k.gave_up;
+    books = k.books;
+    few = k.few;
+    counts = k.counts;
+    retries = k.retries;
+    slots = k.slots;
+    flights = k.flights;
+    front = k.front;
+    end = k.end;
   }
 
   -- the row of a job was looked for

@@ -1,7 +1,6 @@
 -- What a course reflects once a place is resolved, by the outputs of its job or by a row that was found: more is known, or an equation fails.
-use Rattle.std.specs.Prelude.{◌≤◌, IsSome, is_some, Result, option_map}
-use Rattle.std.specs.List.{list_any}
-use Rattle.std.proofs.Common.{◌≡◌, ◌∙◌, ◌+◌, ◌<◌, ℕ, Bool, true, false, List, [], ◌∷◌, ◌++◌, length, Option, Some, None, refl, sym, ap, subst}
+use Rattle.std.specs.Prelude.{◌≤◌, IsSome, is_some, Result}
+use Rattle.std.proofs.Common.{◌≡◌, ◌∙◌, ◌<◌, ℕ, Bool, true, false, List, [], ◌∷◌, ◌++◌, length, Option, Some, None, refl, sym, ap, subst}
 use Rattle.std.proofs.Math.Nat.{le_trans}
 use Rattle.job_graph.specs.declared.fault.UnfoldFault.{UnfoldFault}
 use Rattle.job_graph.specs.declared.unfolding.Unfolding.{Unfolding}
@@ -26,7 +25,6 @@ use Rattle.run_rules.proofs.events.Settled.{settled_more, settled_stays}
 use Rattle.run_rules.proofs.events.Tally.{readings, reads_after}
 use Rattle.run_core.specs.declared.state.Course.{Course}
 use Rattle.run_core.specs.inner.Course.{Past, is_lost_in, known_in, past_of, with_answer, with_end, with_hand}
-use Rattle.run_core.specs.inner.FoundRows.{rows_after}
 use Rattle.run_core.specs.inner.Keeps.{AreFound, AreTriedOnce, Keeps, Reflects, course_of}
 use Rattle.run_core.specs.inner.Knows.{IsKnown, IsUnfolded, Knows, Learns, LearnsUnlessOver, end_by, fails, fault_of, knows}
 use Rattle.run_core.proofs.FoundRows.{found_still as rows_still, more_found, row_is_found}

@@ -11,33 +11,34 @@ use Rattle.job_graph.specs.declared.fault.UnfoldFault.{UnfoldFault}
 use Rattle.job_graph.specs.declared.unfolding.Unfolding.{Unfolding}
 use Rattle.staging.specs.declared.plan.StagePlan.{StagePlan}
 use Rattle.job_graph.specs.Jobs.{Job, Walker}
-use Rattle.job_graph.specs.Unfold.{Fault, Resolved, Unfolded, outputs_at, unfolded}
+use Rattle.job_graph.specs.Unfold.{Resolved, outputs_at, unfolded}
 use Rattle.job_graph.specs.Words.{Fields, JobPlace, is_same_place}
 use Rattle.run_rules.specs.declared.outcome.Cause.{Cause}
 use Rattle.run_rules.specs.declared.outcome.Outcome.{Outcome}
 use Rattle.run_rules.specs.declared.outcome.RunFault.{RunFault}
-use Rattle.run_rules.specs.End.{End, beyond_limits, ended_by_host, fails_permanently, fault_end, is_lost_collect, settled, settled_by, ended_by_record, mismatches}
-use Rattle.run_rules.specs.Events.{Event, child_exited, delivered_at, delivered_if, in_flight, job_at, job_failed, job_failed_for_now, job_staged, job_started, job_succeeded, host_failed, measures, number_at, resolved, started_at, unfolding_at, find_failed, is_reusable, looks_up, no_row, row_found, started_if, Started, row_differs, put_failed, row_at, job_repeated, store_failed, archive_differs, drop_failed, files_fetched, is_at_hand, is_fetched, is_lost, loses, host_failed_late}
+use Rattle.run_rules.specs.End.{End, beyond_limits, ended_by_host, fails_permanently, fault_end, is_lost_collect, settled_by, ended_by_record, mismatches}
+use Rattle.run_rules.specs.Events.{Event, child_exited, delivered_at, delivered_if, in_flight, job_at, job_failed, job_failed_for_now, job_staged, job_started, host_failed, measures, number_at, resolved, started_at, unfolding_at, find_failed, is_reusable, looks_up, no_row, started_if, Started, row_differs, put_failed, row_at, job_repeated, store_failed, archive_differs, drop_failed, files_fetched, is_at_hand, is_fetched, is_lost, loses, host_failed_late}
 use Rattle.run_rules.specs.Reports.{outcome_of, note_of, notes_of}
 use Rattle.run_rules.specs.Scene.{Scene}
-use Rattle.run_rules.proofs.events.Known.{IsFront, found_still, front_itself, is_measure, measured_still, measures_stay, resolved_stay, teaches, unfolding_learns, numbered_still}
+use Rattle.run_rules.proofs.events.Known.{found_still, front_itself, is_measure, measured_still, measures_stay, resolved_stay, teaches}
 use Rattle.run_rules.proofs.events.Places.{AreApart, IsJob, found_at}
-use Rattle.run_rules.proofs.events.Readings.{delivered_after, lost_after, resolved_after, started_after}
-use Rattle.run_rules.proofs.events.Settled.{settled_more, settled_stays, is_quiet, settled_quietly}
+use Rattle.run_rules.proofs.events.Readings.{delivered_after, lost_after, started_after}
+use Rattle.run_rules.proofs.events.Settled.{is_quiet, settled_quietly}
 use Rattle.run_rules.proofs.events.Tally.{is_aside, readings}
 use Rattle.run_rules.proofs.events.Turns.{FliesAt, flight_of}
-use Rattle.run_rules.proofs.events.Lookups.{LooksUp, is_no_answer, more_looked_up, one_looked_up, still_looked_up}
+use Rattle.run_rules.proofs.events.Lookups.{LooksUp, is_no_answer, one_looked_up, still_looked_up}
 use Rattle.job_rows.specs.declared.refusal.RecordRefusal.{RecordRefusal}
 use Rattle.job_rows.specs.declared.row.Row.{Row}
 use Rattle.run_core.specs.declared.state.Course.{Course}
 use Rattle.run_core.specs.declared.state.Flight.{Flight}
 use Rattle.run_core.specs.declared.state.Kept.{Kept}
-use Rattle.run_core.specs.inner.Course.{GivesUp, Past, TakesOut, again, known_in, past_of, place_at, too_often, with_end, with_giving_up, with_staging, with_start, with_answer, with_hand, failure_by, failure_in, put_note, with_note, store_note, drop_note, is_lost_in, key_in, with_load, with_loss, late_note}
+use Rattle.run_plan.specs.declared.planned.Planned.{Planned}
+use Rattle.run_core.specs.inner.Course.{GivesUp, Past, TakesOut, again, known_in, past_of, place_at, too_often, with_end, with_giving_up, with_staging, with_start, with_answer, with_hand, failure_by, failure_in, put_note, with_note, store_note, drop_note, is_lost_in, key_in, with_load, with_loss, late_note, with_plan}
 use Rattle.run_core.specs.inner.Due.{IsKept}
 use Rattle.run_core.specs.inner.Keeps.{AreTriedOnce, Keeps, Reflects, course_of, numbers_of, AreFound}
-use Rattle.run_core.specs.inner.Knows.{IsKnown, IsUnfolded, Knows, Learns, end_by, fails, fault_of, knows}
+use Rattle.run_core.specs.inner.Knows.{IsKnown, IsUnfolded, Learns, end_by, fault_of}
 use Rattle.run_core.specs.inner.Standing.{HasStarted}
-use Rattle.run_core.proofs.events.Keeping.{HasLanded, failed_keeps, front_later, gave_up_keeps, hand_keeps_the_rest, landed_keeps, learned_keeps, never_none, none_settled, staged_keeps, started_keeps, too_often_keeps, aside_keeps, loaded_keeps, looked_keeps, missed_keeps, noted_keeps, over_keeps}
+use Rattle.run_core.proofs.events.Keeping.{HasLanded, failed_keeps, front_later, gave_up_keeps, hand_keeps_the_rest, landed_keeps, learned_keeps, never_none, staged_keeps, started_keeps, too_often_keeps, aside_keeps, loaded_keeps, looked_keeps, missed_keeps, noted_keeps, over_keeps, planned_keeps}
 use Rattle.run_core.proofs.events.Kept.{keeps_bringing}
 use Rattle.run_core.proofs.events.Numbers.{place_there}
 use Rattle.run_core.proofs.States.{taken_within}
@@ -52,7 +53,7 @@ use Rattle.run_core.proofs.events.Tried.{LeavesTried, answer_leaves, giving_up_l
 use Rattle.std.proofs.lemmas.Option.{slice_get_within}
 use Rattle.std.proofs.Math.Nat.{le_trans}
 use Rattle.std.specs.Option.{option_map_or}
-use Rattle.run_core.proofs.FoundRows.{found_still as rows_still, more_found}
+use Rattle.run_core.proofs.FoundRows.{found_still as rows_still}
 
 -- whether an event leaves what is known, delivered and collected as it was
 abbrev pub is_plain : Event → Bool
@@ -534,6 +535,23 @@ module _ (s : Scene) where
       (learned_keeps s es (known_in old.known) (past_of old) (with_hand n (past_of old)) (hand_keeps_the_rest (past_of old) n within) (Some n) e r.keeps
       (λ place. started_after es (e ∷ []) place) (keeps_bringing (past_of old) n within (known_in old.known) (readings es) r.keeps.gave_up job it r.keeps.books)
       (known_in old.known) (front_itself (known_in old.known)) r.keeps.books.apart (front_later s es (known_in old.known) e refl r.keeps.front) (settled_quietly s es (e ∷ []) refl))
+
+  -- a plan was made
+  pub planned_reflects : (es : List Event) (old new : Course) (at_work : Option ℕ) (after : ℕ) (made : Planned) → past_of new ≡ with_plan after made (past_of old) → new.known ≡ old.known →
+      Reflects s es old at_work → Reflects s es new at_work
+  planned_reflects es old new at_work after made past known r = record {
+    keeps = moved es (known_in old.known) (with_plan after made (past_of old)) at_work new (ap known_in known) past
+        (planned_keeps s es (known_in old.known) (past_of old) at_work after made r.keeps);
+    measured = λ still. r.measured (ap (λ (p : Past). p.end) (sym past) ∙ still);
+    knows = λ still. subst (λ (k : Option Unfolding). IsKnown (s.walker (measures es)) (resolved es) k) (sym known) (r.knows (ap (λ (p : Past). p.end) (sym past) ∙ still));
+    collects = r.collects;
+    undelivered = r.undelivered;
+    looks = looks_moved es old new (ap known_in known) (ap (λ (p : Past). p.looked_up) past) r.looks;
+    rows = found_moved es old new (ap known_in known) (ap (λ (p : Past). p.rows) past) (ap (λ (p : Past). p.looked_up) past) r.rows;
+    notes = ap (λ (p : Past). p.notes) past ∙ r.notes;
+    lost = λ key. r.lost key ∙ ap (λ (p : Past). is_lost_in p.lost key) (sym past);
+    tried = subst (λ (p : Past). AreTriedOnce p) (sym past) (record { each = λ n tried. (record { row = (r.tried.each n tried).row; found = (r.tried.each n tried).found; gone = (r.tried.each n tried).gone }); there = r.tried.there });
+  }
 
   -- Jobs
 

@@ -8,7 +8,7 @@ use Rattle.job_rows.specs.declared.row.Row.{Row}
 use Rattle.run_rules.specs.declared.request.RecordAnswer.{RecordAnswer}
 use Rattle.run_core.specs.declared.job_states.JobState.{JobState}
 use Rattle.run_core.specs.inner.Course.{Past, is_lost_in, key_in, with_answer, with_giving_up, with_hand, with_load, with_loss, with_staging}
-use Rattle.run_core.specs.inner.FoundRows.{row_in, rows_after, row_set}
+use Rattle.run_core.specs.inner.FoundRows.{row_in, rows_after}
 use Rattle.run_core.specs.inner.JobStates.{is_there, state_at}
 use Rattle.run_core.specs.inner.Keeps.{AreTriedOnce, IsTriedOnce}
 use Rattle.run_core.proofs.FoundRows.{set_elsewhere}

@@ -19,7 +19,7 @@ use Rattle.run_rules.specs.Allowed.{Allowed, MayCollect, MayMeasure}
 use Rattle.run_rules.specs.Events.{Event, Progress, in_flight, input_heads_due, output_heads_due, put_due, store_due, folder_at, drop_due}
 use Rattle.run_rules.specs.Folders.{out_folder}
 use Rattle.run_rules.specs.Scene.{Scene}
-use Rattle.run_rules.specs.Plans.{InForce, number_of}
+use Rattle.run_rules.specs.Plans.{InForce, number_of, PlansSoFar, no_plans}
 use Rattle.run_rules.specs.Run.{Goes}
 use Rattle.run_core.specs.inner.Fetches.{can_load}
 use Rattle.job_rows.specs.declared.row.Row.{Row}
@@ -46,13 +46,14 @@ use Rattle.run_core.specs.inner.Follows.{AsksIn, AsksOf}
 use Rattle.run_core.specs.inner.Keeps.{Reflects, course_of}
 use Rattle.run_core.specs.Core.{IsFirst}
 use Rattle.run_core.specs.inner.Standing.{IsAt, IsStaging, Runs, collecting, delivering, ended, measuring, staging, working, finding, putting, storing, FetchesNext, dropping, fetching}
+use Rattle.run_core.specs.inner.Marks.{is_load}
+use Rattle.plan_checker.specs.Plan.{mark}
 use Rattle.run_core.proofs.events.Families.{ready_if}
 use Rattle.run_core.proofs.events.Numbers.{Flies, flight_flies, flights_as_many}
 use Rattle.run_core.proofs.events.Reflecting.{Laws, staged_there}
 use Rattle.run_core.proofs.going.Measured.{IsOf, may_measure}
-use Rattle.run_core.proofs.going.Picking.{all_known, all_kept, loads_at, nor_kept}
+use Rattle.run_core.proofs.going.Picking.{all_known, all_kept, loads_at, nor_kept, loads_can}
 use Rattle.run_core.proofs.job_steps.Calls.{IsForJob, for_job, working_allowed}
-use Rattle.run_core.proofs.job_steps.Turns.{PicksAt}
 use Rattle.run_core.specs.inner.JobStates.{is_ready, state_at, waits_in}
 use Rattle.run_core.proofs.States.{taken_within}
 use Rattle.run_rules.proofs.events.Asks.{due_when}
@@ -143,7 +144,7 @@ module _ (s : Scene) (f : Progress) (marks : List Mark) (course : Course) where
   fits_at asks (staging n job plan r st) = lists_fit s f.events course None r
   fits_at asks (working n job call phase r w) = lists_fit s f.events course (Some n) r
   fits_at asks (collecting r may) = lists_fit s f.events course None r
-  fits_at asks (delivering plan r may going all) = lists_fit s f.events course None r
+  fits_at asks (delivering plan r may going) = lists_fit s f.events course None r
   fits_at asks (ended end so noted) = absurd (asks refl)
 
   asks_at : {turn : Turn} → IsAt s f marks course turn → AsksIn course turn
@@ -157,7 +158,7 @@ module _ (s : Scene) (f : Progress) (marks : List Mark) (course : Course) where
   asks_at (working n job call phase r w) =
       work_asks s.options course job.place n (state_at course.jobs n).folder call phase w.calls.due w.calls.fits (taken_within course.jobs n (r.keeps.books.worked_on n refl))
   asks_at (collecting r may) = tt
-  asks_at (delivering plan r may going all) = tt
+  asks_at (delivering plan r may going) = tt
   asks_at (ended end so noted) = tt
 
   module _ (r : Reflects s f.events course None) (may : MayCollect s f marks []) where
@@ -186,13 +187,13 @@ module _ (s : Scene) (f : Progress) (marks : List Mark) (course : Course) where
       absurd (not_waiting call place job.place
       (λ same. subst IsForJob same (for_job s.options (state_at course.jobs n).folder [] call phase w.calls.due)) asks)
   collects_at place (collecting r may) asks = flying_tickets r may
-  collects_at place (delivering plan r may going all) asks = absurd (not_waiting (HostRequest.Deliver plan) place [] (λ same. cc) asks)
+  collects_at place (delivering plan r may going) asks = absurd (not_waiting (HostRequest.Deliver plan) place [] (λ same. cc) asks)
   collects_at place (ended end so noted) asks = let never : Request.Finished ≡ Request.Host place HostRequest.Collect = asks in absurd cc
 
-module _ (s : Scene) (given : Given) (its : IsOf s given) (laws : Laws s) (picks : PicksAt s given) where
+module _ (s : Scene) (given : Given) (its : IsOf s given) (laws : Laws s) where
   allows_at : (t : List Pair) (f : Progress) (marks : List Mark) (course : Course) {turn : Turn} → turn.asks ≢ Request.Finished → IsAt s f marks course turn → Allowed s f marks turn.asks
   allows_at t f marks course asks (measuring found m rest path is left happened none nothing) =
-      subst (λ (g : Progress). MayMeasure s g [] path) (sym happened) (may_measure s given its laws picks t found marks m rest path is left)
+      subst (λ (g : Progress). MayMeasure s g [] path) (sym happened) (may_measure s given its laws t found no_plans m rest path is left)
   allows_at t f marks course asks (finding n job r next) = next.may
   allows_at t f marks course asks (putting n job row r it due) = due_when s f marks (put_due job.place row) (Request.Record job.place (RecordRequest.Put row)) due refl
   allows_at t f marks course asks (fetching n job row r next) = next.may
@@ -204,7 +205,7 @@ module _ (s : Scene) (given : Given) (its : IsOf s given) (laws : Laws s) (picks
   allows_at t f marks course asks (working n job call phase r w) =
       working_allowed s f marks course n job call phase (staged_there s f.events course n job w.it r) w
   allows_at t f marks course asks (collecting r may) = may
-  allows_at t f marks course asks (delivering plan r may going all) = may
+  allows_at t f marks course asks (delivering plan r may going) = may
   allows_at t f marks course asks (ended end so noted) = absurd (asks refl)
 
   first_call : (f : Progress) (marks : List Mark) (place : JobPlace) (call : HostRequest) → IsForJob call → IsFirst s f marks (Request.Host place call)
@@ -220,11 +221,11 @@ module _ (s : Scene) (given : Given) (its : IsOf s given) (laws : Laws s) (picks
       let books : AreKept (jobs_in s f) (readings f.events) (course_of (past_of course) None r.keeps.gave_up) = all_kept s f.events course None r st.going in
       let number : number_of job.place (jobs_in s f) ≡ n =
       number_is (jobs_in s f) books.apart n job (subst (λ (jobs : List Job). IsJob jobs n job) whole st.it) in
-      let none_before : NoneIsReady (jobs_in s f) (course_of (past_of course) None r.keeps.gave_up) n =
-      λ m other below it waits parents.
+      let none_before : NoneIsReady (jobs_in s f) marks (course_of (past_of course) None r.keeps.gave_up) n =
+      λ m other below it waits computed parents.
       let there : IsJob (known_in course.known) m other = subst (λ (jobs : List Job). IsJob jobs m other) (sym whole) it in
-      let ready : is_ready (families_in course.known) course.jobs m ≡ true =
-      ready_if (known_in course.known) course.jobs m other there waits
+      let ready : is_ready marks (families_in course.known) course.jobs m ≡ true =
+      ready_if marks (known_in course.known) course.jobs m other there waits computed
       (subst (λ (jobs : List Job). AreParentsThere jobs (course_of (past_of course) None r.keeps.gave_up) m other) (sym whole) parents) in
       let never : true ≡ false = sym ready ∙ st.lowest.lowest m below in cc in
       λ other its folder may.
@@ -232,52 +233,56 @@ module _ (s : Scene) (given : Given) (its : IsOf s given) (laws : Laws s) (picks
       lowest_first s f marks (course_of (past_of course) None r.keeps.gave_up) books st.may.free n (ap is_some st.going) refl none_before other its folder may in
       omega (arith, number, least)
 
-  -- the files of the lowest job that waits and can be loaded are fetched
-  first_fetched : (t : List Pair) (f : Progress) (marks : List Mark) (goes : Goes s (InForce s) t f marks) (course : Course) (n : ℕ) (job : Job) (row : Row) → Reflects s f.events course None →
-      FetchesNext s f marks course n job row → IsFirst s f marks (Request.Host job.place (HostRequest.Fetch row.key (course.folders + 1) row.files))
-  first_fetched t f marks goes course n job row r next =
+  -- the files of the lowest job that waits and is loaded are fetched
+  first_fetched : (t : List Pair) (f : Progress) (plans : PlansSoFar) (goes : Goes s (InForce s) t f plans) (course : Course) (n : ℕ) (job : Job) (row : Row) → Reflects s f.events course None →
+      FetchesNext s f plans.marks course n job row → IsFirst s f plans.marks (Request.Host job.place (HostRequest.Fetch row.key (course.folders + 1) row.files))
+  first_fetched t f plans goes course n job row r next =
       let whole : known_in course.known ≡ jobs_in s f = all_known s f.events course None r next.going in
       let books : AreKept (jobs_in s f) (readings f.events) (course_of (past_of course) None r.keeps.gave_up) = all_kept s f.events course None r next.going in
       let number : number_of job.place (jobs_in s f) ≡ n =
       number_is (jobs_in s f) books.apart n job (subst (λ (jobs : List Job). IsJob jobs n job) whole next.it) in
       λ other its_key its_number its_files may.
       let least : n ≤ number_of other (jobs_in s f) =
-      lowest_fetched s f marks (course_of (past_of course) None r.keeps.gave_up) books next.may.free n goes (ap is_some next.going) refl
-      (λ m its below it waits.
-      loads_at s f.events course None r m its (subst (λ (jobs : List Job). IsJob jobs m its) (sym whole) it)
-      ∙ ap (λ b. s.options.keep && b) (ap (λ b. b && can_load course m) (sym waits) ∙ next.lowest m below)
-      ∙ nor_kept s.options.keep)
+      lowest_fetched s f plans.marks (course_of (past_of course) None r.keeps.gave_up) books next.may.free n (ap is_some next.going) refl
+      (λ m its below it waits is.
+      let there : IsJob (known_in course.known) m its = subst (λ (jobs : List Job). IsJob jobs m its) (sym whole) it in
+      let cannot : can_load course m ≡ false =
+      sym (ap (λ b. b && (is_load (mark plans.marks m) && can_load course m)) waits ∙ ap (λ (x : Mark). is_load x && can_load course m) is) ∙ next.lowest m below in
+      let never : true ≡ false =
+      sym (loads_can s f plans goes course None r next.going next.may.free m its it waits is)
+      ∙ loads_at s f.events course None r m its there ∙ ap (λ b. s.options.keep && b) cannot ∙ nor_kept s.options.keep in
+      cc)
       other its_key its_number its_files may in
       omega (arith, number, least)
 
-  first_at : (t : List Pair) (f : Progress) (marks : List Mark) → Goes s (InForce s) t f marks → (course : Course) {turn : Turn} → turn.asks ≢ Request.Finished → IsAt s f marks course turn →
-      IsFirst s f marks turn.asks
-  first_at t f marks goes course asks (measuring found m rest path is left happened none nothing) = tt
-  first_at t f marks goes course asks (finding n job r next) = tt
-  first_at t f marks goes course asks (putting n job row r it due) = tt
-  first_at t f marks goes course asks (storing n job row r it due) = tt
-  first_at t f marks goes course asks (fetching n job row r next) = first_fetched t f marks goes course n job row r next
-  first_at t f marks goes course asks (dropping n job its_key r it due) = tt
-  first_at t f marks goes course asks (staging n job plan r st) = first_staged f marks course n job plan r st
-  first_at t f marks goes course asks (working n job call phase r w) =
-      first_call f marks job.place call (for_job s.options (state_at course.jobs n).folder [] call phase w.calls.due)
-  first_at t f marks goes course asks (collecting r may) = tt
-  first_at t f marks goes course asks (delivering plan r may going all) = tt
-  first_at t f marks goes course asks (ended end so noted) = absurd (asks refl)
+  first_at : (t : List Pair) (f : Progress) (plans : PlansSoFar) → Goes s (InForce s) t f plans → (course : Course) {turn : Turn} → turn.asks ≢ Request.Finished → IsAt s f plans.marks course turn →
+      IsFirst s f plans.marks turn.asks
+  first_at t f plans goes course asks (measuring found m rest path is left happened none nothing) = tt
+  first_at t f plans goes course asks (finding n job r next) = tt
+  first_at t f plans goes course asks (putting n job row r it due) = tt
+  first_at t f plans goes course asks (storing n job row r it due) = tt
+  first_at t f plans goes course asks (fetching n job row r next) = first_fetched t f plans goes course n job row r next
+  first_at t f plans goes course asks (dropping n job its_key r it due) = tt
+  first_at t f plans goes course asks (staging n job plan r st) = first_staged f plans.marks course n job plan r st
+  first_at t f plans goes course asks (working n job call phase r w) =
+      first_call f plans.marks job.place call (for_job s.options (state_at course.jobs n).folder [] call phase w.calls.due)
+  first_at t f plans goes course asks (collecting r may) = tt
+  first_at t f plans goes course asks (delivering plan r may going) = tt
+  first_at t f plans goes course asks (ended end so noted) = absurd (asks refl)
 
   -- what is asked may be asked
-  pub allows : (t : List Pair) (course : Course) (turn : Turn) (runs : Runs s t course turn) → turn.asks ≢ Request.Finished → Allowed s runs.happened runs.marks turn.asks
-  allows t course turn runs asks = allows_at t runs.happened runs.marks course asks runs.at
+  pub allows : (t : List Pair) (course : Course) (turn : Turn) (runs : Runs s t course turn) → turn.asks ≢ Request.Finished → Allowed s runs.happened runs.plans.marks turn.asks
+  allows t course turn runs asks = allows_at t runs.happened runs.plans.marks course asks runs.at
 
-  pub is_first : (t : List Pair) (course : Course) (turn : Turn) (runs : Runs s t course turn) → turn.asks ≢ Request.Finished → IsFirst s runs.happened runs.marks turn.asks
-  is_first t course turn runs asks = first_at t runs.happened runs.marks runs.goes course asks runs.at
+  pub is_first : (t : List Pair) (course : Course) (turn : Turn) (runs : Runs s t course turn) → turn.asks ≢ Request.Finished → IsFirst s runs.happened runs.plans.marks turn.asks
+  is_first t course turn runs asks = first_at t runs.happened runs.plans runs.goes course asks runs.at
 
 pub asks_in : (s : Scene) (t : List Pair) (course : Course) (turn : Turn) → Runs s t course turn → AsksIn course turn
-asks_in s t course turn runs = asks_at s runs.happened runs.marks course runs.at
+asks_in s t course turn runs = asks_at s runs.happened runs.plans.marks course runs.at
 
 pub readies : (s : Scene) (t : List Pair) (course : Course) (turn : Turn) → Runs s t course turn → turn.asks ≢ Request.Finished → AreFitting course
-readies s t course turn runs asks = fits_at s runs.happened runs.marks course asks runs.at
+readies s t course turn runs asks = fits_at s runs.happened runs.plans.marks course asks runs.at
 
 pub collects_some : (s : Scene) (t : List Pair) (course : Course) (turn : Turn) (place : JobPlace) → Runs s t course turn → turn.asks ≡ Request.Host place HostRequest.Collect →
     course.tickets.items ≢ []
-collects_some s t course turn place runs asks = collects_at s runs.happened runs.marks course place runs.at asks
+collects_some s t course turn place runs asks = collects_at s runs.happened runs.plans.marks course place runs.at asks

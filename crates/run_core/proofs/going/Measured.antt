@@ -1,5 +1,5 @@
 -- Input files are measured, one after another; then the first jobs are known.
-use Rattle.std.specs.Prelude.{◌&&◌, ◌||◌, ◌<◌, ◌^◌, Contains, Result, Err}
+use Rattle.std.specs.Prelude.{◌&&◌, ◌||◌, ◌<◌, ◌^◌, Contains, Result, Err, not}
 use Rattle.std.specs.List.{IsDistinct, list_all, list_any}
 use Rattle.std.specs.Map.{keys_of}
 use Rattle.std.proofs.Common.{◌≡◌, ◌∙◌, ℕ, Bool, true, false, List, [], ◌∷◌, ◌++◌, length, fold, reverse, bytes_eq, Option, Some, None, refl, sym, ap, subst, arith, append_assoc, append-nil}
@@ -11,7 +11,6 @@ use Rattle.std.proofs.lemmas.List.Folds.{list_all-append}
 use Rattle.std.proofs.lemmas.List.Sums.{fold-append}
 use Rattle.input_files.specs.Measured.{Measures}
 use Rattle.plain_data.specs.ByName.{with_value}
-use Rattle.plan_checker.specs.declared.plan.Mark.{Mark}
 use Rattle.proc_host.specs.declared.call.HostAnswer.{HostAnswer}
 use Rattle.proc_host.specs.declared.call.HostFault.{HostFault}
 use Rattle.proc_host.specs.declared.call.HostRequest.{HostRequest}
@@ -28,16 +27,16 @@ use Rattle.run_rules.specs.declared.outcome.RunFault.{RunFault}
 use Rattle.run_rules.specs.declared.request.Pair.{Pair}
 use Rattle.run_rules.specs.Allowed.{MayMeasure}
 use Rattle.run_rules.specs.End.{End, ended_by_host, fault_end, is_lost_collect, settled, settled_from, unfold_end}
-use Rattle.run_rules.specs.Events.{Event, Progress, are_measured, delivered_if, file_measured, host_failed, is_lost, is_measured, measures, measures_after, nothing_due, resolved, unfolding_at}
-use Rattle.run_rules.specs.Plans.{InForce}
+use Rattle.run_rules.specs.Events.{Event, Progress, is_at_hand, are_measured, delivered_if, file_measured, host_failed, is_lost, is_measured, measures, measures_after, nothing_due, resolved, unfolding_at}
+use Rattle.run_rules.specs.Plans.{InForce, PlansSoFar, is_planning, no_plans}
 use Rattle.run_rules.specs.Reports.{outcome_of, notes_of}
 use Rattle.run_rules.specs.Run.{Goes}
 use Rattle.run_rules.specs.Scene.{Scene}
-use Rattle.run_rules.specs.Steps.{call, measures_file, progress_with}
-use Rattle.run_rules.proofs.events.Grows.{first_goes, goes_on}
+use Rattle.run_rules.specs.Steps.{call, measures_file}
+use Rattle.run_rules.proofs.events.Grows.{Comes, comes_on, first_comes}
 use Rattle.run_rules.proofs.events.Known.{IsFront, front_itself, unfolding_before, unfolding_when}
 use Rattle.run_rules.proofs.events.Places.{AreApart}
-use Rattle.run_rules.proofs.events.Planned.{marks_after}
+use Rattle.run_rules.proofs.events.Planned.{no_plan_when_all_there, stays_in_force}
 use Rattle.run_rules.proofs.events.Readings.{started_after}
 use Rattle.run_rules.proofs.events.Settled.{or_none, settled_more}
 use Rattle.run_rules.proofs.events.Tally.{Readings, readings, readings_after, reads_after}
@@ -51,13 +50,14 @@ use Rattle.run_core.specs.inner.Keeps.{AreTriedOnce, Keeps, Reflects, AreFound}
 use Rattle.run_core.specs.inner.Knows.{IsKnown, IsUnfolded, Knows, end_by, fails, fault_of, knows}
 use Rattle.run_core.specs.inner.Measured.{IsMeasuring, measured_by}
 use Rattle.run_core.specs.inner.Measures.{Begins, MeasuresOn, TakesMeasure, all_measured, measures as measures_next}
-use Rattle.run_core.specs.inner.Standing.{Runs, measuring as at_measuring}
+use Rattle.run_core.specs.inner.Standing.{KeepsPlans, Runs, measuring as at_measuring}
 use Rattle.run_core.proofs.Once.{Once, not_before}
 use Rattle.run_core.proofs.Turning.{IsTurn, fewer, turn_of}
 use Rattle.run_core.proofs.Working.{turned}
 use Rattle.run_core.proofs.events.Keeping.{failed_keeps, first_fails_keeps, first_keeps, never_none}
 use Rattle.run_core.proofs.events.Reflecting.{Laws, collects_after, end_of, end_reported, fault_ends, moved, undelivered_after, no_notes_more}
-use Rattle.run_core.proofs.job_steps.Turns.{PicksAt}
+use Rattle.run_core.proofs.PlansKept.{planned_same, unfolded_planned}
+use Rattle.run_core.proofs.job_steps.Turns.{PicksAt, PicksNext}
 use Rattle.run_core.proofs.FoundRows.{nothing_found, found_still}
 use Rattle.run_core.proofs.events.Losses.{none_lost as none_lost_more}
 use Rattle.run_core.proofs.events.Tried.{leaves_same, tried_still}
@@ -251,36 +251,40 @@ module _ (s : Scene) (once : Once s.paths) where
 
 -- What comes of a measure
 
-module _ (s : Scene) (given : Given) (its : IsOf s given) (laws : Laws s) (picks : PicksAt s given) where
-  module _ (t : List Pair) (found : List (Name × Measure)) (marks : List Mark) (goes : Goes s (InForce s) t (when_measured found) marks)
-      (settles : settled s (measured_by found) ≡ unfold_end s (measured_by found)) (old : Course) (nothing : past_of old ≡ nothing_past) (none : old.known ≡ None) where
+module _ (s : Scene) (given : Given) (its : IsOf s given) (laws : Laws s) where
+  module _ (t : List Pair) (picks : PicksAt s given t) (found : List (Name × Measure)) (plans : PlansSoFar) (comes : Comes s t (when_measured found) plans)
+      (settles : settled s (measured_by found) ≡ unfold_end s (measured_by found)) (old : Course) (planned : KeepsPlans plans (past_of old)) (nothing : past_of old ≡ nothing_past)
+      (none : old.known ≡ None) where
     measured_on : (measuring : Measuring) → measuring.measures ≡ measures (measured_by found) → s.paths ≡ keys_of found ++ reverse measuring.left → length measuring.left < 2 ^ 64 →
         {turn : Turn} {new : Course} → MeasuresOn given old measuring turn new → Runs s t new turn
     measured_on measuring same all few (all_measured known turn new is_empty on next) =
         let whole : s.paths ≡ keys_of found = all ∙ ap (λ (names : List Name). keys_of found ++ reverse names) is_empty ∙ append-nil (keys_of found) in
         let unfolds : IsUnfolded (s.walker (measures (measured_by found))) [] old known =
         subst (λ (w : Walker). IsUnfolded w [] old known) (its.walks measuring.measures ∙ ap s.walker same) on in
+        picks (when_measured found) plans comes refl known turn new (unfolded_planned plans (s.walker (measures (measured_by found))) [] old known unfolds planned)
+        (first_by s its.once laws found whole settles old nothing none unfolds) next
+    measured_on measuring same all few (measures_next rest path new is past known) =
+        let in_turn : s.paths ≡ keys_of found ++ path ∷ reverse rest = all ∙ ap (λ (names : List Name). keys_of found ++ names) (turned measuring.left rest path is) in
+        let no_plan : is_planning s (when_measured found) ≡ false =
+        no_plan_when_all_there s (when_measured found)
+        (ap (λ (u : Unfolded). list_any (λ (j : Job). not (is_at_hand (measured_by found) j.place)) u.jobs) (nothing_yet s its.once found path (reverse rest) in_turn)) in
         record {
           happened = when_measured found;
-          marks = marks;
-          goes = goes;
-          at = picks t (when_measured found) marks goes refl known turn new (first_by s its.once laws found whole settles old nothing none unfolds) next;
+          plans = plans;
+          goes = comes plans (stays_in_force s (when_measured found) (length t) plans no_plan);
+          planned = planned_same plans (past_of old) (past_of new) past planned;
+          at = at_measuring found measuring rest path (record { paths = all; measures = same; few = few }) is refl (known ∙ none) (past ∙ nothing);
         }
-    measured_on measuring same all few (measures_next rest path new is past known) = record {
-      happened = when_measured found;
-      marks = marks;
-      goes = goes;
-      at = at_measuring found measuring rest path (record { paths = all; measures = same; few = few }) is refl (known ∙ none) (past ∙ nothing);
-    }
 
   -- before any answer
-  pub begins_so : (old : Course) → past_of old ≡ nothing_past → old.known ≡ None → (turn : Turn) (new : Course) → Begins given old turn new → Runs s [] new turn
-  begins_so old nothing none turn new b =
+  pub begins_so : PicksAt s given [] → (old : Course) → past_of old ≡ nothing_past → old.known ≡ None → (turn : Turn) (new : Course) → Begins given old turn new → Runs s [] new turn
+  begins_so picks old nothing none turn new b =
       let all : reverse b.measuring.left ≡ s.paths =
       ap reverse b.paths ∙ reverse-reverse (input_paths given.process.now given.inputs.now) ∙ its.paths in
-      measured_on [] [] (marks_after s (when_measured []) []) (first_goes s) (or_none (unfold_end s [])) old nothing none b.measuring b.none (sym all) b.few b.on
+      measured_on [] picks [] no_plans (first_comes s) (or_none (unfold_end s [])) old (subst (λ (p : Past). KeepsPlans no_plans p) (sym nothing) (refl, refl)) nothing none
+      b.measuring b.none (sym all) b.few b.on
 
-  module _ (t : List Pair) (found : List (Name × Measure)) (marks : List Mark) (measuring : Measuring) (rest : List Name) (path : Name) (m : IsMeasuring s found measuring)
+  module _ (t : List Pair) (found : List (Name × Measure)) (plans : PlansSoFar) (measuring : Measuring) (rest : List Name) (path : Name) (m : IsMeasuring s found measuring)
       (is : measuring.left ≡ rest ++ path ∷ []) where
     in_turn : s.paths ≡ keys_of found ++ path ∷ reverse rest
     in_turn = m.paths ∙ ap (λ (names : List Name). keys_of found ++ names) (turned measuring.left rest path is)
@@ -293,7 +297,7 @@ module _ (s : Scene) (given : Given) (its : IsOf s given) (laws : Laws s) (picks
       unmeasured = unmeasured s its.once found path (reverse rest) in_turn;
     }
 
-    module _ (goes : Goes s (InForce s) t (when_measured found) marks) (old : Course) (nothing : past_of old ≡ nothing_past) (none : old.known ≡ None) where
+    module _ (picks : PicksNext s given t) (goes : Goes s (InForce s) t (when_measured found) plans) (old : Course) (planned : KeepsPlans plans (past_of old)) (nothing : past_of old ≡ nothing_past) (none : old.known ≡ None) where
       -- it is measured
       pub measure_goes_on : (measure : Measure) (turn : Turn) (new : Course) → TakesMeasure given old measuring measure turn new →
           Runs s (t ++ call [] (HostRequest.Measure path) (HostAnswer.Measured measure) ∷ []) new turn
@@ -301,7 +305,6 @@ module _ (s : Scene) (given : Given) (its : IsOf s given) (laws : Laws s) (picks
           let put : IsTurn measuring.left measuring.measures measure rest path takes.next.left takes.next.measures =
           turn_of measuring.left measuring.measures measure rest path is takes.puts in
           let more : measured_by found ++ file_measured path measure ∷ [] ≡ measured_by (found ++ (path, measure) ∷ []) = sym (one_more found path measure) in
-          let later : Progress = progress_with (when_measured found) nothing_due (file_measured path measure ∷ []) in
           let settles : settled s (measured_by (found ++ (path, measure) ∷ [])) ≡ unfold_end s (measured_by (found ++ (path, measure) ∷ [])) =
           subst (λ (es : List Event). settled s es ≡ unfold_end s es) more
           (settled_more s (measured_by found) (file_measured path measure) (unsettled_yet s its.once found path (reverse rest) in_turn)) in
@@ -314,12 +317,11 @@ module _ (s : Scene) (given : Given) (its : IsOf s given) (laws : Laws s) (picks
           ∙ ap (λ (names : List Name). keys_of (found ++ (path, measure) ∷ []) ++ reverse names) (sym put.left_is) in
           let few : length takes.next.left < 2 ^ 64 =
           subst (λ (names : List Name). length names < 2 ^ 64) (sym put.left_is) (fewer rest path (subst (λ (names : List Name). length names < 2 ^ 64) is m.few)) in
-          measured_on (t ++ call [] (HostRequest.Measure path) (HostAnswer.Measured measure) ∷ []) (found ++ (path, measure) ∷ [])
-          (marks_after s (progress_with (when_measured found) nothing_due (file_measured path measure ∷ [])) marks)
-          (subst (λ (es : List Event). Goes s (InForce s) (t ++ call [] (HostRequest.Measure path) (HostAnswer.Measured measure) ∷ []) (record { work = nothing_due; events = es })
-          (marks_after s (progress_with (when_measured found) nothing_due (file_measured path measure ∷ [])) marks)) more
-          (goes_on s (call [] (HostRequest.Measure path) (HostAnswer.Measured measure)) nothing_due (file_measured path measure ∷ []) goes may_measure (measures_file path measure)))
-          settles old nothing none takes.next same all few takes.on
+          measured_on (t ++ call [] (HostRequest.Measure path) (HostAnswer.Measured measure) ∷ []) (picks (call [] (HostRequest.Measure path) (HostAnswer.Measured measure)))
+          (found ++ (path, measure) ∷ []) plans
+          (subst (λ (es : List Event). Comes s (t ++ call [] (HostRequest.Measure path) (HostAnswer.Measured measure) ∷ []) (record { work = nothing_due; events = es }) plans) more
+          (comes_on s (call [] (HostRequest.Measure path) (HostAnswer.Measured measure)) nothing_due (file_measured path measure ∷ []) goes may_measure (measures_file path measure)))
+          settles old planned nothing none takes.next same all few takes.on
 
     -- its measure failed
     pub measure_fault_reflects : (old new : Course) → past_of old ≡ nothing_past → old.known ≡ None → past_of new ≡ with_end (Err (RunFault.Host HostFault.Measure [])) (past_of old) →

@@ -1,6 +1,7 @@
 -- Where the machine is depends on what its course has come to, and not on the room that its lists have.
 use Rattle.std.specs.Prelude.{◌&&◌}
-use Rattle.std.proofs.Common.{◌≡◌, ◌∙◌, ◌+◌, ℕ, List, length, Some, None, sym, ap, subst, ◌≤◌}
+use Rattle.std.proofs.Common.{◌≡◌, ◌∙◌, ◌+◌, ℕ, List, Some, None, sym, ap, subst, ◌≤◌}
+use Rattle.plan_checker.specs.Plan.{mark}
 use Rattle.plan_checker.specs.declared.plan.Mark.{Mark}
 use Rattle.proc_host.specs.declared.call.HostRequest.{HostRequest}
 use Rattle.staging.specs.declared.plan.StagePlan.{StagePlan}
@@ -24,7 +25,9 @@ use Rattle.run_core.specs.inner.Standing.{IsAt, IsStaging, IsWorking, Runs, coll
 use Rattle.run_core.proofs.events.Reflecting.{reflects_same}
 use Rattle.run_core.specs.inner.Fetches.{archived_in}
 use Rattle.run_core.specs.inner.FoundRows.{row_in}
-use Rattle.run_core.specs.inner.JobStates.{IsLowest, NoneWaits, state_at, waits_in}
+use Rattle.run_core.specs.inner.JobStates.{IsLowest, state_at, waits_in}
+use Rattle.run_core.specs.inner.Marks.{is_load}
+use Rattle.run_core.proofs.PlansKept.{planned_same}
 
 module _ (s : Scene) (f : Progress) (marks : List Mark) (old new : Course) (past : past_of new ≡ past_of old) (known : new.known ≡ old.known) where
   same_jobs : known_in old.known ≡ known_in new.known
@@ -39,10 +42,10 @@ module _ (s : Scene) (f : Progress) (marks : List Mark) (old new : Course) (past
   same_folders : old.folders ≡ new.folders
   same_folders = ap (λ (p : Past). p.folders) (sym past)
 
-  lowest_same : (n : ℕ) → IsLowest (families_in old.known) old.jobs n → IsLowest (families_in new.known) new.jobs n
+  lowest_same : (n : ℕ) → IsLowest marks (families_in old.known) old.jobs n → IsLowest marks (families_in new.known) new.jobs n
   lowest_same n lowest =
-      subst (λ (states : List JobState). IsLowest (families_in new.known) states n) same_states
-      (subst (λ (families : List Known). IsLowest families old.jobs n) (ap families_in (sym known)) lowest)
+      subst (λ (states : List JobState). IsLowest marks (families_in new.known) states n) same_states
+      (subst (λ (families : List Known). IsLowest marks families old.jobs n) (ap families_in (sym known)) lowest)
 
   staging_same : (n : ℕ) (job : Job) (plan : StagePlan) → IsStaging s f marks old n job plan → IsStaging s f marks new n job plan
   staging_same n job plan st = record {
@@ -59,7 +62,7 @@ module _ (s : Scene) (f : Progress) (marks : List Mark) (old new : Course) (past
     may = subst (λ folders. MayFetch s f marks job.place row.key (folders + 1) row.files) same_folders next.may;
     waits = ap (λ (p : Past). waits_in p.jobs n) past ∙ next.waits;
     untried = ap (λ (p : Past). (state_at p.jobs n).tried) past ∙ next.untried;
-    lowest = λ m below. ap (λ (p : Past). waits_in p.jobs m && archived_in p.lost (row_in p.rows m)) past ∙ next.lowest m below;
+    lowest = λ m below. ap (λ (p : Past). waits_in p.jobs m && (is_load (mark marks m) && archived_in p.lost (row_in p.rows m))) past ∙ next.lowest m below;
     kept = next.kept;
     going = same_end ∙ next.going;
   }
@@ -98,10 +101,7 @@ module _ (s : Scene) (f : Progress) (marks : List Mark) (old new : Course) (past
       (staging n job plan (reflects_same s f.events old new None past known r) (staging_same n job plan st))
   at_same (working n job call phase r w) = working n job call phase (reflects_same s f.events old new (Some n) past known r) (working_same n job call phase w)
   at_same (collecting r may) = collecting (reflects_same s f.events old new None past known r) may
-  at_same (delivering plan r may going all) =
-      delivering plan (reflects_same s f.events old new None past known r) may (same_end ∙ going)
-      (subst (λ (states : List JobState). NoneWaits states (length (known_in new.known))) same_states
-      (subst (λ (jobs : List Job). NoneWaits old.jobs (length jobs)) same_jobs all))
+  at_same (delivering plan r may going) = delivering plan (reflects_same s f.events old new None past known r) may (same_end ∙ going)
   at_same (putting n job row r it due) =
       putting n job row (reflects_same s f.events old new None past known r) (subst (λ (jobs : List Job). IsJob jobs n job) same_jobs it) due
   at_same (storing n job row r it due) =
@@ -112,7 +112,8 @@ module _ (s : Scene) (f : Progress) (marks : List Mark) (old new : Course) (past
 pub runs_same : (s : Scene) (t : List Pair) (old new : Course) (turn : Turn) → past_of new ≡ past_of old → new.known ≡ old.known → Runs s t old turn → Runs s t new turn
 runs_same s t old new turn past known runs = record {
   happened = runs.happened;
-  marks = runs.marks;
+  plans = runs.plans;
   goes = runs.goes;
-  at = at_same s runs.happened runs.marks old new past known runs.at;
+  planned = planned_same runs.plans (past_of old) (past_of new) past runs.planned;
+  at = at_same s runs.happened runs.plans.marks old new past known runs.at;
 }

@@ -1,7 +1,6 @@
 -- The record has told what it has of a job: the run goes on, or the answer settles its end.
 use Rattle.std.specs.Prelude.{IsSome, Result, Err, is_some}
-use Rattle.std.proofs.Common.{◌≡◌, true, ℕ, List, [], ◌∷◌, ◌++◌, Option, Some, None, subst, sym, refl, append-nil, ◌∙◌, ap}
-use Rattle.plan_checker.specs.declared.plan.Mark.{Mark}
+use Rattle.std.proofs.Common.{◌≡◌, false, true, ℕ, List, [], ◌∷◌, ◌++◌, Option, Some, None, subst, sym, refl, append-nil, ◌∙◌, ap}
 use Rattle.job_graph.specs.Jobs.{Job}
 use Rattle.job_key.specs.Key.{key}
 use Rattle.job_rows.specs.declared.refusal.RecordRefusal.{RecordRefusal}
@@ -12,24 +11,26 @@ use Rattle.run_rules.specs.declared.outcome.RunFault.{RunFault}
 use Rattle.run_rules.specs.declared.request.Pair.{Pair}
 use Rattle.run_rules.specs.declared.request.RecordAnswer.{RecordAnswer}
 use Rattle.run_rules.specs.declared.request.RecordRequest.{RecordRequest}
-use Rattle.run_rules.specs.Events.{Event, Progress, find_failed, job_at, no_row, nothing_due, row_found, put_due, put_failed}
-use Rattle.run_rules.specs.Plans.{InForce}
+use Rattle.run_rules.specs.Events.{Event, Progress, find_failed, job_at, measures, no_row, nothing_due, resolved, row_found, put_due, put_failed}
+use Rattle.run_rules.specs.Plans.{InForce, PlansSoFar}
 use Rattle.run_rules.specs.Run.{Goes}
 use Rattle.run_rules.specs.Scene.{Scene}
 use Rattle.run_rules.specs.Steps.{Steps, command, find_fails, finds, finds_none, finds_wrong, progress_with, puts, put_fails}
-use Rattle.run_rules.proofs.events.Grows.{goes_on}
-use Rattle.run_rules.proofs.events.Planned.{marks_after}
+use Rattle.run_rules.proofs.events.Grows.{comes_on}
 use Rattle.run_core.specs.declared.state.Course.{Course}
 use Rattle.run_core.specs.declared.state.Given.{Given}
 use Rattle.run_core.specs.declared.state.Turn.{Turn}
-use Rattle.run_core.specs.inner.Course.{Past, known_in, past_of, with_answer, with_end, with_note, put_note}
+use Rattle.run_core.specs.inner.Course.{Past, known_in, past_of, place_at, with_answer, with_end, with_note, put_note}
 use Rattle.run_core.specs.inner.Keeps.{Reflects}
 use Rattle.run_core.specs.inner.Picks.{AfterFind, LearnsRow, Picks, Tells, has_none, has_row, has_wrong_row, refuses, AfterPut}
-use Rattle.run_core.specs.inner.Standing.{FindsNext, Runs}
+use Rattle.run_core.specs.inner.Standing.{FindsNext, KeepsPlans, Runs}
+use Rattle.run_core.specs.inner.Knows.{IsKnown}
+use Rattle.job_graph.specs.declared.unfolding.Unfolding.{Unfolding}
+use Rattle.run_core.proofs.PlansKept.{answer_planned, planned_same, row_planned, some_known}
 use Rattle.run_core.proofs.events.Numbers.{job_there, place_there}
 use Rattle.run_core.proofs.events.Learning.{row_teaches, taught}
 use Rattle.run_core.proofs.events.Reflecting.{Laws, answer_reflects, find_failed_reflects, known_there, none_is_told, put_failed_reflects, reflects_same}
-use Rattle.run_core.proofs.job_steps.Turns.{PicksAt}
+use Rattle.run_core.proofs.job_steps.Turns.{PicksNext}
 use Rattle.run_rules.proofs.events.Places.{one_job, IsJob}
 use Rattle.run_core.proofs.FoundRows.{no_row_found}
 use Rattle.run_rules.specs.Answers.{CanTell, is_put, is_refused}
@@ -38,27 +39,24 @@ use Rattle.run_rules.specs.declared.request.Request.{Request}
 use Rattle.job_rows.specs.declared.row.Row.{Row}
 use Rattle.job_graph.specs.Words.{JobPlace}
 
-module _ (s : Scene) (given : Given) (laws : Laws s) (picks : PicksAt s given) (t : List Pair) (f : Progress) (marks : List Mark) (goes : Goes s (InForce s) t f marks) (old : Course) (n : ℕ)
-    (job : Job) (r : Reflects s f.events old None) (next : FindsNext s f old n job) where
+module _ (s : Scene) (given : Given) (laws : Laws s) (t : List Pair) (picks : PicksNext s given t) (f : Progress) (plans : PlansSoFar) (goes : Goes s (InForce s) t f plans) (old : Course) (n : ℕ)
+    (job : Job) (planned : KeepsPlans plans (past_of old)) (r : Reflects s f.events old None) (next : FindsNext s f old n job) where
   abbrev asked : RecordRequest
   asked = RecordRequest.Find (key job.tool job.inputs)
 
   -- with this event more
-  by_event : (answer : RecordAnswer) (e : Event) → Steps s f (command job.place asked answer) nothing_due (e ∷ []) → (noted : Course) → Reflects s (f.events ++ e ∷ []) noted None →
+  by_event : (answer : RecordAnswer) (e : Event) → Steps s f (command job.place asked answer) nothing_due (e ∷ []) → (noted : Course) → KeepsPlans plans (past_of noted) → Reflects s (f.events ++ e ∷ []) noted None →
       (turn : Turn) (new : Course) → Picks given noted turn new → Runs s (t ++ command job.place asked answer ∷ []) new turn
-  by_event answer e steps noted reflects turn new picked =
-      let later : Progress = progress_with f nothing_due (e ∷ []) in
-      let further : Goes s (InForce s) (t ++ command job.place asked answer ∷ []) later (marks_after s later marks) =
-      goes_on s (command job.place asked answer) nothing_due (e ∷ []) goes next.may steps in
-      record {
-        happened = later;
-        marks = marks_after s later marks;
-        goes = further;
-        at = picks (t ++ command job.place asked answer ∷ []) later (marks_after s later marks) further refl noted turn new reflects picked;
-      }
+  by_event answer e steps noted kept reflects turn new picked =
+      picks (command job.place asked answer) (progress_with f nothing_due (e ∷ [])) plans (comes_on s (command job.place asked answer) nothing_due (e ∷ []) goes next.may steps)
+      refl noted turn new kept reflects picked
 
   known : job_at s f.events job.place ≡ Some job
   known = known_there s f.events old None n job next.it r
+
+  never_open : {o : Option (Result Outcome RunFault)} → IsSome o → o ≡ None → ⊥
+  never_open {o = None} some none = let never : false ≡ true = some in cc
+  never_open {o = Some x} some none = cc
 
   settled_by_it : (end : Option (Result Outcome RunFault)) (refusal : RecordRefusal) → is_some (or_else end (Some (Err (RunFault.Record refusal)))) ≡ true
   settled_by_it None refusal = refl
@@ -67,57 +65,60 @@ module _ (s : Scene) (given : Given) (laws : Laws s) (picks : PicksAt s given) (
   settled_now : (noted : Course) (refusal : RecordRefusal) → past_of noted ≡ with_end (Err (RunFault.Record refusal)) (past_of old) → IsSome noted.end
   settled_now noted refusal past = ap (λ (p : Past). is_some p.end) past ∙ settled_by_it old.end refusal
 
+  open_before : (answer : RecordAnswer) (refusal : Option RecordRefusal) (noted : Course) → past_of noted ≡ with_answer n answer refusal (past_of old) → noted.end ≡ None → old.end ≡ None
+  open_before answer None noted past going = ap (λ (p : Past). p.end) (sym past) ∙ going
+  open_before answer (Some refusal) noted past going = absurd (never_open (settled_now noted refusal past) going)
+
   told_by : (noted learned : Course) (turn : Turn) (new : Course) {answer : RecordAnswer} {refusal : Option RecordRefusal} → Tells job.tool answer refusal →
-      past_of noted ≡ with_answer n answer refusal (past_of old) → noted.known ≡ old.known → LearnsRow job.place answer noted learned → Picks given learned turn new →
+      past_of noted ≡ with_answer n answer refusal (past_of old) → noted.known ≡ old.known → LearnsRow job.place answer noted learned → KeepsPlans plans (past_of learned) → Picks given learned turn new →
       Runs s (t ++ command job.place asked answer ∷ []) new turn
-  told_by noted learned turn new has_none past kept learns picked =
-      by_event (RecordAnswer.Found None) (no_row job.place) (finds_none job.place (key job.tool job.inputs)) learned
+  told_by noted learned turn new has_none past still learns kept picked =
+      by_event (RecordAnswer.Found None) (no_row job.place) (finds_none job.place (key job.tool job.inputs)) learned kept
       (answer_reflects s f.events old learned n job (no_row job.place) (none_is_told job.place) next.it next.left next.first (RecordAnswer.Found None)
-      (no_row_found (known_in old.known) f.events old.rows old.looked_up r.rows n job next.it r.keeps.books.apart next.left r.looks) (learns.0 ∙ past) (learns.1 ∙ kept) r) turn new picked
-  told_by noted learned turn new (has_row row sound) past kept learns picked =
-      by_event (RecordAnswer.Found (Some row)) (row_found job.place row) (finds job.place (key job.tool job.inputs) row job known sound) learned
+      (no_row_found (known_in old.known) f.events old.rows old.looked_up r.rows n job next.it r.keeps.books.apart next.left r.looks) (learns.0 ∙ past) (learns.1 ∙ still) r) turn new picked
+  told_by noted learned turn new (has_row row sound) past still learns kept picked =
+      by_event (RecordAnswer.Found (Some row)) (row_found job.place row) (finds job.place (key job.tool job.inputs) row job known sound) learned kept
       (taught s laws f.events old None (row_found job.place row) (record { place = job.place; outputs = row.outputs }) (with_answer n (RecordAnswer.Found (Some row)) None (past_of old)) r
-      (row_teaches s f.events old n job next.it row r next.left next.first) noted past kept learned learns) turn new picked
-  told_by noted learned turn new (has_wrong_row row unsound) past kept learns picked =
-      by_event (RecordAnswer.Found (Some row)) (find_failed job.place NotARecord) (finds_wrong job.place (key job.tool job.inputs) row job known unsound) learned
-      (find_failed_reflects s f.events old learned None job.place NotARecord (learns.settled (settled_now noted NotARecord past) ∙ past) (learns.unlearned (settled_now noted NotARecord past) ∙ kept) r) turn new picked
-  told_by noted learned turn new (refuses refusal) past kept learns picked =
-      by_event (RecordAnswer.Refused refusal) (find_failed job.place refusal) (find_fails job.place (key job.tool job.inputs) refusal) learned
-      (find_failed_reflects s f.events old learned None job.place refusal (learns.0 ∙ past) (learns.1 ∙ kept) r) turn new picked
+      (row_teaches s f.events old n job next.it row r next.left next.first) noted past still learned learns) turn new picked
+  told_by noted learned turn new (has_wrong_row row unsound) past still learns kept picked =
+      by_event (RecordAnswer.Found (Some row)) (find_failed job.place NotARecord) (finds_wrong job.place (key job.tool job.inputs) row job known unsound) learned kept
+      (find_failed_reflects s f.events old learned None job.place NotARecord (learns.settled (settled_now noted NotARecord past) ∙ past) (learns.unlearned (settled_now noted NotARecord past) ∙ still) r) turn new picked
+  told_by noted learned turn new (refuses refusal) past still learns kept picked =
+      by_event (RecordAnswer.Refused refusal) (find_failed job.place refusal) (find_fails job.place (key job.tool job.inputs) refusal) learned kept
+      (find_failed_reflects s f.events old learned None job.place refusal (learns.0 ∙ past) (learns.1 ∙ still) r) turn new picked
 
   pub answer_goes_on : (answer : RecordAnswer) (turn : Turn) (new : Course) → AfterFind given old n answer turn new → Runs s (t ++ command job.place asked answer ∷ []) new turn
   answer_goes_on answer turn new after =
       let same : after.job ≡ job = one_job (known_in old.known) n n after.job job refl (job_there (known_in old.known) n after.job after.is_job) next.it in
       told_by after.noted after.learned turn new (subst (λ (j : Job). Tells j.tool answer after.refusal) same after.tells) after.past after.known
-      (subst (λ (place : JobPlace). LearnsRow place answer after.noted after.learned) (place_there (known_in old.known) n job next.it) after.learns) after.picks
+      (subst (λ (place : JobPlace). LearnsRow place answer after.noted after.learned) (place_there (known_in old.known) n job next.it) after.learns)
+      (row_planned plans (place_at (known_in old.known) n) answer after.noted after.learned
+      (λ going. some_known (s.walker (measures f.events)) (resolved f.events) after.noted
+      (subst (λ (k : Option Unfolding). IsKnown (s.walker (measures f.events)) (resolved f.events) k) (sym after.known)
+      (r.knows (open_before answer after.refusal after.noted after.past going)))) after.learns
+      (subst (λ (p : Past). KeepsPlans plans p) (sym after.past) (answer_planned plans n answer after.refusal (past_of old) planned))) after.picks
 
 -- The record has answered whether the row of a job is kept
-module _ (s : Scene) (given : Given) (picks : PicksAt s given) (t : List Pair) (f : Progress) (marks : List Mark) (goes : Goes s (InForce s) t f marks) (old : Course) (n : ℕ) (job : Job)
-    (row : Row) (r : Reflects s f.events old None) (it : IsJob (known_in old.known) n job) (due : f.work ≡ put_due job.place row) where
+module _ (s : Scene) (given : Given) (t : List Pair) (picks : PicksNext s given t) (f : Progress) (plans : PlansSoFar) (goes : Goes s (InForce s) t f plans) (old : Course) (n : ℕ) (job : Job)
+    (row : Row) (planned : KeepsPlans plans (past_of old)) (r : Reflects s f.events old None) (it : IsJob (known_in old.known) n job) (due : f.work ≡ put_due job.place row) where
   abbrev its_put : RecordRequest
   its_put = RecordRequest.Put row
 
   put_by : (answer : RecordAnswer) (new_events : List Event) → Steps s f (command job.place its_put answer) nothing_due new_events → (noted : Course) →
-      Reflects s (f.events ++ new_events) noted None → (turn : Turn) (new : Course) → Picks given noted turn new → Runs s (t ++ command job.place its_put answer ∷ []) new turn
-  put_by answer new_events steps noted reflects turn new picked =
-      let later : Progress = progress_with f nothing_due new_events in
-      let further : Goes s (InForce s) (t ++ command job.place its_put answer ∷ []) later (marks_after s later marks) =
-      goes_on s (command job.place its_put answer) nothing_due new_events goes (due_when s f marks (put_due job.place row) (Request.Record job.place its_put) due refl) steps in
-      record {
-        happened = later;
-        marks = marks_after s later marks;
-        goes = further;
-        at = picks (t ++ command job.place its_put answer ∷ []) later (marks_after s later marks) further refl noted turn new reflects picked;
-      }
+      KeepsPlans plans (past_of noted) → Reflects s (f.events ++ new_events) noted None → (turn : Turn) (new : Course) → Picks given noted turn new → Runs s (t ++ command job.place its_put answer ∷ []) new turn
+  put_by answer new_events steps noted kept reflects turn new picked =
+      picks (command job.place its_put answer) (progress_with f nothing_due new_events) plans
+      (comes_on s (command job.place its_put answer) nothing_due new_events goes (due_when s f plans.marks (put_due job.place row) (Request.Record job.place its_put) due refl) steps)
+      refl noted turn new kept reflects picked
 
   pub put_goes_on : (answer : RecordAnswer) → CanTell its_put answer → (turn : Turn) (new : Course) → AfterPut given old n answer turn new →
       Runs s (t ++ command job.place its_put answer ∷ []) new turn
   put_goes_on answer (is_put its_row) turn new after =
-      put_by RecordAnswer.Done [] (puts job.place row) after.noted
+      put_by RecordAnswer.Done [] (puts job.place row) after.noted (planned_same plans (past_of old) (past_of after.noted) after.past planned)
       (subst (λ (happened : List Event). Reflects s happened after.noted None) (sym (append-nil f.events)) (reflects_same s f.events old after.noted None after.past after.known r))
       turn new after.picks
   put_goes_on answer (is_refused request refusal) turn new after =
-      put_by (RecordAnswer.Refused refusal) (put_failed job.place refusal ∷ []) (put_fails job.place row refusal) after.noted
+      put_by (RecordAnswer.Refused refusal) (put_failed job.place refusal ∷ []) (put_fails job.place row refusal) after.noted (subst (λ (p : Past). KeepsPlans plans p) (sym after.past) planned)
       (put_failed_reflects s f.events old after.noted job.place refusal
       (after.past ∙ ap (λ (place : JobPlace). with_note (put_note place refusal) (past_of old)) (place_there (known_in old.known) n job it)) after.known r)
       turn new after.picks

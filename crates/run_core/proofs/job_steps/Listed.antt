@@ -3,7 +3,6 @@ use Rattle.std.proofs.Common.{◌≡◌, ℕ, List, [], ◌∷◌, ◌++◌, Som
 use Rattle.collected_outputs.specs.HeadsWanted.{AreHeadsWanted}
 use Rattle.collected_outputs.specs.Listing.{listing_of}
 use Rattle.cwl_process.specs.declared.tool.Tool.{Tool}
-use Rattle.plan_checker.specs.declared.plan.Mark.{Mark}
 use Rattle.proc_host.specs.declared.call.HostAnswer.{HostAnswer}
 use Rattle.proc_host.specs.declared.call.HostRequest.{HostRequest}
 use Rattle.staging.specs.declared.found.Found.{Found}
@@ -12,32 +11,32 @@ use Rattle.job_graph.specs.Words.{Fields, Name}
 use Rattle.run_rules.specs.declared.request.Pair.{Pair}
 use Rattle.run_rules.specs.CollectsOn.{CollectsOn}
 use Rattle.run_rules.specs.Events.{Progress, nothing_due, row_at}
-use Rattle.run_rules.specs.Plans.{InForce}
+use Rattle.run_rules.specs.Plans.{InForce, PlansSoFar}
 use Rattle.run_rules.specs.Run.{Goes}
 use Rattle.run_rules.specs.Scene.{Scene}
 use Rattle.run_rules.specs.Steps.{Steps, call, progress_with, scans}
-use Rattle.run_rules.proofs.events.Grows.{goes_on}
-use Rattle.run_rules.proofs.events.Planned.{marks_after}
+use Rattle.run_rules.proofs.events.Grows.{Comes, comes_on}
 use Rattle.run_core.specs.declared.state.Course.{Course}
 use Rattle.run_core.specs.declared.state.Given.{Given}
 use Rattle.run_core.specs.declared.state.JobPhase.{JobPhase}
 use Rattle.run_core.specs.declared.state.Kept.{Kept}
 use Rattle.run_core.specs.declared.state.Turn.{Turn}
 use Rattle.run_core.specs.inner.Due.{call_for, events_next, work_next}
+use Rattle.run_core.specs.inner.Course.{past_of}
 use Rattle.run_core.specs.inner.Keeps.{Reflects}
 use Rattle.run_core.specs.inner.Follows.{FollowsWork}
 use Rattle.run_core.specs.inner.Picks.{AfterListing}
-use Rattle.run_core.specs.inner.Standing.{IsWorking, Runs}
+use Rattle.run_core.specs.inner.Standing.{IsWorking, Runs, KeepsPlans}
 use Rattle.run_core.proofs.events.Reflecting.{Laws, staged_there, known_there}
 use Rattle.run_core.proofs.job_steps.Calls.{working_allowed}
 use Rattle.run_core.proofs.job_steps.Firsts.{never_input, never_output}
 use Rattle.run_core.proofs.job_steps.Sites.{Fits, site_fits, collects_at, collects_call, works_started, row_fits}
-use Rattle.run_core.proofs.job_steps.Turns.{PicksAt, turns_at}
+use Rattle.run_core.proofs.job_steps.Turns.{PicksNext, turns_at}
 use Rattle.run_core.specs.inner.JobStates.{state_at}
 
-module _ (s : Scene) (given : Given) (same : given.options ≡ s.options) (laws : Laws s) (picks : PicksAt s given) (t : List Pair) (f : Progress) (marks : List Mark)
-    (goes : Goes s (InForce s) t f marks) where
-  module _ (old : Course) (n : ℕ) (job : Job) (its_folder : Name) (found : List Found) (r : Reflects s f.events old (Some n)) (turn : Turn) (new : Course) where
+module _ (s : Scene) (given : Given) (same : given.options ≡ s.options) (laws : Laws s) (t : List Pair) (picks : PicksNext s given t) (f : Progress) (plans : PlansSoFar)
+    (goes : Goes s (InForce s) t f plans) where
+  module _ (old : Course) (n : ℕ) (job : Job) (its_folder : Name) (found : List Found) (planned : KeepsPlans plans (past_of old)) (r : Reflects s f.events old (Some n)) (turn : Turn) (new : Course) where
     abbrev folder : ℕ
     folder = (state_at old.jobs n).folder
 
@@ -59,26 +58,21 @@ module _ (s : Scene) (given : Given) (same : given.options ≡ s.options) (laws 
           scans job.place its_folder millis found job is.on.started after.collects.wanted (work_next s.options.keep job.place after.next) (events_next job.place after.next)
           is.due (known_there s f.events old (Some n) n job is.it r) is.on.at wanted on
 
-      its_goes : Goes s (InForce s) (t ++ call job.place (HostRequest.Scan its_folder) (HostAnswer.Listed found) ∷ [])
-          (progress_with f (work_next s.options.keep job.place after.next) (events_next job.place after.next))
-          (marks_after s (progress_with f (work_next s.options.keep job.place after.next) (events_next job.place after.next)) marks)
-      its_goes =
-          goes_on s (call job.place (HostRequest.Scan its_folder) (HostAnswer.Listed found)) (work_next s.options.keep job.place after.next) (events_next job.place after.next) goes
-          (working_allowed s f marks old n job (HostRequest.Scan its_folder) (JobPhase.Scanning kept millis) (staged_there s f.events old n job is.it r) is) step
+      its_comes : Comes s (t ++ call job.place (HostRequest.Scan its_folder) (HostAnswer.Listed found) ∷ [])
+          (progress_with f (work_next s.options.keep job.place after.next) (events_next job.place after.next)) plans
+      its_comes =
+          comes_on s (call job.place (HostRequest.Scan its_folder) (HostAnswer.Listed found)) (work_next s.options.keep job.place after.next) (events_next job.place after.next) goes
+          (working_allowed s f plans.marks old n job (HostRequest.Scan its_folder) (JobPhase.Scanning kept millis) (staged_there s f.events old n job is.it r) is) step
 
       scan_goes_on : Runs s (t ++ call job.place (HostRequest.Scan its_folder) (HostAnswer.Listed found) ∷ []) new turn
-      scan_goes_on = record {
-        happened = progress_with f (work_next s.options.keep job.place after.next) (events_next job.place after.next);
-        marks = marks_after s (progress_with f (work_next s.options.keep job.place after.next) (events_next job.place after.next)) marks;
-        goes = its_goes;
-        at = turns_at s given same laws picks (t ++ call job.place (HostRequest.Scan its_folder) (HostAnswer.Listed found) ∷ [])
-            (progress_with f (work_next s.options.keep job.place after.next) (events_next job.place after.next))
-            (marks_after s (progress_with f (work_next s.options.keep job.place after.next) (events_next job.place after.next)) marks) its_goes
-            f.events old n job r is.it after.next turn new refl refl
-            (collects_call s.options folder job after.site fits kept millis found [] after.collects.wanted after.next after.collects.on)
-            (works_started s.options.keep f.events job (row_at f.events job.place) kept is.on.started millis found [] after.collects.wanted after.next is.on after.collects.on.keeps on)
-            after.turns;
-      }
+      scan_goes_on =
+          turns_at s given same laws (t ++ call job.place (HostRequest.Scan its_folder) (HostAnswer.Listed found) ∷ [])
+          (picks (call job.place (HostRequest.Scan its_folder) (HostAnswer.Listed found)))
+          (progress_with f (work_next s.options.keep job.place after.next) (events_next job.place after.next)) plans its_comes
+          f.events old n job planned r is.it after.next turn new refl refl
+          (collects_call s.options folder job after.site fits kept millis found [] after.collects.wanted after.next after.collects.on)
+          (works_started s.options.keep f.events job (row_at f.events job.place) kept is.on.started millis found [] after.collects.wanted after.next is.on after.collects.on.keeps on)
+          after.turns
 
     -- a folder is listed in no other phase
     pub listing_goes_on : (phase : JobPhase) → IsWorking s f old n job (HostRequest.Scan its_folder) phase → FollowsWork given old n phase (HostAnswer.Listed found) turn new →

@@ -1,7 +1,6 @@
 -- A job in its folders: what comes next for its site is what comes next for it.
 use Rattle.std.proofs.Common.{◌≡◌, ◌∙◌, ℕ, Bool, List, refl, sym, ap, subst, Option, []}
 use Rattle.collected_outputs.specs.Contents.{Heads}
-use Rattle.cwl_process.specs.declared.tool.Tool.{Tool}
 use Rattle.staging.specs.declared.found.Found.{Found}
 use Rattle.job_graph.specs.Jobs.{Job}
 use Rattle.job_graph.specs.Words.{Fields, Name, JobPlace}

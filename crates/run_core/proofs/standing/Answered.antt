@@ -1,6 +1,6 @@
 -- What each answer leaves.
 use Rattle.std.specs.Prelude.{Contains}
-use Rattle.std.proofs.Common.{◌≡◌, ◌∙◌, true, false, List, [], Option, None, Result, Err, refl, sym, ap, subst, ℕ, Some}
+use Rattle.std.proofs.Common.{◌≡◌, true, false, List, [], Option, None, Result, Err, refl, sym, ap, subst, ℕ, Some}
 use Rattle.proc_host.specs.Answers.{fault_of, is_measured, is_staged, is_started, has_ended, is_listed, is_read, is_delivered, is_stored, has_failed, is_fetched}
 use Rattle.proc_host.specs.declared.call.Entry.{Entry}
 use Rattle.proc_host.specs.declared.call.HostAnswer.{HostAnswer}
@@ -8,7 +8,6 @@ use Rattle.proc_host.specs.declared.call.HostFault.{HostFault}
 use Rattle.proc_host.specs.declared.call.HostRequest.{HostRequest}
 use Rattle.proc_host.specs.declared.child.ChildEnd.{ChildEnd}
 use Rattle.cwl_process.specs.declared.tool.Tool.{Tool}
-use Rattle.job_graph.specs.declared.unfolding.Unfolding.{Unfolding}
 use Rattle.run_rules.specs.Answers.{MayAnswer, by_host, by_record}
 use Rattle.run_rules.specs.Blame.{IsToBlame, WereStarted, logged_answers}
 use Rattle.run_rules.proofs.Rising.{none_started}
@@ -29,7 +28,6 @@ use Rattle.run_core.specs.declared.state.Turn.{Turn}
 use Rattle.run_core.specs.inner.Attempts.{StaysBounded}
 use Rattle.run_core.specs.inner.Course.{Past, known_in, past_of, place_at, store_note, late_note, fault_after, with_note}
 use Rattle.run_core.specs.inner.Follows.{AsksOf, FollowsFrom}
-use Rattle.run_core.specs.inner.Knows.{IsKnown}
 use Rattle.run_core.specs.inner.Measures.{MeasuresOn, all_measured, measures}
 use Rattle.run_core.specs.inner.Picks.{AfterEnd, AfterFault, badly, for_now, well}
 use Rattle.run_core.specs.inner.Standing.{Blames}

@@ -16,7 +16,6 @@ use Rattle.input_files.specs.Contents.{heads_wanted, with_contents}
 use Rattle.input_files.specs.declared.contents.TheConstants.{MOST_CONTENTS}
 use Rattle.input_files.specs.declared.fault.ContentsFault.{ContentsFault}
 use Rattle.plain_data.specs.ByName.{with_value}
-use Rattle.plan_checker.specs.declared.plan.Mark.{Mark}
 use Rattle.proc_host.specs.Answers.{CanAnswer, fault_of, is_measured, is_staged, is_started, has_ended, is_listed, is_read, is_delivered, is_stored, has_failed, is_fetched}
 use Rattle.proc_host.specs.ExitClass.{class_of}
 use Rattle.proc_host.specs.declared.call.HostAnswer.{HostAnswer}
@@ -38,10 +37,12 @@ use Rattle.run_rules.specs.CollectsOn.{CollectsOn, reads_on as reads_more, colle
 use Rattle.run_rules.specs.Events.{Event, Work, Started, Progress, file_measured, job_staged, job_started, child_exited, job_succeeded, job_failed, job_failed_for_now, result_delivered, host_failed, collect_failed, job_at, nothing_due, input_heads_due, number_at, scan_due, output_heads_due, start_due, row_found, no_row, find_failed, row_at, row_differs, put_due, put_failed, is_reusable, store_failed, archive_differs, drop_due, drop_failed, files_fetched, host_failed_late}
 use Rattle.run_rules.specs.End.{End, settled}
 use Rattle.run_rules.specs.Folders.{runtime_of}
-use Rattle.run_rules.specs.Plans.{InForce}
+use Rattle.run_rules.specs.Plans.{InForce, PlansSoFar}
 use Rattle.run_rules.specs.Run.{Goes}
-use Rattle.run_rules.proofs.events.Grows.{goes_on as grows_by}
-use Rattle.run_rules.proofs.events.Planned.{marks_after}
+use Rattle.run_rules.proofs.events.Grows.{GoesSo, comes_on, goes_anyway as goes_by}
+use Rattle.run_rules.proofs.events.Graphs.{are_graphs}
+use Rattle.run_core.proofs.KnownGraphs.{known_make_graphs}
+use Rattle.plan_checker.specs.Laws.{EachHasLeast}
 use Rattle.run_rules.specs.Scene.{Scene}
 use Rattle.run_rules.specs.StartsOn.{StartsOn, reads_on, has_launch, has_no_launch, has_no_contents}
 use Rattle.run_rules.specs.Steps.{Steps, progress_with, measures_file, stages, reads_input, starts, exits_well, exits_for_now, exits_badly, scans, reads_output, delivers, loses_collect, call_fails, finds_none, finds, finds_wrong, find_fails, puts, put_fails, stores, store_fails, fails_apart, fetches, fetches_other, drops, drop_fails, call_fails_late}
@@ -61,7 +62,7 @@ use Rattle.run_core.specs.declared.state.Reading.{Reading}
 use Rattle.run_core.specs.declared.state.Turn.{Turn}
 use Rattle.run_core.specs.inner.Anyway.{CanGoOn, job_in}
 use Rattle.run_core.specs.inner.Course.{known_in}
-use Rattle.run_core.specs.inner.Due.{call_for, work_of}
+use Rattle.run_core.specs.inner.Due.{call_for}
 use Rattle.run_core.specs.inner.Follows.{AsksOf}
 use Rattle.run_core.specs.inner.Keeps.{Reflects}
 use Rattle.run_core.specs.inner.Standing.{HasStarted, IsAt, IsWorking, Runs, collecting, delivering, ended, measuring, staging, working, finding, putting, storing, dropping, fetching}
@@ -75,8 +76,8 @@ use Rattle.run_rules.specs.Keeps.{Keeps, AgreesWith, keeps as is_kept, keeps_non
 
 pub record GoesOn (s : Scene) (t : List Pair) : Type 0 where
   pub happened : Progress
-  pub marks : List Mark
-  pub goes : Goes s (InForce s) t happened marks
+  pub plans : PlansSoFar
+  pub goes : Goes s (InForce s) t happened plans
 
 -- a job's start, whatever it is
 record SomeStart (options : Options) (place : JobPlace) (job : Job) (number : ℕ) (staged : Fields) (read : Heads) (todo : List Name) : Type 0 where
@@ -155,15 +156,17 @@ output_next options folder call millis found read (name ∷ todo) is = record { 
 some_there : (jobs : List Job) (number : ℕ) (job : Job) → IsJob jobs number job → slice_get jobs number ≡ Some job
 some_there jobs number job it = slice_get-get_or jobs number job it.within ∙ ap Some it.is
 
-module _ (s : Scene) (t : List Pair) (f : Progress) (marks : List Mark) (course : Course) (goes : Goes s (InForce s) t f marks) where
+module _ (s : Scene) (least : EachHasLeast) (t : List Pair) (f : Progress) (plans : PlansSoFar) (course : Course) (goes : Goes s (InForce s) t f plans) where
   abbrev noted : Request → Answer → Pair
   noted request answer = record { request = request; answer = answer }
 
-  goes_with : (p : Pair) (work : Work) (new : List Event) → Allowed s f marks p.request → Steps s f p work new → GoesOn s (t ++ p ∷ [])
+  goes_with : (p : Pair) (work : Work) (new : List Event) → Allowed s f plans.marks p.request → Steps s f p work new → GoesOn s (t ++ p ∷ [])
   goes_with p work new allowed steps =
-      record { happened = progress_with f work new; marks = marks_after s (progress_with f work new) marks; goes = grows_by s p work new goes allowed steps }
+      let so : GoesSo s (t ++ p ∷ []) (progress_with f work new) =
+      goes_by s least (are_graphs s known_make_graphs) (t ++ p ∷ []) (progress_with f work new) plans (comes_on s p work new goes allowed steps) in
+      record { happened = progress_with f work new; plans = so.plans; goes = so.goes }
 
-  fails_anyway : (place : JobPlace) (call : HostRequest) → fails_apart call ≡ false → Allowed s f marks (Request.Host place call) →
+  fails_anyway : (place : JobPlace) (call : HostRequest) → fails_apart call ≡ false → Allowed s f plans.marks (Request.Host place call) →
       GoesOn s (t ++ noted (Request.Host place call) (Answer.Host (HostAnswer.Failed (fault_of call))) ∷ [])
   fails_anyway place call other allowed = by_end (settled s f.events) refl
     where
@@ -183,7 +186,7 @@ module _ (s : Scene) (t : List Pair) (f : Progress) (marks : List Mark) (course 
 
     fill_anyway : (path : Name) (limit : ℕ) (bytes : List ℕ) (filling : Filling) (next : IsNext (reverse filling.left)) →
         HostRequest.Head path limit ≡ HostRequest.Head next.name MOST_CONTENTS → f.work ≡ input_heads_due job.place filling.staged (reverse filling.left) filling.heads →
-        Allowed s f marks (Request.Host job.place (HostRequest.Head path limit)) →
+        Allowed s f plans.marks (Request.Host job.place (HostRequest.Head path limit)) →
         GoesOn s (t ++ noted (Request.Host job.place (HostRequest.Head path limit)) (Answer.Host (HostAnswer.FirstBytes bytes)) ∷ [])
     fill_anyway path limit bytes filling next same due allowed =
         let turn : path ≡ next.name = cc in
@@ -194,7 +197,7 @@ module _ (s : Scene) (t : List Pair) (f : Progress) (marks : List Mark) (course 
         (due ∙ ap (λ (todo : List Name). input_heads_due job.place filling.staged todo filling.heads) (next.is ∙ ap (λ (n : Name). n ∷ next.rest) (sym turn)))
         at_place its.starts)
 
-    scan_anyway : (folder : Name) (millis : ℕ) (found : List Found) (kept : Kept) → f.work ≡ scan_due job.place millis → HasStarted f.events job.place kept → Allowed s f marks (Request.Host job.place (HostRequest.Scan folder)) →
+    scan_anyway : (folder : Name) (millis : ℕ) (found : List Found) (kept : Kept) → f.work ≡ scan_due job.place millis → HasStarted f.events job.place kept → Allowed s f plans.marks (Request.Host job.place (HostRequest.Scan folder)) →
         GoesOn s (t ++ noted (Request.Host job.place (HostRequest.Scan folder)) (Answer.Host (HostAnswer.Listed found)) ∷ [])
     scan_anyway folder millis found kept due has allowed =
         let wants = can.heads (listing_of found) has.started.inputs job.tool.outputs in
@@ -204,7 +207,7 @@ module _ (s : Scene) (t : List Pair) (f : Progress) (marks : List Mark) (course 
 
     read_anyway : (path : Name) (limit : ℕ) (bytes : List ℕ) (kept : Kept) (reading : Reading) → IsNext (reverse reading.left) → HasStarted f.events job.place kept →
         f.work ≡ output_heads_due job.place reading.millis reading.found (reverse reading.left) reading.heads →
-        Allowed s f marks (Request.Host job.place (HostRequest.Head path limit)) →
+        Allowed s f plans.marks (Request.Host job.place (HostRequest.Head path limit)) →
         GoesOn s (t ++ noted (Request.Host job.place (HostRequest.Head path limit)) (Answer.Host (HostAnswer.FirstBytes bytes)) ∷ [])
     read_anyway path limit bytes kept reading next has due allowed =
         let its : SomeEnd s.options.keep job.place job (row_at f.events job.place) has.started reading.millis reading.found (with_value next.name bytes reading.heads) next.rest =
@@ -214,7 +217,7 @@ module _ (s : Scene) (t : List Pair) (f : Progress) (marks : List Mark) (course 
         (due ∙ ap (λ (todo : List Name). output_heads_due job.place reading.millis reading.found todo reading.heads) next.is) at_place has.at its.ends)
 
     work_anyway : (call : HostRequest) (phase : JobPhase) (answer : HostAnswer) → CanAnswer course.tickets.items call answer → IsWorking s f course number job call phase →
-        AsksOf course (Request.Host job.place call) (Phase.Working number phase) → Allowed s f marks (Request.Host job.place call) →
+        AsksOf course (Request.Host job.place call) (Phase.Working number phase) → Allowed s f plans.marks (Request.Host job.place call) →
         GoesOn s (t ++ noted (Request.Host job.place call) (Answer.Host answer) ∷ [])
     work_anyway call (JobPhase.Filling filling) answer (is_read path limit bytes short) w fits allowed =
         let next = input_next s.options (state_at course.jobs number).folder (HostRequest.Head path limit) filling.staged filling.heads (reverse filling.left) w.calls.due in
@@ -231,7 +234,7 @@ module _ (s : Scene) (t : List Pair) (f : Progress) (marks : List Mark) (course 
 
   -- A child has ended
 
-  module _ (reflects : Reflects s f.events course None) (allowed : Allowed s f marks (Request.Host [] HostRequest.Collect)) where
+  module _ (reflects : Reflects s f.events course None) (allowed : Allowed s f plans.marks (Request.Host [] HostRequest.Collect)) where
     end_by : (ending : ChildEnd) (class : ExitClass) (there : FliesThere s f.events course ending.ticket) → class_of there.job.tool.exit_codes ending.code ≡ class →
         GoesOn s (t ++ noted (Request.Host [] HostRequest.Collect) (Answer.Host (HostAnswer.Ended ending)) ∷ [])
     end_by ending ExitClass.Success there is =
@@ -252,7 +255,7 @@ module _ (s : Scene) (t : List Pair) (f : Progress) (marks : List Mark) (course 
 
   -- a row was found, which is one of the job's tool or is none
   row_anyway : (job : Job) (its_key : Key) (row : Row) → job_at s f.events job.place ≡ Some job → IsSound job.tool row ⊎ (IsSound job.tool row → ⊥) →
-      Allowed s f marks (Request.Record job.place (RecordRequest.Find its_key)) →
+      Allowed s f plans.marks (Request.Record job.place (RecordRequest.Find its_key)) →
       GoesOn s (t ++ noted (Request.Record job.place (RecordRequest.Find its_key)) (Answer.Record (RecordAnswer.Found (Some row))) ∷ [])
   row_anyway job its_key row known (inl sound) allowed =
       goes_with _ nothing_due (row_found job.place row ∷ []) allowed (finds job.place its_key row job known sound)
@@ -261,15 +264,15 @@ module _ (s : Scene) (t : List Pair) (f : Progress) (marks : List Mark) (course 
 
   -- what was fetched is what the row has, or it is not
   fetch_anyway : (job : Job) (its_key : List ℕ) (number : ℕ) (files fetched : List Found) (row : Row) → row_at f.events job.place ≡ Some row →
-      AreTheSame row.files fetched ⊎ (AreTheSame row.files fetched → ⊥) → Allowed s f marks (Request.Host job.place (HostRequest.Fetch its_key number files)) →
+      AreTheSame row.files fetched ⊎ (AreTheSame row.files fetched → ⊥) → Allowed s f plans.marks (Request.Host job.place (HostRequest.Fetch its_key number files)) →
       GoesOn s (t ++ noted (Request.Host job.place (HostRequest.Fetch its_key number files)) (Answer.Host (HostAnswer.Fetched fetched)) ∷ [])
   fetch_anyway job its_key number files fetched row there (inl same) allowed =
       goes_with _ nothing_due (files_fetched job.place number ∷ []) allowed (fetches job.place its_key number files fetched row there same)
   fetch_anyway job its_key number files fetched row there (inr other) allowed =
       goes_with _ (drop_due job.place row.key) (archive_differs job.place row.key number ∷ []) allowed (fetches_other job.place its_key number files fetched row there other)
 
-  pub at_goes_on : {turn : Turn} {answer : Answer} → CanGoOn course (job_in turn.phase) answer → IsAt s f marks course turn → AsksOf course turn.asks turn.phase →
-      MayAnswer course.tickets.items turn.asks answer → Allowed s f marks turn.asks → GoesOn s (t ++ noted turn.asks answer ∷ [])
+  pub at_goes_on : {turn : Turn} {answer : Answer} → CanGoOn course (job_in turn.phase) answer → IsAt s f plans.marks course turn → AsksOf course turn.asks turn.phase →
+      MayAnswer course.tickets.items turn.asks answer → Allowed s f plans.marks turn.asks → GoesOn s (t ++ noted turn.asks answer ∷ [])
   at_goes_on can (measuring found which rest path m is f_is none past) fits (by_host place request answer (is_measured its measure)) allowed =
       goes_with _ nothing_due (file_measured path measure ∷ []) allowed (measures_file path measure)
   at_goes_on can (measuring found which rest path m is f_is none past) fits (by_host place request answer (has_failed call)) allowed =
@@ -306,14 +309,14 @@ module _ (s : Scene) (t : List Pair) (f : Progress) (marks : List Mark) (course 
       work_anyway number job (Some number) reflects can w.it call phase answer can_answer w fits allowed
   at_goes_on can (collecting reflects may) fits (by_host place request answer (has_ended ending flies)) allowed = end_anyway reflects allowed ending flies
   at_goes_on can (collecting reflects may) fits (by_host place request answer (has_failed call)) allowed = goes_with _ nothing_due (collect_failed ∷ []) allowed loses_collect
-  at_goes_on can (delivering plan reflects may going all) fits (by_host place request answer (is_delivered its)) allowed =
+  at_goes_on can (delivering plan reflects may going) fits (by_host place request answer (is_delivered its)) allowed =
       goes_with _ nothing_due (result_delivered plan ∷ []) allowed (delivers [] plan)
-  at_goes_on can (delivering plan reflects may going all) fits (by_host place request answer (has_failed call)) allowed =
+  at_goes_on can (delivering plan reflects may going) fits (by_host place request answer (has_failed call)) allowed =
       fails_anyway [] (HostRequest.Deliver plan) refl allowed
   at_goes_on can (ended end so noted) fits may allowed = elim may [ ]
 
 -- the transcript goes on by the answer
 pub goes_anyway : (s : Scene) (t : List Pair) (course : Course) (turn : Turn) (answer : Answer) → CanGoOn course (job_in turn.phase) answer → (r : Runs s t course turn) →
-    AsksOf course turn.asks turn.phase → MayAnswer course.tickets.items turn.asks answer → Allowed s r.happened r.marks turn.asks →
+    AsksOf course turn.asks turn.phase → MayAnswer course.tickets.items turn.asks answer → Allowed s r.happened r.plans.marks turn.asks →
     GoesOn s (t ++ record { request = turn.asks; answer = answer } ∷ [])
-goes_anyway s t course turn answer can r fits may allowed = at_goes_on s t r.happened r.marks course r.goes can r.at fits may allowed
+goes_anyway s t course turn answer can r fits may allowed = at_goes_on s can.least t r.happened r.plans course r.goes can r.at fits may allowed

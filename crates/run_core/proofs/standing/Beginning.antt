@@ -10,7 +10,7 @@ use Rattle.run_rules.specs.declared.request.Pair.{Pair}
 use Rattle.run_rules.specs.declared.setting.Options.{Options}
 use Rattle.run_rules.proofs.Rising.{none_started}
 use Rattle.run_core.specs.Core.{Begins}
-use Rattle.run_core.specs.inner.Inside.{Stands, on_run, seen, setting_in}
+use Rattle.run_core.specs.inner.Inside.{rates_of, Stands, on_run, seen, setting_in}
 use Rattle.run_core.specs.Limits.{IsWithinLimits}
 use Rattle.run_core.specs.declared.runner.RunCore.TheInside.{Inside}
 use Rattle.run_core.specs.declared.state.Course.{Course}
@@ -37,11 +37,11 @@ two_at_most past (Phase.Ended outcome) = omega arith
 two_at_most past Phase.Draining = omega arith
 two_at_most past phase = omega arith
 
-module _ (core : Inside) (limits : IsWithinLimits core.given.options) (accepted : fault_in core.given.process.now ≡ None) (ids : ids_differ core.given.process.now ≡ true)
+module _ (core : Inside) (limits : IsWithinLimits core.given.options) (rated : core.given.rates ≡ rates_of core.given.options) (unanswered : core.given.answers ≡ 0) (accepted : fault_in core.given.process.now ≡ None) (ids : ids_differ core.given.process.now ≡ true)
     (empty : core.pairs.items ≡ []) (fits : vec_len core.pairs + 2 ≤ vec_capacity core.pairs) (old : Course) (nothing : past_of old ≡ nothing_past) (none : old.known ≡ None)
     (begins : BeginsAt core.given old core.turn core.course) (room : HasRoom core.course core.turn.phase) where
   runs : Runs (scene_of (setting_in core.given)) [] core.course core.turn
-  runs = begins_run core.given (laws_of core.given accepted ids) limits.least_slots old nothing none core.turn core.course begins
+  runs = begins_run core.given rated (laws_of core.given accepted ids) limits.least_slots unanswered old nothing none core.turn core.course begins
 
   leaves : Leaves core.given.options (entries_of core.pairs.items) core.turn core.course
   leaves =
@@ -63,6 +63,7 @@ module _ (core : Inside) (limits : IsWithinLimits core.given.options) (accepted 
   pub stands_first : Stands core
   stands_first = record {
     limits = limits;
+    rates = rated;
     accepted = accepted;
     ids = ids;
     going = on_run (subst (λ (t : List Pair). Runs (scene_of (setting_in core.given)) t core.course core.turn) (sym empty) runs);

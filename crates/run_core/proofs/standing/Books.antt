@@ -7,11 +7,12 @@ use Rattle.job_graph.specs.Unfold.{or_else}
 use Rattle.run_rules.specs.declared.outcome.Outcome.{Outcome}
 use Rattle.run_rules.specs.declared.outcome.RunFault.{RunFault}
 use Rattle.run_rules.specs.declared.setting.Options.{Options}
+use Rattle.run_plan.specs.declared.planned.Planned.{Planned}
 use Rattle.run_core.specs.declared.state.Flight.{Flight}
 use Rattle.run_core.specs.declared.job_states.JobState.{JobState}
 use Rattle.run_core.specs.declared.state.Kept.{Kept}
 use Rattle.run_core.specs.inner.Attempts.{IsBounded}
-use Rattle.run_core.specs.inner.Course.{Past, TakesOut, with_answer, with_end, with_giving_up, with_staging, with_start, with_note, with_hand, with_load, with_loss}
+use Rattle.run_core.specs.inner.Course.{Past, TakesOut, with_answer, with_end, with_giving_up, with_staging, with_start, with_note, with_hand, with_load, with_loss, with_plan}
 use Rattle.run_core.specs.inner.Standing.{BlamesSoFar, SettlesRightly}
 use Rattle.run_core.proofs.standing.Tries.{gave_up_before, gave_up_once_more, gave_up_staged, length_before, tries_before, tries_given_up, tries_staged, gave_up_brought, tries_brought, gave_up_before_missing, gave_up_loaded, gave_up_missed, length_before_missing, length_loaded, tries_before_missing, tries_loaded, tries_missed}
 use Rattle.run_core.specs.inner.JobStates.{state_at, waits_in}
@@ -69,6 +70,13 @@ module _ (options : Options) (entries : List Entry) (past : Past) where
   -- something was noted
   pub books_noted : (note : Note) → Books options entries past → Books options entries (with_note note past)
   books_noted note books = record {
+    bounded = record { jobs = books.bounded.jobs; retries = books.bounded.retries; folders = books.bounded.folders };
+    blames = record { settled = books.blames.settled };
+  }
+
+  -- a plan was made
+  pub books_planned : (after : ℕ) (made : Planned) → Books options entries past → Books options entries (with_plan after made past)
+  books_planned after made books = record {
     bounded = record { jobs = books.bounded.jobs; retries = books.bounded.retries; folders = books.bounded.folders };
     blames = record { settled = books.blames.settled };
   }

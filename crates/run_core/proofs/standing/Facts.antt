@@ -77,7 +77,7 @@ module _ (s : Scene) where
     looks_at (staging number job plan reflects is_staging) = tt
     looks_at (working number job call phase reflects w) = works_on_some s.options _ (past_of course) number call phase w.calls.due
     looks_at (collecting reflects may) = tt
-    looks_at (delivering plan reflects may going all) =
+    looks_at (delivering plan reflects may going) =
         sym reflects.keeps.books.flights.their_tickets ∙ ap (λ (flying : List Flight). keys_of flying) may.landed
     looks_at (ended end so noted) = tt
 
@@ -91,7 +91,7 @@ module _ (s : Scene) where
     knows_at (staging number job plan reflects is_staging) asks = knows_by f.events course None reflects
     knows_at (working number job call phase reflects w) asks = knows_by f.events course (Some number) reflects
     knows_at (collecting reflects may) asks = knows_by f.events course None reflects
-    knows_at (delivering plan reflects may going all) asks = knows_by f.events course None reflects
+    knows_at (delivering plan reflects may going) asks = knows_by f.events course None reflects
     knows_at (ended end so noted) asks = absurd (asks refl)
 
     apart_at : {marks : List Mark} {turn : Turn} → IsAt s f marks course turn → turn.asks ≢ Request.Finished → IsDistinct nat_eq course.tickets.items
@@ -105,7 +105,7 @@ module _ (s : Scene) where
     apart_at (staging number job plan reflects is_staging) asks = apart_by f.events course None reflects
     apart_at (working number job call phase reflects w) asks = apart_by f.events course (Some number) reflects
     apart_at (collecting reflects may) asks = apart_by f.events course None reflects
-    apart_at (delivering plan reflects may going all) asks = apart_by f.events course None reflects
+    apart_at (delivering plan reflects may going) asks = apart_by f.events course None reflects
     apart_at (ended end so noted) asks = absurd (asks refl)
 
     going_at : {marks : List Mark} {turn : Turn} → IsAt s f marks course turn → turn.phase ≡ Phase.Draining → ⊥
@@ -118,7 +118,7 @@ module _ (s : Scene) where
     going_at (staging number job plan reflects is_staging) drains = cc
     going_at (working number job call phase reflects w) drains = cc
     going_at (collecting reflects may) drains = cc
-    going_at (delivering plan reflects may going all) drains = cc
+    going_at (delivering plan reflects may going) drains = cc
     going_at (ended end so noted) drains = cc
 
     stages_few : {marks : List Mark} {turn : Turn} → IsAt s f marks course turn → (number : ℕ) → turn.phase ≡ Phase.Staging number → length (known_in course.known) ≤ MOST_VERTICES
@@ -132,7 +132,7 @@ module _ (s : Scene) where
         known_few (s.walker (measures f.events)) (resolved f.events) course.known (reflects.knows is_staging.going)
     stages_few (working its_number job call phase reflects w) number at = absurd cc
     stages_few (collecting reflects may) number at = absurd cc
-    stages_few (delivering plan reflects may going all) number at = absurd cc
+    stages_few (delivering plan reflects may going) number at = absurd cc
     stages_few (ended end so noted) number at = absurd cc
 
     fetches_untried : {marks : List Mark} {turn : Turn} → IsAt s f marks course turn → (number : ℕ) → turn.phase ≡ Phase.Fetching number → IsUntried course number
@@ -151,7 +151,7 @@ module _ (s : Scene) where
     fetches_untried (staging its_number job plan reflects is_staging) number at = absurd cc
     fetches_untried (working its_number job call phase reflects w) number at = absurd cc
     fetches_untried (collecting reflects may) number at = absurd cc
-    fetches_untried (delivering plan reflects may going all) number at = absurd cc
+    fetches_untried (delivering plan reflects may going) number at = absurd cc
     fetches_untried (ended end so noted) number at = absurd cc
 
 module _ (s : Scene) (t : List Pair) (course : Course) (turn : Turn) (r : Runs s t course turn) where

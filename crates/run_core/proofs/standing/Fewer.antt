@@ -28,7 +28,7 @@ use Rattle.run_core.specs.declared.state.Phase.{Phase}
 use Rattle.run_core.specs.declared.state.Reading.{Reading}
 use Rattle.run_core.specs.declared.state.Turn.{Turn}
 use Rattle.run_core.specs.inner.Attempts.{StaysBounded, answers_left, many_files, weight_of, weight_of_past, IsBounded}
-use Rattle.run_core.specs.inner.Course.{Past, past_of, with_end, with_answer, place_at, known_in, store_note, with_note, with_loss, with_fault, fault_after}
+use Rattle.run_core.specs.inner.Course.{Past, past_of, with_answer, place_at, known_in, store_note, with_note, with_loss, with_fault, fault_after}
 use Rattle.run_core.specs.inner.Due.{Starts}
 use Rattle.run_core.specs.inner.Follows.{AsksOf, FollowsFrom}
 use Rattle.run_core.specs.inner.Measures.{MeasuresOn, all_measured, measures}

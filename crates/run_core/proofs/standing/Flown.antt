@@ -32,8 +32,9 @@ use Rattle.run_core.specs.inner.Follows.{AsksOf, FollowsFrom, IsLeftAfter}
 use Rattle.run_core.specs.inner.Knows.{IsUnfolded, LearnsUnlessOver, fails as unfold_fails, knows as unfold_knows}
 use Rattle.run_core.specs.inner.JobStates.{state_at}
 use Rattle.run_core.specs.inner.Measures.{MeasuresOn, all_measured, measures}
-use Rattle.run_core.specs.inner.Picks.{AfterEnd, AfterFault, AfterTemporary, Picks, Turns, asks, badly, drains, ends_so, fails, for_now, gives, has_result, stages, waits_for_one, well, AfterFind, fetches, finds, AfterDrop, AfterFetch, AfterPut, LearnsRow, PutsOrPicks, agrees, differs, dropped_by, noted_by, mismatches, repeats}
+use Rattle.run_core.specs.inner.Picks.{AfterEnd, AfterFault, AfterTemporary, Picks, Turns, asks, badly, chooses, drains, ends_so, fails, for_now, gives, well, AfterFind, finds, AfterDrop, AfterFetch, AfterPut, LearnsRow, PutsOrPicks, agrees, differs, dropped_by, noted_by, mismatches, repeats}
 use Rattle.staging.specs.declared.found.Found.{Found}
+use Rattle.run_core.proofs.Plans.{replanned}
 use Rattle.run_core.proofs.standing.Answered.{asks_none, asks_no_call, drops_no_call, puts_no_call}
 use Rattle.run_core.proofs.standing.Leaving.{KnowsSome, MayKnow, is_none, known_still, learns_by, row_unlearned, settled_by_refusal}
 use Rattle.run_core.proofs.standing.Tickets.{one_less}
@@ -57,10 +58,8 @@ module _ (given : Given) where
   picks_fly old turn new (drains its_new settled flying same known) = same_tickets (past_of new) (past_of old) same
   picks_fly old turn new (ends_so end its_new is none cleared known same_notes) = cleared ∙ sym none
   picks_fly old turn new (finds number its_turn its_new going is_next finding same known) = same_tickets (past_of new) (past_of old) same
-  picks_fly old turn new (fetches number its_turn its_new going looked is_next fetching same known) = same_tickets (past_of new) (past_of old) same
-  picks_fly old turn new (stages number its_turn its_new going looked unfetched slot lowest staging same known) = same_tickets (past_of new) (past_of old) same
-  picks_fly old turn new (waits_for_one its_new going looked unfetched flying none same known) = same_tickets (past_of new) (past_of old) same
-  picks_fly old turn new (has_result its_turn its_new going looked unfetched none to_stage result same known) = same_tickets (past_of new) (past_of old) same
+  picks_fly old turn new (chooses planned its_turn its_new going looked replans chosen same known) =
+      same_tickets (past_of new) (past_of planned) same ∙ replanned (λ (p : Past). p.tickets) (λ after made past. refl) given old replans
 
   unfolded_fly : (walks : Walker) (learned : List Resolved) (old new : Course) → IsUnfolded walks learned old new → new.tickets.items ≡ old.tickets.items
   unfolded_fly walks learned old new (unfold_knows kept its_new knows known same) = same_tickets (past_of new) (past_of old) same
@@ -215,7 +214,7 @@ module _ (given : Given) where
         ∙ taken_out ending.ticket follows.flight (past_of old) (past_of follows.landed) apart follows.taken)
     step_flies it Phase.Collecting answer (by_host place request its (has_failed call)) fits goes knows follows = lost_collect old new turn.asks place call fits follows.2 (ap (λ (t : Turn). t.asks) follows.0)
     step_flies it (Phase.Delivering outputs) answer (by_host place request its (is_delivered plan)) fits goes knows follows =
-        flies_on _ _ (ap (λ (c : Course). c.tickets.items) follows.1)
+        flies_on _ _ (replanned (λ (p : Past). p.tickets) (λ after made past. refl) given old follows.1)
     step_flies it (Phase.Delivering outputs) answer (by_host place request its (has_failed call)) fits goes knows follows = flies_on _ _ (fault_fly old place _ turn new follows)
     step_flies it (Phase.Storing number row) answer (by_host place request its (is_stored key folder files)) fits goes knows follows = flies_on _ _ (same_tickets (past_of new) (past_of old) follows.past)
     step_flies it (Phase.Storing number row) answer (by_host place request its (has_failed call)) fits goes knows follows = flies_on _ _ (ap (λ (p : Past). p.tickets) follows.past)

@@ -66,7 +66,7 @@ module _ (s : Scene) (f : Progress) (marks : List Mark) (course : Course) where
   asks_none_at (staging n job plan r st) outcome phase = absurd cc
   asks_none_at (working n job call phase r w) outcome is = absurd cc
   asks_none_at (collecting r may) outcome phase = absurd cc
-  asks_none_at (delivering plan r may going all) outcome phase = absurd cc
+  asks_none_at (delivering plan r may going) outcome phase = absurd cc
   asks_none_at (ended end so noted) outcome phase = refl
 
 lost_asks_none : (past : Past) {turn : Turn} → IsLostAt past turn → (outcome : Result Outcome RunFault) → turn.phase ≡ Phase.Ended outcome → turn.asks ≡ Request.Finished
@@ -106,7 +106,7 @@ module _ (core : Inside) (asks : core.turn.asks ≢ Request.Finished) where
   s = scene_of (setting_in core.given)
 
   not_ended : Goes core → (outcome : Result Outcome RunFault) → core.turn.phase ≡ Phase.Ended outcome → ⊥
-  not_ended (on_run runs) outcome phase = asks (asks_none_at s runs.happened runs.marks core.course runs.at outcome phase)
+  not_ended (on_run runs) outcome phase = asks (asks_none_at s runs.happened runs.plans.marks core.course runs.at outcome phase)
   not_ended (off_run out) outcome phase = asks (lost_asks_none past out.at outcome phase)
 
   -- on its run, so much is left
@@ -156,7 +156,7 @@ module _ (core : Inside) (asks : core.turn.asks ≢ Request.Finished) where
     tail = [];
     pairs = sym (append-nil core.pairs.items);
     happened = runs.happened;
-    marks = runs.marks;
+    plans = runs.plans;
     goes = runs.goes;
     collects = tt;
     at = at;
@@ -166,7 +166,7 @@ module _ (core : Inside) (asks : core.turn.asks ≢ Request.Finished) where
     tail = out.tail;
     pairs = out.pairs;
     happened = out.happened;
-    marks = out.marks;
+    plans = out.plans;
     goes = out.goes;
     collects = out.collects;
     at = at;
@@ -176,6 +176,7 @@ module _ (core : Inside) (asks : core.turn.asks ≢ Request.Finished) where
     stands_after : (turn : Turn) → IsLostAt past turn → Stands (after turn)
     stands_after turn at = record {
       limits = stands.limits;
+      rates = stands.rates;
       accepted = stands.accepted;
       ids = stands.ids;
       going = off_run (off_now stands.going turn at);

@@ -1,8 +1,9 @@
 -- What each step leaves: the run stays bounded, what it blames on the host is so, and memory is not what it ends by.
-use Rattle.std.specs.Prelude.{IfErr, IsSome, is_some}
+use Rattle.std.specs.Prelude.{◌&&◌, IfErr, IsSome, is_some}
 use Rattle.std.specs.List.{list_all}
 use Rattle.std.proofs.Common.{◌≡◌, ◌∙◌, ℕ, ◌<◌, ◌≤◌, Bool, true, false, List, [], ◌∷◌, ◌++◌, length, Option, Some, None, Result, Ok, Err, refl, sym, ap, subst, arith}
 use Rattle.std.proofs.lemmas.Bool.{and_parts}
+use Rattle.plan_checker.specs.Plan.{mark}
 use Rattle.plan_checker.specs.declared.graph.TheConstants.{MOST_VERTICES}
 use Rattle.proc_host.specs.declared.call.Entry.{Entry}
 use Rattle.job_graph.specs.declared.unfolding.Unfolding.{Unfolding}
@@ -23,11 +24,13 @@ use Rattle.run_core.specs.declared.state.Turn.{Turn}
 use Rattle.run_core.specs.inner.Attempts.{StaysBounded}
 use Rattle.run_core.specs.inner.Course.{GivesUp, Past, again, families_in, known_in, past_of, too_often, with_answer, failure_by, place_at, put_note, drop_note}
 use Rattle.run_core.specs.inner.Knows.{IsKnown, IsUnfolded, Learns, LearnsUnlessOver, end_by, fails as unfold_fails, knows as unfold_knows}
-use Rattle.run_core.specs.inner.Picks.{AfterTemporary, Delivers, Picks, Stages, Turns, asks, delivers, drains, ends_so, fails, gives, has_result, stages, succeeds_at_once, waits_for_one, AfterFind, Finds, finds, AfterPut, LearnsRow, PutsOrPicks, noted_by, mismatches, repeats, PutsRow, fetches, AfterDrop, AfterFetch, agrees, differs, dropped_by}
+use Rattle.run_core.specs.inner.Picks.{AfterTemporary, Chooses, Delivers, Picks, Stages, Turns, asks, chooses, delivers, drains, ends_so, fails, gives, has_result, stages, succeeds_at_once, waits_for_one, AfterFind, Finds, finds, AfterPut, LearnsRow, PutsOrPicks, noted_by, mismatches, repeats, PutsRow, fetches, AfterDrop, AfterFetch, agrees, differs, dropped_by}
 use Rattle.run_core.specs.inner.Fetches.{Fetches}
+use Rattle.run_core.specs.inner.Marks.{is_compute, marks_in}
+use Rattle.run_core.specs.inner.Planning.{Replans, fails as none_planned, plans, stays}
 use Rattle.staging.specs.declared.found.Found.{Found}
 use Rattle.run_core.specs.inner.Standing.{Blames, SettlesRightly}
-use Rattle.run_core.proofs.standing.Books.{Books, BooksAt, BooksFetching, books_brought, books_loaded, books_missed, books_untried, books_end, books_given_up, books_waiting, books_looked, books_noted}
+use Rattle.run_core.proofs.standing.Books.{Books, BooksAt, BooksFetching, books_brought, books_loaded, books_missed, books_untried, books_end, books_given_up, books_waiting, books_looked, books_noted, books_planned}
 use Rattle.job_rows.specs.declared.row.Row.{Row}
 use Rattle.run_rules.specs.declared.outcome.Cause.{Cause}
 use Rattle.job_graph.specs.Words.{JobPlace, Name}
@@ -107,9 +110,10 @@ learns_by walks learned one old new None is knows learns = absurd knows
 learns_by walks learned one old new (Some kept) is knows learns = learns walks learned kept is knows
 
 -- a job that is ready waits
-is_waiting : (course : Course) (number : ℕ) → IsLowest (families_in course.known) course.jobs number → waits_in course.jobs number ≡ true
+is_waiting : (course : Course) (number : ℕ) → IsLowest (marks_in course.planned) (families_in course.known) course.jobs number → waits_in course.jobs number ≡ true
 is_waiting course number lowest =
-    (and_parts (waits_in course.jobs number) (list_all (is_there course.jobs) (parents_in (families_in course.known) number)) lowest.ready).0
+    (and_parts (waits_in course.jobs number)
+    (is_compute (mark (marks_in course.planned) number) && list_all (is_there course.jobs) (parents_in (families_in course.known) number)) lowest.ready).0
 
 module _ (options : Options) (entries : List Entry) where
   pub leaves_end : (end : Result Outcome RunFault) (turn : Turn) (new : Course) → turn.phase ≡ Phase.Ended end → SettlesRightly entries end → Leaves options entries turn new
@@ -157,29 +161,40 @@ module _ (options : Options) (entries : List Entry) where
         (record { bounded = books.bounded; blames = books.blames; not_lost = λ lost. cc; goes = λ drains. cc })
     leaves_delivery old new turn (succeeds_at_once none) books = record { bounded = tt; blames = tt; not_lost = λ lost. cc; goes = λ drains. cc }
 
+    books_replanned : (old : Course) {new : Course} → Books options entries (past_of old) → Replans given old new → Books options entries (past_of new)
+    books_replanned old books (plans made new some is past known) =
+        books_at (past_of new) _ past (books_planned options entries (past_of old) given.answers made books)
+    books_replanned old books (stays new all past known) = books_course new old past books
+    books_replanned old books (none_planned new none past known) = books_course new old past books
+
+    chosen_leave : (old : Course) (turn : Turn) (new : Course) → FewKnown turn new → Books options entries (past_of old) → past_of new ≡ past_of old → new.known ≡ old.known →
+        Chooses given old turn → Leaves options entries turn new
+    chosen_leave old turn new few books same known (fetches number its_turn is_next fetching) =
+        let its : IsUntried new number = few.fetched number (ap (λ (t : Turn). t.phase) fetching.is) in
+        let untried : (state_at old.jobs number).tried ≡ false = ap (λ (p : Past). (state_at p.jobs number).tried) (sym same) ∙ its.untried in
+        leaves_fetching number old new turn fetching same
+        (books_untried options entries (past_of old) number (length (known_in new.known)) its.within its.few untried books)
+    chosen_leave old turn new few books same known (stages number its_turn unfetched may staging) =
+        let phase : turn.phase ≡ Phase.Staging number = ap (λ (t : Turn). t.phase) staging.is in
+        let most : length (known_in old.known) ≤ MOST_VERTICES =
+        subst (λ (k : Option Unfolding). length (known_in k) ≤ MOST_VERTICES) known (few.staged number phase) in
+        let many : length (families_in old.known) ≡ length (known_in old.known) = as_many [] (known_in old.known) in
+        leaves_staging number old new turn staging same
+        (books_waiting options entries (past_of old) number (length (known_in old.known)) (omega (arith, may.lowest.within, many)) most (is_waiting old number may.lowest) books)
+    chosen_leave old turn new few books same known (waits_for_one unfetched none flying) =
+        let now : Books options entries (past_of new) = books_course new old same books in
+        record { bounded = now.bounded; blames = now.blames; not_lost = λ lost. cc; goes = λ drains. cc }
+    chosen_leave old turn new few books same known (has_result its_turn unfetched to_stage none result) =
+        leaves_delivery old new turn result (books_course new old same books)
+
     pub picks_leave : (old : Course) (turn : Turn) (new : Course) → FewKnown turn new → Books options entries (past_of old) → Picks given old turn new → Leaves options entries turn new
     picks_leave old turn new few books (drains its_new settled flying same known) =
         let now : Books options entries (past_of new) = books_course new old same books in
         record { bounded = now.bounded; blames = now.blames; not_lost = λ lost. cc; goes = λ drains. cc }
     picks_leave old turn new few books (ends_so end its_new is none cleared known same_notes) = leaves_end end turn new refl (books.blames.settled end is)
     picks_leave old turn new few books (finds number its_turn its_new going is_next finding same known) = leaves_finding number old new turn finding (books_course new old same books)
-    picks_leave old turn new few books (fetches number its_turn its_new going looked is_next fetching same known) =
-        let its : IsUntried new number = few.fetched number (ap (λ (t : Turn). t.phase) fetching.is) in
-        let untried : (state_at old.jobs number).tried ≡ false = ap (λ (p : Past). (state_at p.jobs number).tried) (sym same) ∙ its.untried in
-        leaves_fetching number old new turn fetching same
-        (books_untried options entries (past_of old) number (length (known_in new.known)) its.within its.few untried books)
-    picks_leave old turn new few books (stages number its_turn its_new going looked unfetched slot lowest staging same known) =
-        let phase : turn.phase ≡ Phase.Staging number = ap (λ (t : Turn). t.phase) staging.is in
-        let most : length (known_in old.known) ≤ MOST_VERTICES =
-        subst (λ (k : Option Unfolding). length (known_in k) ≤ MOST_VERTICES) known (few.staged number phase) in
-        let many : length (families_in old.known) ≡ length (known_in old.known) = as_many [] (known_in old.known) in
-        leaves_staging number old new turn staging same
-        (books_waiting options entries (past_of old) number (length (known_in old.known)) (omega (arith, lowest.within, many)) most (is_waiting old number lowest) books)
-    picks_leave old turn new few books (waits_for_one its_new going looked unfetched flying none same known) =
-        let now : Books options entries (past_of new) = books_course new old same books in
-        record { bounded = now.bounded; blames = now.blames; not_lost = λ lost. cc; goes = λ drains. cc }
-    picks_leave old turn new few books (has_result its_turn its_new going looked unfetched none to_stage result same known) =
-        leaves_delivery old new turn result (books_course new old same books)
+    picks_leave old turn new few books (chooses planned its_turn its_new going looked replans chosen same known) =
+        chosen_leave planned turn new few (books_replanned old books replans) same known chosen
 
     -- A job gave up
 

@@ -5,11 +5,10 @@ use Rattle.proc_host.specs.Answers.{fault_of, has_ended, has_failed}
 use Rattle.proc_host.specs.declared.call.Entry.{Entry}
 use Rattle.proc_host.specs.declared.call.HostAnswer.{HostAnswer}
 use Rattle.proc_host.specs.declared.call.HostRequest.{HostRequest}
-use Rattle.plan_checker.specs.declared.plan.Mark.{Mark}
 use Rattle.job_graph.specs.Words.{JobPlace}
 use Rattle.run_rules.specs.Answers.{MayAnswer, by_host, by_record}
 use Rattle.run_rules.specs.Events.{Progress}
-use Rattle.run_rules.specs.Plans.{InForce}
+use Rattle.run_rules.specs.Plans.{InForce, PlansSoFar}
 use Rattle.run_rules.specs.Reports.{AreWaits, IsWait}
 use Rattle.run_rules.specs.Run.{Goes}
 use Rattle.run_rules.specs.Scene.{Scene}
@@ -79,14 +78,14 @@ lost_drains past asks = drains_by past.tickets asks
 
 -- The transcript
 
-pub lost_now : (s : Scene) (t : List Pair) (happened : Progress) (marks : List Mark) (past : Past) → Goes s (InForce s) t happened marks →
+pub lost_now : (s : Scene) (t : List Pair) (happened : Progress) (plans : PlansSoFar) (past : Past) → Goes s (InForce s) t happened plans →
     RanOut s t past (lost_after past)
-lost_now s t happened marks past goes = record {
+lost_now s t happened plans past goes = record {
   front = t;
   tail = [];
   pairs = sym (append-nil t);
   happened = happened;
-  marks = marks;
+  plans = plans;
   goes = goes;
   collects = tt;
   at = lost_at past;
@@ -103,7 +102,7 @@ lost_more s t pair old new before turn out is at = record {
   tail = out.tail ++ pair ∷ [];
   pairs = ap (λ (all : List Pair). all ++ pair ∷ []) out.pairs ∙ append_assoc out.front out.tail (pair ∷ []);
   happened = out.happened;
-  marks = out.marks;
+  plans = out.plans;
   goes = out.goes;
   collects = collects_more out.tail pair out.collects is;
   at = at;

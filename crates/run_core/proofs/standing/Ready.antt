@@ -1,6 +1,6 @@
 -- A machine that stands is ready for an answer.
 use Rattle.std.specs.Prelude.{◌^◌}
-use Rattle.std.proofs.Common.{◌≡◌, ◌+◌, ◌<◌, ◌≤◌, true, None, Result, Err, refl, sym, subst, arith}
+use Rattle.std.proofs.Common.{◌≡◌, ◌+◌, ◌<◌, ◌≤◌, true, List, length, None, Result, Err, refl, sym, subst, arith}
 use Rattle.workflow_check.specs.Checked.{fault_in}
 use Rattle.job_graph.specs.Apart.{ids_differ}
 use Rattle.run_rules.specs.Answers.{MayAnswer}
@@ -8,8 +8,9 @@ use Rattle.run_rules.specs.Scene.{Scene, scene_of}
 use Rattle.run_rules.specs.declared.outcome.Outcome.{Outcome}
 use Rattle.run_rules.specs.declared.outcome.RunFault.{RunFault}
 use Rattle.run_rules.specs.declared.request.Answer.{Answer}
+use Rattle.run_rules.specs.declared.request.Pair.{Pair}
 use Rattle.run_rules.specs.declared.setting.Options.{Options}
-use Rattle.run_core.specs.inner.Inside.{Stands, setting_in}
+use Rattle.run_core.specs.inner.Inside.{rates_of, Stands, setting_in}
 use Rattle.run_core.specs.Limits.{IsWithinLimits}
 use Rattle.run_core.specs.declared.runner.RunCore.TheInside.{Inside}
 use Rattle.run_core.specs.declared.state.Course.{Course}
@@ -23,7 +24,6 @@ use Rattle.run_core.specs.inner.Standing.{IsLostAt, draining, lost, pairs_ahead}
 use Rattle.run_core.proofs.events.Reflecting.{Laws}
 use Rattle.run_core.proofs.going.Asked.{AreFitting, asks_in, readies}
 use Rattle.run_core.proofs.going.Given.{allows, follows_on, laws_of}
-use Rattle.run_core.proofs.going.Same.{runs_same}
 use Rattle.run_core.proofs.standing.Facts.{never_drains}
 use Rattle.run_core.proofs.standing.Lost.{some_there}
 use Rattle.run_core.proofs.standing.Modes.{told_lost}
@@ -32,18 +32,14 @@ use Rattle.run_core.proofs.standing.Took.{going_of}
 use Rattle.run_core.proofs.standing.Weights.{folders_at_most}
 
 -- its run goes on while memory is there
-pub runs_on_of : (given : Given) → fault_in given.process.now ≡ None → ids_differ given.process.now ≡ true → 1 ≤ given.options.slots → RunsOn given
-runs_on_of given accepted ids some =
+pub runs_on_of : (given : Given) (t : List Pair) → given.answers ≡ length t + 1 → given.rates ≡ rates_of given.options → fault_in given.process.now ≡ None →
+    ids_differ given.process.now ≡ true → 1 ≤ given.options.slots → RunsOn given t
+runs_on_of given t counted rated accepted ids some =
     let laws : Laws (scene_of (setting_in given)) = laws_of given accepted ids in
-    record {
-      follows_on = follows_on given laws some;
-      stays = λ t old new turn same known runs. runs_same (scene_of (setting_in given)) t old new turn same known runs;
-      allows = allows given laws some;
-      asks_in = asks_in (scene_of (setting_in given));
-    }
+    record { follows_on = follows_on given rated laws some t counted; allows = allows given rated laws some t }
 
-pub runs_on : (core : Inside) → Stands core → RunsOn core.given
-runs_on core stands = runs_on_of core.given stands.accepted stands.ids stands.limits.least_slots
+pub runs_on : (core : Inside) → core.given.answers ≡ length core.pairs.items + 1 → Stands core → RunsOn core.given core.pairs.items
+runs_on core counted stands = runs_on_of core.given core.pairs.items counted stands.rates stands.accepted stands.ids stands.limits.least_slots
 
 few_of : (options : Options) (past : Past) → IsWithinLimits options → past.folders ≤ most_stagings options → past.folders + 2 < 2 ^ 64
 few_of options past limits few = omega (arith, few, limits.retries)

@@ -22,6 +22,7 @@ use Rattle.run_core.specs.inner.Follows.{AsksIn, FollowsFrom, IsLeftAfter, Makes
 use Rattle.run_core.specs.inner.Standing.{Blames, IsLostAt, RanOut, Runs, draining, lost, pairs_ahead}
 use Rattle.run_core.specs.inner.Turn.{lost_after}
 use Rattle.run_core.proofs.standing.Answered.{step_leaves, IsLogged}
+use Rattle.run_core.proofs.going.Asked.{asks_in}
 use Rattle.run_core.proofs.standing.Anyway.{GoesOn, goes_anyway}
 use Rattle.run_core.proofs.standing.Facts.{few_known, knows_some, looks_at_some, never_drains, tickets_apart}
 use Rattle.run_core.proofs.standing.Fewer.{step_fewer}
@@ -36,7 +37,7 @@ LeavesRoom past phase new = length new.tickets.items + 1 ≤ pairs_ahead past ph
 
 -- On the run
 
-module _ (given : Given) (runs_on : RunsOn given) (t : List Pair) (old : Course) (before : Turn) (answer : Answer)
+module _ (given : Given) (t : List Pair) (runs_on : RunsOn given t) (old : Course) (before : Turn) (answer : Answer)
     (r : Runs (scene_of (setting_in given)) t old before) (may : MayAnswer old.tickets.items before.asks answer) where
   abbrev s : Scene
   s = scene_of (setting_in given)
@@ -45,7 +46,7 @@ module _ (given : Given) (runs_on : RunsOn given) (t : List Pair) (old : Course)
   longer = t ++ record { request = before.asks; answer = answer } ∷ []
 
   fits : AsksIn old before
-  fits = runs_on.asks_in t old before r
+  fits = asks_in s t old before r
 
   goes : before.phase ≡ Phase.Draining → ⊥
   goes = never_drains s t old before r
@@ -75,7 +76,7 @@ module _ (given : Given) (runs_on : RunsOn given) (t : List Pair) (old : Course)
       -- memory was there
       taken_on : (turn : Turn) (new : Course) → FollowsFrom given old before answer turn new → Taken given t old before answer turn new
       taken_on turn new follows =
-          let runs : Runs s longer new turn = runs_on.follows_on t old before answer turn new r may follows in
+          let runs : Runs s longer new turn = runs_on.follows_on old before answer turn new r may follows in
           let few : FewKnown turn new = few_known s longer new turn runs in
           let leaves : Leaves given.options (entries_of longer) turn new =
           step_leaves given old (entries_of longer) turn new few
@@ -96,7 +97,7 @@ module _ (given : Given) (runs_on : RunsOn given) (t : List Pair) (old : Course)
     taken_off : (next : Request) (new : Course) → GoesOn s longer → FliesAfter old.tickets.items next answer new.tickets.items →
         Taken given t old before answer (lost_after (past_of new)) new
     taken_off next new still flies = record {
-      going = off (lost_now s longer still.happened still.marks (past_of new) still.goes);
+      going = off (lost_now s longer still.happened still.plans (past_of new) still.goes);
       bounded = lost_bounded given.options (past_of new);
       blames = lost_blames (entries_of longer) (past_of new);
       fewer = subst (λ w. answers_left given.options (past_of new) (lost_after (past_of new)).phase < w) (sym now_left)
@@ -111,40 +112,40 @@ module _ (given : Given) (runs_on : RunsOn given) (t : List Pair) (old : Course)
 
   still_goes : (turn : Turn) (new : Course) → FollowsFrom given old before answer turn new → GoesOn s longer
   still_goes turn new follows =
-      let runs : Runs s longer new turn = runs_on.follows_on t old before answer turn new r may follows in
-      record { happened = runs.happened; marks = runs.marks; goes = runs.goes }
+      let runs : Runs s longer new turn = runs_on.follows_on old before answer turn new r may follows in
+      record { happened = runs.happened; plans = runs.plans; goes = runs.goes }
 
   left_after : (new : Course) → IsLeftAfter old.tickets.items answer new.tickets.items → FliesAfter old.tickets.items before.asks answer new.tickets.items
   left_after new left =
       flies_on answer new.tickets.items (left_flies given old.tickets.items new.tickets.items answer (tickets_apart s t old before r (asks_some may)) left)
 
   goes_so : CanGoOn old (job_in before.phase) answer → GoesOn s longer
-  goes_so can = goes_anyway s t old before answer can r fits may (runs_on.allows t old before r (asks_some may))
+  goes_so can = goes_anyway s t old before answer can r fits may (runs_on.allows old before r (asks_some may))
 
 -- the turn that comes next, and room for what comes after it
-on_taken : (given : Given) → RunsOn given → (t : List Pair) (old : Course) (before : Turn) (answer : Answer) (next turn : Turn) (new : Course) (pairs room : ℕ) →
+on_taken : (given : Given) (t : List Pair) → RunsOn given t → (old : Course) (before : Turn) (answer : Answer) (next turn : Turn) (new : Course) (pairs room : ℕ) →
     Runs (scene_of (setting_in given)) t old before → MayAnswer old.tickets.items before.asks answer → CanGoOn old (job_in before.phase) answer →
     StaysBounded given.options (past_of old) before.phase → Blames (entries_of t) (past_of old) before.phase → WereStarted (entries_of t) old.tickets.items →
     Moves given old before answer next new → MakesRoom pairs room (past_of new) next turn → Taken given t old before answer turn new
-on_taken given runs_on t old before answer next turn new pairs room r may can bounded blames began (moves its its_new follows) (has_room enough) =
-    taken_on given runs_on t old before answer r may bounded blames began next new follows
-on_taken given runs_on t old before answer next turn new pairs room r may can bounded blames began (moves its its_new follows) (no_room enough) =
-    taken_off given runs_on t old before answer r may bounded next.asks new (still_goes given runs_on t old before answer r may next new follows)
-    (next_flies given runs_on t old before answer r may next new follows)
-on_taken given runs_on t old before answer next turn new pairs room r may can bounded blames began (gives_up its_new goes left) (has_room enough) =
-    taken_off given runs_on t old before answer r may bounded before.asks new (goes_so given runs_on t old before answer r may can)
-    (left_after given runs_on t old before answer r may new left)
-on_taken given runs_on t old before answer next turn new pairs room r may can bounded blames began (gives_up its_new goes left) (no_room enough) =
-    taken_off given runs_on t old before answer r may bounded before.asks new (goes_so given runs_on t old before answer r may can)
-    (left_after given runs_on t old before answer r may new left)
+on_taken given t runs_on old before answer next turn new pairs room r may can bounded blames began (moves its its_new follows) (has_room enough) =
+    taken_on given t runs_on old before answer r may bounded blames began next new follows
+on_taken given t runs_on old before answer next turn new pairs room r may can bounded blames began (moves its its_new follows) (no_room enough) =
+    taken_off given t runs_on old before answer r may bounded next.asks new (still_goes given t runs_on old before answer r may next new follows)
+    (next_flies given t runs_on old before answer r may next new follows)
+on_taken given t runs_on old before answer next turn new pairs room r may can bounded blames began (gives_up its_new goes left) (has_room enough) =
+    taken_off given t runs_on old before answer r may bounded before.asks new (goes_so given t runs_on old before answer r may can)
+    (left_after given t runs_on old before answer r may new left)
+on_taken given t runs_on old before answer next turn new pairs room r may can bounded blames began (gives_up its_new goes left) (no_room enough) =
+    taken_off given t runs_on old before answer r may bounded before.asks new (goes_so given t runs_on old before answer r may can)
+    (left_after given t runs_on old before answer r may new left)
 
-on_room : (given : Given) → RunsOn given → (t : List Pair) (old : Course) (before : Turn) (answer : Answer) (next : Turn) (new : Course) →
+on_room : (given : Given) (t : List Pair) → RunsOn given t → (old : Course) (before : Turn) (answer : Answer) (next : Turn) (new : Course) →
     Runs (scene_of (setting_in given)) t old before → MayAnswer old.tickets.items before.asks answer → Moves given old before answer next new →
     LeavesRoom (past_of old) before.phase new
-on_room given runs_on t old before answer next new r may (moves its its_new follows) =
-    room_by given runs_on t old before answer r may next.asks new (next_flies given runs_on t old before answer r may next new follows)
-on_room given runs_on t old before answer next new r may (gives_up its_new goes left) =
-    room_by given runs_on t old before answer r may before.asks new (left_after given runs_on t old before answer r may new left)
+on_room given t runs_on old before answer next new r may (moves its its_new follows) =
+    room_by given t runs_on old before answer r may next.asks new (next_flies given t runs_on old before answer r may next new follows)
+on_room given t runs_on old before answer next new r may (gives_up its_new goes left) =
+    room_by given t runs_on old before answer r may before.asks new (left_after given t runs_on old before answer r may new left)
 
 -- Off it
 
@@ -194,17 +195,17 @@ off_room given old before answer next new (draining some) may (gives_up its_new 
 
 -- Either way
 
-pub taken : (given : Given) → RunsOn given → (t : List Pair) (old : Course) (before : Turn) (answer : Answer) (next turn : Turn) (new : Course) (pairs room : ℕ) →
+pub taken : (given : Given) (t : List Pair) → RunsOn given t → (old : Course) (before : Turn) (answer : Answer) (next turn : Turn) (new : Course) (pairs room : ℕ) →
     IsGoing (scene_of (setting_in given)) t old before → MayAnswer old.tickets.items before.asks answer → CanGoOn old (job_in before.phase) answer →
     StaysBounded given.options (past_of old) before.phase → Blames (entries_of t) (past_of old) before.phase → WereStarted (entries_of t) old.tickets.items →
     Moves given old before answer next new → MakesRoom pairs room (past_of new) next turn → Taken given t old before answer turn new
-taken given runs_on t old before answer next turn new pairs room (on r) may can bounded blames began moved made =
-    on_taken given runs_on t old before answer next turn new pairs room r may can bounded blames began moved made
-taken given runs_on t old before answer next turn new pairs room (off out) may can bounded blames began moved made =
+taken given t runs_on old before answer next turn new pairs room (on r) may can bounded blames began moved made =
+    on_taken given t runs_on old before answer next turn new pairs room r may can bounded blames began moved made
+taken given t runs_on old before answer next turn new pairs room (off out) may can bounded blames began moved made =
     off_taken given t old before answer next turn new pairs room out out.at may moved made
 
-pub leaves_room : (given : Given) → RunsOn given → (t : List Pair) (old : Course) (before : Turn) (answer : Answer) (next : Turn) (new : Course) →
+pub leaves_room : (given : Given) (t : List Pair) → RunsOn given t → (old : Course) (before : Turn) (answer : Answer) (next : Turn) (new : Course) →
     IsGoing (scene_of (setting_in given)) t old before → MayAnswer old.tickets.items before.asks answer → Moves given old before answer next new →
     LeavesRoom (past_of old) before.phase new
-leaves_room given runs_on t old before answer next new (on r) may moved = on_room given runs_on t old before answer next new r may moved
-leaves_room given runs_on t old before answer next new (off out) may moved = off_room given old before answer next new out.at may moved
+leaves_room given t runs_on old before answer next new (on r) may moved = on_room given t runs_on old before answer next new r may moved
+leaves_room given t runs_on old before answer next new (off out) may moved = off_room given old before answer next new out.at may moved

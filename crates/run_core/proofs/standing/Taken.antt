@@ -33,24 +33,22 @@ use Rattle.run_core.specs.Core.{IsLanded}
 use Rattle.run_core.specs.inner.Inside.{setting_in}
 use Rattle.run_core.specs.inner.Attempts.{StaysBounded, answers_left, many_files, weight_of, weight_of_job, weight_of_past}
 use Rattle.run_core.specs.inner.Course.{Past, past_of}
-use Rattle.run_core.specs.inner.Follows.{AsksIn, AsksOf, FollowsFrom}
+use Rattle.run_core.specs.inner.Follows.{AsksOf, FollowsFrom}
 use Rattle.run_core.specs.inner.Standing.{Blames, RanOut, Runs, SettlesRightly, pairs_ahead}
 use Rattle.run_core.specs.inner.Turn.{lost_after, lost_with, waits}
+use Rattle.run_core.proofs.going.Same.{runs_same}
 use Rattle.run_core.proofs.standing.Answered.{asks_none, IsLogged, asks_no_row}
 use Rattle.run_core.proofs.standing.Flown.{FliesAfter, flies_on, none_waited_for}
 use Rattle.run_core.proofs.standing.Lost.{none_when_lost}
 use Rattle.run_core.proofs.standing.Tickets.{at_most}
 
 -- how the run of a machine goes on while memory is there
-pub record RunsOn (given : Given) : Type 0 where
-  pub follows_on : (t : List Pair) (old : Course) (before : Turn) (answer : Answer) (turn : Turn) (new : Course) → Runs (scene_of (setting_in given)) t old before →
+pub record RunsOn (given : Given) (t : List Pair) : Type 0 where
+  pub follows_on : (old : Course) (before : Turn) (answer : Answer) (turn : Turn) (new : Course) → Runs (scene_of (setting_in given)) t old before →
       MayAnswer old.tickets.items before.asks answer → FollowsFrom given old before answer turn new →
       Runs (scene_of (setting_in given)) (t ++ record { request = before.asks; answer = answer } ∷ []) new turn
-  pub stays : (t : List Pair) (old new : Course) (turn : Turn) → past_of new ≡ past_of old → new.known ≡ old.known → Runs (scene_of (setting_in given)) t old turn →
-      Runs (scene_of (setting_in given)) t new turn
-  pub allows : (t : List Pair) (course : Course) (turn : Turn) (r : Runs (scene_of (setting_in given)) t course turn) → turn.asks ≢ Request.Finished →
-      Allowed (scene_of (setting_in given)) r.happened r.marks turn.asks
-  pub asks_in : (t : List Pair) (course : Course) (turn : Turn) → Runs (scene_of (setting_in given)) t course turn → AsksIn course turn
+  pub allows : (course : Course) (turn : Turn) (r : Runs (scene_of (setting_in given)) t course turn) → turn.asks ≢ Request.Finished →
+      Allowed (scene_of (setting_in given)) r.happened r.plans.marks turn.asks
 
 -- on its run, or off it
 pub data IsGoing (s : Scene) (t : List Pair) (course : Course) (turn : Turn) : Type 0 where
@@ -249,11 +247,11 @@ pub lost_ends : (past : Past) → (lost_after past).phase ≡ Phase.Ended (Err R
 lost_ends past ended = ap (λ (ns : List ℕ). (lost_with ns).asks) (none_when_lost past ended)
 
 -- the same course, in other memory
-pub taken_same : (given : Given) → RunsOn given → (t : List Pair) (old : Course) (before : Turn) (answer : Answer) (turn : Turn) (new last : Course) →
+pub taken_same : (given : Given) (t : List Pair) (old : Course) (before : Turn) (answer : Answer) (turn : Turn) (new last : Course) →
     past_of last ≡ past_of new → last.known ≡ new.known → Taken given t old before answer turn new → Taken given t old before answer turn last
-taken_same given runs_on t old before answer turn new last same known taken = record {
+taken_same given t old before answer turn new last same known taken = record {
   going = going_same (scene_of (setting_in given)) (t ++ record { request = before.asks; answer = answer } ∷ []) turn new last same
-      (runs_on.stays (t ++ record { request = before.asks; answer = answer } ∷ []) new last turn same known) taken.going;
+      (runs_same (scene_of (setting_in given)) (t ++ record { request = before.asks; answer = answer } ∷ []) new last turn same known) taken.going;
   bounded = subst (λ (p : Past). StaysBounded given.options p turn.phase) (sym same) taken.bounded;
   blames = subst (λ (p : Past). Blames (entries_of (t ++ record { request = before.asks; answer = answer } ∷ [])) p turn.phase) (sym same) taken.blames;
   fewer = subst (λ (p : Past). answers_left given.options p turn.phase < answers_left given.options (past_of old) before.phase) (sym same) taken.fewer;

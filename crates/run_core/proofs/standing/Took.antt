@@ -33,6 +33,28 @@ use Rattle.run_core.proofs.standing.Taken.{IsGoing, RunsOn, Taken, asks_some, of
 abbrev pub noted : Request → Answer → Pair
 noted request answer = record { request = request; answer = answer }
 
+-- with so many answers taken
+abbrev pub counted : Inside → ℕ → Inside
+counted core answers = record core { given = record core.given { answers = answers } }
+
+goes_counted : (core : Inside) (answers : ℕ) → Goes core → Goes (counted core answers)
+goes_counted core answers (on_run r) = on_run r
+goes_counted core answers (off_run out) = off_run out
+
+pub stands_counted : (core : Inside) (answers : ℕ) → Stands core → Stands (counted core answers)
+stands_counted core answers stands = record {
+  limits = stands.limits;
+  rates = stands.rates;
+  accepted = stands.accepted;
+  ids = stands.ids;
+  going = goes_counted core answers stands.going;
+  bounded = stands.bounded;
+  blames = stands.blames;
+  started = stands.started;
+  room = stands.room;
+  pairs_room = stands.pairs_room;
+}
+
 abbrev pub core_with : Inside → Vec Pair Global → Course → Turn → Inside
 core_with core pairs course turn = record { alloc = core.alloc; given = core.given; pairs = pairs; course = course; turn = turn }
 
@@ -60,6 +82,7 @@ module _ (core : Inside) (answer : Answer) (pairs : Vec Pair Global) (course : C
   stands_then : Stands (core_with core pairs course turn)
   stands_then = record {
     limits = stands.limits;
+    rates = stands.rates;
     accepted = stands.accepted;
     ids = stands.ids;
     going = goes_so (core_with core pairs course turn) (core.pairs.items ++ noted core.turn.asks answer ∷ []) longer it.going;
@@ -115,15 +138,15 @@ module _ (core : Inside) (answer : Answer) (pairs : Vec Pair Global) (course : C
   took_told : (result : Result (Unit {0}) RunFault) → result ≡ told_of turn.phase → Stands (core_with core pairs course turn) × Took (seen core) answer result new
   took_told result is = (stands_then, subst (λ (r : Result (Unit {0}) RunFault). Took (seen core) answer r new) (sym is) (took_by (tells turn.phase)))
 
-module _ (core : Inside) (answer : Answer) (runs_on : RunsOn core.given) (stands : Stands core) (may : MayAnswer core.course.tickets.items core.turn.asks answer) where
+module _ (core : Inside) (answer : Answer) (runs_on : RunsOn core.given core.pairs.items) (stands : Stands core) (may : MayAnswer core.course.tickets.items core.turn.asks answer) where
   pub took : (pairs : Vec Pair Global) (new course : Course) (next turn : Turn) (result : Result (Unit {0}) RunFault) → CanGoOn core.course (job_in core.turn.phase) answer →
       pairs.items ≡ core.pairs.items ++ noted core.turn.asks answer ∷ [] → Moves core.given core.course core.turn answer next new →
       MakesRoom (vec_len pairs) (vec_capacity pairs) (past_of new) next turn → past_of course ≡ past_of new → course.known ≡ new.known → HasRoom course turn.phase →
       result ≡ told_of turn.phase → Stands (core_with core pairs course turn) × Took (seen core) answer result (seen (core_with core pairs course turn))
   took pairs new course next turn result can longer moved made same known room is =
       took_told core answer pairs course turn stands longer room (pairs_fit (vec_len pairs) (vec_capacity pairs) (past_of new) (past_of course) next turn same made)
-      (taken_same core.given runs_on core.pairs.items core.course core.turn answer turn new course same known
-      (taken core.given runs_on core.pairs.items core.course core.turn answer next turn new (vec_len pairs) (vec_capacity pairs) (going_of core stands.going) may can
+      (taken_same core.given core.pairs.items core.course core.turn answer turn new course same known
+      (taken core.given core.pairs.items runs_on core.course core.turn answer next turn new (vec_len pairs) (vec_capacity pairs) (going_of core stands.going) may can
       stands.bounded stands.blames (stands.started (asks_some may)) moved made)) (started_after core.pairs.items may (stands.started (asks_some may))) result is
 
   -- the end of each child in flight has room once the pair is noted
@@ -131,7 +154,7 @@ module _ (core : Inside) (answer : Answer) (runs_on : RunsOn core.given) (stands
       vec_capacity core.pairs ≤ room → HasPairs pairs room (past_of new) next
   keeps_pairs new next pairs room moved one wider =
       let left : length new.tickets.items + 1 ≤ pairs_ahead (past_of core.course) core.turn.phase =
-      leaves_room core.given runs_on core.pairs.items core.course core.turn answer next new (going_of core stands.going) may moved in
+      leaves_room core.given core.pairs.items runs_on core.course core.turn answer next new (going_of core stands.going) may moved in
       still_fit pairs room (vec_len core.pairs) (vec_capacity core.pairs) (length new.tickets.items) (pairs_ahead (past_of core.course) core.turn.phase) left one wider stands.pairs_room
     where
       still_fit : (pairs room n m a b : ℕ) → a + 1 ≤ b → pairs ≡ n + 1 → m ≤ room → n + b ≤ m → pairs + a ≤ room

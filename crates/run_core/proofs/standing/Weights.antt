@@ -19,8 +19,9 @@ use Rattle.run_core.specs.declared.state.Turn.{Turn}
 use Rattle.run_core.specs.inner.Attempts.{IsBounded, answers_left, many_files, most_stagings, tries_of, weight_of_past}
 use Rattle.run_core.specs.inner.Course.{GivesUp, Past, TakesOut, again, known_in, past_of, too_often, with_staging, with_start, with_answer, place_at, with_load, with_loss}
 use Rattle.run_core.specs.inner.Knows.{IsUnfolded, LearnsUnlessOver, fails as unfold_fails, knows as unfold_knows}
-use Rattle.run_core.specs.inner.Picks.{AfterTemporary, Delivers, Picks, Stages, Turns, asks, delivers, drains, ends_so, fails, gives, has_result, stages, succeeds_at_once, waits_for_one, Finds, fetches, finds, LearnsRow, PutsOrPicks, mismatches, repeats}
+use Rattle.run_core.specs.inner.Picks.{AfterTemporary, Chooses, Delivers, Picks, Stages, Turns, asks, chooses, delivers, drains, ends_so, fails, gives, has_result, stages, succeeds_at_once, waits_for_one, Finds, fetches, finds, LearnsRow, PutsOrPicks, mismatches, repeats}
 use Rattle.run_core.specs.inner.Fetches.{Fetches}
+use Rattle.run_core.proofs.Plans.{replanned}
 use Rattle.run_core.proofs.standing.Leaving.{KnowsSome, is_none, known_still, learns_by}
 use Rattle.run_core.proofs.standing.Looked.{weight_next}
 use Rattle.run_core.proofs.standing.Tries.{tries_at_most}
@@ -155,24 +156,26 @@ module _ (options : Options) (given : Given) where
   raised : (a b : ℕ) → a ≤ b + 1 → a ≤ b + 2
   raised a b few = omega (arith, few)
 
+  chosen_few : (course new : Course) (turn : Turn) → past_of new ≡ past_of course → Chooses given course turn → answers_left options (past_of new) turn.phase ≤ Before course + 2
+  chosen_few course new turn same (fetches number its_turn is_next fetching) = at_fetch number course new turn fetching same
+  chosen_few course new turn same (stages number its_turn unfetched may staging) = at_staging number course new turn staging same
+  chosen_few course new turn same (waits_for_one unfetched none flying) = raised (answers_left options (past_of new) Phase.Collecting) (Before course) (at_collect course new same)
+  chosen_few course new turn same (has_result its_turn unfetched to_stage none result) = at_delivery course new turn result same
+
   pub picks_few : (old : Course) (turn : Turn) (new : Course) → Picks given old turn new → answers_left options (past_of new) turn.phase ≤ Before old + 2
   picks_few old turn new (drains its_new settled flying same known) = raised (answers_left options (past_of new) Phase.Collecting) (Before old) (at_collect old new same)
   picks_few old turn new (ends_so end its_new is none cleared known same_notes) = least (Before old + 2)
   picks_few old turn new (finds number its_turn its_new going is_next finding same known) = at_find number old new turn finding same
-  picks_few old turn new (fetches number its_turn its_new going looked is_next fetching same known) = at_fetch number old new turn fetching same
-  picks_few old turn new (stages number its_turn its_new going looked unfetched slot lowest staging same known) = at_staging number old new turn staging same
-  picks_few old turn new (waits_for_one its_new going looked unfetched flying none same known) = raised (answers_left options (past_of new) Phase.Collecting) (Before old) (at_collect old new same)
-  picks_few old turn new (has_result its_turn its_new going looked unfetched none to_stage result same known) = at_delivery old new turn result same
+  picks_few old turn new (chooses planned its_turn its_new going looked replans chosen same known) =
+      subst (λ w. answers_left options (past_of new) turn.phase ≤ w + 2) (replanned (weight_of_past options) (λ after made past. refl) given old replans)
+      (chosen_few planned new turn same chosen)
 
   -- once the end is settled
   pub picks_settled : (old : Course) (turn : Turn) (new : Course) → IsSome old.end → Picks given old turn new → answers_left options (past_of new) turn.phase ≤ Before old + 1
   picks_settled old turn new over (drains its_new settled flying same known) = at_collect old new same
   picks_settled old turn new over (ends_so end its_new is none cleared known same_notes) = least (Before old + 1)
   picks_settled old turn new over (finds number its_turn its_new going is_next finding same known) = absurd (none_some old.end over going)
-  picks_settled old turn new over (fetches number its_turn its_new going looked is_next fetching same known) = absurd (none_some old.end over going)
-  picks_settled old turn new over (stages number its_turn its_new going looked unfetched slot lowest staging same known) = absurd (none_some old.end over going)
-  picks_settled old turn new over (waits_for_one its_new going looked unfetched flying none same known) = absurd (none_some old.end over going)
-  picks_settled old turn new over (has_result its_turn its_new going looked unfetched none to_stage result same known) = absurd (none_some old.end over going)
+  picks_settled old turn new over (chooses planned its_turn its_new going looked replans chosen same known) = absurd (none_some old.end over going)
 
   -- and no child is in flight
   pub picks_last : (old : Course) (turn : Turn) (new : Course) → IsSome old.end → old.tickets.items ≡ [] → Picks given old turn new →
@@ -180,10 +183,7 @@ module _ (options : Options) (given : Given) where
   picks_last old turn new over empty (drains its_new settled flying same known) = absurd (flying empty)
   picks_last old turn new over empty (ends_so end its_new is none cleared known same_notes) = least 0
   picks_last old turn new over empty (finds number its_turn its_new going is_next finding same known) = absurd (none_some old.end over going)
-  picks_last old turn new over empty (fetches number its_turn its_new going looked is_next fetching same known) = absurd (none_some old.end over going)
-  picks_last old turn new over empty (stages number its_turn its_new going looked unfetched slot lowest staging same known) = absurd (none_some old.end over going)
-  picks_last old turn new over empty (waits_for_one its_new going looked unfetched flying none same known) = absurd (none_some old.end over going)
-  picks_last old turn new over empty (has_result its_turn its_new going looked unfetched none to_stage result same known) = absurd (none_some old.end over going)
+  picks_last old turn new over empty (chooses planned its_turn its_new going looked replans chosen same known) = absurd (none_some old.end over going)
 
   -- A job goes on
 

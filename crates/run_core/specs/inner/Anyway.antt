@@ -7,6 +7,7 @@ use Rattle.command_line.specs.Laws.{LaunchOrRefusal}
 use Rattle.job_graph.specs.Jobs.{Job}
 use Rattle.job_reuse.specs.Laws.{FilesAreTheSameOrNot, RowsAreSoundOrNot, OutputsAreTheSameOrNot}
 use Rattle.plain_data.specs.ByName.{IsByName}
+use Rattle.plan_checker.specs.Laws.{EachHasLeast}
 use Rattle.run_rules.specs.declared.request.Answer.{Answer}
 use Rattle.run_rules.specs.declared.request.RecordAnswer.{RecordAnswer}
 use Rattle.run_core.specs.declared.state.Course.{Course}
@@ -34,3 +35,4 @@ pub record CanGoOn (course : Course) (number : ℕ) (answer : Answer) : Type 0 w
   pub same : OutputsAreTheSameOrNot
   pub files : FilesAreTheSameOrNot
   pub row : HasRowInOrder answer
+  pub least : EachHasLeast

@@ -11,10 +11,12 @@ use Rattle.run_rules.specs.declared.outcome.Note.{Note}
 use Rattle.run_rules.specs.declared.outcome.NoteKind.{NoteKind}
 use Rattle.run_rules.specs.declared.request.RecordAnswer.{RecordAnswer}
 use Rattle.run_rules.specs.declared.outcome.Outcome.{Outcome}
+use Rattle.run_rules.specs.declared.outcome.PlanNote.{PlanNote}
 use Rattle.run_rules.specs.declared.outcome.RunFault.{RunFault}
 use Rattle.job_graph.specs.Jobs.{Job}
 use Rattle.job_graph.specs.Unfold.{Known, known_from, or_else}
 use Rattle.job_graph.specs.Words.{JobPlace, is_same_place}
+use Rattle.run_plan.specs.declared.planned.Planned.{Planned}
 use Rattle.run_core.specs.declared.state.Course.{Course}
 use Rattle.run_core.specs.declared.state.Flight.{Flight}
 use Rattle.run_core.specs.declared.job_states.JobState.{JobState}
@@ -41,6 +43,8 @@ pub record Past : Type 0 where
   pub rows : List (Option Row)
   pub lost : List (List ℕ)
   pub notes : List Note
+  pub planned : Option Planned
+  pub plans : List PlanNote
   pub end : Option (Result Outcome RunFault)
 
 abbrev pub past_of : Course → Past
@@ -53,11 +57,19 @@ past_of course = record {
   rows = course.rows;
   lost = course.lost.items;
   notes = course.notes.items;
+  planned = course.planned;
+  plans = course.plans.items;
   end = course.end;
 }
 
 abbrev pub nothing_past : Past
-nothing_past = record { tickets = []; flights = []; jobs = []; folders = 0; looked_up = 0; rows = []; lost = []; notes = []; end = None }
+nothing_past = record { tickets = []; flights = []; jobs = []; folders = 0; looked_up = 0; rows = []; lost = []; notes = []; planned = None; plans = []; end = None }
+
+-- what is reported of a run, and shown of its plans, stays
+pub record TellsAlike (old new : Past) : Type 0 where
+  pub notes : new.notes ≡ old.notes
+  pub planned : new.planned ≡ old.planned
+  pub plans : new.plans ≡ old.plans
 
 -- the place of the job of a number
 abbrev pub place_at : List Job → ℕ → JobPlace
@@ -91,6 +103,10 @@ with_answer number answer (Some refusal) past = with_end (Err (RunFault.Record r
 -- this went wrong, and the end stays
 abbrev pub with_note : Note → Past → Past
 with_note note past = record past { notes = past.notes ++ note ∷ [] }
+
+-- this plan was made after so many answers, and is in force
+abbrev pub with_plan : ℕ → Planned → Past → Past
+with_plan after made past = record past { planned = Some made; plans = past.plans ++ record { after = after; cost = made.cost } ∷ [] }
 
 -- the record refused to keep the row of the job at a place
 abbrev pub put_note : JobPlace → RecordRefusal → Note

@@ -5,6 +5,8 @@ use Rattle.staging.specs.declared.found.Found.{Found}
 use Rattle.job_graph.specs.Jobs.{Job}
 use Rattle.job_reuse.specs.Rows.{AreTheSame}
 use Rattle.job_rows.specs.declared.row.Row.{Row}
+use Rattle.plan_checker.specs.Plan.{mark}
+use Rattle.plan_checker.specs.declared.plan.Mark.{Mark}
 use Rattle.run_rules.specs.declared.request.RecordRequest.{RecordRequest}
 use Rattle.run_rules.specs.declared.request.Request.{Request}
 use Rattle.run_core.specs.declared.state.Course.{Course}
@@ -14,6 +16,7 @@ use Rattle.run_core.specs.declared.state.Turn.{Turn}
 use Rattle.run_core.specs.inner.Course.{is_lost_in, key_in, known_in}
 use Rattle.run_core.specs.inner.FoundRows.{row_in}
 use Rattle.run_core.specs.inner.JobStates.{waits_in}
+use Rattle.run_core.specs.inner.Marks.{is_load, marks_in}
 
 abbrev pub archived_in : List (List ℕ) → Option Row → Bool
 archived_in lost None = false
@@ -23,21 +26,25 @@ archived_in lost (Some row) = row.archived && not (is_lost_in lost row.key)
 abbrev pub can_load : Course → ℕ → Bool
 can_load course number = archived_in course.lost.items (row_in course.rows number)
 
--- none of the first so many jobs waits and can be loaded
-abbrev pub NoneLoads : Course → ℕ → Type 0
-NoneLoads course count = (n : ℕ) → n < count → (waits_in course.jobs n && can_load course n) ≡ false
+-- whether the job of a number waits, a plan of these marks loads it, and it can be loaded
+abbrev pub loads_in : List Mark → Course → ℕ → Bool
+loads_in marks course number = waits_in course.jobs number && (is_load (mark marks number) && can_load course number)
 
--- no archive is kept, or no known job waits that can be loaded
+-- none of the first so many jobs does
+abbrev pub NoneLoads : List Mark → Course → ℕ → Type 0
+NoneLoads marks course count = (n : ℕ) → n < count → loads_in marks course n ≡ false
+
+-- no archive is kept, or no known job waits that is loaded
 pub data NoneToFetch (given : Given) (course : Course) : Type 0 where
   none_kept : given.options.keep ≡ false → NoneToFetch given course
-  none_loads : NoneLoads course (length (known_in course.known)) → NoneToFetch given course
+  none_loads : NoneLoads (marks_in course.planned) course (length (known_in course.known)) → NoneToFetch given course
 
--- the lowest known job that waits and can be loaded
+-- the lowest known job that waits and is loaded
 pub record IsNextToFetch (given : Given) (course : Course) (number : ℕ) : Type 0 where
   pub keeps : given.options.keep ≡ true
   pub within : number < length (known_in course.known)
-  pub loads : (waits_in course.jobs number && can_load course number) ≡ true
-  pub lowest : NoneLoads course number
+  pub loads : loads_in (marks_in course.planned) course number ≡ true
+  pub lowest : NoneLoads (marks_in course.planned) course number
 
 -- the files of the row of the job of a number are fetched
 pub record Fetches (course : Course) (number : ℕ) (turn : Turn) : Type 0 where

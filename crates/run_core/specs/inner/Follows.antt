@@ -19,9 +19,10 @@ use Rattle.run_core.specs.declared.state.Given.{Given}
 use Rattle.run_core.specs.declared.state.JobPhase.{JobPhase}
 use Rattle.run_core.specs.declared.state.Phase.{Phase}
 use Rattle.run_core.specs.declared.state.Turn.{Turn}
-use Rattle.run_core.specs.inner.Course.{Past, known_in, past_of, place_at, store_note, with_note}
+use Rattle.run_core.specs.inner.Course.{Past, TellsAlike, known_in, past_of, place_at, store_note, with_note}
 use Rattle.run_core.specs.inner.Measures.{TakesMeasure}
 use Rattle.run_core.specs.inner.Picks.{AfterChild, AfterFault, AfterFind, AfterInputHead, AfterListing, AfterOutputHead, AfterStaging, AfterStart, AfterPut, PutsRow, AfterFetch, AfterDrop}
+use Rattle.run_core.specs.inner.Planning.{Replans}
 use Rattle.run_core.specs.inner.Standing.{pairs_ahead}
 use Rattle.run_core.specs.inner.Turn.{ends, lost_after, succeeds}
 
@@ -82,7 +83,7 @@ asked_at Request.Finished = []
 -- a call failed; after a failed collect nobody waits for the children in flight any more, and where a job's files could not be archived, its row
 -- is put all the same
 abbrev pub AfterFailure : Given → Course → Request → Phase → HostFault → Turn → Course → Type 0
-AfterFailure given old asks Phase.Collecting fault turn new = (turn ≡ ends (Err (RunFault.Host fault old.tickets.items))) × (new.known ≡ old.known) × (new.tickets.items ≡ []) × ((past_of new).notes ≡ (past_of old).notes)
+AfterFailure given old asks Phase.Collecting fault turn new = (turn ≡ ends (Err (RunFault.Host fault old.tickets.items))) × (new.known ≡ old.known) × (new.tickets.items ≡ []) × TellsAlike (past_of old) (past_of new)
 AfterFailure given old asks Phase.Draining fault turn new = (turn ≡ ends (Err RunFault.OutOfMemory)) × (new.tickets.items ≡ [])
 AfterFailure given old asks (Phase.Storing number row) fault turn new =
     PutsRow old number (record row { archived = false }) (with_note (store_note (place_at (known_in old.known) number) fault) (past_of old)) turn new
@@ -105,7 +106,7 @@ FollowsIn given old (Phase.Staging number) HostAnswer.Done (Request.Host place (
 FollowsIn given old (Phase.Working number work) answer asks turn new = FollowsWork given old number work answer turn new
 FollowsIn given old Phase.Collecting (HostAnswer.Ended ending) asks turn new = AfterChild given old ending turn new
 FollowsIn given old Phase.Draining (HostAnswer.Ended ending) asks turn new = Drains old ending turn new
-FollowsIn given old (Phase.Delivering outputs) HostAnswer.Done asks turn new = (turn ≡ succeeds outputs) × (new ≡ old)
+FollowsIn given old (Phase.Delivering outputs) HostAnswer.Done asks turn new = (turn ≡ succeeds outputs) × Replans given old new
 FollowsIn given old (Phase.Storing number row) HostAnswer.Done asks turn new = PutsRow old number (record row { archived = true }) (past_of old) turn new
 FollowsIn given old phase answer asks turn new = ⊥
 

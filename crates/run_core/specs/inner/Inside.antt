@@ -2,10 +2,12 @@
 use Rattle.std.specs.Prelude.{◌≡◌, ◌≢◌, ◌≤◌, ◌+◌, None, true, vec_len, vec_capacity}
 use Rattle.job_graph.specs.Apart.{ids_differ}
 use Rattle.run_rules.specs.declared.request.Request.{Request}
+use Rattle.run_rules.specs.declared.setting.Options.{Options}
 use Rattle.run_rules.specs.declared.setting.Setting.{Setting}
 use Rattle.run_rules.specs.Blame.{WereStarted}
 use Rattle.run_rules.specs.Reports.{entries_of}
 use Rattle.run_rules.specs.Scene.{scene_of}
+use Rattle.run_plan.specs.Costs.{LoadRates}
 use Rattle.workflow_check.specs.Checked.{fault_in}
 use Rattle.run_core.specs.declared.runner.RunCore.TheInside.{Inside}
 use Rattle.run_core.specs.declared.state.Given.{Given}
@@ -14,10 +16,15 @@ use Rattle.run_core.specs.Limits.{IsWithinLimits}
 use Rattle.run_core.specs.Machine.{Machine, Mode, is_draining, is_going, is_over}
 use Rattle.run_core.specs.inner.Attempts.{StaysBounded, answers_left}
 use Rattle.run_core.specs.inner.Course.{past_of}
+use Rattle.run_core.specs.inner.Planning.{shown}
 use Rattle.run_core.specs.inner.Standing.{Blames, HasRoom, RanOut, Runs, pairs_ahead}
 
 abbrev pub setting_in : Given → Setting
 setting_in given = record { process = given.process.now; inputs = given.inputs.now; options = given.options }
+
+-- what loading costs, by the options
+abbrev pub rates_of : Options → LoadRates
+rates_of options = record { base = options.base; rate = options.rate }
 
 abbrev pub mode_of : Phase → Mode
 mode_of Phase.Draining = is_draining
@@ -30,6 +37,7 @@ seen core = record {
   transcript = core.pairs.items;
   asks = core.turn.asks;
   flying = core.course.tickets.items;
+  plan = shown core.course.planned;
   steps_left = answers_left core.given.options (past_of core.course) core.turn.phase;
   mode = mode_of core.turn.phase;
 }
@@ -44,6 +52,7 @@ pub data Goes (core : Inside) : Type 0 where
 -- the answer
 pub record Stands (core : Inside) : Type 0 where
   pub limits : IsWithinLimits core.given.options
+  pub rates : core.given.rates ≡ rates_of core.given.options
   pub accepted : fault_in core.given.process.now ≡ None
   pub ids : ids_differ core.given.process.now ≡ true
   pub going : Goes core

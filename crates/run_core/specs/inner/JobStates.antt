@@ -3,7 +3,10 @@ use Rattle.std.specs.Prelude.{◌≡◌, ◌&&◌, ◌<◌, ◌+◌, ℕ, zero, 
 use Rattle.std.specs.List.{list_all}
 use Rattle.std.specs.Option.{option_map_or}
 use Rattle.job_graph.specs.Unfold.{Known}
+use Rattle.plan_checker.specs.Plan.{mark}
+use Rattle.plan_checker.specs.declared.plan.Mark.{Mark}
 use Rattle.run_core.specs.declared.job_states.JobState.{JobState}
+use Rattle.run_core.specs.inner.Marks.{is_compute}
 
 -- of a job that was never touched
 abbrev pub untouched : JobState
@@ -62,16 +65,16 @@ NoneWaits states count = (n : ℕ) → n < count → waits_in states n ≡ false
 abbrev pub parents_in : List Known → ℕ → List ℕ
 parents_in known n = option_map_or (λ k. k.parents) (slice_get known n) []
 
--- whether a known job may be staged: it waits, and its parents are at hand
-abbrev pub is_ready : List Known → List JobState → ℕ → Bool
-is_ready known states n = waits_in states n && list_all (is_there states) (parents_in known n)
+-- whether a known job may be staged: it waits, the plan computes it, and its parents are at hand
+abbrev pub is_ready : List Mark → List Known → List JobState → ℕ → Bool
+is_ready marks known states n = waits_in states n && (is_compute (mark marks n) && list_all (is_there states) (parents_in known n))
 
 -- none of the first so many is ready
-abbrev pub NoneReady : List Known → List JobState → ℕ → Type 0
-NoneReady known states count = (n : ℕ) → n < count → is_ready known states n ≡ false
+abbrev pub NoneReady : List Mark → List Known → List JobState → ℕ → Type 0
+NoneReady marks known states count = (n : ℕ) → n < count → is_ready marks known states n ≡ false
 
 -- this known job is ready, and none below it
-pub record IsLowest (known : List Known) (states : List JobState) (number : ℕ) : Type 0 where
+pub record IsLowest (marks : List Mark) (known : List Known) (states : List JobState) (number : ℕ) : Type 0 where
   pub within : number < length known
-  pub ready : is_ready known states number ≡ true
-  pub lowest : NoneReady known states number
+  pub ready : is_ready marks known states number ≡ true
+  pub lowest : NoneReady marks known states number

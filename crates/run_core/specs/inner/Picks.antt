@@ -40,10 +40,12 @@ use Rattle.run_core.specs.declared.state.Kept.{Kept}
 use Rattle.run_core.specs.declared.state.Phase.{Phase}
 use Rattle.run_core.specs.declared.state.Reading.{Reading}
 use Rattle.run_core.specs.declared.state.Turn.{Turn}
-use Rattle.run_core.specs.inner.Course.{GivesUp, TakesOut, families_in, fetched_in, known_in, number_in, past_of, place_at, with_answer, with_end, with_staging, with_start, failure_in, put_note, with_note, with_hand, with_load, with_loss, drop_note, Past, with_fault}
+use Rattle.run_core.specs.inner.Course.{GivesUp, TakesOut, families_in, fetched_in, known_in, number_in, past_of, place_at, with_answer, with_end, with_staging, with_start, failure_in, put_note, with_note, with_hand, with_load, with_loss, drop_note, Past, TellsAlike, with_fault}
 use Rattle.run_core.specs.inner.Fetches.{AgreesAt, Drops, Fetches, IsNextToFetch, NoneToFetch}
 use Rattle.run_core.specs.inner.Due.{CollectsFirst, CollectsPast, Scans, Starts, StartsPast}
 use Rattle.run_core.specs.inner.JobStates.{IsLowest, NoneReady, state_at}
+use Rattle.run_core.specs.inner.Marks.{marks_in}
+use Rattle.run_core.specs.inner.Planning.{Replans}
 use Rattle.run_core.specs.inner.Knows.{GivesAt, LearnsUnlessOver, outputs_in}
 use Rattle.run_core.specs.inner.Turn.{collects, ends, root_asks, succeeds, works, puts, keeps_row}
 use Rattle.run_core.specs.inner.FoundRows.{row_in}
@@ -109,28 +111,29 @@ pub data Delivers (given : Given) (course : Course) : Turn → Type 0 where
 -- no slot is free, or no known job is ready
 pub data NoneToStage (given : Given) (course : Course) : Type 0 where
   slots_full : given.options.slots ≤ length course.tickets.items → NoneToStage given course
-  none_ready : NoneReady (families_in course.known) course.jobs (length (families_in course.known)) → NoneToStage given course
+  none_ready : NoneReady (marks_in course.planned) (families_in course.known) course.jobs (length (families_in course.known)) → NoneToStage given course
 
 -- a slot is free for the lowest job that is ready
 pub record MayBeNext (given : Given) (course : Course) (number : ℕ) : Type 0 where
   pub slot : length course.tickets.items < given.options.slots
-  pub lowest : IsLowest (families_in course.known) course.jobs number
+  pub lowest : IsLowest (marks_in course.planned) (families_in course.known) course.jobs number
+
+-- what comes next by the plan in force
+pub data Chooses (given : Given) (old : Course) : Turn → Type 0 where
+  fetches : (number : ℕ) (turn : Turn) → IsNextToFetch given old number → Fetches old number turn → Chooses given old turn
+  stages : (number : ℕ) (turn : Turn) → NoneToFetch given old → MayBeNext given old number → Stages given old number turn → Chooses given old turn
+  waits_for_one : NoneToFetch given old → NoneToStage given old → old.tickets.items ≢ [] → Chooses given old collects
+  has_result : (turn : Turn) → NoneToFetch given old → NoneToStage given old → old.tickets.items ≡ [] → Delivers given old turn → Chooses given old turn
 
 -- where nothing is due
 pub data Picks (given : Given) (old : Course) : Turn → Course → Type 0 where
   drains : (new : Course) → IsSome old.end → old.tickets.items ≢ [] → past_of new ≡ past_of old → new.known ≡ old.known → Picks given old collects new
   ends_so : (end : Result Outcome RunFault) (new : Course) → old.end ≡ Some end → old.tickets.items ≡ [] → new.tickets.items ≡ [] → new.known ≡ old.known →
-      (past_of new).notes ≡ (past_of old).notes → Picks given old (ends end) new
+      TellsAlike (past_of old) (past_of new) → Picks given old (ends end) new
   finds : (number : ℕ) (turn : Turn) (new : Course) → old.end ≡ None → IsNextToFind old number → Finds old number turn → past_of new ≡ past_of old →
       new.known ≡ old.known → Picks given old turn new
-  fetches : (number : ℕ) (turn : Turn) (new : Course) → old.end ≡ None → NoneToFind old → IsNextToFetch given old number → Fetches old number turn →
-      past_of new ≡ past_of old → new.known ≡ old.known → Picks given old turn new
-  stages : (number : ℕ) (turn : Turn) (new : Course) → old.end ≡ None → NoneToFind old → NoneToFetch given old → length old.tickets.items < given.options.slots →
-      IsLowest (families_in old.known) old.jobs number → Stages given old number turn → past_of new ≡ past_of old → new.known ≡ old.known → Picks given old turn new
-  waits_for_one : (new : Course) → old.end ≡ None → NoneToFind old → NoneToFetch given old → old.tickets.items ≢ [] → NoneToStage given old → past_of new ≡ past_of old → new.known ≡ old.known →
-      Picks given old collects new
-  has_result : (turn : Turn) (new : Course) → old.end ≡ None → NoneToFind old → NoneToFetch given old → old.tickets.items ≡ [] → NoneToStage given old → Delivers given old turn →
-      past_of new ≡ past_of old → new.known ≡ old.known → Picks given old turn new
+  chooses : (planned : Course) (turn : Turn) (new : Course) → old.end ≡ None → NoneToFind old → Replans given old planned → Chooses given planned turn →
+      past_of new ≡ past_of planned → new.known ≡ planned.known → Picks given old turn new
 
 -- the row of the job of a number, which is at this place and was staged in this folder, is kept: it is put, once its files are archived where an
 -- archive is kept

@@ -19,11 +19,12 @@ use Rattle.run_rules.specs.Delivered.{located}
 use Rattle.run_rules.specs.End.{End}
 use Rattle.run_rules.specs.EndsSo.{EndsSo}
 use Rattle.run_rules.specs.Events.{Event, Progress, Started, is_reusable, nothing_due, started_at, put_due, store_due, folder_at, drop_due}
-use Rattle.run_rules.specs.Plans.{InForce}
+use Rattle.run_rules.specs.Plans.{InForce, PlansSoFar}
 use Rattle.run_rules.specs.Reports.{AreWaits, outcome_of, notes_of}
 use Rattle.run_rules.specs.Run.{Goes}
 use Rattle.run_rules.specs.Scene.{Scene}
 use Rattle.run_rules.proofs.events.Places.{IsJob}
+use Rattle.run_core.specs.Core.{Shows}
 use Rattle.run_core.specs.declared.state.Course.{Course}
 use Rattle.run_core.specs.declared.state.JobPhase.{JobPhase}
 use Rattle.run_core.specs.declared.state.Kept.{Kept}
@@ -35,7 +36,8 @@ use Rattle.run_core.specs.inner.Due.{Calls, IsKept, work_of}
 use Rattle.run_core.specs.inner.Keeps.{Reflects}
 use Rattle.run_core.specs.inner.Measured.{IsMeasuring, measured_by}
 use Rattle.run_core.specs.inner.Turn.{collects, ends, waits, works, puts, stores}
-use Rattle.run_core.specs.inner.JobStates.{IsLowest, NoneWaits, state_at, waits_in}
+use Rattle.run_core.specs.inner.JobStates.{IsLowest, state_at, waits_in}
+use Rattle.run_core.specs.inner.Planning.{shown}
 use Rattle.run_core.specs.inner.Fetches.{NoneLoads}
 use Rattle.run_core.specs.inner.FoundRows.{row_in}
 use Rattle.job_rows.specs.declared.row.Row.{Row}
@@ -60,11 +62,11 @@ pub record IsWorking (s : Scene) (f : Progress) (course : Course) (number : ℕ)
   pub calls : Calls s.options (state_at course.jobs number).folder call phase
   pub on : WorksOn f.events job.place phase
 
--- a job that is to be staged: the lowest one that is ready
+-- a job that is to be staged: the lowest one that is ready, by these marks
 pub record IsStaging (s : Scene) (f : Progress) (marks : List Mark) (course : Course) (number : ℕ) (job : Job) (plan : StagePlan) : Type 0 where
   pub it : IsJob (known_in course.known) number job
   pub may : MayStage s f marks job.place plan (course.folders + 1)
-  pub lowest : IsLowest (families_in course.known) course.jobs number
+  pub lowest : IsLowest marks (families_in course.known) course.jobs number
   pub going : course.end ≡ None
 
 -- a job whose row is looked for: the first one that is left
@@ -75,14 +77,14 @@ pub record FindsNext (s : Scene) (f : Progress) (course : Course) (number : ℕ)
   pub first : (other : ℕ) (its : Job) → IsJob (known_in course.known) other its → course.looked_up ≤ other → other < number → is_reusable its ≡ false
   pub going : course.end ≡ None
 
--- a job whose files are fetched: the lowest one that waits and can be loaded
+-- a job whose files are fetched: the lowest one that waits and is loaded
 pub record FetchesNext (s : Scene) (f : Progress) (marks : List Mark) (course : Course) (number : ℕ) (job : Job) (row : Row) : Type 0 where
   pub it : IsJob (known_in course.known) number job
   pub found : row_in course.rows number ≡ Some row
   pub may : MayFetch s f marks job.place row.key (course.folders + 1) row.files
   pub waits : waits_in course.jobs number ≡ true
   pub untried : (state_at course.jobs number).tried ≡ false
-  pub lowest : NoneLoads course number
+  pub lowest : NoneLoads marks course number
   pub kept : s.options.keep ≡ true
   pub going : course.end ≡ None
 
@@ -106,18 +108,21 @@ pub data IsAt (s : Scene) (f : Progress) (marks : List Mark) (course : Course) :
   working : (number : ℕ) (job : Job) (call : HostRequest) (phase : JobPhase) → Reflects s f.events course (Some number) →
       IsWorking s f course number job call phase → IsAt s f marks course (works job.place number call phase)
   collecting : Reflects s f.events course None → MayCollect s f marks [] → IsAt s f marks course collects
-  -- no known job waits
   delivering : (plan : StagePlan) → Reflects s f.events course None → MayDeliver s f marks [] plan → course.end ≡ None →
-      NoneWaits course.jobs (length (known_in course.known)) →
       IsAt s f marks course (waits (HostRequest.Deliver plan) (Phase.Delivering (located plan.value)))
   ended : (end : End) → EndsSo s f marks end → (past_of course).notes ≡ notes_of f.events → IsAt s f marks course (ends (outcome_of end))
+
+-- what was planned is kept
+abbrev pub KeepsPlans : PlansSoFar → Past → Type 0
+KeepsPlans plans past = Shows plans (shown past.planned) × (past.plans ≡ plans.notes)
 
 -- a run so far, and where the machine is in it
 pub record Runs (s : Scene) (t : List Pair) (course : Course) (turn : Turn) : Type 0 where
   pub happened : Progress
-  pub marks : List Mark
-  pub goes : Goes s (InForce s) t happened marks
-  pub at : IsAt s happened marks course turn
+  pub plans : PlansSoFar
+  pub goes : Goes s (InForce s) t happened plans
+  pub planned : KeepsPlans plans (past_of course)
+  pub at : IsAt s happened plans.marks course turn
 
 -- the children in flight are waited for, and then it has ended
 pub data IsLostAt (past : Past) : Turn → Type 0 where
@@ -130,8 +135,8 @@ pub record RanOut (s : Scene) (t : List Pair) (past : Past) (turn : Turn) : Type
   pub tail : List Pair
   pub pairs : t ≡ front ++ tail
   pub happened : Progress
-  pub marks : List Mark
-  pub goes : Goes s (InForce s) front happened marks
+  pub plans : PlansSoFar
+  pub goes : Goes s (InForce s) front happened plans
   pub collects : AreWaits tail
   pub at : IsLostAt past turn
 

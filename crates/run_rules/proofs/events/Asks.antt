@@ -1,7 +1,7 @@
 -- What may be asked where nothing is due, from what is known of jobs by their numbers.
 use Rattle.std.specs.Prelude.{◌<◌, ◌≤◌, Contains}
 use Rattle.std.specs.List.{list_any}
-use Rattle.std.proofs.Common.{◌≡◌, ◌∙◌, ◌+◌, ℕ, true, false, List, [], length, filter, Some, None, refl, sym, ap, subst, arith}
+use Rattle.std.proofs.Common.{◌≡◌, ◌∙◌, ◌+◌, ℕ, true, false, List, [], length, filter, Some, None, refl, sym, ap, arith}
 use Rattle.plan_checker.specs.declared.plan.Mark.{Mark}
 use Rattle.staging.specs.Plan.{IsPlan}
 use Rattle.staging.specs.declared.found.Found.{Found}
@@ -75,15 +75,16 @@ module _ (s : Scene) (f : Progress) (marks : List Mark) where
     no_stage = λ place plan number may. absurd (omega (arith, may.slot, full));
   }
 
-  -- or each known job is held, or its parents are not at hand
-  pub busy_when_none_may : IsFree s f → NoneMayFetch → ((n : ℕ) (job : Job) → IsJob (jobs_in s f) n job → is_held f.events job.place ≡ false → AreParentsAtHand s f job → ⊥) → IsBusy s f marks
+  -- or each known job that is computed is held, or its parents are not at hand
+  pub busy_when_none_may : IsFree s f → NoneMayFetch →
+      ((n : ℕ) (job : Job) → IsJob (jobs_in s f) n job → mark_at s marks f.events job.place ≡ Compute → is_held f.events job.place ≡ false → AreParentsAtHand s f job → ⊥) → IsBusy s f marks
   busy_when_none_may free unfetched none = record {
     free = free;
     no_fetch = unfetched;
     no_stage = λ place plan number may.
         let it : IsFound (jobs_in s f) place may.job = found_is (jobs_in s f) place may.job may.known in
         let at : may.job.place ≡ place = same_place may.job.place place it.same in
-        none it.number may.job it.there (ap (is_held f.events) at ∙ may.not_held) may.parents;
+        none it.number may.job it.there (ap (λ (p : JobPlace). mark_at s marks f.events p) at ∙ may.computed) (ap (is_held f.events) at ∙ may.not_held) may.parents;
   }
 
   -- a child is waited for

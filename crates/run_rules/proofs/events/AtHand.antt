@@ -9,11 +9,11 @@ use Rattle.job_rows.specs.declared.row.Row.{Row}
 use Rattle.plan_checker.specs.declared.plan.Mark.{Mark}
 use Rattle.run_rules.specs.declared.request.Pair.{Pair}
 use Rattle.run_rules.specs.Events.{Event, Progress, files_fetched, job_repeated, job_succeeded, row_found, brings, is_at_hand, resolved, resolves, row_at, row_if}
+use Rattle.run_rules.specs.Plans.{PlansSoFar}
 use Rattle.run_rules.specs.Run.{Goes}
 use Rattle.run_rules.specs.Scene.{Scene}
 use Rattle.run_rules.proofs.Measuring.{Fits, FitsAt, goes_fitting}
 use Rattle.run_rules.proofs.Places.{same_place}
-use Rattle.run_rules.proofs.events.Known.{resolved_stay}
 use Rattle.run_rules.proofs.events.Readings.{is_at_hand_after, resolved_after}
 
 abbrev pub IsThere : List Event → JobPlace → Type 0
@@ -112,6 +112,6 @@ module _ (s : Scene) where
   there_later es [] fits are = subst AreThere (sym (append-nil es)) are
   there_later es (e ∷ later) fits are = subst AreThere (append_assoc es (e ∷ []) later) (there_later (es ++ e ∷ []) later fits.1 (there_one es e fits.0 are))
 
-  pub hand_is_resolved : {Plans : Progress → List Mark → Type 0} {t : List Pair} {f : Progress} {marks : List Mark} → Goes s Plans t f marks → (place : JobPlace) →
+  pub hand_is_resolved : {Plans : Progress → List Mark → Type 0} {t : List Pair} {f : Progress} {plans : PlansSoFar} → Goes s Plans t f plans → (place : JobPlace) →
       is_at_hand f.events place ≡ true → IsThere f.events place
   hand_is_resolved {Plans = Plans} {f = f} goes place at = there_later [] f.events (goes_fitting s Plans goes) (λ p never. absurd cc) place at

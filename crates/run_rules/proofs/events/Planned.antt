@@ -1,53 +1,29 @@
--- The plan in force: at each planning point it loads what is held or can be loaded, and computes all else.
-use Rattle.std.specs.Prelude.{◌&&◌, ◌||◌, MatchBool, is_none, not}
+-- The plan in force: it is made anew at each planning point, and is the Least one of the present job graph there.
+use Rattle.std.specs.Prelude.{◌&&◌, MatchBool, is_none, not}
 use Rattle.std.specs.List.{list_any}
-use Rattle.std.proofs.Common.{◌≡◌, ◌∙◌, ℕ, Bool, true, false, cond, List, [], map, None, refl, sym, ap, subst}
-use Rattle.std.proofs.lemmas.Bool.{or_parts}
-use Rattle.std.proofs.lemmas.List.{get_or-map}
+use Rattle.std.proofs.Common.{◌≡◌, ◌∙◌, ℕ, Bool, true, false, List, [], ◌∷◌, ◌++◌, length, Option, Some, None, refl, sym, ap, subst}
 use Rattle.std.proofs.lemmas.List.Folds.{list_any_at}
+use Rattle.plan_checker.specs.Least.{IsLeast}
 use Rattle.plan_checker.specs.Plan.{mark}
 use Rattle.plan_checker.specs.declared.plan.Mark.{Mark}
-use Rattle.plan_checker.specs.declared.plan.Mark.TheVariants.{Load, Compute, Prune}
 use Rattle.run_rules.specs.declared.request.Pair.{Pair}
 use Rattle.job_graph.specs.Jobs.{Job}
+use Rattle.run_rules.specs.Costs.{graph_at}
 use Rattle.run_rules.specs.Scene.{Scene}
-use Rattle.run_rules.specs.Events.{nothing_due, Progress, are_looked_up, can_load, in_flight, is_at_hand, is_held, unfolding_at}
-use Rattle.run_rules.specs.End.{is_lost_collect, settled}
-use Rattle.run_rules.specs.Plans.{InForce, is_idle, is_planning, loads, mark_at, mark_if}
-use Rattle.run_rules.specs.Run.{Goes, begins, asks, Replans}
-use Rattle.run_rules.proofs.events.Flights.{is_flying}
+use Rattle.run_rules.specs.Events.{Work, nothing_due, Progress, are_looked_up, is_at_hand, unfolding_at}
+use Rattle.run_rules.specs.End.{End, is_lost_collect, settled}
+use Rattle.run_rules.specs.Plans.{InForce, PlansSoFar, is_idle, is_planning, mark_at, no_plans}
+use Rattle.run_rules.specs.Run.{Goes, MakesPlan, Replans, asks, begins}
 use Rattle.run_rules.proofs.events.Places.{AreApart, IsJob, number_is}
 
 module _ (s : Scene) where
   abbrev pub jobs_in : Progress → List Job
   jobs_in f = (unfolding_at s f.events).jobs
 
-  -- the plan that loads all that can be loaded
-  abbrev pub loading : Progress → List Mark
-  loading f = map (λ job. mark_if (loads s f.events job.place)) (jobs_in f)
+  -- ---- when a plan is made
 
-  -- the plan in force where the one before was this
-  abbrev pub marks_after : Progress → List Mark → List Mark
-  marks_after f old = cond (is_planning s f) (loading f) old
-
-  replans_by : (f : Progress) (old : List Mark) (planning : Bool) → MatchBool planning (InForce s f (cond planning (loading f) old)) (cond planning (loading f) old ≡ old)
-  replans_by f old true = refl
-  replans_by f old false = refl
-
-  pub replans : (f : Progress) (old : List Mark) → Replans s (InForce s) f old (marks_after f old)
-  replans f old = replans_by f old (is_planning s f)
-
-  -- the plan in force follows from the one before
-  pub record FollowsPlan (f : Progress) (marks : List Mark) : Type 0 where
-    pub old : List Mark
-    pub replanned : Replans s (InForce s) f old marks
-
-  pub in_force : {t : List Pair} {f : Progress} {marks : List Mark} → Goes s (InForce s) t f marks → FollowsPlan f marks
-  in_force (begins marks plans) = record { old = []; replanned = plans }
-  in_force (asks t f old p work new marks goes allowed steps plans) = record { old = old; replanned = plans }
-
-  -- where nothing is due, no collect has failed, nothing is settled, no row is looked for any more and a job is not at hand, it was made there
-  planning_there : (f : Progress) (n : ℕ) (job : Job) → f.work ≡ nothing_due → list_any is_lost_collect f.events ≡ false → settled s f.events ≡ None →
+  -- where nothing is due, no collect has failed, nothing is settled, no row is looked for any more and a job is not at hand
+  pub planning_there : (f : Progress) (n : ℕ) (job : Job) → f.work ≡ nothing_due → list_any is_lost_collect f.events ≡ false → settled s f.events ≡ None →
       are_looked_up s f.events ≡ true → IsJob (jobs_in f) n job → is_at_hand f.events job.place ≡ false → is_planning s f ≡ true
   planning_there f n job idle collects still looked_up it away =
       ap (λ w. is_idle w && not (list_any is_lost_collect f.events) && is_none (settled s f.events) && are_looked_up s f.events && list_any (λ (j : Job). not (is_at_hand f.events j.place)) (jobs_in f)) idle
@@ -57,49 +33,111 @@ module _ (s : Scene) where
       ∙ list_any_at (λ (j : Job). not (is_at_hand f.events j.place)) (jobs_in f) n job it.within
       (ap (λ (j : Job). not (is_at_hand f.events j.place)) it.is ∙ ap not away)
 
-  pub loads_all : {t : List Pair} {f : Progress} {marks : List Mark} (n : ℕ) (job : Job) → Goes s (InForce s) t f marks → f.work ≡ nothing_due →
+  -- none where something is due, a collect has failed, the end is settled, a row is looked for, or all is at hand
+  none_after : (a b c d e : Bool) → b ≡ false → (a && b && c && d && e) ≡ false
+  none_after true true c d e is = absurd cc
+  none_after true false c d e is = refl
+  none_after false b c d e is = refl
+
+  none_then : (a b c d e : Bool) → c ≡ false → (a && b && c && d && e) ≡ false
+  none_then true true true d e is = absurd cc
+  none_then true true false d e is = refl
+  none_then true false c d e is = refl
+  none_then false b c d e is = refl
+
+  none_before : (a b c d e : Bool) → d ≡ false → (a && b && c && d && e) ≡ false
+  none_before true true true true e is = absurd cc
+  none_before true true true false e is = refl
+  none_before true true false d e is = refl
+  none_before true false c d e is = refl
+  none_before false b c d e is = refl
+
+  none_at_last : (a b c d e : Bool) → e ≡ false → (a && b && c && d && e) ≡ false
+  none_at_last true true true true true is = absurd cc
+  none_at_last true true true true false is = refl
+  none_at_last true true true false e is = refl
+  none_at_last true true false d e is = refl
+  none_at_last true false c d e is = refl
+  none_at_last false b c d e is = refl
+
+  third_of : (a b c d e : Bool) → (a && b && c && d && e) ≡ true → c ≡ true
+  third_of true true true d e is = refl
+  third_of true true false d e is = absurd cc
+  third_of true false c d e is = absurd cc
+  third_of false b c d e is = absurd cc
+
+  none_there : (o : Option End) → is_none o ≡ true → o ≡ None
+  none_there None is = refl
+  none_there (Some end) is = absurd cc
+
+  module _ (f : Progress) where
+    abbrev some_away : Bool
+    some_away = list_any (λ (j : Job). not (is_at_hand f.events j.place)) (jobs_in f)
+
+    pub no_plan_when_due : (work : Work) → f.work ≡ work → is_idle work ≡ false → is_planning s f ≡ false
+    no_plan_when_due work is due =
+        ap (λ b. b && not (list_any is_lost_collect f.events) && is_none (settled s f.events) && are_looked_up s f.events && some_away) (ap is_idle is ∙ due)
+
+    pub no_plan_when_lost : list_any is_lost_collect f.events ≡ true → is_planning s f ≡ false
+    no_plan_when_lost lost =
+        none_after (is_idle f.work) (not (list_any is_lost_collect f.events)) (is_none (settled s f.events)) (are_looked_up s f.events) some_away (ap not lost)
+
+    pub no_plan_when_settled : (end : End) → settled s f.events ≡ Some end → is_planning s f ≡ false
+    no_plan_when_settled end is =
+        none_then (is_idle f.work) (not (list_any is_lost_collect f.events)) (is_none (settled s f.events)) (are_looked_up s f.events) some_away
+        (ap (λ (o : Option End). is_none o) is)
+
+    pub no_plan_before_finds : are_looked_up s f.events ≡ false → is_planning s f ≡ false
+    no_plan_before_finds unasked =
+        none_before (is_idle f.work) (not (list_any is_lost_collect f.events)) (is_none (settled s f.events)) (are_looked_up s f.events) some_away unasked
+
+    pub no_plan_when_all_there : list_any (λ (j : Job). not (is_at_hand f.events j.place)) (jobs_in f) ≡ false → is_planning s f ≡ false
+    no_plan_when_all_there none =
+        none_at_last (is_idle f.work) (not (list_any is_lost_collect f.events)) (is_none (settled s f.events)) (are_looked_up s f.events) some_away none
+
+    pub unsettled_there : is_planning s f ≡ true → settled s f.events ≡ None
+    unsettled_there planning =
+        none_there (settled s f.events)
+        (third_of (is_idle f.work) (not (list_any is_lost_collect f.events)) (is_none (settled s f.events)) (are_looked_up s f.events) some_away planning)
+
+    -- so the old one stays in force
+    pub stays_in_force : (after : ℕ) (old : PlansSoFar) → is_planning s f ≡ false → Replans s (InForce s) after f old old
+    stays_in_force after old none = subst (λ b. MatchBool b (MakesPlan s (InForce s) after f old old) (old ≡ old)) (sym none) refl
+
+    pub is_made : (after : ℕ) (old new : PlansSoFar) → is_planning s f ≡ true → MakesPlan s (InForce s) after f old new → Replans s (InForce s) after f old new
+    is_made after old new planning made = subst (λ b. MatchBool b (MakesPlan s (InForce s) after f old new) (new ≡ old)) (sym planning) made
+
+  -- ---- what is in force
+
+  -- the plan in force follows from the one before
+  pub record FollowsPlan (f : Progress) (plans : PlansSoFar) : Type 0 where
+    pub after : ℕ
+    pub old : PlansSoFar
+    pub replanned : Replans s (InForce s) after f old plans
+
+  pub in_force : {t : List Pair} {f : Progress} {plans : PlansSoFar} → Goes s (InForce s) t f plans → FollowsPlan f plans
+  in_force (begins plans its) = record { after = 0; old = no_plans; replanned = its }
+  in_force (asks t f old p work new plans goes allowed steps its) = record { after = length (t ++ p ∷ []); old = old; replanned = its }
+
+  -- it is of the graph there is, and its Least plan
+  pub record PlansAt (f : Progress) (plans : PlansSoFar) : Type 0 where
+    pub graph : plans.graph ≡ graph_at s f.events
+    pub least : IsLeast (graph_at s f.events) plans.marks
+
+  pub planned_now : {t : List Pair} {f : Progress} {plans : PlansSoFar} → Goes s (InForce s) t f plans → is_planning s f ≡ true → PlansAt f plans
+  planned_now {f = f} {plans = plans} goes planning =
+      let follows : FollowsPlan f plans = in_force goes in
+      let made : MakesPlan s (InForce s) follows.after f follows.old plans =
+      subst (λ b. MatchBool b (MakesPlan s (InForce s) follows.after f follows.old plans) (plans ≡ follows.old)) planning follows.replanned in
+      record { graph = made.graph; least = made.marks }
+
+  pub planned_there : {t : List Pair} {f : Progress} {plans : PlansSoFar} (n : ℕ) (job : Job) → Goes s (InForce s) t f plans → f.work ≡ nothing_due →
       list_any is_lost_collect f.events ≡ false → settled s f.events ≡ None → are_looked_up s f.events ≡ true → IsJob (jobs_in f) n job →
-      is_at_hand f.events job.place ≡ false → InForce s f marks
-  loads_all {f = f} {marks = marks} n job goes idle collects still looked_up it away =
-      let plan : FollowsPlan f marks = in_force goes in
-      subst (λ b. MatchBool b (InForce s f marks) (marks ≡ plan.old)) (planning_there f n job idle collects still looked_up it away) plan.replanned
+      is_at_hand f.events job.place ≡ false → PlansAt f plans
+  planned_there {f = f} n job goes idle collects still looked_up it away =
+      planned_now goes (planning_there f n job idle collects still looked_up it away)
 
   -- the mark of a job is that of its number
-  pub mark_is : (f : Progress) (marks : List Mark) (n : ℕ) (job : Job) → AreApart (jobs_in f) → IsJob (jobs_in f) n job → InForce s f marks →
-      mark_at s marks f.events job.place ≡ mark_if (loads s f.events job.place)
-  mark_is f marks n job apart it loading_all =
-      ap (λ k. mark marks k) (number_is (jobs_in f) apart n job it)
-      ∙ ap (λ (ms : List Mark). mark ms n) loading_all
-      ∙ get_or-map (λ (j : Job). mark_if (loads s f.events j.place)) (jobs_in f) n job Prune it.within
-      ∙ ap (λ (j : Job). mark_if (loads s f.events j.place)) it.is
-
-  -- the mark of a job that is not held
-  free_mark : {t : List Pair} {f : Progress} {marks : List Mark} (n : ℕ) (job : Job) → Goes s (InForce s) t f marks → f.work ≡ nothing_due →
-      list_any is_lost_collect f.events ≡ false → settled s f.events ≡ None → are_looked_up s f.events ≡ true → AreApart (jobs_in f) → IsJob (jobs_in f) n job →
-      is_held f.events job.place ≡ false → mark_at s marks f.events job.place ≡ mark_if (can_load s f.events job.place)
-  free_mark {f = f} {marks = marks} n job goes idle collects still looked_up apart it free =
-      mark_is f marks n job apart it
-      (loads_all n job goes idle collects still looked_up it (or_parts (is_flying (in_flight f.events) job.place) (is_at_hand f.events job.place) free).1)
-      ∙ ap (λ b. mark_if (b || can_load s f.events job.place)) free
-
-  -- it is computed, unless it can be loaded
-  pub computed : {t : List Pair} {f : Progress} {marks : List Mark} (n : ℕ) (job : Job) → Goes s (InForce s) t f marks → f.work ≡ nothing_due →
-      list_any is_lost_collect f.events ≡ false → settled s f.events ≡ None → are_looked_up s f.events ≡ true → AreApart (jobs_in f) → IsJob (jobs_in f) n job →
-      is_held f.events job.place ≡ false → can_load s f.events job.place ≡ false → mark_at s marks f.events job.place ≡ Compute
-  computed n job goes idle collects still looked_up apart it free unloaded = free_mark n job goes idle collects still looked_up apart it free ∙ ap mark_if unloaded
-
-  pub loaded : {t : List Pair} {f : Progress} {marks : List Mark} (n : ℕ) (job : Job) → Goes s (InForce s) t f marks → f.work ≡ nothing_due →
-      list_any is_lost_collect f.events ≡ false → settled s f.events ≡ None → are_looked_up s f.events ≡ true → AreApart (jobs_in f) → IsJob (jobs_in f) n job →
-      is_held f.events job.place ≡ false → can_load s f.events job.place ≡ true → mark_at s marks f.events job.place ≡ Load
-  loaded n job goes idle collects still looked_up apart it free can = free_mark n job goes idle collects still looked_up apart it free ∙ ap mark_if can
-
-  -- and what it loads can be loaded
-  loads_by : (can : Bool) → mark_if can ≡ Load → can ≡ true
-  loads_by true is = refl
-  loads_by false is = absurd cc
-
-  pub can_be_loaded : {t : List Pair} {f : Progress} {marks : List Mark} (n : ℕ) (job : Job) → Goes s (InForce s) t f marks → f.work ≡ nothing_due →
-      list_any is_lost_collect f.events ≡ false → settled s f.events ≡ None → are_looked_up s f.events ≡ true → AreApart (jobs_in f) → IsJob (jobs_in f) n job →
-      is_held f.events job.place ≡ false → mark_at s marks f.events job.place ≡ Load → can_load s f.events job.place ≡ true
-  can_be_loaded {f = f} n job goes idle collects still looked_up apart it free is =
-      loads_by (can_load s f.events job.place) (sym (free_mark n job goes idle collects still looked_up apart it free) ∙ is)
+  pub mark_by_number : (f : Progress) (marks : List Mark) (n : ℕ) (job : Job) → AreApart (jobs_in f) → IsJob (jobs_in f) n job →
+      mark_at s marks f.events job.place ≡ mark marks n
+  mark_by_number f marks n job apart it = ap (λ k. mark marks k) (number_is (jobs_in f) apart n job it)

@@ -18,4 +18,4 @@ returns c = λ given.
     counted c.args.course.now.tickets.items c.args.course.now.tickets.len c.args.course.now.tickets.ok.0 (sym c.is_empty.ensures ∙ c.if-not-is_empty.false) in
     let left : Course = record c.args.course.now { end = c.replace.new.dest } in
     subst (λ (turn : Turn). Picks given c.args.course.now turn left) (sym c.ended.ensures)
-    (ends_so c.in-Some.end left (sym c.replace.ensures.value ∙ c.in-Some.is) none none refl refl)
+    (ends_so c.in-Some.end left (sym c.replace.ensures.value ∙ c.in-Some.is) none none refl (record { notes = refl; planned = refl; plans = refl }))

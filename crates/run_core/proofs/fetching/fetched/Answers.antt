@@ -1,4 +1,4 @@
-use Rattle.std.proofs.Common.{◌≡◌, ◌∙◌, false, true≢false, sym, subst}
+use Rattle.std.proofs.Common.{◌∙◌, true≢false, sym, subst}
 use Rattle.run_core.specs.inner.Fetches.{AgreesAt}
 use Rattle.run_core.specs.inner.Picks.{agrees, differs}
 use Rattle.run_core.proofs.Lists.{if_ok}

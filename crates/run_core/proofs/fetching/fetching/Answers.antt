@@ -1,4 +1,4 @@
-use Rattle.std.proofs.Common.{◌≡◌, ◌∙◌, Option, sym, ap}
+use Rattle.std.proofs.Common.{◌∙◌, sym, ap}
 use Rattle.std.specs.Prelude.{option_copied}
 use Rattle.run_core.specs.inner.Fetches.{archived_in}
 use Rattle.run_core.proofs.fetching.fetching.Goals as goal

@@ -1,4 +1,4 @@
-use Rattle.std.proofs.Common.{◌≡◌, ◌∙◌, sym, subst}
+use Rattle.std.proofs.Common.{sym, subst}
 use Rattle.run_core.specs.inner.Due.{KeepsAt}
 use Rattle.run_core.proofs.Kept.{kept_none, kept_not, kept_row}
 use Rattle.run_core.proofs.keeping.kept.Goals as goal

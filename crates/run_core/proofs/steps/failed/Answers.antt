@@ -1,7 +1,5 @@
-use Rattle.std.proofs.Common.{◌≡◌, ◌∙◌, ℕ, List, Err, sym, ap, subst}
-use Rattle.run_rules.specs.declared.outcome.RunFault.{RunFault}
+use Rattle.std.proofs.Common.{◌≡◌, ◌∙◌, sym, subst}
 use Rattle.run_core.specs.declared.state.Phase.{Phase}
-use Rattle.run_core.specs.inner.Course.{Past, past_of, with_end}
 use Rattle.run_core.specs.inner.Follows.{AfterFailure, StoresKnown}
 use Rattle.run_core.proofs.Choices.{fault_by, if_lost}
 use Rattle.run_core.proofs.Lists.{if_ok, on_err}

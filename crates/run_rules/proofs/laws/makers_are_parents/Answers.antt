@@ -8,7 +8,7 @@ use Rattle.run_rules.proofs.Makers.{makers_before}
 use Rattle.run_rules.proofs.laws.makers_are_parents.Goals as goal
 
 pub returns : goal.returns
-returns c = λ setting t f marks job maker goes nothing there made.
+returns c = λ setting t f plans job maker goes nothing there made.
     makers_before (scene_of setting)
     (record {
       makers = λ measures learned named its at its_maker its_made.

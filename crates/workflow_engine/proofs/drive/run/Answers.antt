@@ -21,7 +21,7 @@ returns-in_err-core-clause-run g c =
           transcript = [];
           entries = refl;
           commands = refl;
-          concluded = nothing_asked c.args.process.now c.args.inputs.now c.args.options;
+          concluded = nothing_asked c.each_has_least.ensures c.args.process.now c.args.inputs.now c.args.options;
         };
       };
       map = nothing_kept _ _ [] refl;

@@ -1,0 +1,35 @@
+use Rattle.std.specs.Prelude.{MatchOption}
+use Rattle.std.proofs.Common.{◌≡◌, List, length, Option, Some, Result, Ok, Err, IfOk, IfErr, sym, subst}
+use Rattle.job_graph.specs.PresentJobGraph.{present_job_graph}
+use Rattle.job_graph.specs.Unfolding.{Blames, fault_of}
+use Rattle.job_graph.specs.declared.costs.Costs.{Costs}
+use Rattle.job_graph.specs.declared.fault.UnfoldError.{UnfoldError}
+use Rattle.job_graph.specs.declared.unfolding.Unfolding.{Unfolding}
+use Rattle.run_plan.specs.Planned.{IsPlanOf}
+use Rattle.run_plan.specs.declared.planned.Planned.{Planned}
+use Rattle.run_core.specs.declared.state.Course.{Course}
+use Rattle.run_core.specs.declared.state.Given.{Given}
+use Rattle.run_core.specs.inner.Course.{known_in, past_of}
+use Rattle.run_core.specs.inner.Planning.{AreCosts, IsPlanAt, IsToldPlan, PlansNothing, refused}
+use Rattle.run_core.proofs.Lists.{if_ok}
+use Rattle.run_core.proofs.planning.planned_anew.Goals as goal
+
+-- by what is told of the plan
+by_told : (given : Given) (course : Course) (kept : Unfolding) → course.known ≡ Some kept → (costs : List Costs) → AreCosts given (past_of course) (length (known_in course.known)) costs →
+    (told : Result Planned UnfoldError) → IfOk told (IsPlanOf (present_job_graph kept.learned kept.known kept.outs costs)) → IfErr told (Blames kept.refused) →
+    (made : Option Planned) → IsToldPlan told made → MatchOption made (PlansNothing course) (IsPlanAt given course)
+by_told given course kept known costs its (Ok plan) planned blames made is =
+    subst (λ (m : Option Planned). MatchOption m (PlansNothing course) (IsPlanAt given course)) (sym is)
+    (record { kept = kept; known = known; costs = costs; its_costs = its; planned = planned })
+by_told given course kept known costs its (Err (UnfoldError.Refused fault)) planned blames made is =
+    subst (λ (m : Option Planned). MatchOption m (PlansNothing course) (IsPlanAt given course)) (sym is) (refused kept (fault_of fault) known blames)
+by_told given course kept known costs its (Err UnfoldError.OutOfMemory) planned blames made is = absurd is
+
+pub returns : goal.returns
+returns c =
+    if_ok c.if_planned.result
+    (by_told c.args.given.now c.args.course.now c.in-Some.known c.in-Some.is c.as_slice.result.now
+    (subst (λ (costs : List Costs). AreCosts c.args.given.now (past_of c.args.course.now) (length (known_in c.args.course.now.known)) costs) (sym c.as_slice.ensures.value)
+    c.in_ok-costs.ensures.costs)
+    c.plan_for.result c.plan_for.ensures.ok c.plan_for.ensures.err)
+    c.if_planned.ensures

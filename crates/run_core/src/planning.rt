@@ -1,0 +1,173 @@
+//! The plan in force: the Least plan of the present job graph, made anew at each planning point.
+ghost use Rattle.std.specs.Prelude.{◌≡◌, ◌<◌, ◌↔◌, All, IfErr, IfOk, IsTrue, MatchBool, MatchOption, OnErr, OnOk, length, option_map};
+ghost use Rattle.job_graph.specs.PresentJobGraph.{AreWithin};
+ghost use Rattle.job_graph.specs.Unfold.{Fault};
+ghost use Rattle.plan_checker.specs.Plan.{mark};
+ghost use Rattle.run_core.specs.inner.Course.{known_in as jobs_in, past_of, with_plan};
+ghost use Rattle.run_core.specs.inner.Marks.{is_compute, is_load, marks_in};
+ghost use Rattle.run_core.specs.inner.Planning.{AllThere, AreCosts, IsPlanAt, IsToldPlan, PlansNothing, Replans, SomeAway, costs_at};
+
+use crate::PlanNote;
+use crate::course::known_in;
+use crate::fetching::can_load;
+use crate::state::{Course, Given};
+use job_graph::{Costs, UnfoldError};
+use plan_checker::{Charges, Mark};
+use run_plan::{Planned, Standing, costs_of, plan_for};
+use std::alloc::{AllocError, Global};
+use std::mem;
+
+/// Makes the plan anew where some known job isn't at hand; else the last one stays in force.
+pub(crate) fn replan(
+    alloc: Global,
+    given: &Given<'_>,
+    course: &mut Course<'_>,
+) -> Result<(), AllocError>
+    ensures replans { OnOk result (Replans given.now course.old course.new) }
+    ensures tickets { course.new.tickets.items ≡ course.old.tickets.items }
+    ensures folders { course.new.folders ≡ course.old.folders }
+{
+    if !some_are_away(course) {
+        return Ok(());
+    }
+    match planned_anew(alloc, given, course)? {
+        None => Ok(()),
+        Some(made) => keep(given, course, made),
+    }
+}
+
+/// The plan is in force from now on, and noted.
+fn keep(given: &Given<'_>, course: &mut Course<'_>, made: Planned) -> Result<(), AllocError>
+    ensures past { OnOk result (past_of course.new
+        ≡ with_plan given.now.answers made (past_of course.old)) }
+    ensures known { course.new.known ≡ course.old.known }
+    ensures tickets { course.new.tickets.items ≡ course.old.tickets.items }
+    ensures folders { course.new.folders ≡ course.old.folders }
+{
+    let note = PlanNote {
+        after: given.answers,
+        cost: made.cost,
+    };
+    match course.plans.push(note) {
+        Ok(()) => {
+            mem::drop(mem::replace(&mut course.planned, Some(made)));
+            Ok(())
+        }
+        Err(_) => {
+            mem::drop(made);
+            Err(AllocError)
+        }
+    }
+}
+
+/// Whether the outputs of some known job aren't at hand.
+fn some_are_away(course: &Course<'_>) -> bool
+    ensures { MatchBool result (SomeAway course.now) (AllThere course.now) }
+{
+    for number in 0..known_in(&course.known).len() {
+        if !course.jobs.is_there(number) {
+            return true;
+        }
+    }
+    false
+}
+
+/// The plan of the jobs that are known now. After a fault of what is known there is none, and the end is settled.
+fn planned_anew(
+    alloc: Global,
+    given: &Given<'_>,
+    course: &Course<'_>,
+) -> Result<Option<Planned>, AllocError>
+    ensures { IfOk result (λ made. MatchOption made (PlansNothing course.now)
+        (IsPlanAt given.now course.now)) }
+{
+    let costs = costs_in(alloc, given, course)?;
+    match &course.known {
+        None => Ok(None),
+        Some(known) => if_planned(plan_for(
+            alloc,
+            known,
+            costs.as_slice(),
+            last_charges(&course.planned),
+        )),
+    }
+}
+
+/// The plan, unless the fault of what is known is told.
+fn if_planned(told: Result<Planned, UnfoldError>) -> Result<Option<Planned>, AllocError>
+    ensures { IfOk result (IsToldPlan told) }
+{
+    match told {
+        Ok(made) => Ok(Some(made)),
+        Err(UnfoldError::Refused(fault)) => {
+            mem::drop(fault);
+            Ok(None)
+        }
+        Err(UnfoldError::OutOfMemory) => Err(AllocError),
+    }
+}
+
+/// The charges of the plan in force.
+fn last_charges(planned: &Option<Planned>) -> Option<&Charges> {
+    match planned {
+        None => None,
+        Some(made) => Some(&made.charges),
+    }
+}
+
+/// What each known job costs.
+fn costs_in(alloc: Global, given: &Given<'_>, course: &Course<'_>) -> Result<Vec<Costs>, AllocError>
+    ensures costs { IfOk result (λ costs. AreCosts given.now (past_of course.now)
+        (length (jobs_in course.now.known)) costs.items) }
+    ensures within { IfOk result (λ costs. All AreWithin costs.items) }
+{
+    let count = known_in(&course.known).len();
+    let mut costs = Vec::with_capacity(alloc, count)?;
+    for number in 0..count {
+        costs.push(costs_at(given, course, number))?;
+    }
+    Ok(costs)
+}
+
+/// What the known job of a number costs.
+fn costs_at(given: &Given<'_>, course: &Course<'_>, number: usize) -> Costs
+    ensures costs { result ≡ costs_at given.now (past_of course.now) number }
+    ensures within { AreWithin result }
+{
+    let standing = Standing {
+        held: !course.jobs.waits(number),
+        archived: given.options.keep && can_load(course, number),
+        row: course.rows.get(number),
+    };
+    costs_of(standing, &given.rates)
+}
+
+/// The marks of the plan in force; none before the first planning point.
+pub(crate) fn marks_in<'s>(planned: &'s Option<Planned>) -> &'s [Mark]
+    ensures { result.now ≡ marks_in planned.now }
+{
+    match planned {
+        None => &[],
+        Some(made) => made.plan.marks.as_slice(),
+    }
+}
+
+/// Whether the plan loads the job of a number.
+pub(crate) fn is_loaded(marks: &[Mark], number: usize) -> bool
+    ensures { result ≡ is_load (mark marks.now number) }
+{
+    match marks.get(number) {
+        Some(Mark::Load) => true,
+        _ => false,
+    }
+}
+
+/// Whether the plan computes the job of a number.
+pub(crate) fn is_computed(marks: &[Mark], number: usize) -> bool
+    ensures { result ≡ is_compute (mark marks.now number) }
+{
+    match marks.get(number) {
+        Some(Mark::Compute) => true,
+        _ => false,
+    }
+}

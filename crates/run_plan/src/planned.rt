@@ -1,0 +1,86 @@
+//! The plan of the jobs that are known.
+ghost use Rattle.std.specs.Prelude.{◌≡◌, All, IfErr, IfOk, length};
+ghost use Rattle.job_graph.specs.PresentJobGraph.{AreWithin, present_job_graph};
+ghost use Rattle.job_graph.specs.Unfolding.{Blames};
+ghost use Rattle.plan_checker.specs.Certificate.{IsCertificate};
+ghost use Rattle.plan_checker.specs.Least.{IsLeast};
+ghost use Rattle.run_plan.specs.Planned.{IsPlanOf};
+
+use flow_planner::{OutOfMemory, plan, plan_again};
+use job_graph::{Costs, UnfoldError, Unfolding};
+use plan_checker::{Charges, Graph, Plan, certificates_break_nothing, check};
+use std::alloc::{AllocError, Global};
+use std::mem;
+
+/// A graph with its Least plan, charges that certify it, and what it costs.
+#[derive(Drop)]
+pub struct Planned {
+    pub graph: Graph,
+    pub plan: Plan,
+    pub charges: Charges,
+    pub cost: u64,
+}
+
+/// Makes the present job graph of the jobs that are known, each with its costs, and plans it; faster where there are charges of
+/// the plan before. After a refused `learn` it answers that refusal.
+pub fn plan_for(
+    alloc: Global,
+    known: &Unfolding<'_>,
+    costs: &[Costs],
+    last: Option<&Charges>,
+) -> Result<Planned, UnfoldError>
+    requires each { length costs.now ≡ length known.now.known }
+    requires within { All AreWithin costs.now }
+    ensures ok { IfOk result (IsPlanOf
+        (present_job_graph known.now.learned known.now.known known.now.outs costs.now)) }
+    ensures err { IfErr result (Blames known.now.refused) }
+{
+    let graph = known.graph(costs)?;
+    Ok(planned_graph(alloc, graph, last)?)
+}
+
+/// Plans a graph.
+fn planned_graph(alloc: Global, graph: Graph, last: Option<&Charges>) -> Result<Planned, AllocError>
+    ensures { IfOk result (IsPlanOf graph) }
+{
+    match plan_of(alloc, &graph, last) {
+        Ok((plan, charges)) => Ok(certified(graph, plan, charges)),
+        Err(OutOfMemory) => {
+            mem::drop(graph);
+            Err(AllocError)
+        }
+    }
+}
+
+/// The Least plan of a graph, with charges.
+fn plan_of(
+    alloc: Global,
+    graph: &Graph,
+    last: Option<&Charges>,
+) -> Result<(Plan, Charges), OutOfMemory>
+    ensures least { IfOk result (λ made. IsLeast graph.now made.0.marks) }
+    ensures certified { IfOk result (λ made. IsCertificate graph.now made.0.marks made.1) }
+{
+    match last {
+        None => plan(alloc, graph),
+        Some(charges) => plan_again(alloc, graph, charges),
+    }
+}
+
+/// A certificate of a graph with its cost.
+fn certified(graph: Graph, plan: Plan, charges: Charges) -> Planned
+    requires least { IsLeast graph plan.marks }
+    requires certified { IsCertificate graph plan.marks charges }
+    ensures { IsPlanOf graph result }
+{
+    certificates_break_nothing();
+    match check(&graph, &plan, &charges) {
+        Ok(cost) => Planned {
+            graph,
+            plan,
+            charges,
+            cost,
+        },
+        Err(_) => unreachable!(),
+    }
+}
