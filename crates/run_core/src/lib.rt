@@ -30,6 +30,7 @@ mod site;
 mod starts;
 mod state;
 mod steps;
+mod stops;
 mod turn;
 mod turns;
 

@@ -3,7 +3,7 @@ ghost use Rattle.std.specs.Prelude.{◌≡◌, ◌<◌, ◌+◌, ◌^◌, ◌∷
 ghost use Rattle.run_core.specs.declared.state.JobNext.{JobNext as Next};
 ghost use Rattle.run_core.specs.declared.state.Phase.{Phase as Waits};
 ghost use Rattle.run_core.specs.inner.Course.{known_in};
-ghost use Rattle.run_core.specs.inner.Follows.{AfterFailure, AnswersWork, AsksOf, CanStage, Drains, FollowsFrom, FollowsIn, FollowsWork, IsLeftAfter, IsOneLess, IsReady, IsReadyFor, IsStaging, StoresKnown};
+ghost use Rattle.run_core.specs.inner.Follows.{AnswersWork, AsksOf, CanStage, FollowsFrom, FollowsIn, FollowsWork, IsLeftAfter, IsOneLess, IsReady, IsReadyFor, IsStaging};
 ghost use Rattle.run_core.specs.inner.Picks.{AfterChild, AfterInputHead, AfterListing, AfterOutputHead, AfterStaging, AfterStart, AfterTemporary, IsScanned, IsSite, Turns};
 ghost use Rattle.run_core.specs.inner.Planning.{Replans};
 ghost use Rattle.run_core.specs.inner.Standing.{HasRoom};
@@ -12,12 +12,12 @@ ghost use Rattle.proc_host.specs.declared.call.HostAnswer.{HostAnswer as HostSay
 ghost use Rattle.run_rules.specs.declared.request.Answer.{Answer as Told};
 ghost use Rattle.run_rules.specs.Answers.{MayAnswer};
 
-use crate::archiving::{archived, keeping, unarchived};
+use crate::archiving::{archived, keeping};
 use crate::choice::pick;
 use crate::collects::{listed, read, scanning};
 use crate::course::{
-    job_of, note_end, note_failure, note_fault, note_giving_up, note_mismatch, note_staging,
-    note_start, note_success,
+    job_of, note_end, note_failure, note_giving_up, note_mismatch, note_staging, note_start,
+    note_success,
 };
 use crate::fetching::fetched;
 use crate::measuring::measured;
@@ -26,12 +26,13 @@ use crate::rows::told;
 use crate::site::Site;
 use crate::starts::{filled, filled_first};
 use crate::state::{Course, Filling, Flight, Given, JobNext, JobPhase, Kept, Phase, Reading, Turn};
-use crate::turn::{ended, failing, lost, succeeded, working};
-use crate::{Answer, Cause, Request, RunFault};
+use crate::stops::{drained, failed};
+use crate::turn::{ended, failing, succeeded, working};
+use crate::{Answer, Cause, Request};
 use cwl_value::Value;
 use job_rows::Row;
 use plain_data::{Items, Keyed};
-use proc_host::{ChildEnd, ExitClass, HostAnswer, HostFault, HostRequest, classify};
+use proc_host::{ChildEnd, ExitClass, HostAnswer, HostRequest, classify};
 use staging::Found;
 use std::alloc::{AllocError, Global};
 use std::mem;
@@ -469,48 +470,4 @@ fn on_output_bytes(
 {
     let next = read(alloc, site_of(given, course, number), kept, reading, bytes)?;
     turn_of(alloc, given, course, number, next)
-}
-
-/// A call failed: it settles the end, or is late, unless files were to be archived. After a failed collect nobody waits for the children
-/// in flight any more.
-fn failed(
-    alloc: Global,
-    given: &Given<'_>,
-    course: &mut Course<'_>,
-    asks: &Request,
-    phase: Phase,
-    fault: HostFault,
-) -> Result<Turn, AllocError>
-    requires ready { IsReadyFor course.old phase }
-    requires stores { StoresKnown course.old phase }
-    ensures is { IfOk result (λ next. AfterFailure given.now course.old asks.now phase fault next
-        course.new) }
-    ensures flying { OnErr result (course.new.tickets.items ≡ course.old.tickets.items) }
-    ensures going { OnErr result (phase ≡ Waits.Draining → ⊥) }
-{
-    match phase {
-        Phase::Collecting => {
-            let running = mem::replace(&mut course.tickets, Vec::new(alloc));
-            Ok(ended(Err(RunFault::Host(fault, Items::from_vec(running)))))
-        }
-        Phase::Draining => {
-            course.tickets.clear();
-            Ok(lost(alloc, course))
-        }
-        Phase::Storing(number, row) => unarchived(alloc, course, number, row, fault),
-        phase => {
-            mem::drop(phase);
-            note_fault(alloc, course, asks, fault)?;
-            pick(alloc, given, course)
-        }
-    }
-}
-
-/// A child has ended after memory ran out.
-fn drained(alloc: Global, course: &mut Course<'_>, ending: &ChildEnd) -> Turn
-    ensures { Drains course.old ending.now result course.new }
-{
-    let ticket = ending.ticket;
-    course.tickets.retain(|one| *one != ticket);
-    lost(alloc, course)
 }

@@ -3,7 +3,7 @@ use Rattle.run_core.specs.declared.state.Phase.{Phase}
 use Rattle.run_core.specs.inner.Follows.{AfterFailure, StoresKnown}
 use Rattle.run_core.proofs.Choices.{fault_by, if_lost}
 use Rattle.run_core.proofs.Lists.{if_ok, on_err}
-use Rattle.run_core.proofs.steps.failed.Goals as goal
+use Rattle.run_core.proofs.stops.failed.Goals as goal
 
 pub returns-in_ok-note_fault-in_default : goal.returns-in_ok-note_fault-in_default
 returns-in_ok-note_fault-in_default c = record {
