@@ -102,7 +102,7 @@ def flipped(path):
 
 ALL = scene.JOBS
 # No row has the permissions of a file: those of a delivered one are the archive's.
-MODES = "in a kept folder: a file may not be run any more, and so it is delivered"
+MODES = ("a file may be written by all, and be run", "in a kept folder: a file may not be run any more")
 # What is done, how it is told, and how many jobs then start; or the fault that ends the run.
 ALTERATIONS = (
     ("nothing is altered", lambda kept: None, 0),
@@ -118,13 +118,13 @@ ALTERATIONS = (
     ("a file is a link that leads nowhere", lambda kept: replaced(kept, f"{kept.upper(LARGE)}/upper", lambda path: os.symlink("nowhere", path)), 1),
     ("a file is a folder", lambda kept: replaced(kept, f"{kept.upper(LARGE)}/upper", os.mkdir), 1),
     ("a file is a pipe", lambda kept: replaced(kept, f"{kept.upper(LARGE)}/upper", os.mkfifo), 1),
-    ("a file may be written by all, and be run", lambda kept: os.chmod(f"{kept.upper(LARGE)}/upper", 0o777), 0),
+    (MODES[0], lambda kept: os.chmod(f"{kept.upper(LARGE)}/upper", 0o777), 0),
     ("a file may not be read", lambda kept: os.chmod(f"{kept.upper(LARGE)}/upper", 0), "H7"),
     ("a file is there that no row has", lambda kept: put(f"{kept.upper(LARGE)}/more", b"more"), 0),
     ("in a kept folder: a file is truncated", lambda kept: os.truncate(f"{kept.directory(LARGE)}/d/below/run", 1_000), 1),
     ("in a kept folder: a file is deleted", lambda kept: os.remove(f"{kept.directory(LARGE)}/d/below/lines"), 1),
     ("in a kept folder: a folder is deleted", lambda kept: shutil.rmtree(f"{kept.directory(LARGE)}/d/below"), 1),
-    (MODES, lambda kept: os.chmod(f"{kept.directory(LARGE)}/d/below/run", 0o644), 0),
+    (MODES[1], lambda kept: os.chmod(f"{kept.directory(LARGE)}/d/below/run", 0o644), 0),
     ("in a kept folder: a file is there that no row has", lambda kept: put(f"{kept.directory(LARGE)}/d/below/more", b"more"), 0),
     ("a kept folder is a link to itself", lambda kept: os.symlink(moved_out(kept, f"{kept.directory(LARGE)}/d"), f"{kept.directory(LARGE)}/d"), 1),
     ("a kept folder is a file", lambda kept: replaced(kept, f"{kept.directory(LARGE)}/d", lambda path: put(path, b"d")), 1),
@@ -203,9 +203,9 @@ def tried(kept, told, words, alter, first, then):
     """Alters the archive that is full, and runs twice."""
     kept.again()
     alter(kept)
-    found = faults_of_run(kept.scene, first, words != MODES)
+    found = faults_of_run(kept.scene, first, words not in MODES)
     if then is not None:
-        found += [f"then {it}" for it in faults_of_run(kept.scene, then, words != MODES)]
+        found += [f"then {it}" for it in faults_of_run(kept.scene, then, words not in MODES)]
     unlocked(kept.scene)
     told.line(words, found)
 

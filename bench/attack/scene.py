@@ -1,7 +1,9 @@
 """A workflow on real files, what it has to give, and what its record and its archive hold: for the scripts beside this one.
 
 Eighteen jobs: eight copy a file in upper case, eight make a folder of such a copy, with a file in a folder and one that may be run, one joins the copies,
-and one counts its bytes. The files have from no byte to some hundred thousand. What has to come out is computed here, and not taken from a run.
+and one counts its bytes. All that they make is a result, so a run needs each of them. The files have from no byte to some hundred thousand. Each job sleeps
+for 20 ms or more, so that to fetch what it made, which costs 10 at most, is always cheaper than to compute it. What has to come out is computed here, and
+not taken from a run.
 """
 
 import hashlib
@@ -38,14 +40,14 @@ def file_named(name):
 
 
 ONE, MANY = ({"f": {"type": kind, "inputBinding": {"position": 1}}} for kind in ("File", "File[]"))
-UPPER = tool('sleep 0.0$(($$ % 5)); tr a-z A-Z <"$1"', ONE, {"o": "stdout"}, stdout="upper")
+UPPER = tool('sleep 0.0$((2 + $$ % 5)); tr a-z A-Z <"$1"', ONE, {"o": "stdout"}, stdout="upper")
 FOLDER = tool(
-    'mkdir -p d/below; cp "$1" d/copy; cp "$1" d/below/run; chmod 755 d/below/run; echo "$1" | wc -l >d/below/lines',
+    'sleep 0.02; mkdir -p d/below; cp "$1" d/copy; cp "$1" d/below/run; chmod 755 d/below/run; echo "$1" | wc -l >d/below/lines',
     ONE,
     {"o": {"type": "Directory", "outputBinding": {"glob": "d"}}},
 )
-JOIN = tool('cat "$@" >joined', MANY, file_named("joined"))
-COUNT = tool('wc -c <"$1" | tr -d " " >count', ONE, file_named("count"))
+JOIN = tool('sleep 0.02; cat "$@" >joined', MANY, file_named("joined"))
+COUNT = tool('sleep 0.02; wc -c <"$1" | tr -d " " >count', ONE, file_named("count"))
 
 
 class Scene:
@@ -76,6 +78,7 @@ class Scene:
             "folders": {"type": "Directory[]", "outputSource": "folder/o"},
             "joined": {"type": "File", "outputSource": "join/o"},
             "count": {"type": "File", "outputSource": "count/o"},
+            "uppers": {"type": "File[]", "outputSource": "upper/o"},
         }
         inputs = {"files": [{"class": "File", "location": f"given/{number}"} for number in range(len(SIZES))]}
         for name, value in (("scene.json", document), ("inputs.json", inputs)):
@@ -125,8 +128,8 @@ class Scene:
         uppers = [content.upper() for content in self.contents]
         files = {"joined": b"".join(uppers), "count": b"%d\n" % sum(map(len, uppers))}
         for number, content in enumerate(uppers):
-            at = "d" if number == 0 else f"_{number}/d"
-            files.update({f"{at}/copy": content, f"{at}/below/run*": content, f"{at}/below/lines": b"1\n"})
+            at = "" if number == 0 else f"_{number}/"
+            files.update({f"{at}d/copy": content, f"{at}d/below/run*": content, f"{at}d/below/lines": b"1\n", f"{at}upper": content})
         return files
 
     def wrong_outputs(self, said, with_modes=True):
@@ -146,8 +149,9 @@ class Scene:
             one = printed.get(name, {})
             if (one.get("checksum"), one.get("size")) != (f"sha1${sum_of(content)}", len(content)):
                 wrong.append(f"what is printed of {name} is wrong")
-        if len(printed.get("folders", ())) != len(SIZES):
-            wrong.append("what is printed of the folders is wrong")
+        for name in ("folders", "uppers"):
+            if len(printed.get(name, ())) != len(SIZES):
+                wrong.append(f"what is printed of the {name} is wrong")
         return wrong
 
     def rows(self):

@@ -1,7 +1,8 @@
 #!/bin/bash
 # How often the program itself reads and writes the bytes of files of 200 MB: of one that a tool copies, of one that a tool makes, and of one that the
 # first of two steps copies and the second copies again; the last also with a record and an archive, in a first run and in a second one, which starts
-# nothing. Counted by the system (rchar and wchar of /proc/PID/io), less what the commands that start read and write alone.
+# nothing: its steps wait for twice as long as a fetch of the file is taken to last. Counted by the system (rchar and wchar of /proc/PID/io), less what
+# the commands that start read and write alone.
 # Where strace is there, tables follow: of each path how many times its bytes are read and written by the program, how many copies it makes of it, and
 # how many times it is read beside these; and what its children read and write. A file is to be read once for its sum, and once for each copy: what is
 # read more often beside its copies than once has a '!'.
@@ -21,7 +22,9 @@ import json, sys
 copy = {"cwlVersion": "v1.2", "class": "CommandLineTool", "baseCommand": "cat", "stdout": "made", "outputs": {"o": "stdout"}}
 copy["inputs"] = {"f": {"type": "File", "inputBinding": {}}}
 make = {**copy, "baseCommand": ["head", "-c", sys.argv[1], "/dev/zero"], "inputs": {}}
-steps = {"a": {"run": copy, "in": {"f": "f"}, "out": ["o"]}, "b": {"run": copy, "in": {"f": "a/o"}, "out": ["o"]}}
+# (to fetch costs a millisecond for each 100 kB, and what is quicker to compute is computed)
+slow = {**copy, "baseCommand": ["sh", "-c", f"sleep {int(sys.argv[1]) / 50_000_000}; cat \"$0\""]}
+steps = {"a": {"run": slow, "in": {"f": "f"}, "out": ["o"]}, "b": {"run": slow, "in": {"f": "a/o"}, "out": ["o"]}}
 twice = {"cwlVersion": "v1.2", "class": "Workflow", "inputs": {"f": "File"}, "steps": steps}
 twice["outputs"] = {"o": {"type": "File", "outputSource": "b/o"}}
 file = {"f": {"class": "File", "location": "given"}}

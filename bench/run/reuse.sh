@@ -2,7 +2,8 @@
 # What a run saves that has a record and an archive: N jobs that each copy a file of 1 kB, four at once, and one that joins what they made.
 # - The first run beside one without record and archive.
 # - A second one with nothing changed beside `make` with nothing to do, `ninja` where that is installed, and cwltool's `--cachedir` where that is.
-# - How many commands a run starts where nothing was changed, and where one file of the N was; its joined file is compared.
+# - How many commands a run starts where nothing was changed, and where one file of the N was; its joined file is compared. To fetch a copy costs 2 and to
+#   make it what it took in milliseconds: those that took 1 are made again.
 # Times are medians of 3, or of TIMES, and their ratios: of files on a disk, or in memory with TMPDIR=/dev/shm. Needs bash, python3, make and rt. PROGRAM=PATH takes a program that is built already; SIZES
 # names other numbers of jobs.
 set -euo pipefail
@@ -64,6 +65,9 @@ started() {
     grep -c '^start ' told || true
 }
 
+# Of how many copies the record says that they took a millisecond at most.
+quick() { "$program" record jobs.db | awk '$2 == 1 && $3 == 1000 { n++ } END { print n + 0 }'; }
+
 for n in ${SIZES:-1000}; do
     written "$n"
     echo "$n jobs on files of 1 kB, and one that joins what they made"
@@ -91,8 +95,10 @@ for n in ${SIZES:-1000}; do
     fi
 
     nothing=$(started)
+    quick=$(quick)
     printf 'changed\n' >>"given/$((n / 2))"
     one=$(started)
-    echo "commands that start: $nothing where nothing was changed, $one where one file of $n was: of its job, and of the one that joins"
-    [ "$nothing $one" = "0 2" ] || { echo "0 and 2 have to start"; exit 1; }
+    echo "commands that start: $nothing where nothing was changed, $one where one file of $n was: of its job, of the one that joins, and those of $quick that took 1 ms"
+    # (the changed file's job may be one of these)
+    [ "$nothing" = 0 ] && [ "$one" -ge $((quick + 1)) ] && [ "$one" -ge 2 ] && [ "$one" -le $((quick + 2)) ] || { echo "0 and 2 and those have to start"; exit 1; }
 done
