@@ -1,13 +1,28 @@
 #!/bin/bash
-# What is left of a run that is stopped by `kill -9` at a random moment, and of an archive that was altered behind a run's back: stops.py and archives.py say
-# what is tried and what has to come out. STOPS (200) and SEED (1) name other numbers; the status is 1 where something is not as it has to be.
-# Needs bash, python3, sqlite3 and rt, and strace for stops at calls. PROGRAM=PATH takes a program that is built already.
+# All that is tried on the program so that it answers wrongly, or is left with nothing: what each script tries, and what has to come out, stands in it.
+#   archives.py   an archive that was altered behind a run's back
+#   stops.py      what is left of a run that is stopped by `kill -9` at a random moment
+#   signals.py    what is left of a run that is ended by another signal, and the words that lead on
+#   full.py       disks that are full
+#   memory.py     each request for memory of a run, refused
+#   mutants.py    documents, inputs, certificates and records that were altered at random
+# SEED (1), STOPS (200) and MUTANTS (100,000) name other numbers; ONLY="signals full" names the scripts that are run. The status is 1 where something is not as it has to be.
+# Needs bash, python3, sqlite3, cc and rt, strace for stops at calls, and unshare for small disks. PROGRAM=PATH takes a program that is built already.
 set -euo pipefail
 top=$(cd "$(dirname "$0")/../.." && pwd)
 program=${PROGRAM:-$top/$("$top/scripts/build" 2>/dev/null)}
 [ -x "$program" ] || { echo "there is no program: make says why"; exit 1; }
 command -v sqlite3 >/dev/null || { echo "sqlite3 is not here"; exit 1; }
-status=0
-python3 "$top/bench/attack/archives.py" "$program" "${SEED:-1}" || status=1
-python3 "$top/bench/attack/stops.py" "$program" "${STOPS:-200}" "${SEED:-1}" || status=1
+seed=${SEED:-1} status=0
+tried() {
+    [[ " ${ONLY:-$1} " == *" $1 "* ]] || return 0
+    echo "== $1"
+    python3 "$top/bench/attack/$1.py" "$program" "${@:2}" || status=1
+}
+tried archives "$seed"
+tried stops "${STOPS:-200}" "$seed"
+tried signals
+tried full
+tried memory
+tried mutants "${MUTANTS:-100000}" "$seed"
 exit "$status"
