@@ -7,3 +7,5 @@ pub mod Spread
 pub mod Taken
 pub mod Parts
 pub mod Unreached
+pub mod Alone
+pub mod Marked

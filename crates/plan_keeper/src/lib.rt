@@ -4,6 +4,8 @@
 //! together only by way of them can be planned apart, and what has not changed keeps its marks and charges.
 #![tactic(auto)]
 
+mod apart;
 mod laws;
 
+pub use apart::plan_apart;
 pub use laws::{parts_make_the_plan, plans_make_the_plan, unreached_stays};
