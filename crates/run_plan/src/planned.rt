@@ -8,7 +8,8 @@ ghost use Rattle.run_plan.specs.Planned.{IsPlanOf};
 
 use flow_planner::{OutOfMemory, plan, plan_again};
 use job_graph::{Costs, UnfoldError, Unfolding};
-use plan_checker::{Charges, Graph, Plan, certificates_break_nothing, check};
+use plan_checker::{Charges, Graph, Plan};
+use plan_keeper::{plan_apart, plan_cost};
 use std::alloc::{AllocError, Global};
 use std::mem;
 
@@ -44,7 +45,7 @@ fn planned_graph(alloc: Global, graph: Graph, last: Option<&Charges>) -> Result<
     ensures { IfOk result (IsPlanOf graph) }
 {
     match plan_of(alloc, &graph, last) {
-        Ok((plan, charges)) => Ok(certified(graph, plan, charges)),
+        Ok((plan, charges)) => Ok(costed(graph, plan, charges)),
         Err(OutOfMemory) => {
             mem::drop(graph);
             Err(AllocError)
@@ -52,7 +53,7 @@ fn planned_graph(alloc: Global, graph: Graph, last: Option<&Charges>) -> Result<
     }
 }
 
-/// The Least plan of a graph, with charges.
+/// The Least plan of a graph, with charges: read off where all that isn't free stands apart, and else planned.
 fn plan_of(
     alloc: Global,
     graph: &Graph,
@@ -61,6 +62,9 @@ fn plan_of(
     ensures least { IfOk result (λ made. IsLeast graph.now made.0.marks) }
     ensures certified { IfOk result (λ made. IsCertificate graph.now made.0.marks made.1) }
 {
+    if let Some(made) = plan_apart(alloc, graph)? {
+        return Ok(made);
+    }
     match last {
         None => plan(alloc, graph),
         Some(charges) => plan_again(alloc, graph, charges),
@@ -68,19 +72,16 @@ fn plan_of(
 }
 
 /// A certificate of a graph with its cost.
-fn certified(graph: Graph, plan: Plan, charges: Charges) -> Planned
+fn costed(graph: Graph, plan: Plan, charges: Charges) -> Planned
     requires least { IsLeast graph plan.marks }
     requires certified { IsCertificate graph plan.marks charges }
     ensures { IsPlanOf graph result }
 {
-    certificates_break_nothing();
-    match check(&graph, &plan, &charges) {
-        Ok(cost) => Planned {
-            graph,
-            plan,
-            charges,
-            cost,
-        },
-        Err(_) => unreachable!(),
+    let cost = plan_cost(&graph, &plan);
+    Planned {
+        graph,
+        plan,
+        charges,
+        cost,
     }
 }
