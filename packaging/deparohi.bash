@@ -6,7 +6,7 @@ _deparohi() {
         return
     fi
     case $before in
-    --work | --outdir | --archive)
+    --work | --outdir | --archive | --cache)
         mapfile -t COMPREPLY < <(compgen -d -- "$word")
         return
         ;;
@@ -24,7 +24,7 @@ _deparohi() {
         return
     fi
     case $command in
-    run) every="--work --outdir --slots --retries --record --archive --verbose --progress --keep --keep-failed $every" ;;
+    run) every="--work --outdir --slots --retries --record --archive --cache --verbose --progress --keep --keep-failed $every" ;;
     record) every="--forget $every" ;;
     help) every="" ;;
     esac

@@ -1,11 +1,11 @@
 #!/usr/bin/env bash
-# Counts the words of three files, each in a tenth of a second, adds the numbers, and does so again after one of the files has changed. With the same record
-# and archive the second run starts only the jobs behind that file: what the other jobs gave is fetched, which costs less than to count anew. Each run is
+# Counts the words of three files, each in a tenth of a second, adds the numbers, and does so again after one of the files has changed. With the same cache
+# the second run starts only the jobs behind that file: what the other jobs gave is fetched, which costs less than to count anew. Each run is
 # followed by the jobs that it started.
 cd "$(dirname "$0")"
 mkdir -p results
 for first in "a word" "a few more words"; do
   echo "$first" > results/one.txt
-  ${DEPAROHI:-deparohi} run --verbose --record results/jobs.db --archive results/files --outdir results scatter.json inputs.json 2> results/told
+  ${DEPAROHI:-deparohi} run --verbose --cache results/cache --outdir results scatter.json inputs.json 2> results/told
   grep -o '^start "[^"]*"' results/told
 done

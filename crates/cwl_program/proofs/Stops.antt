@@ -21,11 +21,12 @@ use Rattle.run_facts.specs.Holding.{can_hold_files}
 use Rattle.run_facts.specs.declared.made_by.WorkTrouble.{WorkTrouble}
 use Rattle.run_rules.specs.Recorded.{Line}
 use Rattle.run_rules.specs.declared.setting.Options.{Options}
+use Rattle.cwl_program.specs.Caches.{is_twofold, record_of}
 use Rattle.cwl_program.specs.Demo as demo
 use Rattle.cwl_program.specs.Leaving.{left_of}
 use Rattle.cwl_program.specs.RunWords.{RunWish}
 use Rattle.cwl_program.specs.Paths.{IsAt, from_root}
-use Rattle.cwl_program.specs.Runs.{IsAsked, IsEndOfRun, IsInputsText, IsInputsUnread, IsInputsUrl, IsNamedInputs, IsNamedProcess, IsNoInputs, IsNoProcess, IsRanOver, IsRead, IsReady, IsRunExit, document_unread, document_wrong, inputs_unread, inputs_wrong, lost, no_inputs, no_outdir, no_process, no_record, no_work, runs, stops}
+use Rattle.cwl_program.specs.Runs.{IsAsked, IsEndOfRun, IsInputsText, IsInputsUnread, IsInputsUrl, IsNamedInputs, IsNamedProcess, IsNoInputs, IsNoProcess, IsRanOver, IsRead, IsReady, IsRunExit, document_unread, document_wrong, inputs_unread, inputs_wrong, lost, no_inputs, no_outdir, no_process, no_record, no_work, runs, stops, twofold}
 use Rattle.cwl_program.specs.Certificates.{IsCheck, unread}
 use Rattle.cwl_program.specs.Sources.{IsAbsent, IsAccepted, IsDocumentStop, IsInputs, IsInputsStop, IsOfDocuments, bad_document, no_object, too_many}
 use Rattle.cwl_program.specs.Stops.{IsStop, IsUnread}
@@ -143,6 +144,11 @@ pub without_folder : (words : RunWish) (path : Text) (answer : Result RunEnd All
     → IfOk answer (λ end. IsEndOfRun words path end.exit end.left)
 without_folder words path answer is gone = ends_as (IsEndOfRun words path) _ answer ([], lost) is gone
 
+pub without_one_meaning : (here : Text) (words : RunWish) (path : Text) (answer : Result RunEnd AllocError)
+    → is_twofold words ≡ true → IfOk answer (λ end. end.exit ≡ exits.Fault faults.Words) → IfOk answer (λ end. end.left ≡ None)
+    → IfOk answer (λ end. IsEndOfRun words path end.exit end.left)
+without_one_meaning here words path answer twice is gone = ends_as (IsEndOfRun words path) _ answer ([], stops here (twofold twice)) is gone
+
 pub without_process : (here : Text) (words : RunWish) (path : Text) (stop : Stop) (answer : Result RunEnd AllocError)
     → IsStop (IsNoProcess here words) stop → IfOk answer (λ end. stop ≡ Early end.exit) → IfOk answer (λ end. end.left ≡ None)
     → IfOk answer (λ end. IsEndOfRun words path end.exit end.left)
@@ -157,7 +163,7 @@ without_inputs here words path process stop answer named is same gone =
     run_ends_so (IsEndOfRun words path) stop answer (stop_so _ _ (λ exit end. ([], stops here (no_inputs process named end))) stop is) same gone
 
 pub without_record : (here : Text) (words : RunWish) (path : Text) (given : Given) (file : Text) (fault : RecordFault) (answer : Result RunEnd AllocError)
-    → IsReady here words given → words.record_file ≡ Some file
+    → IsReady here words given → record_of words ≡ Some file
     → IfOk answer (λ end. end.exit ≡ exits.Fault (faults.Unopened file fault)) → IfOk answer (λ end. end.left ≡ None)
     → IfOk answer (λ end. IsEndOfRun words path end.exit end.left)
 without_record here words path given file fault answer ready named is gone =

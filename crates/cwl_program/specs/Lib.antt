@@ -1,3 +1,4 @@
+pub mod Caches
 pub mod Certificates
 pub mod CommandLine
 pub mod Demo

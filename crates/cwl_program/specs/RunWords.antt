@@ -20,8 +20,8 @@ named_rule id = record (new_rule id) { long = Some id; action = Some Set; value_
 abbrev pub numbered_rule : Text → ℕ → ℕ → Rule
 numbered_rule id least most = record (named_rule id) { parser = Some (Unsigned least most) }
 
--- `run` with its two folders alone, with its two numbers, with its record, with its archive, with what it tells of its jobs, with whether its work folder
--- stays, with the options of each command, with its document, and with the input object too
+-- `run` with its two folders alone, with its two numbers, with its record, with its archive, with its cache, with what it tells of its jobs, with whether its work
+-- folder stays, with the options of each command, with its document, and with the input object too
 abbrev pub with_folders : App
 with_folders = with_rule (with_rule (new_app (codes "run")) (named_rule (codes "work"))) (named_rule (codes "outdir"))
 
@@ -37,8 +37,11 @@ with_record = with_rule with_numbers (named_rule (codes "record"))
 abbrev pub with_archive : App
 with_archive = with_rule with_record (named_rule (codes "archive"))
 
+abbrev pub with_cache : App
+with_cache = with_rule with_archive (named_rule (codes "cache"))
+
 abbrev pub with_verbose : App
-with_verbose = with_rule with_archive (flag_rule (codes "verbose"))
+with_verbose = with_rule with_cache (flag_rule (codes "verbose"))
 
 abbrev pub with_progress : App
 with_progress = with_rule with_verbose (flag_rule (codes "progress"))
@@ -66,7 +69,7 @@ telling_in rows =
     else Nothing
 
 -- the document, the input object's file where one is named, the two folders, the texts of the two numbers that are given, the record's file
--- and the archive's folder where they are named, whether the work folder is to stay, and whether it is to stay after a failure, how to tell of the jobs, and whether
+-- and the archive's folder where they are named, and a cache's, whether the work folder is to stay, and whether it is to stay after a failure, how to tell of the jobs, and whether
 -- to say in words what went wrong
 pub record RunWish : Type 0 where
   pub document : Text
@@ -77,6 +80,7 @@ pub record RunWish : Type 0 where
   pub retries : Option Text
   pub record_file : Option Text
   pub archive : Option Text
+  pub cache : Option Text
   pub keep : Bool
   pub keep_failed : Bool
   pub telling : Telling
@@ -93,6 +97,7 @@ run_wish rows = record {
   retries = first_of (codes "retries") rows;
   record_file = first_of (codes "record") rows;
   archive = first_of (codes "archive") rows;
+  cache = first_of (codes "cache") rows;
   keep = is_given (codes "keep") rows;
   keep_failed = is_given (codes "keep-failed") rows;
   telling = telling_in rows;
@@ -109,6 +114,7 @@ wish_of_run words = record {
   retries = option_map (λ s. s.now) words.retries;
   record_file = option_map (λ s. s.now) words.record_file;
   archive = option_map (λ s. s.now) words.archive;
+  cache = option_map (λ s. s.now) words.cache;
   keep = words.keep;
   keep_failed = words.keep_failed;
   telling = words.telling;

@@ -24,6 +24,7 @@ use Rattle.workflow_engine.specs.Gains.{RunsOn}
 use Rattle.process_machine.specs.declared.trouble.Hindrance.{Hindrance}
 use Rattle.run_facts.specs.Holding.{can_hold_files}
 use Rattle.run_facts.specs.declared.made_by.WorkTrouble.{WorkTrouble}
+use Rattle.cwl_program.specs.Caches.{archive_of, is_twofold, record_of}
 use Rattle.cwl_program.specs.FailedCalls.{failed_on}
 use Rattle.cwl_program.specs.Leaving.{left_of}
 use Rattle.cwl_program.specs.Paths.{IsAt, from_root}
@@ -116,12 +117,13 @@ pub data IsNoInputs (here : Text) (words : RunWish) : Exit → Type 0 where
   inputs_wrong : {exit : Exit} (bytes : List ℕ) (base : Parts) → IsInputsText words.inputs bytes → IsInputsUrl here words base →
       IsInputsStop bytes base exit → IsNoInputs here words exit
 
--- there is nothing to run: the document is looked at first, then the inputs, then the record is opened where one is named, then the work
+-- there is nothing to run: a cache is named beside a record or an archive; else the document is looked at first, then the inputs, then the record is opened where one is named, then the work
 -- folder is made, and last the output folder is looked at, where an output can be or hold a File or Directory
 pub data IsStopExit (here : Text) (words : RunWish) : Exit → Type 0 where
+  twofold : is_twofold words ≡ true → IsStopExit here words (exits.Fault faults.Words)
   no_process : {exit : Exit} → IsNoProcess here words exit → IsStopExit here words exit
   no_inputs : {exit : Exit} (process : Process) → IsNamedProcess here words process → IsNoInputs here words exit → IsStopExit here words exit
-  no_record : (given : Given) (file : Text) (fault : RecordFault) → IsReady here words given → words.record_file ≡ Some file →
+  no_record : (given : Given) (file : Text) (fault : RecordFault) → IsReady here words given → record_of words ≡ Some file →
       IsStopExit here words (exits.Fault (faults.Unopened file fault))
   no_work : (given : Given) (why : WorkTrouble) → IsReady here words given →
       IsStopExit here words (exits.Fault (faults.Work (from_root here words.work) why))
@@ -134,7 +136,7 @@ pub data IsStopExit (here : Text) (words : RunWish) : Exit → Type 0 where
 pub record AreNamed (here : Text) (words : RunWish) (places : Places) : Type 0 where
   pub work : places.work ≡ from_root here words.work
   pub outdir : places.outdir ≡ from_root here words.outdir
-  pub archive : places.archive ≡ option_map (from_root here) words.archive
+  pub archive : places.archive ≡ option_map (from_root here) (archive_of words)
 
 -- what a run may use, and where, with this `PATH`: the slots and the retries are those that the words give, else 1 and 0; a load costs 1
 -- and 1 more for each 100,000 bytes, and an archive is kept where the words name one
@@ -146,7 +148,7 @@ pub record IsAsked (here : Text) (words : RunWish) (path : Text) (options : Opti
   pub retries : IsChosen 0 10 0 words.retries options.retries
   pub base : options.base ≡ 1
   pub rate : options.rate ≡ 100000
-  pub keep : options.keep ≡ is_some words.archive
+  pub keep : options.keep ≡ is_some (archive_of words)
 
 -- a run of the named process on the named inputs, or nothing to run; the work folder, where it stays; and the lines that the log of the
 -- record has then, of which nothing was asked before

@@ -3,6 +3,7 @@ ghost use Rattle.clap.specs.Words.{HasKind, fault_of, kind_of};
 ghost use Rattle.cwl_program.specs.CommandLine.{Asks, command_line};
 ghost use Rattle.cwl_program.specs.Tells.{Explains, IsEndOf, IsRecordExit, IsRunTold, IsTold, LeadsTo, Says, Tells, asks_why, telling_of};
 
+use crate::caches::{RECORD, within};
 use crate::certificate::exit_of_check;
 use crate::command::{Choice, choice_of};
 use crate::demo::exit_of_demo;
@@ -15,13 +16,14 @@ use crate::telling::Telling;
 use crate::terminal::add_terminal_words;
 use clap::Error;
 use clap::error::ErrorKind;
+use plain_data::Text;
 use process_machine::World;
 use record_program::Records;
 use std::alloc::{AllocError, Global};
 use std::io::{IsTerminal, Write};
 use std::process::{ExitCode, Stdio};
 use std::rt::Env;
-use std::{env, io, mem};
+use std::{env, fs, io, mem};
 
 /// The status of a fault, and of a command line that is refused.
 const FAULT: u8 = 3;
@@ -170,7 +172,7 @@ where
         Choice::Demo(_) => bare(rt.alloc(), exit_of_demo(rt.alloc(), path)),
         Choice::Check(file, _) => bare(rt.alloc(), exit_of_check(rt, file)),
         Choice::Run(words) => end_of_process(rt, words, path, err),
-        Choice::Record(words) => Ok(RunEnd::bare(rt.alloc(), exit_of_record(rt, words))),
+        Choice::Record(words) => bare(rt.alloc(), exit_of_record(rt, words)),
     }
 }
 
@@ -183,10 +185,21 @@ fn bare(alloc: Global, exit: Result<Exit, AllocError>) -> Result<RunEnd, AllocEr
 }
 
 #[tactic(auto, using(crate::specs::Tells::shows))]
-fn exit_of_record<R: Records>(rt: &R, words: &RecordWords) -> Exit
-    ensures { IsRecordExit result }
+fn exit_of_record<R: World + Records>(rt: &R, words: &RecordWords) -> Result<Exit, AllocError>
+    ensures { IfOk result IsRecordExit }
 {
-    Exit::Record(rt.record_ending(words.file, words.forget))
+    let file = record_at(rt, words.file)?;
+    let ending = rt.record_ending(file.as_str(), words.forget);
+    mem::drop(file);
+    Ok(Exit::Record(ending))
+}
+
+/// The file of the record that is named: of a folder, that of the cache which it is.
+fn record_at<R: World>(rt: &R, name: &str) -> Result<Text, AllocError> {
+    match fs::metadata(rt, name) {
+        Ok(metadata) if metadata.is_dir() => within(rt.alloc(), name, RECORD),
+        _ => Text::from_text(rt.alloc(), name),
+    }
 }
 
 /// Whether the choice asks for words on what went wrong.

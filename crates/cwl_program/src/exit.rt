@@ -63,6 +63,8 @@ pub enum Fault {
     Record(RecordRefusal),
     /// The record of the file of this name can't be opened, and why.
     Unopened(Text, RecordFault),
+    /// The words name a cache beside a record or an archive.
+    Words,
     /// The folder that the program is called in can't be told.
     Folder,
     /// The file of this name can't be read, and why.
@@ -115,6 +117,7 @@ impl Fault {
             Fault::Host(fault, _) => fault.code(),
             Fault::Record(refusal) => refusal.code(),
             Fault::Unopened(_, fault) => fault.code(),
+            Fault::Words => "words",
             Fault::Folder | Fault::Unread(_, _) | Fault::NoObject => "input",
             Fault::Work(_, _) => "work",
             Fault::Outdir(_, _) => "H9",

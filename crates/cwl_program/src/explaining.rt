@@ -223,6 +223,12 @@ fn fault_words(alloc: Global, fault: &Fault) -> Result<String, AllocError> {
             let why = record_words(alloc, *fault)?;
             format!(in alloc; "{file}: {why}")
         }
+        Fault::Words => {
+            String::from_str(
+                alloc,
+                "`--cache` has a record and an archive of its own, so it stands beside neither `--record` nor `--archive`",
+            )
+        }
         Fault::Folder => {
             String::from_str(
                 alloc,

@@ -5,11 +5,12 @@ ghost use Rattle.cwl_program.specs.RunWords.{wish_of_run};
 ghost use Rattle.cwl_program.specs.Runs.{AreNamed, IsAsked, IsReady, IsRunExit};
 ghost use Rattle.cwl_program.specs.Tells.{IsRunTold};
 
+use crate::caches::keeps_archive;
 use crate::given::{Call, Given, Places};
 use crate::on_machine::with_options;
 use crate::outdir::{outdir_for, without_outdir};
 use crate::run_end::RunEnd;
-use crate::run_words::{keeps_archive, retries_of, slots_of};
+use crate::run_words::{retries_of, slots_of};
 use crate::work_folder::{leave, mark_made, without_work};
 use job_rows::Record;
 use plain_data::Text;

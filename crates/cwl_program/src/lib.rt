@@ -9,6 +9,7 @@
 #![tactic(auto)]
 
 mod advice;
+mod caches;
 mod certificate;
 mod command;
 mod demo;

@@ -31,7 +31,12 @@ pub fn record_command<'a>(alloc: Global) -> Result<Command<'a>, Error>
         .about("Shows the rows of a record of jobs")
         .arg(forget)?;
     let command = with_flags(alloc, command)?;
-    let file = placed(alloc, "FILE", true, "The record's file");
+    let file = placed(
+        alloc,
+        "FILE",
+        true,
+        "The record's file, or the folder of a cache",
+    );
     let command = command.arg(file)?;
     Ok(command)
 }

@@ -1,6 +1,7 @@
 //! A run of the user's own process, over real processes and files.
 ghost use Rattle.std.specs.Prelude.{◌≡◌, None, IfOk, IfErr, option_map};
 ghost use Rattle.document_links.specs.Library.{Documents};
+ghost use Rattle.cwl_program.specs.Caches.{archive_of as folder_of_archive};
 ghost use Rattle.cwl_program.specs.Paths.{from_root as path_from_root};
 ghost use Rattle.cwl_program.specs.RunWords.{wish_of_run};
 ghost use Rattle.cwl_program.specs.Runs.{AreNamed, IsEndOfRun, IsInputsText, IsNamedInputs, IsNamedProcess, IsNoInputs, IsNoProcess, IsRead, IsReady};
@@ -8,6 +9,7 @@ ghost use Rattle.cwl_program.specs.Sources.{IsAccepted, IsDocumentStop};
 ghost use Rattle.cwl_program.specs.Stops.{IsStop, IsUnread};
 ghost use Rattle.cwl_program.specs.Tells.{IsRunTold};
 
+use crate::caches::{archive_of, is_twofold};
 use crate::documents::accepted_of;
 use crate::exit::{Exit, Fault};
 use crate::given::{Call, Given, Places};
@@ -79,7 +81,25 @@ fn without_folder(alloc: Global, error: &io::Error) -> Result<RunEnd, AllocError
     }
 }
 
+#[tactic(auto, using(crate::proofs::Stops::without_one_meaning))]
 fn end_of_call<R: World + Records, E: Write>(
+    rt: &R,
+    call: &Call<'_>,
+    err: &mut E,
+) -> Result<RunEnd, AllocError>
+where
+    R::File: Into<Stdio>,
+    ensures told { IsRunTold call.now.words.now.telling (E.contents err.old) (E.contents err.new) }
+    ensures end { IfOk result (λ end. IsEndOfRun (wish_of_run call.now.words.now) call.now.path.now
+        end.exit end.left) }
+{
+    if is_twofold(call.words) {
+        return Ok(RunEnd::bare(rt.alloc(), Exit::Fault(Fault::Words)));
+    }
+    end_of_document(rt, call, err)
+}
+
+fn end_of_document<R: World + Records, E: Write>(
     rt: &R,
     call: &Call<'_>,
     err: &mut E,
@@ -214,7 +234,7 @@ fn places_of(alloc: Global, call: &Call<'_>) -> Result<Places, AllocError>
 {
     let work = from_root(alloc, call.here, call.words.work)?;
     let outdir = from_root(alloc, call.here, call.words.outdir)?;
-    let archive = archive_of(alloc, call)?;
+    let archive = archive_at(alloc, call)?;
     Ok(Places {
         work,
         outdir,
@@ -222,12 +242,21 @@ fn places_of(alloc: Global, call: &Call<'_>) -> Result<Places, AllocError>
     })
 }
 
-fn archive_of(alloc: Global, call: &Call<'_>) -> Result<Option<Text>, AllocError>
+fn archive_at(alloc: Global, call: &Call<'_>) -> Result<Option<Text>, AllocError>
     ensures { IfOk result (λ archive. archive ≡ option_map (path_from_root call.now.here.now)
-        (wish_of_run call.now.words.now).archive) }
+        (folder_of_archive (wish_of_run call.now.words.now))) }
 {
-    match call.words.archive {
+    let named = archive_of(alloc, call.words)?;
+    let path = path_of(alloc, call.here, &named);
+    mem::drop(named);
+    path
+}
+
+fn path_of(alloc: Global, here: &str, named: &Option<Text>) -> Result<Option<Text>, AllocError>
+    ensures { IfOk result (λ path. path ≡ option_map (path_from_root here.now) named.now) }
+{
+    match named {
         None => Ok(None),
-        Some(name) => Ok(Some(from_root(alloc, call.here, name)?)),
+        Some(name) => Ok(Some(from_root(alloc, here, name.as_str())?)),
     }
 }

@@ -1,9 +1,11 @@
 //! The record that a run asks.
 ghost use Rattle.std.specs.Prelude.{◌≡◌, None, Some, IfOk};
+ghost use Rattle.cwl_program.specs.Caches.{record_of as file_of_record};
 ghost use Rattle.cwl_program.specs.RunWords.{wish_of_run};
 ghost use Rattle.cwl_program.specs.Runs.{AreNamed, IsEndOfRun, IsReady};
 ghost use Rattle.cwl_program.specs.Tells.{IsRunTold};
 
+use crate::caches::{make_cache, record_of};
 use crate::exit::{Exit, Fault};
 use crate::folders::on_disk;
 use crate::given::{Call, Given, Places};
@@ -18,7 +20,7 @@ use std::io::Write;
 use std::mem;
 use std::process::Stdio;
 
-/// Runs over the record that the words name, or over one that is kept in memory alone and ends with the run.
+/// Runs over the record that the words name, itself or by a cache, or over one that is kept in memory alone and ends with the run.
 pub fn with_record<R: World + Records, E: Write>(
     rt: &R,
     given: &Given,
@@ -34,9 +36,13 @@ where
     ensures end { IfOk result (λ end. IsEndOfRun (wish_of_run call.now.words.now) call.now.path.now
         end.exit end.left) }
 {
-    match call.words.record_file {
+    match record_of(rt.alloc(), call.words)? {
         None => in_memory(rt, given, places, call, err),
-        Some(file) => in_file(rt, given, places, call, file, err),
+        Some(file) => {
+            let end = in_file(rt, given, places, call, file.as_str(), err);
+            mem::drop(file);
+            end
+        }
     }
 }
 
@@ -74,11 +80,12 @@ where
     R::File: Into<Stdio>,
     requires ready { IsReady call.now.here.now (wish_of_run call.now.words.now) given.now }
     requires named { AreNamed call.now.here.now (wish_of_run call.now.words.now) places.now }
-    requires file { (wish_of_run call.now.words.now).record_file ≡ Some file.now }
+    requires file { file_of_record (wish_of_run call.now.words.now) ≡ Some file.now }
     ensures told { IsRunTold call.now.words.now.telling (E.contents err.old) (E.contents err.new) }
     ensures end { IfOk result (λ end. IsEndOfRun (wish_of_run call.now.words.now) call.now.path.now
         end.exit end.left) }
 {
+    make_cache(rt, call.words);
     match rt.open_record(file) {
         Ok(mut rows) => {
             let end = on_disk(rt, given, places, call, &mut rows, err);

@@ -1,7 +1,7 @@
-ghost use Rattle.std.specs.Prelude.{◌≡◌, ◌≤◌, IfOk, IfErr, Some, false, is_some, option_map};
+ghost use Rattle.std.specs.Prelude.{◌≡◌, ◌≤◌, IfOk, IfErr, Some, false, option_map};
 ghost use Rattle.clap.specs.Words.{app_of, found_of, kind_of, rows_of, rule_of};
 ghost use Rattle.cwl_program.specs.Flags.{IsLocal};
-ghost use Rattle.cwl_program.specs.RunWords.{IsChosen, named_rule, numbered_rule, placed_rule, run_command, run_wish, telling_in, wish_of_run, with_archive, with_document, with_folders, with_keep, with_keep_failed, with_numbers, with_options, with_progress, with_record, with_slots, with_verbose};
+ghost use Rattle.cwl_program.specs.RunWords.{IsChosen, named_rule, numbered_rule, placed_rule, run_command, run_wish, telling_in, wish_of_run, with_archive, with_cache, with_document, with_folders, with_keep, with_keep_failed, with_numbers, with_options, with_progress, with_record, with_slots, with_verbose};
 
 use crate::flags::{flag, is_given, is_wanted, with_flags};
 use crate::telling::Telling;
@@ -31,6 +31,9 @@ const RECORD_HELP: &str =
 const ARCHIVE_HELP: &str =
     "The folder that keeps the files of each job, made where it is absent; a job whose row and files are kept is not started";
 
+const CACHE_HELP: &str =
+    "The folder of a record and an archive, made where it is absent: `--record DIR/jobs.db --archive DIR/files`";
+
 const VERBOSE_HELP: &str =
     "Tell of each job as it starts and ends, and show what the commands say on standard error";
 
@@ -56,6 +59,8 @@ pub struct RunWords<'a> {
     pub record_file: Option<&'a str>,
     /// The folder that keeps the files of jobs; without it none are kept, and each job is computed.
     pub archive: Option<&'a str>,
+    /// The folder that has both.
+    pub cache: Option<&'a str>,
     /// Whether the work folder is to stay, and whether it is to stay after a failure.
     pub keep: bool,
     pub keep_failed: bool,
@@ -160,6 +165,17 @@ fn archive_command<'a>(alloc: Global) -> Result<Command<'a>, Error>
     Ok(command)
 }
 
+// And with its cache.
+fn cache_command<'a>(alloc: Global) -> Result<Command<'a>, Error>
+    ensures ok { IfOk result (λ command. app_of command ≡ with_cache) }
+    ensures local { IfOk result IsLocal }
+    ensures err { IfErr result (λ e. kind_of e ≡ ErrorKind.OutOfMemory) }
+{
+    let cache = named(alloc, "cache", "DIR", CACHE_HELP);
+    let command = archive_command(alloc)?.arg(cache)?;
+    Ok(command)
+}
+
 // And with the lines on its jobs.
 fn verbose_command<'a>(alloc: Global) -> Result<Command<'a>, Error>
     ensures ok { IfOk result (λ command. app_of command ≡ with_verbose) }
@@ -167,7 +183,7 @@ fn verbose_command<'a>(alloc: Global) -> Result<Command<'a>, Error>
     ensures err { IfErr result (λ e. kind_of e ≡ ErrorKind.OutOfMemory) }
 {
     let verbose = flag(alloc, "verbose", VERBOSE_HELP);
-    let command = archive_command(alloc)?.arg(verbose)?;
+    let command = cache_command(alloc)?.arg(verbose)?;
     Ok(command)
 }
 
@@ -254,6 +270,7 @@ pub fn run_words<'a>(words: &ArgMatches<'a>) -> RunWords<'a>
         retries: words.get_str("retries"),
         record_file: words.get_str("record"),
         archive: words.get_str("archive"),
+        cache: words.get_str("cache"),
         keep: is_given(words, "keep"),
         keep_failed: is_given(words, "keep-failed"),
         telling: telling_of(words),
@@ -294,16 +311,6 @@ pub fn retries_of(words: &RunWords) -> u64
     match words.retries {
         None => 0,
         Some(text) => read_or(text, 0, MOST_RETRIES, 0),
-    }
-}
-
-/// Whether the files of jobs are kept: where the words name an archive.
-pub fn keeps_archive(words: &RunWords) -> bool
-    ensures { result ≡ is_some (option_map (λ s. s.now) words.now.archive) }
-{
-    match words.archive {
-        None => false,
-        Some(_) => true,
     }
 }
 

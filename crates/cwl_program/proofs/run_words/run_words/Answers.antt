@@ -24,4 +24,6 @@ returns c =
     c.get_str-7.ensures ∙ first_value-rows found (codes "record") in
     let archive : option_map (λ s. s.now) c.get_str-8.result ≡ first_of (codes "archive") (rows_of found) =
     c.get_str-8.ensures ∙ first_value-rows found (codes "archive") in
-    rw (document, inputs, work, outdir, slots, retries, record_file, archive, c.is_given.ensures, c.is_given-2.ensures, c.telling_of.ensures, c.is_wanted.ensures) refl
+    let cache : option_map (λ s. s.now) c.get_str-9.result ≡ first_of (codes "cache") (rows_of found) =
+    c.get_str-9.ensures ∙ first_value-rows found (codes "cache") in
+    rw (document, inputs, work, outdir, slots, retries, record_file, archive, cache, c.is_given.ensures, c.is_given-2.ensures, c.telling_of.ensures, c.is_wanted.ensures) refl

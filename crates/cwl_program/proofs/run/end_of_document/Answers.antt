@@ -1,6 +1,6 @@
 use Rattle.cwl_program.specs.RunWords.{wish_of_run}
 use Rattle.cwl_program.proofs.Stops.{without_process}
-use Rattle.cwl_program.proofs.run.end_of_call.Goals as goal
+use Rattle.cwl_program.proofs.run.end_of_document.Goals as goal
 
 pub returns-in-Err-clause-end : goal.returns-in-Err-clause-end
 returns-in-Err-clause-end g c =
