@@ -19,7 +19,7 @@ use proc_host::{Host, HostRequest, Ticket};
 use run_core::{Answer, Request};
 use std::alloc::AllocError;
 
-/// Asks the host or the record. An `Err` leaves both logs and the children as they were.
+/// Asks the host or the record, and tells the watcher. An `Err` leaves both logs and the children as they were.
 pub(crate) fn ask_next<H: Host, R: Record, W: Watch>(
     host: &mut H,
     rows: &mut R,
@@ -45,8 +45,11 @@ pub(crate) fn ask_next<H: Host, R: Record, W: Watch>(
 {
     match asks {
         Request::Host(place, request) => ask_host(host, place, request, known, held, watcher),
-        Request::Record(_, request) => match ask_record(rows, request) {
-            Ok(answer) => Ok(Answer::Record(answer)),
+        Request::Record(place, request) => match ask_record(rows, request) {
+            Ok(answer) => {
+                watcher.recalls(place, request, &answer, known);
+                Ok(Answer::Record(answer))
+            }
             Err(error) => Err(error),
         },
         Request::Finished => unreachable!(),

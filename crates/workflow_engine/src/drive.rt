@@ -35,7 +35,7 @@ use std::mem;
 /// computed. As long as what it is kept on returns what was written, each of its answers is by its map, and the map at the end is
 /// that of the start after the commands that were done.
 ///
-/// The watcher is told of each question to the host and of each answer as they come.
+/// The watcher is told of each question to the host or to the record, and of each answer, as they come.
 pub fn run<H: Host, R: Record, W: Watch>(
     alloc: Global,
     host: &mut H,

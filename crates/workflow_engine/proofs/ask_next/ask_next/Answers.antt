@@ -3,14 +3,14 @@ use Rattle.workflow_engine.proofs.ByMap.{kept_by_host, kept_by_none, kept_by_rec
 use Rattle.workflow_engine.proofs.ask_next.ask_next.Goals as goal
 
 pub returns-in-Ok-clause-answers : goal.returns-in-Ok-clause-answers
-returns-in-Ok-clause-answers g c = rw c.in-Record.is (by_record c.in-Record.field-0 c.in-Record.request c.in-Ok.answer c.in-Ok.ensures.answers)
+returns-in-Ok-clause-answers g c = rw c.in-Record.is (by_record c.in-Record.place c.in-Record.request c.in-Ok.answer c.in-Ok.ensures.answers)
 
 pub returns-in-Host-clause-by_map : goal.returns-in-Host-clause-by_map
 returns-in-Host-clause-by_map g c = rw c.in-Host.is (kept_by_host _ _ c.in-Host.place c.in-Host.request c.ask_host.result)
 
 pub returns-in-Ok-clause-by_map : goal.returns-in-Ok-clause-by_map
 returns-in-Ok-clause-by_map g c =
-    rw c.in-Record.is (kept_by_record _ _ _ _ c.in-Record.field-0 c.in-Record.request c.in-Ok.answer c.in-Ok.ensures.sound c.in-Ok.ensures.by_map)
+    rw c.in-Record.is (kept_by_record _ _ _ _ c.in-Record.place c.in-Record.request c.in-Ok.answer c.in-Ok.ensures.sound c.in-Ok.ensures.by_map)
 
 pub returns-in-Err-clause-by_map : goal.returns-in-Err-clause-by_map
 returns-in-Err-clause-by_map g c = kept_by_none _ _ _ _ c.args.asks.now c.in-Err.error c.in-Err.ensures.sound c.in-Err.ensures.by_map
