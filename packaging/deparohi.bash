@@ -14,7 +14,7 @@ _deparohi() {
         mapfile -t COMPREPLY < <(compgen -f -- "$word")
         return
         ;;
-    --slots | --retries | --forget)
+    --slots | --retries | --base | --rate | --forget)
         COMPREPLY=()
         return
         ;;
@@ -24,7 +24,7 @@ _deparohi() {
         return
     fi
     case $command in
-    run) every="--work --outdir --slots --retries --record --archive --cache --verbose --progress --keep --keep-failed $every" ;;
+    run) every="--work --outdir --slots --retries --record --archive --cache --base --rate --verbose --progress --keep --keep-failed $every" ;;
     record) every="--forget $every" ;;
     help) every="" ;;
     esac

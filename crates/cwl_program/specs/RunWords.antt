@@ -20,28 +20,41 @@ named_rule id = record (new_rule id) { long = Some id; action = Some Set; value_
 abbrev pub numbered_rule : Text → ℕ → ℕ → Rule
 numbered_rule id least most = record (named_rule id) { parser = Some (Unsigned least most) }
 
--- `run` with its two folders alone, with its two numbers, with its record, with its archive, with its cache, with what it tells of its jobs, with whether its work
--- folder stays, with the options of each command, with its document, and with the input object too
-abbrev pub with_folders : App
-with_folders = with_rule (with_rule (new_app (codes "run")) (named_rule (codes "work"))) (named_rule (codes "outdir"))
+-- a command with the two folders alone, with the two numbers, with the record, with the archive, with the cache, and with what a load costs
+abbrev pub with_folders : App → App
+with_folders command = with_rule (with_rule command (named_rule (codes "work"))) (named_rule (codes "outdir"))
 
-abbrev pub with_slots : App
-with_slots = with_rule with_folders (numbered_rule (codes "slots") 1 64)
+abbrev pub with_slots : App → App
+with_slots command = with_rule (with_folders command) (numbered_rule (codes "slots") 1 64)
 
-abbrev pub with_numbers : App
-with_numbers = with_rule with_slots (numbered_rule (codes "retries") 0 10)
+abbrev pub with_numbers : App → App
+with_numbers command = with_rule (with_slots command) (numbered_rule (codes "retries") 0 10)
 
-abbrev pub with_record : App
-with_record = with_rule with_numbers (named_rule (codes "record"))
+abbrev pub with_record : App → App
+with_record command = with_rule (with_numbers command) (named_rule (codes "record"))
 
-abbrev pub with_archive : App
-with_archive = with_rule with_record (named_rule (codes "archive"))
+abbrev pub with_archive : App → App
+with_archive command = with_rule (with_record command) (named_rule (codes "archive"))
 
-abbrev pub with_cache : App
-with_cache = with_rule with_archive (named_rule (codes "cache"))
+abbrev pub with_cache : App → App
+with_cache command = with_rule (with_archive command) (named_rule (codes "cache"))
 
+abbrev pub with_base : App → App
+with_base command = with_rule (with_cache command) (numbered_rule (codes "base") 0 1000000000000)
+
+abbrev pub with_costs : App → App
+with_costs command = with_rule (with_base command) (numbered_rule (codes "rate") 1 1000000000000)
+
+-- and with its document, and with the input object too
+abbrev pub with_document : App → App
+with_document command = with_rule command (placed_rule (codes "DOCUMENT") true)
+
+abbrev pub with_inputs : App → App
+with_inputs command = with_rule (with_document command) (placed_rule (codes "INPUTS") false)
+
+-- `run` with these, with what it tells of its jobs, and with whether its work folder stays
 abbrev pub with_verbose : App
-with_verbose = with_rule with_cache (flag_rule (codes "verbose"))
+with_verbose = with_rule (with_costs (new_app (codes "run"))) (flag_rule (codes "verbose"))
 
 abbrev pub with_progress : App
 with_progress = with_rule with_verbose (flag_rule (codes "progress"))
@@ -52,14 +65,8 @@ with_keep = with_rule with_progress (flag_rule (codes "keep"))
 abbrev pub with_keep_failed : App
 with_keep_failed = with_rule with_keep (flag_rule (codes "keep-failed"))
 
-abbrev pub with_options : App
-with_options = with_flags with_keep_failed
-
-abbrev pub with_document : App
-with_document = with_rule with_options (placed_rule (codes "DOCUMENT") true)
-
 abbrev pub run_command : App
-run_command = with_rule with_document (placed_rule (codes "INPUTS") false)
+run_command = with_inputs (with_flags with_keep_failed)
 
 -- how it tells of its jobs: `--verbose` comes before `--progress`, and `--quiet` before both
 abbrev pub telling_in : List Row → Telling
@@ -68,9 +75,9 @@ telling_in rows =
     else if is_wanted (codes "progress") rows then OneLine
     else Nothing
 
--- the document, the input object's file where one is named, the two folders, the texts of the two numbers that are given, the record's file
--- and the archive's folder where they are named, and a cache's, whether the work folder is to stay, and whether it is to stay after a failure, how to tell of the jobs, and whether
--- to say in words what went wrong
+-- the document, the input object's file where one is named, the two folders, the texts of the two numbers that are given, the record's file, the
+-- archive's folder and a cache's where they are named, the texts of what a load costs that are given, whether the work folder is to stay, and whether
+-- it is to stay after a failure, how to tell of the jobs, and whether to say in words what went wrong
 pub record RunWish : Type 0 where
   pub document : Text
   pub inputs : Option Text
@@ -81,6 +88,8 @@ pub record RunWish : Type 0 where
   pub record_file : Option Text
   pub archive : Option Text
   pub cache : Option Text
+  pub base : Option Text
+  pub rate : Option Text
   pub keep : Bool
   pub keep_failed : Bool
   pub telling : Telling
@@ -98,6 +107,8 @@ run_wish rows = record {
   record_file = first_of (codes "record") rows;
   archive = first_of (codes "archive") rows;
   cache = first_of (codes "cache") rows;
+  base = first_of (codes "base") rows;
+  rate = first_of (codes "rate") rows;
   keep = is_given (codes "keep") rows;
   keep_failed = is_given (codes "keep-failed") rows;
   telling = telling_in rows;
@@ -115,6 +126,8 @@ wish_of_run words = record {
   record_file = option_map (λ s. s.now) words.record_file;
   archive = option_map (λ s. s.now) words.archive;
   cache = option_map (λ s. s.now) words.cache;
+  base = option_map (λ s. s.now) words.base;
+  rate = option_map (λ s. s.now) words.rate;
   keep = words.keep;
   keep_failed = words.keep_failed;
   telling = words.telling;

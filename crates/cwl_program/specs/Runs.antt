@@ -138,16 +138,16 @@ pub record AreNamed (here : Text) (words : RunWish) (places : Places) : Type 0 w
   pub outdir : places.outdir ≡ from_root here words.outdir
   pub archive : places.archive ≡ option_map (from_root here) (archive_of words)
 
--- what a run may use, and where, with this `PATH`: the slots and the retries are those that the words give, else 1 and 0; a load costs 1
--- and 1 more for each 100,000 bytes, and an archive is kept where the words name one
+-- what a run may use, and where, with this `PATH`: the slots and the retries are those that the words give, else 1 and 0; so are what a load
+-- costs, else 1, and how many bytes cost 1 more, else 100,000; and an archive is kept where the words name one
 pub record IsAsked (here : Text) (words : RunWish) (path : Text) (options : Options) : Type 0 where
   pub work : options.work ≡ from_root here words.work
   pub outdir : options.outdir ≡ from_root here words.outdir
   pub path_env : options.path_env ≡ path
   pub slots : IsChosen 1 64 1 words.slots options.slots
   pub retries : IsChosen 0 10 0 words.retries options.retries
-  pub base : options.base ≡ 1
-  pub rate : options.rate ≡ 100000
+  pub base : IsChosen 0 1000000000000 1 words.base options.base
+  pub rate : IsChosen 1 1000000000000 100000 words.rate options.rate
   pub keep : options.keep ≡ is_some (archive_of words)
 
 -- a run of the named process on the named inputs, or nothing to run; the work folder, where it stays; and the lines that the log of the

@@ -10,7 +10,7 @@ use crate::given::{Call, Given, Places};
 use crate::on_machine::with_options;
 use crate::outdir::{outdir_for, without_outdir};
 use crate::run_end::RunEnd;
-use crate::run_words::{retries_of, slots_of};
+use crate::run_words::{load_base_of, load_rate_of, retries_of, slots_of};
 use crate::work_folder::{leave, mark_made, without_work};
 use job_rows::Record;
 use plain_data::Text;
@@ -114,8 +114,8 @@ fn options_of(alloc: Global, places: &Places, call: &Call<'_>) -> Result<Options
         path_env: Text::from_text(alloc, call.path)?,
         slots: slots_of(call.words),
         retries: retries_of(call.words),
-        base: 1,
-        rate: 100_000,
+        base: load_base_of(call.words),
+        rate: load_rate_of(call.words),
         keep: keeps_archive(call.words),
     })
 }

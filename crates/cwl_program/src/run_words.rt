@@ -1,13 +1,14 @@
-ghost use Rattle.std.specs.Prelude.{◌≡◌, ◌≤◌, IfOk, IfErr, Some, false, option_map};
+ghost use Rattle.std.specs.Prelude.{◌≡◌, ◌≤◌, ◌^◌, IfOk, IfErr, Some, false, option_map};
 ghost use Rattle.clap.specs.Words.{app_of, found_of, kind_of, rows_of, rule_of};
 ghost use Rattle.cwl_program.specs.Flags.{IsLocal};
-ghost use Rattle.cwl_program.specs.RunWords.{IsChosen, named_rule, numbered_rule, placed_rule, run_command, run_wish, telling_in, wish_of_run, with_archive, with_cache, with_document, with_folders, with_keep, with_keep_failed, with_numbers, with_options, with_progress, with_record, with_slots, with_verbose};
+ghost use Rattle.cwl_program.specs.RunWords.{IsChosen, named_rule, numbered_rule, placed_rule, run_command, run_wish, telling_in, wish_of_run, with_archive, with_base, with_cache, with_costs, with_document, with_folders, with_inputs, with_keep, with_keep_failed, with_numbers, with_progress, with_record, with_slots, with_verbose};
 
 use crate::flags::{flag, is_given, is_wanted, with_flags};
 use crate::telling::Telling;
 use clap::builder::ValueParser;
 use clap::error::ErrorKind;
 use clap::{Arg, ArgAction, ArgMatches, Command, Error};
+use plan_checker::MOST_COST;
 use std::alloc::Global;
 
 const LEAST_SLOTS: u64 = 1;
@@ -15,6 +16,12 @@ const LEAST_SLOTS: u64 = 1;
 const MOST_SLOTS: u64 = 64;
 
 const MOST_RETRIES: u64 = 10;
+
+const USUAL_BASE: u64 = 1;
+
+const LEAST_RATE: u64 = 1;
+
+const USUAL_RATE: u64 = 100_000;
 
 const WORK_HELP: &str = "The folder for the jobs, made and removed by the run [cwl-work]";
 
@@ -33,6 +40,10 @@ const ARCHIVE_HELP: &str =
 
 const CACHE_HELP: &str =
     "The folder of a record and an archive, made where it is absent: `--record DIR/jobs.db --archive DIR/files`";
+
+const BASE_HELP: &str = "What it costs to load the files of any job, from 0 to 10^12 [1]";
+
+const RATE_HELP: &str = "How many bytes are loaded for a cost of 1, from 1 to 10^12 [100000]";
 
 const VERBOSE_HELP: &str =
     "Tell of each job as it starts and ends, and show what the commands say on standard error";
@@ -61,6 +72,9 @@ pub struct RunWords<'a> {
     pub archive: Option<&'a str>,
     /// The folder that has both.
     pub cache: Option<&'a str>,
+    /// What a load costs, and how many bytes cost 1 more.
+    pub base: Option<&'a str>,
+    pub rate: Option<&'a str>,
     /// Whether the work folder is to stay, and whether it is to stay after a failure.
     pub keep: bool,
     pub keep_failed: bool,
@@ -106,84 +120,142 @@ fn numbered<'a>(alloc: Global, id: &'a str, least: u64, most: u64, help: &'a str
         .help(help)
 }
 
-// The subcommand `run` with its two folders alone.
-fn folders_command<'a>(alloc: Global) -> Result<Command<'a>, Error>
-    ensures ok { IfOk result (λ command. app_of command ≡ with_folders) }
+// A command with the two folders alone.
+fn with_folders<'a>(alloc: Global, command: Command<'a>) -> Result<Command<'a>, Error>
+    requires { IsLocal command }
+    ensures ok { IfOk result (λ whole. app_of whole ≡ with_folders (app_of command.entry)) }
     ensures local { IfOk result IsLocal }
     ensures err { IfErr result (λ e. kind_of e ≡ ErrorKind.OutOfMemory) }
 {
     let work = named(alloc, "work", "DIR", WORK_HELP);
-    let command = Command::new(alloc, "run")
-        .about("Runs a process and prints its output object")
-        .arg(work)?;
+    let command = command.arg(work)?;
     let outdir = named(alloc, "outdir", "DIR", OUTDIR_HELP);
     let command = command.arg(outdir)?;
     Ok(command)
 }
 
-// And with its slots.
-fn slots_command<'a>(alloc: Global) -> Result<Command<'a>, Error>
-    ensures ok { IfOk result (λ command. app_of command ≡ with_slots) }
+// And with how many jobs may run side by side.
+fn with_slots<'a>(alloc: Global, command: Command<'a>) -> Result<Command<'a>, Error>
+    requires { IsLocal command }
+    ensures ok { IfOk result (λ whole. app_of whole ≡ with_slots (app_of command.entry)) }
     ensures local { IfOk result IsLocal }
     ensures err { IfErr result (λ e. kind_of e ≡ ErrorKind.OutOfMemory) }
 {
     let slots = numbered(alloc, "slots", LEAST_SLOTS, MOST_SLOTS, SLOTS_HELP);
-    let command = folders_command(alloc)?.arg(slots)?;
+    let command = with_folders(alloc, command)?.arg(slots)?;
     Ok(command)
 }
 
-// And with its retries.
-fn numbers_command<'a>(alloc: Global) -> Result<Command<'a>, Error>
-    ensures ok { IfOk result (λ command. app_of command ≡ with_numbers) }
+// And with how often a job is started again.
+fn with_numbers<'a>(alloc: Global, command: Command<'a>) -> Result<Command<'a>, Error>
+    requires { IsLocal command }
+    ensures ok { IfOk result (λ whole. app_of whole ≡ with_numbers (app_of command.entry)) }
     ensures local { IfOk result IsLocal }
     ensures err { IfErr result (λ e. kind_of e ≡ ErrorKind.OutOfMemory) }
 {
     let retries = numbered(alloc, "retries", 0, MOST_RETRIES, RETRIES_HELP);
-    let command = slots_command(alloc)?.arg(retries)?;
+    let command = with_slots(alloc, command)?.arg(retries)?;
     Ok(command)
 }
 
-// And with its record.
-fn record_command<'a>(alloc: Global) -> Result<Command<'a>, Error>
-    ensures ok { IfOk result (λ command. app_of command ≡ with_record) }
+// And with the record.
+fn with_record<'a>(alloc: Global, command: Command<'a>) -> Result<Command<'a>, Error>
+    requires { IsLocal command }
+    ensures ok { IfOk result (λ whole. app_of whole ≡ with_record (app_of command.entry)) }
     ensures local { IfOk result IsLocal }
     ensures err { IfErr result (λ e. kind_of e ≡ ErrorKind.OutOfMemory) }
 {
     let record = named(alloc, "record", "FILE", RECORD_HELP);
-    let command = numbers_command(alloc)?.arg(record)?;
+    let command = with_numbers(alloc, command)?.arg(record)?;
     Ok(command)
 }
 
-// And with its archive.
-fn archive_command<'a>(alloc: Global) -> Result<Command<'a>, Error>
-    ensures ok { IfOk result (λ command. app_of command ≡ with_archive) }
+// And with the archive.
+fn with_archive<'a>(alloc: Global, command: Command<'a>) -> Result<Command<'a>, Error>
+    requires { IsLocal command }
+    ensures ok { IfOk result (λ whole. app_of whole ≡ with_archive (app_of command.entry)) }
     ensures local { IfOk result IsLocal }
     ensures err { IfErr result (λ e. kind_of e ≡ ErrorKind.OutOfMemory) }
 {
     let archive = named(alloc, "archive", "DIR", ARCHIVE_HELP);
-    let command = record_command(alloc)?.arg(archive)?;
+    let command = with_record(alloc, command)?.arg(archive)?;
     Ok(command)
 }
 
-// And with its cache.
-fn cache_command<'a>(alloc: Global) -> Result<Command<'a>, Error>
-    ensures ok { IfOk result (λ command. app_of command ≡ with_cache) }
+// And with the cache.
+fn with_cache<'a>(alloc: Global, command: Command<'a>) -> Result<Command<'a>, Error>
+    requires { IsLocal command }
+    ensures ok { IfOk result (λ whole. app_of whole ≡ with_cache (app_of command.entry)) }
     ensures local { IfOk result IsLocal }
     ensures err { IfErr result (λ e. kind_of e ≡ ErrorKind.OutOfMemory) }
 {
     let cache = named(alloc, "cache", "DIR", CACHE_HELP);
-    let command = archive_command(alloc)?.arg(cache)?;
+    let command = with_archive(alloc, command)?.arg(cache)?;
     Ok(command)
 }
 
-// And with the lines on its jobs.
+// And with what any load costs.
+fn with_base<'a>(alloc: Global, command: Command<'a>) -> Result<Command<'a>, Error>
+    requires { IsLocal command }
+    ensures ok { IfOk result (λ whole. app_of whole ≡ with_base (app_of command.entry)) }
+    ensures local { IfOk result IsLocal }
+    ensures err { IfErr result (λ e. kind_of e ≡ ErrorKind.OutOfMemory) }
+{
+    let base = numbered(alloc, "base", 0, MOST_COST, BASE_HELP);
+    let command = with_cache(alloc, command)?.arg(base)?;
+    Ok(command)
+}
+
+/// A command with the options of each run, and of each plan of one.
+pub fn with_costs<'a>(alloc: Global, command: Command<'a>) -> Result<Command<'a>, Error>
+    requires { IsLocal command }
+    ensures ok { IfOk result (λ whole. app_of whole ≡ with_costs (app_of command.entry)) }
+    ensures local { IfOk result IsLocal }
+    ensures err { IfErr result (λ e. kind_of e ≡ ErrorKind.OutOfMemory) }
+{
+    let rate = numbered(alloc, "rate", LEAST_RATE, MOST_COST, RATE_HELP);
+    let command = with_base(alloc, command)?.arg(rate)?;
+    Ok(command)
+}
+
+// A command with its document.
+fn with_document<'a>(alloc: Global, command: Command<'a>) -> Result<Command<'a>, Error>
+    requires { IsLocal command }
+    ensures ok { IfOk result (λ whole. app_of whole ≡ with_document (app_of command.entry)) }
+    ensures local { IfOk result IsLocal }
+    ensures err { IfErr result (λ e. kind_of e ≡ ErrorKind.OutOfMemory) }
+{
+    let document = placed(
+        alloc,
+        "DOCUMENT",
+        true,
+        "The document of the process, in JSON",
+    );
+    let command = command.arg(document)?;
+    Ok(command)
+}
+
+/// A command with its document and its input object.
+pub fn with_inputs<'a>(alloc: Global, command: Command<'a>) -> Result<Command<'a>, Error>
+    requires { IsLocal command }
+    ensures ok { IfOk result (λ whole. app_of whole ≡ with_inputs (app_of command.entry)) }
+    ensures local { IfOk result IsLocal }
+    ensures err { IfErr result (λ e. kind_of e ≡ ErrorKind.OutOfMemory) }
+{
+    let inputs = placed(alloc, "INPUTS", false, INPUTS_HELP);
+    let command = with_document(alloc, command)?.arg(inputs)?;
+    Ok(command)
+}
+
+// The subcommand `run` with these, and with the lines on its jobs.
 fn verbose_command<'a>(alloc: Global) -> Result<Command<'a>, Error>
     ensures ok { IfOk result (λ command. app_of command ≡ with_verbose) }
     ensures local { IfOk result IsLocal }
     ensures err { IfErr result (λ e. kind_of e ≡ ErrorKind.OutOfMemory) }
 {
+    let command = Command::new(alloc, "run").about("Runs a process and prints its output object");
     let verbose = flag(alloc, "verbose", VERBOSE_HELP);
-    let command = cache_command(alloc)?.arg(verbose)?;
+    let command = with_costs(alloc, command)?.arg(verbose)?;
     Ok(command)
 }
 
@@ -220,41 +292,15 @@ fn keep_failed_command<'a>(alloc: Global) -> Result<Command<'a>, Error>
     Ok(command)
 }
 
-// And with the options of each command.
-fn options_command<'a>(alloc: Global) -> Result<Command<'a>, Error>
-    ensures ok { IfOk result (λ command. app_of command ≡ with_options) }
-    ensures local { IfOk result IsLocal }
-    ensures err { IfErr result (λ e. kind_of e ≡ ErrorKind.OutOfMemory) }
-{
-    let command = keep_failed_command(alloc)?;
-    with_flags(alloc, command)
-}
-
-// And with its document.
-fn document_command<'a>(alloc: Global) -> Result<Command<'a>, Error>
-    ensures ok { IfOk result (λ command. app_of command ≡ with_document) }
-    ensures local { IfOk result IsLocal }
-    ensures err { IfErr result (λ e. kind_of e ≡ ErrorKind.OutOfMemory) }
-{
-    let document = placed(
-        alloc,
-        "DOCUMENT",
-        true,
-        "The document of the process, in JSON",
-    );
-    let command = options_command(alloc)?.arg(document)?;
-    Ok(command)
-}
-
 /// The subcommand `run`.
 pub fn run_command<'a>(alloc: Global) -> Result<Command<'a>, Error>
     ensures ok { IfOk result (λ command. app_of command ≡ run_command) }
     ensures local { IfOk result IsLocal }
     ensures err { IfErr result (λ e. kind_of e ≡ ErrorKind.OutOfMemory) }
 {
-    let inputs = placed(alloc, "INPUTS", false, INPUTS_HELP);
-    let command = document_command(alloc)?.arg(inputs)?;
-    Ok(command)
+    let command = keep_failed_command(alloc)?;
+    let command = with_flags(alloc, command)?;
+    with_inputs(alloc, command)
 }
 
 /// What the words of `run` name.
@@ -271,6 +317,8 @@ pub fn run_words<'a>(words: &ArgMatches<'a>) -> RunWords<'a>
         record_file: words.get_str("record"),
         archive: words.get_str("archive"),
         cache: words.get_str("cache"),
+        base: words.get_str("base"),
+        rate: words.get_str("rate"),
         keep: is_given(words, "keep"),
         keep_failed: is_given(words, "keep-failed"),
         telling: telling_of(words),
@@ -311,6 +359,30 @@ pub fn retries_of(words: &RunWords) -> u64
     match words.retries {
         None => 0,
         Some(text) => read_or(text, 0, MOST_RETRIES, 0),
+    }
+}
+
+/// What any load costs: 1 where the words don't say.
+pub fn load_base_of(words: &RunWords) -> u64
+    ensures chosen { IsChosen 0 1000000000000 1 (option_map (λ s. s.now) words.now.base) result }
+    ensures most { result ≤ 10 ^ 12 }
+{
+    match words.base {
+        None => USUAL_BASE,
+        Some(text) => read_or(text, 0, MOST_COST, USUAL_BASE),
+    }
+}
+
+/// How many bytes are loaded for a cost of 1: 100,000 where the words don't say.
+pub fn load_rate_of(words: &RunWords) -> u64
+    ensures chosen { IsChosen 1 1000000000000 100000 (option_map (λ s. s.now) words.now.rate)
+        result }
+    ensures least { 1 ≤ result }
+    ensures most { result ≤ 10 ^ 12 }
+{
+    match words.rate {
+        None => USUAL_RATE,
+        Some(text) => read_or(text, LEAST_RATE, MOST_COST, USUAL_RATE),
     }
 }
 
