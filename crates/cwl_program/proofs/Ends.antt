@@ -5,12 +5,13 @@ use Rattle.clap.specs.Words.{HasKind, Text, fault_of, kind_of}
 use Rattle.clap.specs.declared.error.Error.{Error}
 use Rattle.clap.specs.declared.error.ErrorKind.TheVariants.{OutOfMemory}
 use Rattle.cwl_program.specs.CommandLine.{Asks, command_line, wish_of}
-use Rattle.cwl_program.specs.Tells.{AreNotes, Explains, Held, IsEndOf, IsExplained, IsLeftTold, IsTold, LeadsTo, Prints, Tells, alone, asks_why, chooses, explained as and_words, explains, out_of_memory, telling_of}
+use Rattle.cwl_program.specs.Tells.{AreNotes, Explains, Held, IsEndOf, IsExplained, IsLeftTold, IsSavingsTold, IsTold, LeadsTo, Prints, Tells, alone, asks_why, chooses, explained as and_words, explains, out_of_memory, telling_of}
 use Rattle.cwl_program.specs.declared.command.Choice.{Choice}
 use Rattle.cwl_program.specs.declared.exit.Exit.{Exit}
 use Rattle.cwl_program.specs.declared.exit.Exit.TheVariants.{Fault}
 use Rattle.cwl_program.specs.declared.exit.Fault.TheVariants as faults
 use Rattle.cwl_program.specs.declared.run_end.RunEnd.{RunEnd}
+use Rattle.cwl_program.specs.declared.savings.Savings.{Savings}
 use Rattle.cwl_program.specs.declared.telling.Telling.{Telling}
 
 -- what a choice comes to, or the fault where memory was short
@@ -29,16 +30,17 @@ chosen_or_fault words path choice (Err error) end why telling asked is it short 
     (subst (λ (l : Option Text). LeadsTo words path end.exit l (asks_why choice) (telling_of choice)) (sym bare)
     (subst (λ (e : Exit). LeadsTo words path e None (asks_why choice) (telling_of choice)) (sym short) (out_of_memory choice asked))))
 
-pub told_alone : (exit : Exit) (left : Option Text) (out out_new err err_new : Held) (why : Bool)
-    → why ≡ false → Prints exit out out_new err err_new → IsTold exit left out out_new err err_new why
-told_alone exit left out out_new err err_new why unasked line =
-    subst (λ (b : Bool). IsTold exit left out out_new err err_new b) (sym unasked) (alone line)
+pub told_alone : (exit : Exit) (left : Option Text) (savings : Option Savings) (out out_new err err_new : Held) (why : Bool)
+    → why ≡ false → Prints exit out out_new err err_new → IsTold exit left savings out out_new err err_new why
+told_alone exit left savings out out_new err err_new why unasked line =
+    subst (λ (b : Bool). IsTold exit left savings out out_new err err_new b) (sym unasked) (alone line)
 
-pub told_with_words : (exit : Exit) (left : Option Text) (out out_new err err_told err_words err_noted err_new : Held) (why : Bool)
+pub told_with_words : (exit : Exit) (left : Option Text) (savings : Option Savings) (out out_new err err_told err_words err_noted err_counted err_new : Held) (why : Bool)
     → why ≡ true → Prints exit out out_new err err_told → IsExplained exit err_told err_words → AreNotes exit err_words err_noted
-    → IsLeftTold left err_noted err_new → IsTold exit left out out_new err err_new why
-told_with_words exit left out out_new err err_told err_words err_noted err_new why asked line words notes stays =
-    subst (λ (b : Bool). IsTold exit left out out_new err err_new b) (sym asked) (and_words err_told err_words err_noted line words notes stays)
+    → IsSavingsTold exit savings err_noted err_counted → IsLeftTold left err_counted err_new → IsTold exit left savings out out_new err err_new why
+told_with_words exit left savings out out_new err err_told err_words err_noted err_counted err_new why asked line words notes counted stays =
+    subst (λ (b : Bool). IsTold exit left savings out out_new err err_new b) (sym asked)
+    (and_words err_told err_words err_noted err_counted line words notes counted stays)
 
 -- `clap`'s error is said, where nothing was told before
 pub explained : (words : List Text) (path : Text) (out out_new err err_told err_new : Held) (error : Error) (status : ℕ)

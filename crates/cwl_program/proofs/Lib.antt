@@ -4,6 +4,7 @@ pub mod Ends
 pub mod JobLines
 pub mod Located
 pub mod ReadOnce
+pub mod SavingsLine
 pub mod ShellWords
 pub mod Stops
 pub mod Verdicts

@@ -20,6 +20,10 @@ record_of words = kept_in words.cache (codes "jobs.db") words.record_file
 abbrev pub archive_of : RunWish → Option Text
 archive_of words = kept_in words.cache (codes "files") words.archive
 
+-- whether a record, an archive or a cache is named, so that a job could be loaded
+abbrev pub remembers : RunWish → Bool
+remembers words = is_some words.cache || is_some words.record_file || is_some words.archive
+
 -- a cache has a record and an archive, so it stands beside neither
 abbrev pub is_twofold : RunWish → Bool
 is_twofold words = is_some words.cache && (is_some words.record_file || is_some words.archive)

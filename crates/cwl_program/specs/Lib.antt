@@ -8,8 +8,10 @@ pub mod JobLines
 pub mod Leaving
 pub mod Paths
 pub mod RecordWords
+pub mod Reuse
 pub mod RunWords
 pub mod Runs
+pub mod Savings
 pub mod ShellWords
 pub mod Sources
 pub mod Status

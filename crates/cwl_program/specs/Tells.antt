@@ -12,6 +12,7 @@ use Rattle.cwl_program.specs.CommandLine.{Asks, command_line, wish_of}
 use Rattle.cwl_program.specs.Demo.{IsDemoExit}
 use Rattle.cwl_program.specs.RunWords.{wish_of_run}
 use Rattle.cwl_program.specs.Runs.{IsEndOfRun}
+use Rattle.cwl_program.specs.Savings.{savings_line}
 use Rattle.cwl_program.specs.Status.{status_of}
 use Rattle.cwl_program.specs.Visible.{visible}
 use Rattle.cwl_program.specs.Words.{name_of, word_of, refusal_code}
@@ -20,6 +21,7 @@ use Rattle.cwl_program.specs.declared.command.Choice.TheVariants.{Demo, Check, R
 use Rattle.cwl_program.specs.declared.exit.Exit.{Exit}
 use Rattle.cwl_program.specs.declared.exit.Exit.TheVariants.{Output, Broken, Record as Shows, Permanent, Temporary, Mismatch, Refused, Fault}
 use Rattle.cwl_program.specs.declared.exit.Fault.TheVariants as faults
+use Rattle.cwl_program.specs.declared.savings.Savings.{Savings}
 use Rattle.cwl_program.specs.declared.telling.Telling.{Telling}
 use Rattle.cwl_program.specs.declared.telling.Telling.TheVariants.{Nothing, Lines, OneLine}
 
@@ -123,6 +125,16 @@ AreNotes (Output line) err err_new = err_new ≡ err
 AreNotes (Shows ending) err err_new = err_new ≡ err
 AreNotes exit err err_new = HasLines err err_new
 
+-- what became of the jobs of a run, where it tells of them
+abbrev pub IsSavingsLine : Option Savings → (err err_new : Held) → Type 0
+IsSavingsLine None err err_new = err_new ≡ err
+IsSavingsLine (Some savings) err err_new = IsPut (savings_line savings) err err_new
+
+-- after a success alone
+abbrev pub IsSavingsTold : Exit → Option Savings → (err err_new : Held) → Type 0
+IsSavingsTold (Output line) savings err err_new = IsSavingsLine savings err err_new
+IsSavingsTold exit savings err err_new = err_new ≡ err
+
 -- where the work folder is, if it stays
 abbrev pub left_words : (work : List ℕ) → List ℕ
 left_words work = codes "the work folder " ++ work ++ codes " stays"
@@ -131,24 +143,26 @@ abbrev pub IsLeftTold : Option Text → (err err_new : Held) → Type 0
 IsLeftTold None err err_new = err_new ≡ err
 IsLeftTold (Some work) err err_new = IsPut (left_words work) err err_new
 
--- an end is said in its line; where it is to be explained, words follow on the errors, lines on what failed, and where the work folder is
-pub data IsTold (exit : Exit) (left : Option Text) (out out_new err err_new : Held) : Bool → Type 0 where
-  alone : Prints exit out out_new err err_new → IsTold exit left out out_new err err_new false
-  explained : (err_told err_words err_noted : Held) → Prints exit out out_new err err_told → IsExplained exit err_told err_words →
-      AreNotes exit err_words err_noted → IsLeftTold left err_noted err_new → IsTold exit left out out_new err err_new true
+-- an end is said in its line; where it is to be explained, words follow on the errors, lines on what failed, what became of the jobs, and
+-- where the work folder is
+pub data IsTold (exit : Exit) (left : Option Text) (savings : Option Savings) (out out_new err err_new : Held) : Bool → Type 0 where
+  alone : Prints exit out out_new err err_new → IsTold exit left savings out out_new err err_new false
+  explained : (err_told err_words err_noted err_counted : Held) → Prints exit out out_new err err_told → IsExplained exit err_told err_words →
+      AreNotes exit err_words err_noted → IsSavingsTold exit savings err_noted err_counted → IsLeftTold left err_counted err_new →
+      IsTold exit left savings out out_new err err_new true
 
 -- an end is said, with its status
-pub data Says (exit : Exit) (left : Option Text) (explains : Bool) (out out_new err err_new : Held) : ℕ → Type 0 where
-  says : IsTold exit left out out_new err err_new explains → Says exit left explains out out_new err err_new (status_of exit)
+pub data Says (exit : Exit) (left : Option Text) (savings : Option Savings) (explains : Bool) (out out_new err err_new : Held) : ℕ → Type 0 where
+  says : IsTold exit left savings out out_new err err_new explains → Says exit left savings explains out out_new err err_new (status_of exit)
   -- a write failed
-  fails : Says exit left explains out out_new err err_new 3
+  fails : Says exit left savings explains out out_new err err_new 3
 
 -- what is written and answered for these words and this `PATH`
 pub data Tells (words : List Text) (path : Text) (out out_new err err_new : Held) (status : ℕ) : Type 0 where
   -- the words lead to this end, before which a run may have told of its jobs
-  ends : (exit : Exit) (left : Option Text) (explains : Bool) (telling : Telling) (err_run : Held) →
+  ends : (exit : Exit) (left : Option Text) (savings : Option Savings) (explains : Bool) (telling : Telling) (err_run : Held) →
       LeadsTo words path exit left explains telling → IsRunTold telling err err_run →
-      Says exit left explains out out_new err_run err_new status → Tells words path out out_new err err_new status
+      Says exit left savings explains out out_new err_run err_new status → Tells words path out out_new err err_new status
   -- the words ask for help, or are refused, by a kind that they may be refused by
   explains : (kind : ErrorKind) → IsAmong kind (fault_of command_line words) →
       Explains kind out out_new err err_new status → Tells words path out out_new err err_new status

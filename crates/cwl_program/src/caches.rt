@@ -22,6 +22,13 @@ pub fn is_twofold(words: &RunWords) -> bool
     is_named(words.cache) && (is_named(words.record_file) || is_named(words.archive))
 }
 
+/// Whether a record, an archive or a cache is named, so that a job could be loaded.
+pub fn remembers(words: &RunWords) -> bool
+    ensures { result ≡ spec.remembers (wish_of_run words.now) }
+{
+    is_named(words.cache) || is_named(words.record_file) || is_named(words.archive)
+}
+
 fn is_named(name: Option<&str>) -> bool
     ensures { result ≡ is_some (option_map (λ s. s.now) name.entry) }
 {

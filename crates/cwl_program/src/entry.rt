@@ -8,7 +8,7 @@ use crate::certificate::exit_of_check;
 use crate::command::{Choice, choice_of};
 use crate::demo::exit_of_demo;
 use crate::exit::{Exit, Fault};
-use crate::explaining::{explain_exit, put_left, put_notes};
+use crate::explaining::{explain_exit, put_left, put_notes, put_savings};
 use crate::record_words::RecordWords;
 use crate::run::end_of_process;
 use crate::run_end::RunEnd;
@@ -99,8 +99,8 @@ struct End {
 
 /// Says how the program ends.
 fn say<O: Write, E: Write>(alloc: Global, end: &End, out: &mut O, err: &mut E) -> u8
-    ensures { Says end.now.run.exit end.now.run.left end.now.explains (O.contents out.old)
-        (O.contents out.new) (E.contents err.old) (E.contents err.new) result }
+    ensures { Says end.now.run.exit end.now.run.left end.now.run.savings end.now.explains
+        (O.contents out.old) (O.contents out.new) (E.contents err.old) (E.contents err.new) result }
 {
     match tell(alloc, end, out, err) {
         Ok(()) => end.run.exit.status(),
@@ -108,15 +108,18 @@ fn say<O: Write, E: Write>(alloc: Global, end: &End, out: &mut O, err: &mut E) -
     }
 }
 
-// Writes the line of an end, and behind it the words that it is to be explained in, the notes on it, and where the work folder is.
+// Writes the line of an end, and behind it the words that it is to be explained in, the notes on it, what became of the jobs, and where the
+// work folder is.
 fn tell<O: Write, E: Write>(alloc: Global, end: &End, out: &mut O, err: &mut E) -> io::Result<()>
-    ensures { OnOk result (IsTold end.now.run.exit end.now.run.left (O.contents out.old)
-        (O.contents out.new) (E.contents err.old) (E.contents err.new) end.now.explains) }
+    ensures { OnOk result (IsTold end.now.run.exit end.now.run.left end.now.run.savings
+        (O.contents out.old) (O.contents out.new) (E.contents err.old) (E.contents err.new)
+        end.now.explains) }
 {
     end.run.exit.print(out, err)?;
     if end.explains {
         explain_exit(alloc, &end.run.exit, err)?;
         put_notes(alloc, &end.run.exit, end.run.notes.as_slice(), err)?;
+        put_savings(alloc, &end.run.exit, &end.run.savings, err)?;
         return put_left(alloc, &end.run.left, err);
     }
     Ok(())

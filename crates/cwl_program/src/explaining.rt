@@ -1,8 +1,9 @@
 //! What went wrong, in words (`--explain`).
 ghost use Rattle.std.specs.Prelude.{◌≡◌, IfOk, OnOk, string_bytes};
-ghost use Rattle.cwl_program.specs.Tells.{AreNotes, HasLine, HasLines, IsEndingExplained, IsExplained, IsLeftTold, IsPut, left_words};
+ghost use Rattle.cwl_program.specs.Tells.{AreNotes, HasLine, HasLines, IsEndingExplained, IsExplained, IsLeftTold, IsPut, IsSavingsLine, IsSavingsTold, left_words};
 
 use crate::exit::{Exit, Fault, Refusal, Unreadable};
+use crate::savings::{Savings, savings_line};
 use crate::shell_words::add_word;
 use crate::visible::{cut, visible};
 use job_graph::Cause as NoValue;
@@ -72,6 +73,31 @@ fn put_lines<E: Write>(alloc: Global, lines: &[String], err: &mut E) -> io::Resu
         put_line(alloc, line.as_str(), err)?;
     }
     Ok(())
+}
+
+/// Writes what became of the jobs of a run that succeeded, where it tells of them.
+pub fn put_savings<E: Write>(
+    alloc: Global,
+    exit: &Exit,
+    savings: &Option<Savings>,
+    err: &mut E,
+) -> io::Result<()>
+    ensures { OnOk result (IsSavingsTold exit.now savings.now (E.contents err.old)
+        (E.contents err.new)) }
+{
+    match exit {
+        Exit::Output(_) => put_line_of(alloc, savings, err),
+        _ => Ok(()),
+    }
+}
+
+fn put_line_of<E: Write>(alloc: Global, savings: &Option<Savings>, err: &mut E) -> io::Result<()>
+    ensures { OnOk result (IsSavingsLine savings.now (E.contents err.old) (E.contents err.new)) }
+{
+    match savings {
+        None => Ok(()),
+        Some(savings) => put_line(alloc, savings_line(alloc, savings)?.as_str(), err),
+    }
 }
 
 /// Writes where the work folder is, if it stays.

@@ -5,14 +5,16 @@ ghost use Rattle.workflow_check.specs.Checked.{fault_in};
 ghost use Rattle.cwl_program.specs.Runs.{IsRanOver};
 ghost use Rattle.cwl_program.specs.Tells.{IsRunTold};
 
+use crate::caches::{keeps_archive, remembers};
 use crate::exit::Exit;
 use crate::given::{Given, Places};
+use crate::jobs::{Jobs, Memory};
 use crate::notes::notes_on;
 use crate::report::exit_of_run;
 use crate::run_end::RunEnd;
 use crate::run_words::RunWords;
-use crate::starts::Starts;
-use crate::telling::{Teller, Telling};
+use crate::savings::Savings;
+use crate::telling::{Listen, Silent, Teller, Telling};
 use job_rows::Record;
 use plain_data::Keyed;
 use process_machine::{Machine, World};
@@ -21,7 +23,9 @@ use std::alloc::AllocError;
 use std::io::Write;
 use std::mem;
 use std::process::Stdio;
-use workflow_engine::{Unwatched, Watch, run};
+use std::rt::Clock;
+use std::time::Instant;
+use workflow_engine::run;
 
 /// Runs on a machine that works in these places, and asks a record of which nothing was asked.
 pub fn with_options<R: World, K: Record, E: Write>(
@@ -43,11 +47,21 @@ where
         (K.log rows.new) end.exit) }
 {
     match machine_of(rt, places, words.keep) {
-        Ok(host) => told_of(rt, host, given, options, words.telling, rows, err),
+        Ok(host) => {
+            let memory = memory_of(words);
+            told_of(rt, host, given, options, words.telling, memory, rows, err)
+        }
         Err(error) => {
             mem::drop(options);
             Err(error)
         }
+    }
+}
+
+fn memory_of(words: &RunWords) -> Memory {
+    Memory {
+        remembers: remembers(words),
+        keeps: keeps_archive(words),
     }
 }
 
@@ -80,6 +94,7 @@ fn told_of<R: World, K: Record, E: Write>(
     given: &Given,
     options: Options,
     telling: Telling,
+    memory: Memory,
     rows: &mut K,
     err: &mut E,
 ) -> Result<RunEnd, AllocError>
@@ -94,15 +109,15 @@ where
         (K.log rows.new) end.exit) }
 {
     match telling {
-        Telling::Nothing => ended(rt, host, given, options, &mut Unwatched, rows),
+        Telling::Nothing => ended(rt, host, given, options, &mut Silent, memory, rows),
         Telling::Lines => {
             host.show_messages();
             let teller = Teller::new(rt.alloc(), err, telling);
-            told_by(rt, host, given, options, teller, rows)
+            told_by(rt, host, given, options, teller, memory, rows)
         }
         Telling::OneLine => {
             let teller = Teller::new(rt.alloc(), err, telling);
-            told_by(rt, host, given, options, teller, rows)
+            told_by(rt, host, given, options, teller, memory, rows)
         }
     }
 }
@@ -113,6 +128,7 @@ fn told_by<R: World, K: Record, E: Write>(
     given: &Given,
     options: Options,
     mut teller: Teller<'_, E>,
+    memory: Memory,
     rows: &mut K,
 ) -> Result<RunEnd, AllocError>
 where
@@ -124,18 +140,19 @@ where
     ensures { IfOk result (λ end. IsRanOver given.now.process given.now.inputs options
         (K.log rows.new) end.exit) }
 {
-    let end = ended(rt, host, given, options, &mut teller, rows);
+    let end = ended(rt, host, given, options, &mut teller, memory, rows);
     teller.finish();
     mem::drop(teller);
     end
 }
 
-fn ended<R: World, K: Record, W: Watch>(
+fn ended<R: World, K: Record, L: Listen>(
     rt: &R,
     mut host: Machine<R>,
     given: &Given,
     options: Options,
-    watcher: &mut W,
+    listener: &mut L,
+    memory: Memory,
     rows: &mut K,
 ) -> Result<RunEnd, AllocError>
 where
@@ -147,7 +164,8 @@ where
     ensures { IfOk result (λ end. IsRanOver given.now.process given.now.inputs options
         (K.log rows.new) end.exit) }
 {
-    let mut starts = Starts::new(rt.alloc(), watcher);
+    let start = Instant::now(rt).ok();
+    let mut jobs = Jobs::new(rt.alloc(), listener, memory);
     let report = run(
         rt.alloc(),
         &mut host,
@@ -155,22 +173,45 @@ where
         &given.process,
         &given.inputs,
         options,
-        &mut starts,
+        &mut jobs,
     );
     let exit = exit_of_run(rt.alloc(), host.log(), report);
-    let end = noted(rt, &host, given, starts.tickets(), exit);
-    mem::drop(starts);
+    let savings = savings_of(rt, &exit, &mut jobs, start);
+    let end = noted(rt, &host, given, jobs.tickets(), exit, savings);
+    mem::drop(jobs);
     mem::drop(host);
     end
 }
 
-/// Adds what is told of a failure.
+/// What became of the jobs of a run that began then, where it succeeded.
+fn savings_of<R: Clock, L: Listen>(
+    rt: &R,
+    exit: &Result<Exit, AllocError>,
+    jobs: &mut Jobs<'_, L>,
+    start: Option<Instant>,
+) -> Option<Savings> {
+    match exit {
+        Ok(Exit::Output(_)) => {
+            jobs.succeed();
+            jobs.savings(millis_since(rt, start?)?)
+        }
+        _ => None,
+    }
+}
+
+fn millis_since<R: Clock>(rt: &R, start: Instant) -> Option<u64> {
+    let time = start.elapsed(rt).ok()?;
+    Some(u64::try_from(time.as_millis()).unwrap_or(u64::MAX))
+}
+
+/// Adds what is told of a failure, and of a success.
 fn noted<R: World>(
     rt: &R,
     host: &Machine<R>,
     given: &Given,
     tickets: &Keyed<u64>,
     exit: Result<Exit, AllocError>,
+    savings: Option<Savings>,
 ) -> Result<RunEnd, AllocError>
     ensures { IfOk result (λ end. exit ≡ Ok end.exit) }
 {
@@ -180,5 +221,6 @@ fn noted<R: World>(
         exit,
         left: None,
         notes,
+        savings,
     })
 }

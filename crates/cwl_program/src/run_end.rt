@@ -5,6 +5,7 @@ ghost use Rattle.cwl_program.specs.Leaving as spec;
 
 use crate::exit::{Exit, Fault};
 use crate::run_words::RunWords;
+use crate::savings::Savings;
 use plain_data::Text;
 use proc_host::HostFault;
 use std::alloc::{AllocError, Global};
@@ -17,6 +18,8 @@ pub struct RunEnd {
     pub left: Option<Text>,
     /// Lines on what failed.
     pub notes: Vec<String>,
+    /// What became of its jobs, where a run that succeeded tells of it.
+    pub savings: Option<Savings>,
 }
 
 impl RunEnd {
@@ -29,6 +32,7 @@ impl RunEnd {
             exit,
             left: None,
             notes: Vec::new(alloc),
+            savings: None,
         }
     }
 
@@ -42,9 +46,15 @@ impl RunEnd {
             exit,
             left: _,
             notes,
+            savings,
         } = self;
         let left = left_of(alloc, words, &exit, work)?;
-        Ok(RunEnd { exit, left, notes })
+        Ok(RunEnd {
+            exit,
+            left,
+            notes,
+            savings,
+        })
     }
 }
 

@@ -58,6 +58,7 @@ fn advised<R: World>(rt: &R, exit: Exit, inputs: Option<&str>) -> RunEnd
         exit,
         left: None,
         notes,
+        savings: None,
     }
 }
 

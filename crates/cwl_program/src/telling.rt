@@ -1,64 +1,88 @@
 //! What a run tells of its jobs on standard error while it goes on.
-ghost use Rattle.std.specs.Prelude.{◌≡◌, ◌≢◌, List, [], ℕ, ◌++◌, length, vec_len, codes, IfOk, OnOk, string_bytes};
+ghost use Rattle.std.specs.Prelude.{◌≡◌, ◌≢◌, List, ℕ, ◌++◌, codes, IfOk, OnOk, string_bytes};
 ghost use Rattle.std.specs.Io.KnownBytes.{Appends};
 ghost use Rattle.cwl_program.specs.JobLines as spec;
 
-use crate::report::place_in;
+use crate::reuse::Why;
 use crate::shell_words::line_of;
 use command_line::Launch;
-use cwl_value::JobPlace;
-use plain_data::{Keyed, Text};
-use proc_host::{ChildEnd, HostAnswer, HostRequest};
+use plain_data::Text;
+use proc_host::ChildEnd;
 use std::alloc::{AllocError, Global};
 use std::io;
 use std::io::Write;
-use workflow_engine::Watch;
 
 /// How a run tells of its jobs.
 #[derive(Clone, Copy, Debug, PartialEq, Eq)]
 pub enum Telling {
     Nothing,
-    /// A line as each job starts, and one as it ends.
+    /// Lines as each job starts, ends or is loaded.
     Lines,
     /// One line that is rewritten, for a terminal.
     OneLine,
 }
 
+/// How many jobs are done, of how many that are known, and how many run.
+#[derive(Clone, Copy, Debug, PartialEq, Eq)]
+pub struct Counts {
+    pub done: usize,
+    pub known: usize,
+    pub running: usize,
+}
+
+/// Is told what becomes of the jobs of a run, each by its place as JSON text.
+pub trait Listen {
+    /// The job is about to be started, for this reason where it could have been loaded.
+    fn starts(&mut self, place: &Text, launch: &Launch, why: Option<Why>, counts: Counts);
+
+    /// A command has been started.
+    fn started(&mut self, counts: Counts);
+
+    fn ended(&mut self, place: &Text, end: &ChildEnd, counts: Counts);
+
+    /// The files of the job were fetched and are used.
+    fn loaded(&mut self, place: &Text, counts: Counts);
+
+    /// The run has succeeded without the job.
+    fn omitted(&mut self, place: &Text);
+}
+
+/// Tells nothing.
+#[derive(Clone, Copy, Debug)]
+pub struct Silent;
+
+impl Listen for Silent {
+    fn starts(&mut self, _place: &Text, _launch: &Launch, _why: Option<Why>, _counts: Counts) {}
+
+    fn started(&mut self, _counts: Counts) {}
+
+    fn ended(&mut self, _place: &Text, _end: &ChildEnd, _counts: Counts) {}
+
+    fn loaded(&mut self, _place: &Text, _counts: Counts) {}
+
+    fn omitted(&mut self, _place: &Text) {}
+}
+
 /// Takes a terminal back to the beginning of its line, and empties it.
 const ERASE: &str = "\r\u{1b}[K";
 
-/// A child that runs, and its job's place as JSON text.
-#[derive(Drop)]
-struct Running {
-    ticket: u64,
-    place: Text,
-}
-
-/// Tells of the jobs of a run as they start and end. What can't be written is left out.
+/// Tells of the jobs of a run. What can't be written is left out.
 #[derive(Drop)]
 pub struct Teller<'a, E: Write> {
     alloc: Global,
     err: &'a mut E,
     telling: Telling,
-    running: Vec<Running>,
-    // the places of the jobs whose command has ended
-    ended: Keyed<bool>,
-    known: usize,
 }
 
 impl<'a, E: Write> Teller<'a, E> {
     pub fn new(alloc: Global, err: &'a mut E, telling: Telling) -> Teller<'a, E>
         ensures told { result.telling ≡ telling }
         ensures err { E.contents result.err.now ≡ E.contents err.old }
-        ensures empty { (result.ended ≡ []) × (result.known ≡ 0) × (vec_len result.running ≡ 0) }
     {
         Teller {
             alloc,
             err,
             telling,
-            running: Vec::new(alloc),
-            ended: Keyed::new(alloc),
-            known: 0,
         }
     }
 
@@ -72,133 +96,173 @@ impl<'a, E: Write> Teller<'a, E> {
         }
     }
 
-    fn tell_start(&mut self, place: &JobPlace, launch: &Launch) -> io::Result<()>
+    fn tell_why(&mut self, place: &Text, why: Why) -> io::Result<()>
+        ensures silent { self.old.telling ≢ Telling.Lines → E.contents self.new.err.now
+            ≡ E.contents self.old.err.now }
+        ensures told { OnOk result (self.old.telling ≡ Telling.Lines
+            → Appends (E.contents self.old.err.now) (E.contents self.new.err.now)
+            (spec.why_line place.now why ++ codes "\n")) }
+    {
+        if !matches!(self.telling, Telling::Lines) {
+            return Ok(());
+        }
+        let line = why_line(self.alloc, place, why)?;
+        writeln!(self.err, "{line}")
+    }
+
+    fn tell_start(&mut self, place: &Text, launch: &Launch, counts: Counts) -> io::Result<()>
         ensures silent { self.old.telling ≢ Telling.Lines → E.contents self.new.err.now
             ≡ E.contents self.old.err.now }
         ensures told { OnOk result (self.old.telling ≡ Telling.Lines → (line : List ℕ)
-            × spec.IsStartLine place.now launch.now (length self.old.ended) self.old.known line
+            × spec.IsStartLine place.now launch.now counts line
             × Appends (E.contents self.old.err.now) (E.contents self.new.err.now) (line
             ++ codes "\n")) }
     {
         if !matches!(self.telling, Telling::Lines) {
             return Ok(());
         }
-        let line = start_line(self.alloc, place, launch, self.ended.len(), self.known)?;
+        let line = start_line(self.alloc, place, launch, counts)?;
         writeln!(self.err, "{line}")
     }
 
-    fn note_start(&mut self, place: &JobPlace, ticket: u64) -> io::Result<()> {
-        let place = place_in(self.alloc, place)?;
-        self.running.push(Running { ticket, place })?;
-        self.rewrite()
-    }
-
-    fn note_end(&mut self, end: &ChildEnd) -> io::Result<()> {
-        match self.place_of(end.ticket) {
-            None => Ok(()),
-            Some(place) => {
-                self.ended.insert(place.copied(self.alloc)?, true)?;
-                self.tell_end(&place, end)?;
-                self.rewrite()
-            }
-        }
-    }
-
-    // Takes the job of a ticket out of the running ones.
-    fn place_of(&mut self, ticket: u64) -> Option<Text> {
-        let index = self
-            .running
-            .iter()
-            .position(|child| child.ticket == ticket)?;
-        let Running { ticket: _, place } = self.running.remove(index);
-        Some(place)
-    }
-
-    fn tell_end(&mut self, place: &Text, end: &ChildEnd) -> io::Result<()>
+    fn tell_end(&mut self, place: &Text, end: &ChildEnd, counts: Counts) -> io::Result<()>
         ensures silent { self.old.telling ≢ Telling.Lines → E.contents self.new.err.now
             ≡ E.contents self.old.err.now }
         ensures told { OnOk result (self.old.telling ≡ Telling.Lines
             → Appends (E.contents self.old.err.now) (E.contents self.new.err.now)
-            (spec.end_line place.now (length self.old.ended) self.old.known end.now
-            ++ codes "\n")) }
+            (spec.end_line place.now counts end.now ++ codes "\n")) }
     {
         if !matches!(self.telling, Telling::Lines) {
             return Ok(());
         }
-        let line = end_line(self.alloc, place, end, self.ended.len(), self.known)?;
+        let line = end_line(self.alloc, place, end, counts)?;
         writeln!(self.err, "{line}")
     }
 
-    fn rewrite(&mut self) -> io::Result<()>
+    fn tell_load(&mut self, place: &Text, counts: Counts) -> io::Result<()>
+        ensures silent { self.old.telling ≢ Telling.Lines → E.contents self.new.err.now
+            ≡ E.contents self.old.err.now }
+        ensures told { OnOk result (self.old.telling ≡ Telling.Lines
+            → Appends (E.contents self.old.err.now) (E.contents self.new.err.now)
+            (spec.load_line place.now counts ++ codes "\n")) }
+    {
+        if !matches!(self.telling, Telling::Lines) {
+            return Ok(());
+        }
+        let line = load_line(self.alloc, place, counts)?;
+        writeln!(self.err, "{line}")
+    }
+
+    fn tell_omitted(&mut self, place: &Text) -> io::Result<()>
+        ensures silent { self.old.telling ≢ Telling.Lines → E.contents self.new.err.now
+            ≡ E.contents self.old.err.now }
+        ensures told { OnOk result (self.old.telling ≡ Telling.Lines
+            → Appends (E.contents self.old.err.now) (E.contents self.new.err.now)
+            (spec.omit_line place.now ++ codes "\n")) }
+    {
+        if !matches!(self.telling, Telling::Lines) {
+            return Ok(());
+        }
+        writeln!(self.err, "omit {place}: not needed")
+    }
+
+    fn rewrite(&mut self, counts: Counts) -> io::Result<()>
         ensures silent { self.old.telling ≢ Telling.OneLine → E.contents self.new.err.now
             ≡ E.contents self.old.err.now }
         ensures told { OnOk result (self.old.telling ≡ Telling.OneLine
             → Appends (E.contents self.old.err.now) (E.contents self.new.err.now) (spec.erase
-            ++ spec.progress_line (length self.old.ended) self.old.known
-            (vec_len self.old.running))) }
+            ++ spec.progress_line counts)) }
     {
         if !matches!(self.telling, Telling::OneLine) {
             return Ok(());
         }
-        self.write_progress()?;
+        self.write_progress(counts)?;
         self.err.flush()
     }
 
-    fn write_progress(&mut self) -> io::Result<()>
+    fn write_progress(&mut self, counts: Counts) -> io::Result<()>
         ensures { OnOk result (Appends (E.contents self.old.err.now) (E.contents self.new.err.now)
-            (spec.erase ++ spec.progress_line (length self.old.ended) self.old.known
-            (vec_len self.old.running))) }
+            (spec.erase ++ spec.progress_line counts)) }
     {
-        let (done, known, running) = (self.ended.len(), self.known, self.running.len());
-        let line = progress_line(self.alloc, done, known, running)?;
+        let line = progress_line(self.alloc, counts)?;
         write!(self.err, "{ERASE}{line}")
     }
 }
 
-impl<E: Write> Watch for Teller<'_, E> {
-    fn asks(&mut self, place: &JobPlace, request: &HostRequest, known: usize) {
-        self.known = known;
-        if let HostRequest::Start(launch) = request {
-            let _told = self.tell_start(place, launch);
+impl<E: Write> Listen for Teller<'_, E> {
+    fn starts(&mut self, place: &Text, launch: &Launch, why: Option<Why>, counts: Counts) {
+        if let Some(why) = why {
+            let _told = self.tell_why(place, why);
         }
+        let _told = self.tell_start(place, launch, counts);
     }
 
-    fn answers(&mut self, place: &JobPlace, answer: &HostAnswer) {
-        let _told = match answer {
-            HostAnswer::Started(ticket) => self.note_start(place, *ticket),
-            HostAnswer::Ended(end) => self.note_end(end),
-            _ => Ok(()),
-        };
+    fn started(&mut self, counts: Counts) {
+        let _told = self.rewrite(counts);
     }
+
+    fn ended(&mut self, place: &Text, end: &ChildEnd, counts: Counts) {
+        let _told = self.tell_end(place, end, counts);
+        let _rewritten = self.rewrite(counts);
+    }
+
+    fn loaded(&mut self, place: &Text, counts: Counts) {
+        let _told = self.tell_load(place, counts);
+        let _rewritten = self.rewrite(counts);
+    }
+
+    fn omitted(&mut self, place: &Text) {
+        let _told = self.tell_omitted(place);
+    }
+}
+
+fn counts_words(alloc: Global, counts: Counts) -> Result<String, AllocError>
+    ensures { IfOk result (λ words. string_bytes words ≡ spec.counts_words counts) }
+{
+    let (done, known) = (counts.done, counts.known);
+    format!(in alloc; " [{done}/{known}]")
 }
 
 fn start_line(
     alloc: Global,
-    place: &JobPlace,
+    place: &Text,
     launch: &Launch,
-    done: usize,
-    known: usize,
+    counts: Counts,
 ) -> Result<String, AllocError>
-    ensures { IfOk result (λ line. spec.IsStartLine place.now launch.now done known
+    ensures { IfOk result (λ line. spec.IsStartLine place.now launch.now counts
         (string_bytes line)) }
 {
-    let place = place_in(alloc, place)?;
     let words = line_of(alloc, launch)?;
-    format!(in alloc; "start {place} [{done}/{known}] {words}")
+    let counts = counts_words(alloc, counts)?;
+    format!(in alloc; "start {place}{counts} {words}")
+}
+
+fn why_line(alloc: Global, place: &Text, why: Why) -> Result<String, AllocError>
+    ensures { IfOk result (λ line. string_bytes line ≡ spec.why_line place.now why) }
+{
+    let why = why.words();
+    format!(in alloc; "compute {place}: {why}")
 }
 
 fn end_line(
     alloc: Global,
     place: &Text,
     end: &ChildEnd,
-    done: usize,
-    known: usize,
+    counts: Counts,
 ) -> Result<String, AllocError>
-    ensures { IfOk result (λ line. string_bytes line ≡ spec.end_line place.now done known end.now) }
+    ensures { IfOk result (λ line. string_bytes line ≡ spec.end_line place.now counts end.now) }
 {
     let how = ending(alloc, end.code)?;
+    let counts = counts_words(alloc, counts)?;
     let millis = end.millis;
-    format!(in alloc; "end {place} [{done}/{known}] {how}, {millis} ms")
+    format!(in alloc; "end {place}{counts} {how}, {millis} ms")
+}
+
+fn load_line(alloc: Global, place: &Text, counts: Counts) -> Result<String, AllocError>
+    ensures { IfOk result (λ line. string_bytes line ≡ spec.load_line place.now counts) }
+{
+    let counts = counts_words(alloc, counts)?;
+    format!(in alloc; "load {place}{counts}")
 }
 
 /// How a command ended: by a code, or by a signal.
@@ -211,13 +275,13 @@ pub fn ending(alloc: Global, code: Option<i32>) -> Result<String, AllocError>
     }
 }
 
-fn progress_line(
-    alloc: Global,
-    done: usize,
-    known: usize,
-    running: usize,
-) -> Result<String, AllocError>
-    ensures { IfOk result (λ line. string_bytes line ≡ spec.progress_line done known running) }
+fn progress_line(alloc: Global, counts: Counts) -> Result<String, AllocError>
+    ensures { IfOk result (λ line. string_bytes line ≡ spec.progress_line counts) }
 {
+    let Counts {
+        done,
+        known,
+        running,
+    } = counts;
     format!(in alloc; "{done} of {known} jobs done, {running} running")
 }

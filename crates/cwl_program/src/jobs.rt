@@ -1,0 +1,290 @@
+//! What becomes of the jobs of a run.
+
+use crate::report::place_in;
+use crate::reuse::{Recalled, Why, reason_for};
+use crate::savings::Savings;
+use crate::telling::{Counts, Listen};
+use command_line::Launch;
+use cwl_value::JobPlace;
+use job_rows::Row;
+use plain_data::{Keyed, Text};
+use proc_host::{ChildEnd, HostAnswer, HostRequest};
+use run_core::{RecordAnswer, RecordRequest};
+use std::alloc::{AllocError, Global};
+use workflow_engine::Watch;
+
+/// What of an earlier run is asked for.
+#[derive(Clone, Copy, Debug, PartialEq, Eq)]
+pub struct Memory {
+    /// Whether a record or an archive is named, so that a job could be loaded.
+    pub remembers: bool,
+    /// Whether an archive is kept.
+    pub keeps: bool,
+}
+
+/// A child that runs, and its job's place.
+#[derive(Drop)]
+struct Running {
+    ticket: u64,
+    place: Text,
+}
+
+/// Keeps what becomes of each job, under its place as JSON text, and tells a listener. What there is no room for is left out.
+#[derive(Drop)]
+pub struct Jobs<'a, L: Listen> {
+    alloc: Global,
+    listener: &'a mut L,
+    memory: Memory,
+    // how many jobs were known at the last question
+    known: usize,
+    // what the record said
+    recalled: Keyed<Recalled>,
+    // the keys whose archives are not what their rows have
+    altered: Keyed<bool>,
+    // the job whose files were fetched last, until the run goes on with them
+    fetched: Option<Text>,
+    running: Vec<Running>,
+    // the last child of each job
+    tickets: Keyed<u64>,
+    // the jobs whose command has ended, or whose files were loaded
+    done: Keyed<bool>,
+    loaded: u64,
+    gained: u64,
+    // whether nothing was left out
+    is_whole: bool,
+}
+
+impl<'a, L: Listen> Jobs<'a, L> {
+    pub fn new(alloc: Global, listener: &'a mut L, memory: Memory) -> Jobs<'a, L> {
+        Jobs {
+            alloc,
+            listener,
+            memory,
+            known: 0,
+            recalled: Keyed::new(alloc),
+            altered: Keyed::new(alloc),
+            fetched: None,
+            running: Vec::new(alloc),
+            tickets: Keyed::new(alloc),
+            done: Keyed::new(alloc),
+            loaded: 0,
+            gained: 0,
+            is_whole: true,
+        }
+    }
+
+    /// The ticket of the last child of each job.
+    pub fn tickets(&self) -> &Keyed<u64> {
+        &self.tickets
+    }
+
+    /// Takes note that the run has succeeded: jobs of which it needed nothing are told of.
+    pub fn succeed(&mut self) {
+        let settled = self.settle();
+        self.note(settled);
+        for (place, _) in self.recalled.as_slice() {
+            if !self.done.contains(place.as_str()) {
+                self.listener.omitted(place);
+            }
+        }
+    }
+
+    /// What became of the jobs of a run that took so long, where a job could have been loaded.
+    pub fn savings(&self, millis: u64) -> Option<Savings> {
+        if !self.memory.remembers || !self.is_whole {
+            return None;
+        }
+        Some(Savings {
+            jobs: self.known as u64,
+            loaded: self.loaded,
+            computed: self.tickets.len() as u64,
+            millis,
+            gained: self.gained,
+        })
+    }
+
+    fn note(&mut self, noted: Result<(), AllocError>) {
+        if noted.is_err() {
+            self.is_whole = false;
+        }
+    }
+
+    fn counts(&self) -> Counts {
+        Counts {
+            done: self.done.len(),
+            known: self.known,
+            running: self.running.len(),
+        }
+    }
+
+    fn note_question(
+        &mut self,
+        place: &JobPlace,
+        request: &HostRequest,
+    ) -> Result<(), AllocError> {
+        self.settle()?;
+        match request {
+            HostRequest::Start(launch) => self.note_launch(place, launch),
+            _ => Ok(()),
+        }
+    }
+
+    fn note_launch(&mut self, place: &JobPlace, launch: &Launch) -> Result<(), AllocError> {
+        let place = place_in(self.alloc, place)?;
+        let (reason, counts) = (self.reason(&place), self.counts());
+        self.listener.starts(&place, launch, reason, counts);
+        Ok(())
+    }
+
+    // Why a job is computed, in a run that could have loaded it.
+    fn reason(&self, place: &Text) -> Option<Why> {
+        if !self.memory.remembers {
+            return None;
+        }
+        let recalled = self.recalled.get(place.as_str());
+        let is_altered = match recalled {
+            None => false,
+            Some(recalled) => self.altered.contains(recalled.key.as_str()),
+        };
+        Some(reason_for(recalled, self.memory.keeps, is_altered))
+    }
+
+    fn note_answer(&mut self, place: &JobPlace, answer: &HostAnswer) -> Result<(), AllocError> {
+        match answer {
+            HostAnswer::Started(ticket) => self.note_start(place, *ticket),
+            HostAnswer::Ended(end) => self.note_end(end),
+            HostAnswer::Fetched(_) => {
+                self.fetched = Some(place_in(self.alloc, place)?);
+                Ok(())
+            }
+            _ => Ok(()),
+        }
+    }
+
+    fn note_start(&mut self, place: &JobPlace, ticket: u64) -> Result<(), AllocError> {
+        let place = place_in(self.alloc, place)?;
+        self.tickets.insert(place.copied(self.alloc)?, ticket)?;
+        self.running.push(Running { ticket, place })?;
+        let counts = self.counts();
+        self.listener.started(counts);
+        Ok(())
+    }
+
+    fn note_end(&mut self, end: &ChildEnd) -> Result<(), AllocError> {
+        let Some(place) = self.place_of(end.ticket) else {
+            return Ok(());
+        };
+        self.done.insert(place.copied(self.alloc)?, true)?;
+        let counts = self.counts();
+        self.listener.ended(&place, end, counts);
+        Ok(())
+    }
+
+    // Takes the job of a ticket out of the running ones.
+    fn place_of(&mut self, ticket: u64) -> Option<Text> {
+        let index = self
+            .running
+            .iter()
+            .position(|child| child.ticket == ticket)?;
+        let Running { ticket: _, place } = self.running.remove(index);
+        Some(place)
+    }
+
+    fn note_record(
+        &mut self,
+        place: &JobPlace,
+        request: &RecordRequest,
+        answer: &RecordAnswer,
+    ) -> Result<(), AllocError> {
+        match (request, answer) {
+            (RecordRequest::Find(key), RecordAnswer::Found(row)) => {
+                self.settle()?;
+                self.recall(place, key, row)
+            }
+            (RecordRequest::DropArchive(key), _) => self.note_loss(key),
+            _ => self.settle(),
+        }
+    }
+
+    fn recall(
+        &mut self,
+        place: &JobPlace,
+        key: &Text,
+        row: &Option<Row>,
+    ) -> Result<(), AllocError> {
+        let place = place_in(self.alloc, place)?;
+        let recalled = recalled_of(key.copied(self.alloc)?, row);
+        self.recalled.insert(place, recalled)?;
+        Ok(())
+    }
+
+    // What was fetched last is not what its row has.
+    fn note_loss(&mut self, key: &Text) -> Result<(), AllocError> {
+        self.fetched = None;
+        self.altered.insert(key.copied(self.alloc)?, true)?;
+        Ok(())
+    }
+
+    // Takes note that the run goes on with what was fetched last.
+    fn settle(&mut self) -> Result<(), AllocError> {
+        match self.fetched.take() {
+            None => Ok(()),
+            Some(place) => self.note_load(&place),
+        }
+    }
+
+    fn note_load(&mut self, place: &Text) -> Result<(), AllocError> {
+        let cost = match self.recalled.get(place.as_str()) {
+            None => 0,
+            Some(recalled) => recalled.cost,
+        };
+        self.loaded = self.loaded.saturating_add(1);
+        self.gained = self.gained.saturating_add(cost);
+        self.done.insert(place.copied(self.alloc)?, true)?;
+        let counts = self.counts();
+        self.listener.loaded(place, counts);
+        Ok(())
+    }
+}
+
+impl<L: Listen> Watch for Jobs<'_, L> {
+    fn asks(&mut self, place: &JobPlace, request: &HostRequest, known: usize) {
+        self.known = known;
+        let noted = self.note_question(place, request);
+        self.note(noted);
+    }
+
+    fn answers(&mut self, place: &JobPlace, answer: &HostAnswer) {
+        let noted = self.note_answer(place, answer);
+        self.note(noted);
+    }
+
+    fn recalls(
+        &mut self,
+        place: &JobPlace,
+        request: &RecordRequest,
+        answer: &RecordAnswer,
+        known: usize,
+    ) {
+        self.known = known;
+        let noted = self.note_record(place, request, answer);
+        self.note(noted);
+    }
+}
+
+fn recalled_of(key: Text, row: &Option<Row>) -> Recalled {
+    match row {
+        None => Recalled {
+            key,
+            has_row: false,
+            is_archived: false,
+            cost: 0,
+        },
+        Some(row) => Recalled {
+            key,
+            has_row: true,
+            is_archived: row.archived,
+            cost: row.cost,
+        },
+    }
+}
