@@ -36,7 +36,7 @@ const RECORD_HELP: &str =
     "The file of a record, made where it is absent, which keeps what each job gives and ends a run that gives something else";
 
 const ARCHIVE_HELP: &str =
-    "The folder that keeps the files of each job, made where it is absent; a job whose row and files are kept is not started";
+    "The folder that keeps the files of each job, made where it is absent; they are fetched where that costs less than the job";
 
 const CACHE_HELP: &str =
     "The folder of a record and an archive, made where it is absent: `--record DIR/jobs.db --archive DIR/files`";
