@@ -117,11 +117,7 @@ impl<'a, L: Listen> Jobs<'a, L> {
         }
     }
 
-    fn note_question(
-        &mut self,
-        place: &JobPlace,
-        request: &HostRequest,
-    ) -> Result<(), AllocError> {
+    fn note_question(&mut self, place: &JobPlace, request: &HostRequest) -> Result<(), AllocError> {
         self.settle()?;
         match request {
             HostRequest::Start(launch) => self.note_launch(place, launch),

@@ -38,6 +38,5 @@ impl Watch for Unwatched {
         _request: &RecordRequest,
         _answer: &RecordAnswer,
         _known: usize,
-    ) {
-    }
+    ) {}
 }

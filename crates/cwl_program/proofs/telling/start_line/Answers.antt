@@ -9,5 +9,9 @@ returns c =
     let counts = string_bytes c.in_ok-counts.counts in
     let words = string_bytes c.in_ok-words.words in
     IfOk-weaker c.format.result _ _
-    (λ s is. (words, c.in_ok-words.ensures, is ∙ five (codes "start ") place counts (codes " ") words
-    ∙ ap (λ k. codes "start " ++ place ++ k ++ codes " " ++ words) c.in_ok-counts.ensures)) c.format.ensures.ok
+    (λ s is. (
+      words,
+      c.in_ok-words.ensures,
+      is ∙ five (codes "start ") place counts (codes " ") words
+          ∙ ap (λ k. codes "start " ++ place ++ k ++ codes " " ++ words) c.in_ok-counts.ensures,
+    )) c.format.ensures.ok
