@@ -5,8 +5,9 @@ mod generator;
 
 use every_plan::{cheapest, cost_of};
 use flow_planner::{plan, plan_again, plan_by_paths};
-use generator::{changed, larger, small};
+use generator::{apart, changed, larger, small};
 use plan_checker::{Charges, Graph, Plan, check};
+use plan_keeper::{plan_apart, plan_cost};
 use std::alloc::Global;
 use std::mem;
 use std::test::Fail;
@@ -70,6 +71,19 @@ fn plan_from_last(alloc: Global, graph: &Graph, number: u64) -> Result<(Plan, Ch
     Ok(again?)
 }
 
+/// Whether the plan that is read off a graph is the one that `plan` finds, and costs what its check says.
+fn is_read_off(alloc: Global, number: u64) -> Result<bool, Fail> {
+    let graph = apart(alloc, number)?;
+    let Some(made) = plan_apart(alloc, &graph)? else {
+        return Ok(false);
+    };
+    let is_same = is_plan(alloc, &graph, &made)?
+        && check(&graph, &made.0, &made.1) == Ok(plan_cost(&graph, &made.0));
+    mem::drop(made);
+    mem::drop(graph);
+    Ok(is_same)
+}
+
 #[test]
 fn plans_of_small_graphs_are_the_least(rt: HostRuntime) -> Result<(), Fail> {
     for number in 0..400 {
@@ -92,6 +106,15 @@ fn level_graphs_and_paths_give_one_plan(rt: HostRuntime) -> Result<(), Fail> {
 fn plans_again_are_plans(rt: HostRuntime) -> Result<(), Fail> {
     for number in 0..300 {
         let is_one = is_found_again(rt.alloc(), number)?;
+        assert!(rt; is_one, "graph {number}");
+    }
+    Ok(())
+}
+
+#[test]
+fn plans_that_are_read_off_are_plans(rt: HostRuntime) -> Result<(), Fail> {
+    for number in 0..300 {
+        let is_one = is_read_off(rt.alloc(), number)?;
         assert!(rt; is_one, "graph {number}");
     }
     Ok(())

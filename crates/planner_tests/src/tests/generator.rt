@@ -47,6 +47,46 @@ pub fn larger(alloc: Global, number: u64) -> Result<Graph, Fail> {
     graph_of(alloc, &mut numbers, number % 41, most)
 }
 
+/// A graph of up to 40 jobs in which what isn't free stands apart.
+pub fn apart(alloc: Global, number: u64) -> Result<Graph, Fail> {
+    let mut numbers = Numbers { state: number };
+    let most = if number / 100 % 2 == 0 { 3 } else { 1_000_000 };
+    let mut vertices = Vec::new(alloc);
+    for place in 0..number % 41 {
+        vertices.push(generated_job(alloc, &mut numbers, place as usize, most)?)?;
+    }
+    for job in (0..vertices.len()).rev() {
+        free_parents(alloc, &mut vertices, job)?;
+    }
+    Ok(Graph::new(alloc, vertices)?)
+}
+
+/// Lets the parents of a job load at no cost, where the job itself doesn't.
+fn free_parents(alloc: Global, vertices: &mut Vec<Vertex>, job: usize) -> Result<(), AllocError> {
+    let parents = costly_parents(alloc, vertices.as_slice(), job)?;
+    for parent in parents.into_vec() {
+        if let Some(vertex) = vertices.get_mut(parent) {
+            vertex.load = Some(0);
+        }
+    }
+    Ok(())
+}
+
+/// The parents of a job that doesn't load at no cost.
+fn costly_parents(
+    alloc: Global,
+    vertices: &[Vertex],
+    job: usize,
+) -> Result<Items<usize>, AllocError> {
+    match vertices.get(job) {
+        Some(vertex) if vertex.load != Some(0) => Ok(Items::from_vec(Vec::from_slice(
+            alloc,
+            vertex.parents.as_slice(),
+        )?)),
+        _ => Ok(Items::new(alloc)),
+    }
+}
+
 /// The same graph with another load cost and another need for one job in six, and with jobs added at the end.
 pub fn changed(alloc: Global, number: u64) -> Result<Graph, Fail> {
     let mut numbers = Numbers { state: number };
