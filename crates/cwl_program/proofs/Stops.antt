@@ -144,10 +144,12 @@ pub without_folder : (words : RunWish) (path : Text) (answer : Result RunEnd All
     → IfOk answer (λ end. IsEndOfRun words path end.exit end.left)
 without_folder words path answer is gone = ends_as (IsEndOfRun words path) _ answer ([], lost) is gone
 
-pub without_one_meaning : (here : Text) (words : RunWish) (path : Text) (answer : Result RunEnd AllocError)
-    → is_twofold words ≡ true → IfOk answer (λ end. end.exit ≡ exits.Fault faults.Words) → IfOk answer (λ end. end.left ≡ None)
-    → IfOk answer (λ end. IsEndOfRun words path end.exit end.left)
-without_one_meaning here words path answer twice is gone = ends_as (IsEndOfRun words path) _ answer ([], stops here (twofold twice)) is gone
+pub without_one_meaning : (here : Text) (words : RunWish) (path : Text) (end : RunEnd)
+    → is_twofold words ≡ true → end.exit ≡ exits.Fault faults.Words → end.left ≡ None
+    → IsEndOfRun words path end.exit end.left
+without_one_meaning here words path end twice is gone =
+    subst (λ (l : Option Text). IsEndOfRun words path end.exit l) (sym gone)
+    (subst (λ (e : Exit). IsEndOfRun words path e None) (sym is) ([], stops here (twofold twice)))
 
 pub without_process : (here : Text) (words : RunWish) (path : Text) (stop : Stop) (answer : Result RunEnd AllocError)
     → IsStop (IsNoProcess here words) stop → IfOk answer (λ end. stop ≡ Early end.exit) → IfOk answer (λ end. end.left ≡ None)

@@ -81,7 +81,6 @@ fn without_folder(alloc: Global, error: &io::Error) -> Result<RunEnd, AllocError
     }
 }
 
-#[tactic(auto, using(crate::proofs::Stops::without_one_meaning))]
 fn end_of_call<R: World + Records, E: Write>(
     rt: &R,
     call: &Call<'_>,

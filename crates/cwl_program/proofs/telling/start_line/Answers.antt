@@ -11,7 +11,7 @@ returns c =
     IfOk-weaker c.format.result _ _
     (λ s is. (
       words,
-      c.in_ok-words.ensures,
+      c.in_ok-words.ensures.read,
       is ∙ five (codes "start ") place counts (codes " ") words
           ∙ ap (λ k. codes "start " ++ place ++ k ++ codes " " ++ words) c.in_ok-counts.ensures,
     )) c.format.ensures.ok
