@@ -1,0 +1,4 @@
+pub mod Lines
+pub mod Readers
+pub mod Reasons
+pub mod Picture

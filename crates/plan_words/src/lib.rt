@@ -1,0 +1,17 @@
+//! What is said of a plan: its lines, why each job is treated as it is, and a picture.
+//!
+//! - `plan_lines` has the cost and a line for each job, with its mark and its place.
+//! - `plan_reasons` has a line for each job that says in words why it is loaded, computed or not needed.
+//! - `plan_picture` is a graph in Graphviz's language: the jobs, what flows between them, and where the plan cuts.
+//!
+//! All three are pure: how a job's place is written is up to the caller.
+#![tactic(auto)]
+
+mod lines;
+mod picture;
+mod readers;
+mod reasons;
+
+pub use lines::plan_lines;
+pub use picture::plan_picture;
+pub use reasons::{Known, plan_reasons};
