@@ -1,3 +1,4 @@
+pub mod Marks
 pub mod Lines
 pub mod Readers
 pub mod Reasons

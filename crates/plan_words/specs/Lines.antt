@@ -14,12 +14,15 @@ texts_below (suc n) text = texts_below n text ++ text n
 abbrev pub place : List (List ℕ) → ℕ → List ℕ
 place places i = slice_index_or places i []
 
--- NUMBER MARK PLACE
-abbrev pub job_line : ℕ → Mark → List ℕ → List ℕ
-job_line number mark place =
-    decimal number ++ codes " " ++ letter mark ∷ codes " " ++ place ++ codes "\n"
+-- `cost N`
+abbrev pub cost_line : ℕ → List ℕ
+cost_line cost = codes "cost " ++ decimal cost ++ codes "\n"
 
--- `cost N`, and a line for each job
+-- `NUMBER MARK PLACE`, of job i
+abbrev pub job_line : List Mark → List (List ℕ) → ℕ → List ℕ
+job_line marks places i =
+    decimal i ++ codes " " ++ letter (mark marks i) ∷ codes " " ++ place places i ++ codes "\n"
+
+-- what the plan costs, and a line for each job
 abbrev pub plan_lines : ℕ → List Mark → List (List ℕ) → List ℕ
-plan_lines cost marks places =
-    codes "cost " ++ decimal cost ++ codes "\n" ++ texts_below (length marks) (λ i. job_line i (mark marks i) (place places i))
+plan_lines cost marks places = cost_line cost ++ texts_below (length marks) (job_line marks places)

@@ -1,25 +1,24 @@
 -- Who reads what a job makes.
-use Rattle.std.specs.Prelude.{◌≡◌, ℕ, ◌==◌, ◌<◌, Bool, true, false, List, length, count_by, slice_index, if◌then◌else◌}
+use Rattle.std.specs.Prelude.{◌≡◌, ℕ, ◌==◌, ◌<◌, List, length, count_by, slice_index, if◌then◌else◌}
 use Rattle.plan_checker.specs.declared.vertex.Vertex.{Vertex}
 use Rattle.plan_checker.specs.declared.plan.Mark.{Mark}
-use Rattle.plan_checker.specs.declared.plan.Mark.TheVariants.{Load, Compute, Prune}
 use Rattle.plan_checker.specs.Graph.{vertex}
 use Rattle.plan_checker.specs.Plan.{mark}
 use Rattle.plan_checker.specs.Sums.{sum_below}
+use Rattle.plan_words.specs.Marks.{is_same}
 
-abbrev pub is_same : Mark → Mark → Bool
-is_same Load Load = true
-is_same Compute Compute = true
-is_same Prune Prune = true
-is_same _ _ = false
+-- how often job p is among these parents: once where its files are read, since parents rise
+abbrev pub times_read : ℕ → List ℕ → ℕ
+times_read p parents = count_by (λ parent. parent == p) parents
 
--- how often job i has job p among its parents: once where it reads its files, since parents rise
-abbrev pub reads : List Vertex → ℕ → ℕ → ℕ
-reads graph i p = count_by (λ parent. parent == p) (vertex graph i).parents
+-- how many of the jobs below n have this mark and read the files of job p
+abbrev pub readers_below : ℕ → List Vertex → List Mark → Mark → ℕ → ℕ
+readers_below n graph marks m p =
+    sum_below n (λ i. if is_same (mark marks i) m then times_read p (vertex graph i).parents else 0)
 
--- how many jobs with this mark read the files of job p
+-- how many jobs have this mark and read the files of job p
 abbrev pub readers : List Vertex → List Mark → Mark → ℕ → ℕ
-readers graph marks m p = sum_below (length graph) (λ i. if is_same (mark marks i) m then reads graph i p else 0)
+readers graph marks m p = readers_below (length graph) graph marks m p
 
 -- that number, for each job
 pub record AreReaders (graph : List Vertex) (marks : List Mark) (m : Mark) (counts : List ℕ) : Type 0 where

@@ -1,5 +1,5 @@
 -- Why a plan treats each job as it does, in words: a line for each job, with costs in milliseconds.
-use Rattle.std.specs.Prelude.{ℕ, ◌==◌, ◌&&◌, nat_lt, List, [], ◌∷◌, ◌++◌, length, codes, Option, Some, None, unwrap_or, slice_index_or, if◌then◌else◌}
+use Rattle.std.specs.Prelude.{ℕ, ◌==◌, ◌&&◌, nat_lt, List, ◌++◌, length, codes, Option, Some, None, unwrap_or, slice_index_or, if◌then◌else◌}
 use Rattle.std.specs.Fmt.{decimal}
 use Rattle.plan_checker.specs.declared.vertex.Vertex.{Vertex}
 use Rattle.plan_checker.specs.declared.plan.Mark.{Mark}
@@ -15,43 +15,47 @@ use Rattle.plan_words.specs.declared.reasons.Known.TheVariants.{NotReusable, Not
 abbrev pub known_of : List Known → ℕ → Known
 known_of known i = slice_index_or known i NotRecorded
 
--- a job that is loaded though its command takes less time is so for the sake of what it reads
+-- a job that is loaded though its own command takes less time is so for the sake of what it reads
 abbrev pub loaded_words : Vertex → List ℕ
 loaded_words job =
     let fetch = unwrap_or job.load 0 in
-    codes "loaded (" ++ decimal fetch ++ codes " ms): computing it takes " ++ decimal job.compute ++ codes " ms"
-    ++ (if nat_lt job.compute fetch then codes ", and needs the files that it reads" else []) ++ codes "\n"
+    codes "loaded (" ++ decimal fetch ++ codes " ms): computing it takes " ++ decimal job.compute
+    ++ (if nat_lt job.compute fetch then codes " ms, and needs the files that it reads\n" else codes " ms\n")
 
 abbrev pub why_computed : Known → List ℕ
-why_computed NotReusable = codes "its tool does not allow reuse\n"
-why_computed NotRecorded = codes "nothing is recorded of it\n"
-why_computed NotArchived = codes "its files are not archived\n"
-why_computed Archived = codes "its files are archived, but this run has no archive\n"
+why_computed NotReusable = codes "its tool does not allow reuse"
+why_computed NotRecorded = codes "nothing is recorded of it"
+why_computed NotArchived = codes "its files are not archived"
+why_computed Archived = codes "its files are archived, but this run has no archive"
 
--- where it could be loaded, what that takes
+-- where it could be loaded, what that takes; else why it can't be
 abbrev pub why_not_loaded : Option ℕ → Known → List ℕ
-why_not_loaded (Some fetch) known = codes "fetching its files takes " ++ decimal fetch ++ codes " ms\n"
+why_not_loaded (Some fetch) known = codes "fetching its files takes " ++ decimal fetch ++ codes " ms"
 why_not_loaded None known = why_computed known
 
 abbrev pub computed_words : Vertex → Known → List ℕ
-computed_words job known = codes "computed (" ++ decimal job.compute ++ codes " ms): " ++ why_not_loaded job.load known
+computed_words job known =
+    codes "computed (" ++ decimal job.compute ++ codes " ms): " ++ why_not_loaded job.load known ++ codes "\n"
 
 -- with how many of the jobs that read its files are loaded, and how many are not needed
 abbrev pub pruned_words : ℕ → ℕ → List ℕ
 pruned_words loaded pruned =
-    codes "not needed: no output has its files, and "
-    ++ (if loaded == 0 && pruned == 0 then codes "no job reads them\n" else
-    (codes "each job that reads them is loaded (" ++ decimal loaded ++ codes ") or not needed (" ++ decimal pruned ++ codes ")\n"))
+    if loaded == 0 && pruned == 0 then codes "not needed: no output has its files, and no job reads them\n" else
+    (codes "not needed: no output has its files, and each job that reads them is loaded (" ++ decimal loaded
+    ++ codes ") or not needed (" ++ decimal pruned ++ codes ")\n")
 
 abbrev pub reason : Vertex → Mark → Known → ℕ → ℕ → List ℕ
 reason job Load known loaded pruned = loaded_words job
 reason job Compute known loaded pruned = computed_words job known
 reason job Prune known loaded pruned = pruned_words loaded pruned
 
--- NUMBER PLACE is ..
+-- `NUMBER PLACE is `, of job i
+abbrev pub job_start : List (List ℕ) → ℕ → List ℕ
+job_start places i = decimal i ++ codes " " ++ place places i ++ codes " is "
+
 abbrev pub reason_line : List Vertex → List Mark → List Known → List (List ℕ) → ℕ → List ℕ
 reason_line graph marks known places i =
-    decimal i ++ codes " " ++ place places i ++ codes " is "
+    job_start places i
     ++ reason (vertex graph i) (mark marks i) (known_of known i) (readers graph marks Load i) (readers graph marks Prune i)
 
 abbrev pub reasons : List Vertex → List Mark → List Known → List (List ℕ) → List ℕ

@@ -8,6 +8,7 @@
 #![tactic(auto)]
 
 mod lines;
+mod parts;
 mod picture;
 mod readers;
 mod reasons;

@@ -1,8 +1,10 @@
 //! A picture of a plan, in Graphviz's language.
-ghost use Rattle.std.specs.Prelude.{◌≡◌, ◌++◌, ◌<◌, length, All, IfOk, OnOk, string_bytes};
-ghost use Rattle.plan_checker.specs.Charges.{IsCounted};
-ghost use Rattle.plan_words.specs.Picture.{arrow, arrows, escaped, escaped_char, job_node, look, load_word, picture};
+ghost use Rattle.std.specs.Prelude.{◌≡◌, ◌<◌, ◌++◌, length, All, IfOk, OnOk, string_bytes};
+ghost use Rattle.plan_checker.specs.Charges.{IsCounted, passes};
+ghost use Rattle.plan_checker.specs.Graph.{vertex};
+ghost use Rattle.plan_words.specs.Picture.{arrow, arrows, costs_text, escaped, escaped_char, job_node, look, node_start, picture, rim, title};
 
+use crate::parts::{is_same, job_at, mark_at, parents_at, place_at};
 use plain_data::Text;
 use plan_checker::{Charges, Graph, Mark, Plan, Vertex};
 use std::alloc::{AllocError, Global};
@@ -23,56 +25,73 @@ pub fn plan_picture(
     ensures { IfOk result (λ text. text
         ≡ picture cost graph.now plan.now.marks charges.now places.now) }
 {
-    let marks = plan.marks.as_slice();
-    let mut text = started(alloc, cost)?;
-    for (number, job) in graph.vertices().iter().enumerate() {
-        push_node(&mut text, number, job, marks[number], &places[number])?;
-        let amounts = charges.pass.as_slice()[number].as_slice();
-        push_arrows(&mut text, number, marks, job.parents.as_slice(), amounts)?;
+    let mut text = title(alloc, cost)?;
+    for number in 0..places.len() {
+        push_node(&mut text, graph, plan, places, number)?;
+        push_arrows(&mut text, graph, plan, charges, number)?;
     }
     text.push_str("}\n")?;
     Ok(Text::from_string(text))
 }
 
-fn started(alloc: Global, cost: u64) -> Result<String, AllocError> {
+fn title(alloc: Global, cost: u64) -> Result<String, AllocError>
+    ensures { IfOk result (λ text. string_bytes text ≡ title cost) }
+{
     format!(in alloc; "digraph plan {{\ngraph [label=\"cost {cost}\", rankdir=LR]\nnode [style=filled]\n")
 }
 
+// The node of a job.
 fn push_node(
     text: &mut String,
+    graph: &Graph,
+    plan: &Plan,
+    places: &[Text],
     number: usize,
-    job: &Vertex,
-    mark: Mark,
-    place: &Text,
 ) -> Result<(), AllocError>
+    requires job { number < length graph.now }
+    requires mark { number < length plan.now.marks }
+    requires place { number < length places.now }
     ensures { OnOk result (string_bytes text.new ≡ string_bytes text.old
-        ++ job_node number job.now mark place.now) }
+        ++ job_node graph.now plan.now.marks places.now number) }
 {
-    write!(text, "{number} [label=\"")?;
-    push_escaped(text, place.as_str())?;
+    let job = job_at(graph, number);
+    push_start(text, number)?;
+    push_escaped(text, place_at(places, number).as_str())?;
     push_costs(text, job)?;
-    let look = look_of(mark);
-    let rim = if job.needed { ", peripheries=2" } else { "" };
-    write!(text, "\", {look}{rim}]\n")
+    push_look(text, mark_at(plan, number), job.needed)
 }
 
-fn push_costs(text: &mut String, job: &Vertex) -> Result<(), AllocError> {
-    text.push_str("\\nload ")?;
-    match job.load {
-        Some(load) => write!(text, "{load}")?,
-        None => text.push_str("-")?,
-    }
+fn push_start(text: &mut String, number: usize) -> Result<(), AllocError>
+    ensures { OnOk result (string_bytes text.new ≡ string_bytes text.old ++ node_start number) }
+{
+    write!(text, "{number} [label=\"")
+}
+
+fn push_costs(text: &mut String, job: &Vertex) -> Result<(), AllocError>
+    ensures { OnOk result (string_bytes text.new ≡ string_bytes text.old ++ costs_text job.now) }
+{
     let compute = job.compute;
-    write!(text, ", compute {compute}")
+    match job.load {
+        Some(load) => write!(text, "\\nload {load}, compute {compute}\""),
+        None => write!(text, "\\nload -, compute {compute}\""),
+    }
+}
+
+fn push_look(text: &mut String, mark: Mark, needed: bool) -> Result<(), AllocError>
+    ensures { OnOk result (string_bytes text.new ≡ string_bytes text.old
+        ++ look mark ++ rim needed) }
+{
+    text.push_str(look_of(mark))?;
+    text.push_str(if needed { ", peripheries=2]\n" } else { "]\n" })
 }
 
 fn look_of(mark: Mark) -> &'static str
     ensures { result.now ≡ look mark }
 {
     match mark {
-        Mark::Load => "shape=cylinder, fillcolor=lightblue",
-        Mark::Compute => "shape=box, fillcolor=palegreen",
-        Mark::Prune => "shape=ellipse, fillcolor=gray90",
+        Mark::Load => ", shape=cylinder, fillcolor=lightblue",
+        Mark::Compute => ", shape=box, fillcolor=palegreen",
+        Mark::Prune => ", shape=ellipse, fillcolor=gray90",
     }
 }
 
@@ -96,36 +115,67 @@ fn push_char(text: &mut String, c: char) -> Result<(), AllocError>
     }
 }
 
+// The arrows to a job.
 fn push_arrows(
     text: &mut String,
+    graph: &Graph,
+    plan: &Plan,
+    charges: &Charges,
+    number: usize,
+) -> Result<(), AllocError>
+    requires job { number < length graph.now }
+    requires marks { length plan.now.marks ≡ length graph.now }
+    requires charges { IsCounted graph.now charges.now }
+    ensures { OnOk result (string_bytes text.new ≡ string_bytes text.old
+        ++ arrows plan.now.marks number (vertex graph.now number).parents
+        (passes charges.now number)) }
+{
+    let amounts = passes_of(charges, number);
+    push_each(text, plan, number, parents_at(graph, number), amounts)
+}
+
+// An arrow to a job from each of these.
+fn push_each(
+    text: &mut String,
+    plan: &Plan,
     child: usize,
-    marks: &[Mark],
     parents: &[usize],
     amounts: &[u64],
 ) -> Result<(), AllocError>
-    requires child { child < length marks.now }
-    requires parents { All (λ parent. parent < length marks.now) parents.now }
+    requires child { child < length plan.now.marks }
+    requires below { All (λ parent. parent < child) parents.now }
     requires amounts { length amounts.now ≡ length parents.now }
     ensures { OnOk result (string_bytes text.new ≡ string_bytes text.old
-        ++ arrows child marks.now parents.now amounts.now) }
+        ++ arrows plan.now.marks child parents.now amounts.now) }
 {
-    for (i, parent) in parents.iter().enumerate() {
-        let cuts = marks[*parent] != marks[child];
-        push_arrow(text, *parent, child, amounts[i], cuts)?;
+    for i in 0..parents.len() {
+        push_arrow(text, plan, parents[i], child, amounts[i])?;
     }
     Ok(())
 }
 
+fn passes_of(charges: &Charges, number: usize) -> &[u64]
+    requires { number < length charges.now.pass }
+    ensures { result.now ≡ passes charges.now number }
+{
+    charges.pass.as_slice()[number].as_slice()
+}
+
 fn push_arrow(
     text: &mut String,
+    plan: &Plan,
     parent: usize,
     child: usize,
     amount: u64,
-    cuts: bool,
 ) -> Result<(), AllocError>
+    requires parent { parent < length plan.now.marks }
+    requires child { child < length plan.now.marks }
     ensures { OnOk result (string_bytes text.new ≡ string_bytes text.old
-        ++ arrow parent child amount cuts) }
+        ++ arrow plan.now.marks parent child amount) }
 {
-    let look = if cuts { ", style=dashed, color=red" } else { "" };
-    write!(text, "{parent} -> {child} [label=\"{amount}\"{look}]\n")
+    if is_same(mark_at(plan, parent), mark_at(plan, child)) {
+        write!(text, "{parent} -> {child} [label=\"{amount}\"]\n")
+    } else {
+        write!(text, "{parent} -> {child} [label=\"{amount}\", style=dashed, color=red]\n")
+    }
 }

@@ -1,34 +1,55 @@
 //! Who reads what a job makes.
-ghost use Rattle.std.specs.Prelude.{◌≡◌, ℕ, ◌+◌, ◌<◌, ◌≤◌, ◌^◌, ◌==◌, length, count_by, All, IfOk, OnOk, slice_index};
-ghost use Rattle.plan_words.specs.Readers.{AreReaders, reads};
+ghost use Rattle.std.specs.Prelude.{◌≡◌, ℕ, ◌+◌, ◌<◌, ◌^◌, ◌==◌, length, count_by, All, IfOk, replicate, slice_index, if◌then◌else◌};
+ghost use Rattle.plan_words.specs.Readers.{AreReaders};
 
-use plan_checker::{Graph, Mark};
+use crate::parts::{is_same, mark_at, parents_at};
+use plan_checker::{Graph, Mark, Plan};
 use std::alloc::{AllocError, Global};
 
 /// Counts for each job the jobs with this mark that read its files.
 pub fn readers_of(
     alloc: Global,
     graph: &Graph,
-    marks: &[Mark],
+    plan: &Plan,
     mark: Mark,
 ) -> Result<Vec<usize>, AllocError>
-    requires { length marks.now ≡ length graph.now }
-    ensures { IfOk result (λ counts. AreReaders graph.now marks.now mark counts.items) }
+    requires { length plan.now.marks ≡ length graph.now }
+    ensures { IfOk result (λ counts. AreReaders graph.now plan.now.marks mark counts.items) }
 {
-    let vertices = graph.vertices();
-    let mut counts = vec![in alloc; 0; vertices.len()]?;
-    for (number, vertex) in vertices.iter().enumerate() {
-        if marks[number] == mark {
-            count_each(&mut counts, vertex.parents.as_slice());
-        }
+    let mut counts = zeros(alloc, graph.vertices().len())?;
+    for number in 0..counts.len() {
+        let they_count = is_same(mark_at(plan, number), mark);
+        count_if(&mut counts, parents_at(graph, number), they_count);
     }
     Ok(counts)
+}
+
+fn zeros(alloc: Global, count: usize) -> Result<Vec<usize>, AllocError>
+    ensures { IfOk result (λ counts. counts.items ≡ replicate count 0) }
+{
+    vec![in alloc; 0; count]
+}
+
+// Adds 1 for each of these jobs, where they count.
+fn count_if(counts: &mut Vec<usize>, jobs: &[usize], they_count: bool)
+    requires there { All (λ job. job < length counts.old.items) jobs.now }
+    requires room { (job : ℕ) → job < length counts.old.items → slice_index counts.old.items job
+        + length jobs.now < 2 ^ 64 }
+    ensures length { length counts.new.items ≡ length counts.old.items }
+    ensures counted { (job : ℕ) → job < length counts.old.items → slice_index counts.new.items job
+        ≡ slice_index counts.old.items job + (if they_count then
+        count_by (λ other. other == job) jobs.now else 0) }
+{
+    if they_count {
+        count_each(counts, jobs);
+    }
 }
 
 // Adds 1 for each of these jobs.
 fn count_each(counts: &mut Vec<usize>, jobs: &[usize])
     requires there { All (λ job. job < length counts.old.items) jobs.now }
-    requires room { All (λ count. count + length jobs.now < 2 ^ 64) counts.old.items }
+    requires room { (job : ℕ) → job < length counts.old.items → slice_index counts.old.items job
+        + length jobs.now < 2 ^ 64 }
     ensures length { length counts.new.items ≡ length counts.old.items }
     ensures counted { (job : ℕ) → job < length counts.old.items → slice_index counts.new.items job
         ≡ slice_index counts.old.items job + count_by (λ other. other == job) jobs.now }

@@ -1,7 +1,10 @@
 //! Why a plan treats each job as it does, in words.
-ghost use Rattle.std.specs.Prelude.{◌≡◌, ◌++◌, length, IfOk, OnOk, string_bytes};
-ghost use Rattle.plan_words.specs.Reasons.{loaded_words, computed_words, pruned_words, reason_line, reason, reasons, why_computed};
+ghost use Rattle.std.specs.Prelude.{◌≡◌, ◌<◌, ◌++◌, length, IfOk, OnOk, string_bytes};
+ghost use Rattle.plan_checker.specs.Graph.{vertex};
+ghost use Rattle.plan_checker.specs.Plan.{mark};
+ghost use Rattle.plan_words.specs.Reasons.{computed_words, job_start, known_of, loaded_words, pruned_words, reason, reasons, why_computed};
 
+use crate::parts::{job_at, mark_at, place_at};
 use crate::readers::readers_of;
 use plain_data::Text;
 use plan_checker::{Graph, Mark, Plan, Vertex};
@@ -33,33 +36,52 @@ pub fn plan_reasons(
     requires places { length places.now ≡ length graph.now }
     ensures { IfOk result (λ text. text ≡ reasons graph.now plan.now.marks known.now places.now) }
 {
-    let marks = plan.marks.as_slice();
-    let loaded = readers_of(alloc, graph, marks, Mark::Load)?;
-    let pruned = readers_of(alloc, graph, marks, Mark::Prune)?;
+    let loaded = readers_of(alloc, graph, plan, Mark::Load)?;
+    let pruned = readers_of(alloc, graph, plan, Mark::Prune)?;
+    let (loaded, pruned) = (loaded.as_slice(), pruned.as_slice());
     let mut text = String::new(alloc);
-    for (number, job) in graph.vertices().iter().enumerate() {
-        push_line_start(&mut text, number, &places[number])?;
-        push_reason(&mut text, job, marks[number], known[number], loaded[number], pruned[number])?;
+    for number in 0..places.len() {
+        push_start(&mut text, places, number)?;
+        let why = known_at(known, number);
+        push_reason(&mut text, graph, plan, number, why, loaded[number], pruned[number])?;
     }
     Ok(Text::from_string(text))
 }
 
-fn push_line_start(text: &mut String, number: usize, place: &Text) -> Result<(), AllocError> {
+fn known_at(known: &[Known], number: usize) -> Known
+    requires { number < length known.now }
+    ensures { result ≡ known_of known.now number }
+{
+    known[number]
+}
+
+// What the line of a job begins with.
+fn push_start(text: &mut String, places: &[Text], number: usize) -> Result<(), AllocError>
+    requires { number < length places.now }
+    ensures { OnOk result (string_bytes text.new ≡ string_bytes text.old
+        ++ job_start places.now number) }
+{
+    let place = place_at(places, number);
     write!(text, "{number} {place} is ")
 }
 
+// The rest of the line, with how many of its readers are loaded, and how many are not needed.
 fn push_reason(
     text: &mut String,
-    job: &Vertex,
-    mark: Mark,
+    graph: &Graph,
+    plan: &Plan,
+    number: usize,
     known: Known,
     loaded: usize,
     pruned: usize,
 ) -> Result<(), AllocError>
+    requires job { number < length graph.now }
+    requires mark { number < length plan.now.marks }
     ensures { OnOk result (string_bytes text.new ≡ string_bytes text.old
-        ++ reason job.now mark known loaded pruned) }
+        ++ reason (vertex graph.now number) (mark plan.now.marks number) known loaded pruned) }
 {
-    match mark {
+    let job = job_at(graph, number);
+    match mark_at(plan, number) {
         Mark::Load => push_loaded(text, job),
         Mark::Compute => push_computed(text, job, known),
         Mark::Prune => push_pruned(text, loaded, pruned),
@@ -71,12 +93,14 @@ fn push_loaded(text: &mut String, job: &Vertex) -> Result<(), AllocError>
 {
     let fetch = job.load.unwrap_or(0);
     let compute = job.compute;
-    let rest = if compute < fetch {
-        ", and needs the files that it reads"
+    if compute < fetch {
+        write!(
+            text,
+            "loaded ({fetch} ms): computing it takes {compute} ms, and needs the files that it reads\n"
+        )
     } else {
-        ""
-    };
-    write!(text, "loaded ({fetch} ms): computing it takes {compute} ms{rest}\n")
+        write!(text, "loaded ({fetch} ms): computing it takes {compute} ms\n")
+    }
 }
 
 fn push_computed(text: &mut String, job: &Vertex, known: Known) -> Result<(), AllocError>
@@ -84,10 +108,12 @@ fn push_computed(text: &mut String, job: &Vertex, known: Known) -> Result<(), Al
         ++ computed_words job.now known) }
 {
     let compute = job.compute;
-    write!(text, "computed ({compute} ms): ")?;
     match job.load {
-        Some(fetch) => write!(text, "fetching its files takes {fetch} ms\n"),
-        None => text.push_str(why_computed(known)),
+        Some(fetch) => write!(text, "computed ({compute} ms): fetching its files takes {fetch} ms\n"),
+        None => {
+            let why = why_computed(known);
+            write!(text, "computed ({compute} ms): {why}\n")
+        }
     }
 }
 
@@ -95,10 +121,10 @@ fn why_computed(known: Known) -> &'static str
     ensures { result.now ≡ why_computed known }
 {
     match known {
-        Known::NotReusable => "its tool does not allow reuse\n",
-        Known::NotRecorded => "nothing is recorded of it\n",
-        Known::NotArchived => "its files are not archived\n",
-        Known::Archived => "its files are archived, but this run has no archive\n",
+        Known::NotReusable => "its tool does not allow reuse",
+        Known::NotRecorded => "nothing is recorded of it",
+        Known::NotArchived => "its files are not archived",
+        Known::Archived => "its files are archived, but this run has no archive",
     }
 }
 
@@ -106,9 +132,12 @@ fn push_pruned(text: &mut String, loaded: usize, pruned: usize) -> Result<(), Al
     ensures { OnOk result (string_bytes text.new ≡ string_bytes text.old
         ++ pruned_words loaded pruned) }
 {
-    text.push_str("not needed: no output has its files, and ")?;
     if loaded == 0 && pruned == 0 {
-        return text.push_str("no job reads them\n");
+        text.push_str("not needed: no output has its files, and no job reads them\n")
+    } else {
+        write!(
+            text,
+            "not needed: no output has its files, and each job that reads them is loaded ({loaded}) or not needed ({pruned})\n"
+        )
     }
-    write!(text, "each job that reads them is loaded ({loaded}) or not needed ({pruned})\n")
 }
