@@ -1,13 +1,10 @@
-use Rattle.std.proofs.Common.{◌≡◌, ◌≢◌, ℕ, ◌+◌, ◌<◌, ◌≤◌, ◌^◌, Bool, true, false, cond, eqb, List, length, get_or, set, take, sym, refl, ap, ◌∙◌, ⊎_elim, arith, get_or-set_other, get_or-set_same}
-use Rattle.std.specs.List.{count_by}
+use Rattle.std.proofs.Common.{◌≡◌, ℕ, ◌+◌, ◌<◌, ◌≤◌, ◌^◌, Bool, true, false, cond, eqb, List, length, get_or, set, take, sym, ap, ◌∙◌, ⊎_elim, arith, get_or-set_other, get_or-set_same}
 use Rattle.std.proofs.lemmas.Bool.{cases_eq, eq-eqb, ne_eqb}
 use Rattle.std.proofs.lemmas.List.Sums.{count_by_more_yes, count_by_more_no, count_by-le-length}
 use Rattle.plan_checker.specs.declared.vertex.Vertex.{Vertex}
 use Rattle.plan_checker.specs.declared.plan.Mark.{Mark}
-use Rattle.plan_checker.specs.declared.graph.TheConstants.{MOST_ENTRIES}
 use Rattle.plan_checker.specs.Graph.{vertex, entries_below, IsGraph}
 use Rattle.plan_checker.specs.Plan.{mark}
-use Rattle.plan_checker.specs.Sums.{sum_below}
 use Rattle.plan_checker.proofs.SumsBelow.{sum_below_more, sum_below_le}
 use Rattle.plan_words.specs.Marks.{is_same}
 use Rattle.plan_words.specs.Readers.{times_read, readers_below}

@@ -49,12 +49,20 @@ job_node graph marks places i =
     node_start i ++ escaped (place places i) ++ costs_text (vertex graph i)
     ++ (look (mark marks i) ++ rim (vertex graph i).needed)
 
--- from a parent to a child, with what the child passes to it. The cut is dashed: one end is computed and the other isn't, or one is kept and
--- the other isn't
+-- from a parent to a child, with what the child passes to it
+abbrev pub arrow_ends : (parent child amount : ℕ) → List ℕ
+arrow_ends parent child amount =
+    decimal parent ++ codes " -> " ++ decimal child ++ codes " [label=\"" ++ decimal amount ++ codes "\""
+
+-- the cut is dashed
+abbrev pub arrow_end : Bool → List ℕ
+arrow_end true = codes "]\n"
+arrow_end false = codes ", style=dashed, color=red]\n"
+
+-- an arrow is cut where its ends have different marks: one is computed and the other isn't, or one is kept and the other isn't
 abbrev pub arrow : List Mark → (parent child amount : ℕ) → List ℕ
 arrow marks parent child amount =
-    decimal parent ++ codes " -> " ++ decimal child ++ codes " [label=\"" ++ decimal amount
-    ++ (if is_same (mark marks parent) (mark marks child) then codes "\"]\n" else codes "\", style=dashed, color=red]\n")
+    arrow_ends parent child amount ++ arrow_end (is_same (mark marks parent) (mark marks child))
 
 -- to a child from each of its parents
 abbrev pub arrows : List Mark → (child : ℕ) → (parents amounts : List ℕ) → List ℕ

@@ -2,7 +2,7 @@
 ghost use Rattle.std.specs.Prelude.{◌≡◌, ◌<◌, ◌++◌, length, All, IfOk, OnOk, string_bytes};
 ghost use Rattle.plan_checker.specs.Charges.{IsCounted, passes};
 ghost use Rattle.plan_checker.specs.Graph.{vertex};
-ghost use Rattle.plan_words.specs.Picture.{arrow, arrows, costs_text, escaped, escaped_char, job_node, look, node_start, picture, rim, title};
+ghost use Rattle.plan_words.specs.Picture.{arrow, arrow_end, arrow_ends, arrows, costs_text, escaped, escaped_char, job_node, look, node_start, picture, rim, title};
 
 use crate::parts::{is_same, job_at, mark_at, parents_at, place_at};
 use plain_data::Text;
@@ -37,7 +37,9 @@ pub fn plan_picture(
 fn title(alloc: Global, cost: u64) -> Result<String, AllocError>
     ensures { IfOk result (λ text. string_bytes text ≡ title cost) }
 {
-    format!(in alloc; "digraph plan {{\ngraph [label=\"cost {cost}\", rankdir=LR]\nnode [style=filled]\n")
+    format!(in alloc;
+        "digraph plan {{\ngraph [label=\"cost {cost}\", rankdir=LR]\nnode [style=filled]\n"
+    )
 }
 
 // The node of a job.
@@ -173,9 +175,24 @@ fn push_arrow(
     ensures { OnOk result (string_bytes text.new ≡ string_bytes text.old
         ++ arrow plan.now.marks parent child amount) }
 {
-    if is_same(mark_at(plan, parent), mark_at(plan, child)) {
-        write!(text, "{parent} -> {child} [label=\"{amount}\"]\n")
+    let end = arrow_end(is_same(mark_at(plan, parent), mark_at(plan, child)));
+    push_ends(text, parent, child, amount)?;
+    text.push_str(end)
+}
+
+fn push_ends(text: &mut String, parent: usize, child: usize, amount: u64) -> Result<(), AllocError>
+    ensures { OnOk result (string_bytes text.new ≡ string_bytes text.old
+        ++ arrow_ends parent child amount) }
+{
+    write!(text, "{parent} -> {child} [label=\"{amount}\"")
+}
+
+fn arrow_end(is_inside: bool) -> &'static str
+    ensures { result.now ≡ arrow_end is_inside }
+{
+    if is_inside {
+        "]\n"
     } else {
-        write!(text, "{parent} -> {child} [label=\"{amount}\", style=dashed, color=red]\n")
+        ", style=dashed, color=red]\n"
     }
 }

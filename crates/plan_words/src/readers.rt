@@ -16,8 +16,9 @@ pub fn readers_of(
     requires { length plan.now.marks ≡ length graph.now }
     ensures { IfOk result (λ counts. AreReaders graph.now plan.now.marks mark counts.items) }
 {
-    let mut counts = zeros(alloc, graph.vertices().len())?;
-    for number in 0..counts.len() {
+    let count = graph.vertices().len();
+    let mut counts = zeros(alloc, count)?;
+    for number in 0..count {
         let they_count = is_same(mark_at(plan, number), mark);
         count_if(&mut counts, parents_at(graph, number), they_count);
     }

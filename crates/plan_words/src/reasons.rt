@@ -2,7 +2,7 @@
 ghost use Rattle.std.specs.Prelude.{◌≡◌, ◌<◌, ◌++◌, length, IfOk, OnOk, string_bytes};
 ghost use Rattle.plan_checker.specs.Graph.{vertex};
 ghost use Rattle.plan_checker.specs.Plan.{mark};
-ghost use Rattle.plan_words.specs.Reasons.{computed_words, job_start, known_of, loaded_words, pruned_words, reason, reasons, why_computed};
+ghost use Rattle.plan_words.specs.Reasons.{alternative, computed_words, costing, has_no_readers, job_start, known_of, loaded_words, pruned_words, readers_words, reason, reasons, rest_of, why_computed, why_not_loaded};
 
 use crate::parts::{job_at, mark_at, place_at};
 use crate::readers::readers_of;
@@ -43,7 +43,15 @@ pub fn plan_reasons(
     for number in 0..places.len() {
         push_start(&mut text, places, number)?;
         let why = known_at(known, number);
-        push_reason(&mut text, graph, plan, number, why, loaded[number], pruned[number])?;
+        push_reason(
+            &mut text,
+            graph,
+            plan,
+            number,
+            why,
+            loaded[number],
+            pruned[number],
+        )?;
     }
     Ok(Text::from_string(text))
 }
@@ -92,28 +100,51 @@ fn push_loaded(text: &mut String, job: &Vertex) -> Result<(), AllocError>
     ensures { OnOk result (string_bytes text.new ≡ string_bytes text.old ++ loaded_words job.now) }
 {
     let fetch = job.load.unwrap_or(0);
-    let compute = job.compute;
-    if compute < fetch {
-        write!(
-            text,
-            "loaded ({fetch} ms): computing it takes {compute} ms, and needs the files that it reads\n"
-        )
-    } else {
-        write!(text, "loaded ({fetch} ms): computing it takes {compute} ms\n")
-    }
+    push_cost(text, "loaded", fetch)?;
+    push_alternative(text, job.compute, job.compute < fetch)
 }
 
 fn push_computed(text: &mut String, job: &Vertex, known: Known) -> Result<(), AllocError>
     ensures { OnOk result (string_bytes text.new ≡ string_bytes text.old
         ++ computed_words job.now known) }
 {
-    let compute = job.compute;
-    match job.load {
-        Some(fetch) => write!(text, "computed ({compute} ms): fetching its files takes {fetch} ms\n"),
-        None => {
-            let why = why_computed(known);
-            write!(text, "computed ({compute} ms): {why}\n")
-        }
+    push_cost(text, "computed", job.compute)?;
+    push_why(text, job.load, known)
+}
+
+// What is done with a job, and what it costs.
+fn push_cost(text: &mut String, what: &str, cost: u64) -> Result<(), AllocError>
+    ensures { OnOk result (string_bytes text.new ≡ string_bytes text.old ++ costing what.now cost) }
+{
+    write!(text, "{what} ({cost} ms): ")
+}
+
+// What it costs to compute a job that is loaded.
+fn push_alternative(text: &mut String, compute: u64, is_less: bool) -> Result<(), AllocError>
+    ensures { OnOk result (string_bytes text.new ≡ string_bytes text.old
+        ++ alternative compute is_less) }
+{
+    let rest = rest_of(is_less);
+    write!(text, "computing it takes {compute} ms{rest}")
+}
+
+fn rest_of(is_less: bool) -> &'static str
+    ensures { result.now ≡ rest_of is_less }
+{
+    if is_less {
+        ", and needs the files that it reads\n"
+    } else {
+        "\n"
+    }
+}
+
+fn push_why(text: &mut String, load: Option<u64>, known: Known) -> Result<(), AllocError>
+    ensures { OnOk result (string_bytes text.new ≡ string_bytes text.old
+        ++ why_not_loaded load known) }
+{
+    match load {
+        Some(fetch) => write!(text, "fetching its files takes {fetch} ms\n"),
+        None => text.push_str(why_computed(known)),
     }
 }
 
@@ -121,10 +152,10 @@ fn why_computed(known: Known) -> &'static str
     ensures { result.now ≡ why_computed known }
 {
     match known {
-        Known::NotReusable => "its tool does not allow reuse",
-        Known::NotRecorded => "nothing is recorded of it",
-        Known::NotArchived => "its files are not archived",
-        Known::Archived => "its files are archived, but this run has no archive",
+        Known::NotReusable => "its tool does not allow reuse\n",
+        Known::NotRecorded => "nothing is recorded of it\n",
+        Known::NotArchived => "its files are not archived\n",
+        Known::Archived => "its files are archived, but this run has no archive\n",
     }
 }
 
@@ -132,12 +163,31 @@ fn push_pruned(text: &mut String, loaded: usize, pruned: usize) -> Result<(), Al
     ensures { OnOk result (string_bytes text.new ≡ string_bytes text.old
         ++ pruned_words loaded pruned) }
 {
-    if loaded == 0 && pruned == 0 {
-        text.push_str("not needed: no output has its files, and no job reads them\n")
+    text.push_str("not needed: no output has its files, and ")?;
+    push_readers(text, loaded, pruned, has_no_readers(loaded, pruned))
+}
+
+fn has_no_readers(loaded: usize, pruned: usize) -> bool
+    ensures { result ≡ has_no_readers loaded pruned }
+{
+    loaded == 0 && pruned == 0
+}
+
+fn push_readers(
+    text: &mut String,
+    loaded: usize,
+    pruned: usize,
+    are_none: bool,
+) -> Result<(), AllocError>
+    ensures { OnOk result (string_bytes text.new ≡ string_bytes text.old
+        ++ readers_words loaded pruned are_none) }
+{
+    if are_none {
+        text.push_str("no job reads them\n")
     } else {
         write!(
             text,
-            "not needed: no output has its files, and each job that reads them is loaded ({loaded}) or not needed ({pruned})\n"
+            "each job that reads them is loaded ({loaded}) or not needed ({pruned})\n"
         )
     }
 }
