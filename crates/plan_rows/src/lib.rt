@@ -9,9 +9,11 @@ mod graphs;
 mod plans;
 mod reads;
 mod texts;
+mod words;
 
 use row_io::{Row, RowFault};
 use std::alloc::Global;
+use words::Wanted;
 
 /// The answer of a row, or `UnknownCall` where its call is none of these.
 pub fn answer(alloc: Global, row: &Row) -> Result<String, RowFault> {
@@ -27,6 +29,9 @@ pub fn answer(alloc: Global, row: &Row) -> Result<String, RowFault> {
         "plan_cost" => plans::cost(alloc, row),
         "plan_phases" => plans::phases(alloc, row),
         "plan_again" => plans::again(alloc, row),
+        "plan_lines" => words::said(alloc, row, Wanted::Lines),
+        "plan_reasons" => words::said(alloc, row, Wanted::Reasons),
+        "plan_picture" => words::said(alloc, row, Wanted::Picture),
         _ => Err(RowFault::UnknownCall),
     }
 }

@@ -9,36 +9,10 @@ use Rattle.plan_checker.proofs.SumsBelow.{sum_below_more, sum_below_le}
 use Rattle.plan_words.specs.Marks.{is_same}
 use Rattle.plan_words.specs.Readers.{times_read, readers_below}
 
--- one more of the jobs is counted
-pub counted_more : (old cur new jobs : List ℕ) (i : ℕ) → i < length jobs → get_or jobs i 0 < length cur → new ≡ set cur (get_or jobs i 0) (get_or cur (get_or jobs i 0) 0 + 1) → (j : ℕ) → get_or cur j 0 ≡ get_or old j 0 + times_read j (take i jobs) → get_or new j 0 ≡ get_or old j 0 + times_read j (take (i + 1) jobs)
-counted_more old cur new jobs i there within done j was =
-    let p : ℕ = get_or jobs i 0 in
-    let n : ℕ = get_or cur p 0 + 1 in
-    ⊎_elim
-    (λ eq.
-    let now : get_or new j 0 ≡ n = ap (λ xs. get_or xs j 0) done ∙ ap (λ k. get_or (set cur p n) k 0) eq ∙ get_or-set_same cur p n 0 within in
-    let here : get_or cur p 0 ≡ get_or cur j 0 = ap (λ k. get_or cur k 0) (sym eq) in
-    let more = count_by_more_yes (λ o. eqb o j) jobs i 0 there (eq-eqb p j (sym eq)) in
-    omega arith)
-    (λ ne.
-    let now : get_or new j 0 ≡ get_or cur j 0 = ap (λ xs. get_or xs j 0) done ∙ get_or-set_other cur p j n 0 ne in
-    let more = count_by_more_no (λ o. eqb o j) jobs i 0 there (ne_eqb p j (λ eq. ne (sym eq))) in
-    omega arith)
-    (cases_eq j p)
-
 -- what is counted so far still has room
 pub counted_fits : (old cur jobs : List ℕ) (i j : ℕ) → i < length jobs → get_or cur j 0 ≡ get_or old j 0 + times_read j (take i jobs) → get_or old j 0 + length jobs < 2 ^ 64 → length (take i jobs) ≡ i → get_or cur j 0 + 1 < 2 ^ 64
 counted_fits old cur jobs i j there was room short =
     let few = count_by-le-length (λ o. eqb o j) (take i jobs) in
-    omega arith
-
--- one more job that may read the files of job p
-pub readers_more : (graph : List Vertex) (marks : List Mark) (m : Mark) (i p cur new : ℕ) (parents : List ℕ) (b : Bool) → cur ≡ readers_below i graph marks m p → parents ≡ (vertex graph i).parents → b ≡ is_same (mark marks i) m → new ≡ cur + cond b (times_read p parents) 0 → new ≡ readers_below (i + 1) graph marks m p
-readers_more graph marks m i p cur new parents b was parents_are b_is more =
-    let term : cond b (times_read p parents) 0 ≡ cond (is_same (mark marks i) m) (times_read p (vertex graph i).parents) 0 =
-    ap (λ (x : Bool). cond x (times_read p parents) 0) b_is ∙ ap (λ (xs : List ℕ). cond (is_same (mark marks i) m) (times_read p xs) 0) parents_are
-    in
-    let next = sum_below_more i (λ k. cond (is_same (mark marks k) m) (times_read p (vertex graph k).parents) 0) in
     omega arith
 
 cond_le : (b : Bool) (n most : ℕ) → n ≤ most → cond b n 0 ≤ most
