@@ -1,2 +1,4 @@
 pub mod Texts
 pub mod Counts
+pub mod Pruned
+pub mod OtherMarks

@@ -3,3 +3,4 @@ pub mod Lines
 pub mod Readers
 pub mod Reasons
 pub mod Picture
+pub mod Laws

@@ -4,15 +4,19 @@
 //! - `plan_reasons` has a line for each job that says in words why it is loaded, computed or not needed.
 //! - `plan_picture` is a graph in Graphviz's language: the jobs, what flows between them, and where the plan cuts.
 //!
-//! All three are pure: how a job's place is written is up to the caller.
+//! All three are pure: how a job's place is written is up to the caller. The laws in `laws` say why the reasons are right.
 #![tactic(auto)]
 
+mod laws;
 mod lines;
 mod parts;
 mod picture;
 mod readers;
 mod reasons;
 
+pub use laws::{
+    computed_jobs_cost_less, dear_loads_spare_parents, no_computed_job_reads_what_is_pruned,
+};
 pub use lines::plan_lines;
 pub use picture::plan_picture;
 pub use reasons::{Known, plan_reasons};
