@@ -15,10 +15,11 @@ use Rattle.plan_words.specs.Readers.{times_read, readers}
 not_among : (p : ℕ) (xs : List ℕ) → All (λ x. x ≢ p) xs → times_read p xs ≡ 0
 not_among p [] h = refl
 not_among p (x ∷ xs) h =
-    let rest = not_among p xs (All-tail (λ x. x ≢ p) x xs h) in
-    let step : times_read p (x ∷ xs) ≡ cond (eqb x p) 1 0 + times_read p xs = sum_by-cons (λ o. cond (eqb o p) 1 0) x xs in
-    let none : cond (eqb x p) 1 0 ≡ 0 = ap (λ (b : Bool). cond {A = ℕ} b 1 0) (ne_eqb x p (All-head (λ x. x ≢ p) x xs h)) in
-    omega arith
+    let bit : Bool → ℕ = λ (b : Bool). cond b 1 0 in
+    let step : times_read p (x ∷ xs) ≡ bit (eqb x p) + times_read p xs = sum_by-cons (λ o. cond (eqb o p) 1 0) x xs in
+    let none : bit (eqb x p) ≡ 0 = ap bit (ne_eqb x p (All-head (λ x. x ≢ p) x xs h)) in
+    let rest : times_read p xs ≡ 0 = not_among p xs (All-tail (λ x. x ≢ p) x xs h) in
+    step ∙ ap (λ n. n + times_read p xs) none ∙ ap (λ n. 0 + n) rest
 
 -- a job that is allowed, and computed, doesn't read what is pruned
 reads_nothing_pruned : (marks : List Mark) (job : Vertex) (m : Mark) (p : ℕ) → IsAllowed marks job m → mark marks p ≡ Prune → cond (is_same m Compute) (times_read p job.parents) 0 ≡ 0
