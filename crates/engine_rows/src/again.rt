@@ -53,7 +53,7 @@ fn host_by(alloc: Global, row: &Row, name: &str) -> Result<Scripted, RowFault>
 }
 
 /// The commands of a log, as a JSON list of their names, each refused one with its code.
-fn commands(alloc: Global, log: &[Entry]) -> Result<String, AllocError> {
+pub fn commands(alloc: Global, log: &[Entry]) -> Result<String, AllocError> {
     let mut list = List::new(alloc)?;
     for entry in log {
         let name = name_of(entry.command);

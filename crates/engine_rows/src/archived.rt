@@ -32,7 +32,8 @@ fn answer_of(alloc: Global, row: &Row, case: &Case) -> Result<String, RowFault> 
     answer
 }
 
-fn host_of(alloc: Global, row: &Row) -> Result<Scripted, RowFault>
+/// A host that answers from the row's script.
+pub fn host_of(alloc: Global, row: &Row) -> Result<Scripted, RowFault>
     ensures { IfOk result (λ host. host.running ≡ []) }
 {
     Ok(Scripted::new(alloc, script_of(alloc, row, "script")?, 0))
@@ -88,7 +89,7 @@ fn told(alloc: Global, end: &Result<Report, RunFault>) -> Result<String, RowFaul
 }
 
 /// Each note as the place of its job, the call that failed, and how.
-fn notes_json(alloc: Global, notes: &[Note]) -> Result<String, RowFault> {
+pub fn notes_json(alloc: Global, notes: &[Note]) -> Result<String, RowFault> {
     let mut list = List::new(alloc)?;
     for note in notes {
         let place = place_json(alloc, &note.place)?;

@@ -19,6 +19,7 @@ pub mod machine;
 mod orders;
 mod requests;
 mod run;
+mod runs;
 mod script;
 mod timed;
 mod words;
@@ -48,6 +49,7 @@ fn scripted(alloc: Global, row: &Row) -> Result<String, RowFault> {
         "run" => run::answer(alloc, row),
         "run_again" => again::answer(alloc, row),
         "run_archiving" => archived::answer(alloc, row),
+        "runs" => runs::answer(alloc, row),
         "gives_up" => giving_up::answer(alloc, row),
         "orders" => orders::answer(alloc, row),
         _ => Err(RowFault::UnknownCall),

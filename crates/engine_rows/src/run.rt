@@ -1,4 +1,4 @@
-ghost use Rattle.std.specs.Prelude.{◌≡◌, ◌≤◌, [], IfOk};
+ghost use Rattle.std.specs.Prelude.{◌≡◌, ◌≤◌, ◌^◌, [], IfOk};
 ghost use Rattle.run_core.specs.Limits.{IsWithinLimits};
 
 use crate::end::end_json;
@@ -152,22 +152,32 @@ pub fn options_of(alloc: Global, row: &Row) -> Result<Options, RowFault>
     options_with(alloc, row, false)
 }
 
-/// The same, where it keeps an archive or not.
+const MOST_BASE: u64 = 1_000_000_000_000;
+
+/// The same, where it keeps an archive or not; a fetch costs the row's `base`, or 1 where it has none, and 1 for each 100,000 bytes.
 pub fn options_with(alloc: Global, row: &Row, keep: bool) -> Result<Options, RowFault>
     ensures { IfOk result IsWithinLimits }
 {
     let slots = natural_or(row, "slots", 1)?;
     let retries = natural_or(row, "retries", 0)?;
-    if slots == 0 || slots > 64 || retries > 10 {
+    let base = natural_or(row, "base", 1)?;
+    if slots == 0 || slots > 64 || retries > 10 || base > MOST_BASE {
         return Err(RowFault::BadArgument);
     }
-    Ok(options(alloc, slots, retries, keep)?)
+    Ok(options(alloc, slots, retries, base, keep)?)
 }
 
-fn options(alloc: Global, slots: u64, retries: u64, keep: bool) -> Result<Options, AllocError>
+fn options(
+    alloc: Global,
+    slots: u64,
+    retries: u64,
+    base: u64,
+    keep: bool,
+) -> Result<Options, AllocError>
     requires least_slots { 1 ≤ slots }
     requires slots { slots ≤ 64 }
     requires retries { retries ≤ 10 }
+    requires base { base ≤ 10 ^ 12 }
     ensures { IfOk result IsWithinLimits }
 {
     Ok(Options {
@@ -176,7 +186,7 @@ fn options(alloc: Global, slots: u64, retries: u64, keep: bool) -> Result<Option
         path_env: Text::from_text(alloc, "/bin")?,
         slots,
         retries,
-        base: 1,
+        base,
         rate: 100_000,
         keep,
     })
