@@ -1,8 +1,17 @@
+pub mod Asked
 pub mod Blamed
 pub mod ByMap
 pub mod Calls
 pub mod Commands
 pub mod Covers
+pub mod Endings
+pub mod First
+pub mod FirstPlans
+pub mod Found
+pub mod Looking
+pub mod Measured
 pub mod Nothing
 pub mod Numbered
+pub mod Placed
 pub mod Telling
+pub mod Told

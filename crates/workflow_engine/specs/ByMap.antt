@@ -1,5 +1,5 @@
 -- What a record answers to a run is so of its map, and what the map is then.
-use Rattle.std.specs.Prelude.{◌≡◌, List, [], ◌∷◌, Result, Ok, Err}
+use Rattle.std.specs.Prelude.{List, [], ◌∷◌, Result, Ok, Err}
 use Rattle.document_links.specs.declared.process.Process.{Process}
 use Rattle.job_graph.specs.Words.{Fields}
 use Rattle.job_rows.specs.Map.{RowMap, Finds, Puts, Drops}

@@ -1,4 +1,5 @@
 pub mod Blame
 pub mod ByMap
+pub mod FirstPlan
 pub mod Gains
 pub mod inner

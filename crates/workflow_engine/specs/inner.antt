@@ -1,4 +1,6 @@
+pub mod Faults
 pub mod Held
+pub mod Looks
 pub mod Mapped
 pub mod Numbered
 pub mod Told

@@ -99,7 +99,8 @@ fn done(outcome: Result<(), HostError>) -> Result<HostAnswer, AllocError>
     }
 }
 
-fn measured(outcome: Result<Measure, HostError>) -> Result<HostAnswer, AllocError>
+/// What the host answered to a measure.
+pub(crate) fn measured(outcome: Result<Measure, HostError>) -> Result<HostAnswer, AllocError>
     ensures { result ≡ answered (answer_behind (λ measure. HostAnswer.Measured measure) outcome) }
 {
     match outcome {

@@ -11,8 +11,14 @@ mod ask;
 mod ask_next;
 mod ask_record;
 mod drive;
+mod finds;
+mod measures;
+mod plan;
+mod planned;
 mod tickets;
 mod watch;
 
 pub use drive::run;
+pub use plan::plan_only;
+pub use planned::{PlanFault, Planned};
 pub use watch::{Unwatched, Watch};
