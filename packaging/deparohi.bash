@@ -2,7 +2,7 @@
 _deparohi() {
     local word=${COMP_WORDS[COMP_CWORD]} before=${COMP_WORDS[COMP_CWORD - 1]} command=${COMP_WORDS[1]} every="--explain --quiet --help"
     if [ "$COMP_CWORD" -eq 1 ]; then
-        COMPREPLY=($(compgen -W "run check record demo help --help --version" -- "$word"))
+        COMPREPLY=($(compgen -W "run plan check record demo help --help --version" -- "$word"))
         return
     fi
     case $before in
@@ -25,6 +25,7 @@ _deparohi() {
     fi
     case $command in
     run) every="--work --outdir --slots --retries --record --archive --cache --base --rate --verbose --progress --keep --keep-failed $every" ;;
+    plan) every="--dot --work --outdir --slots --retries --record --archive --cache --base --rate $every" ;;
     record) every="--forget $every" ;;
     help) every="" ;;
     esac

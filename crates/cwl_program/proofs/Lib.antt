@@ -3,6 +3,7 @@ pub mod CommandLines
 pub mod Ends
 pub mod JobLines
 pub mod Located
+pub mod Plans
 pub mod ReadOnce
 pub mod SavingsLine
 pub mod ShellWords

@@ -26,7 +26,7 @@ use Rattle.cwl_program.specs.Demo as demo
 use Rattle.cwl_program.specs.Leaving.{left_of}
 use Rattle.cwl_program.specs.RunWords.{RunWish}
 use Rattle.cwl_program.specs.Paths.{IsAt, from_root}
-use Rattle.cwl_program.specs.Runs.{IsAsked, IsEndOfRun, IsInputsText, IsInputsUnread, IsInputsUrl, IsNamedInputs, IsNamedProcess, IsNoInputs, IsNoProcess, IsRanOver, IsRead, IsReady, IsRunExit, document_unread, document_wrong, inputs_unread, inputs_wrong, lost, no_inputs, no_outdir, no_process, no_record, no_work, runs, stops, twofold}
+use Rattle.cwl_program.specs.Runs.{IsAsked, IsEndOfRun, IsInputsText, IsInputsUnread, IsInputsUrl, IsNamedInputs, IsNamedProcess, IsNoInputs, IsNoProcess, IsRanOver, IsRead, IsReady, IsRunExit, IsUnready, document_unread, document_wrong, inputs_unread, inputs_wrong, lost, no_inputs, no_outdir, no_process, no_record, no_work, runs, stops, twofold, unready}
 use Rattle.cwl_program.specs.Certificates.{IsCheck, unread}
 use Rattle.cwl_program.specs.Sources.{IsAbsent, IsAccepted, IsDocumentStop, IsInputs, IsInputsStop, IsOfDocuments, bad_document, no_object, too_many}
 use Rattle.cwl_program.specs.Stops.{IsStop, IsUnread}
@@ -124,7 +124,7 @@ pub check_stops : (file : Text) (stop : Stop) (answer : Result Exit AllocError)
 check_stops file stop answer is same = IfOk-weaker answer _ _ (λ exit end. unread end) (ends_so _ stop answer is same)
 
 -- the end of a run that leaves nothing is this one
-ends_as : (IsEnd : Exit → Option Text → Type 0) (exit : Exit) (answer : Result RunEnd AllocError)
+pub ends_as : (IsEnd : Exit → Option Text → Type 0) (exit : Exit) (answer : Result RunEnd AllocError)
     → IsEnd exit None → IfOk answer (λ end. end.exit ≡ exit) → IfOk answer (λ end. end.left ≡ None)
     → IfOk answer (λ end. IsEnd end.exit end.left)
 ends_as IsEnd exit (Err error) is same gone = tt
@@ -132,7 +132,7 @@ ends_as IsEnd exit (Ok end) is same gone =
     subst (λ (l : Option Text). IsEnd end.exit l) (sym gone) (subst (λ (e : Exit). IsEnd e None) (sym same) is)
 
 -- or the stop's
-run_ends_so : (IsEnd : Exit → Option Text → Type 0) (stop : Stop) (answer : Result RunEnd AllocError)
+pub run_ends_so : (IsEnd : Exit → Option Text → Type 0) (stop : Stop) (answer : Result RunEnd AllocError)
     → IsStop (λ exit. IsEnd exit None) stop → IfOk answer (λ end. stop ≡ Early end.exit) → IfOk answer (λ end. end.left ≡ None)
     → IfOk answer (λ end. IsEnd end.exit end.left)
 run_ends_so IsEnd stop (Err error) is same gone = tt
@@ -149,27 +149,27 @@ pub without_one_meaning : (here : Text) (words : RunWish) (path : Text) (end : R
     → IsEndOfRun words path end.exit end.left
 without_one_meaning here words path end twice is gone =
     subst (λ (l : Option Text). IsEndOfRun words path end.exit l) (sym gone)
-    (subst (λ (e : Exit). IsEndOfRun words path e None) (sym is) ([], stops here (twofold twice)))
+    (subst (λ (e : Exit). IsEndOfRun words path e None) (sym is) ([], stops here (unready (twofold twice))))
 
 pub without_process : (here : Text) (words : RunWish) (path : Text) (stop : Stop) (answer : Result RunEnd AllocError)
     → IsStop (IsNoProcess here words) stop → IfOk answer (λ end. stop ≡ Early end.exit) → IfOk answer (λ end. end.left ≡ None)
     → IfOk answer (λ end. IsEndOfRun words path end.exit end.left)
 without_process here words path stop answer is same gone =
-    run_ends_so (IsEndOfRun words path) stop answer (stop_so _ _ (λ exit end. ([], stops here (no_process end))) stop is) same gone
+    run_ends_so (IsEndOfRun words path) stop answer (stop_so _ _ (λ exit end. ([], stops here (unready (no_process end)))) stop is) same gone
 
 pub without_inputs : (here : Text) (words : RunWish) (path : Text) (process : Process) (stop : Stop) (answer : Result RunEnd AllocError)
     → IsNamedProcess here words process → IsStop (IsNoInputs here words) stop
     → IfOk answer (λ end. stop ≡ Early end.exit) → IfOk answer (λ end. end.left ≡ None)
     → IfOk answer (λ end. IsEndOfRun words path end.exit end.left)
 without_inputs here words path process stop answer named is same gone =
-    run_ends_so (IsEndOfRun words path) stop answer (stop_so _ _ (λ exit end. ([], stops here (no_inputs process named end))) stop is) same gone
+    run_ends_so (IsEndOfRun words path) stop answer (stop_so _ _ (λ exit end. ([], stops here (unready (no_inputs process named end)))) stop is) same gone
 
 pub without_record : (here : Text) (words : RunWish) (path : Text) (given : Given) (file : Text) (fault : RecordFault) (answer : Result RunEnd AllocError)
     → IsReady here words given → record_of words ≡ Some file
     → IfOk answer (λ end. end.exit ≡ exits.Fault (faults.Unopened file fault)) → IfOk answer (λ end. end.left ≡ None)
     → IfOk answer (λ end. IsEndOfRun words path end.exit end.left)
 without_record here words path given file fault answer ready named is gone =
-    ends_as (IsEndOfRun words path) _ answer ([], stops here (no_record given file fault ready named)) is gone
+    ends_as (IsEndOfRun words path) _ answer ([], stops here (unready (no_record given file fault ready named))) is gone
 
 -- a run whose record has these lines is one whose record has some
 pub some_lines : (words : RunWish) (path : Text) (lines : List Line) (answer : Result RunEnd AllocError)

@@ -4,8 +4,9 @@ use Rattle.std.specs.Str.{bytes_eq}
 use Rattle.clap.specs.Words.{App, Row, Rule, Text, fault_of, first_of, new_app, new_rule, subcommand_of, with_rule, with_subcommand}
 use Rattle.clap.specs.declared.builder.ArgAction.TheVariants.{Set}
 use Rattle.cwl_program.specs.declared.command.Choice.{Choice}
-use Rattle.cwl_program.specs.declared.command.Choice.TheVariants.{Demo, Check, Run, Record}
+use Rattle.cwl_program.specs.declared.command.Choice.TheVariants.{Demo, Check, Run, Plan, Record}
 use Rattle.cwl_program.specs.Flags.{is_wanted, with_flags}
+use Rattle.cwl_program.specs.PlanWords.{PlanWish, plan_command, plan_wish, wish_of_plan}
 use Rattle.cwl_program.specs.RecordWords.{RecordWish, record_command, record_wish, wish_of_record}
 use Rattle.cwl_program.specs.RunWords.{RunWish, run_command, run_wish, wish_of_run}
 
@@ -32,15 +33,19 @@ with_check = with_subcommand with_demo check_command.top
 abbrev pub with_run : App
 with_run = with_subcommand with_check run_command.top
 
-abbrev pub command_line : App
-command_line = with_subcommand with_run record_command.top
+abbrev pub with_plan : App
+with_plan = with_subcommand with_run plan_command.top
 
--- what words can ask for: the demo, a certificate's file to be checked, a run, or a record to be shown; and whether to say in words what
--- went wrong
+abbrev pub command_line : App
+command_line = with_subcommand with_plan record_command.top
+
+-- what words can ask for: the demo, a certificate's file to be checked, a run, a plan of one, or a record to be shown; and whether to say in
+-- words what went wrong
 pub data Wish : Type 0 where
   demo : Bool → Wish
   check : Text → Bool → Wish
   run : RunWish → Wish
+  planned : PlanWish → Wish
   shown : RecordWish → Wish
 
 -- what the words of `check` ask for
@@ -52,6 +57,7 @@ abbrev pub wish_in : Text × List Row → Wish
 wish_in command =
     if bytes_eq command.0 (codes "check") then check_wish command.1
     else if bytes_eq command.0 (codes "run") then run (run_wish command.1)
+    else if bytes_eq command.0 (codes "plan") then planned (plan_wish command.1)
     else if bytes_eq command.0 (codes "record") then shown (record_wish command.1)
     else demo (is_wanted (codes "explain") command.1)
 
@@ -67,4 +73,5 @@ abbrev pub wish_of : Choice → Wish
 wish_of (Demo explains) = demo explains
 wish_of (Check file explains) = check file.now explains
 wish_of (Run words) = run (wish_of_run words)
+wish_of (Plan words) = planned (wish_of_plan words)
 wish_of (Record words) = shown (wish_of_record words)

@@ -7,6 +7,8 @@ pub mod Flags
 pub mod JobLines
 pub mod Leaving
 pub mod Paths
+pub mod PlanWords
+pub mod Plans
 pub mod RecordWords
 pub mod Reuse
 pub mod RunWords

@@ -117,14 +117,19 @@ pub data IsNoInputs (here : Text) (words : RunWish) : Exit → Type 0 where
   inputs_wrong : {exit : Exit} (bytes : List ℕ) (base : Parts) → IsInputsText words.inputs bytes → IsInputsUrl here words base →
       IsInputsStop bytes base exit → IsNoInputs here words exit
 
--- there is nothing to run: a cache is named beside a record or an archive; else the document is looked at first, then the inputs, then the record is opened where one is named, then the work
--- folder is made, and last the output folder is looked at, where an output can be or hold a File or Directory
-pub data IsStopExit (here : Text) (words : RunWish) : Exit → Type 0 where
-  twofold : is_twofold words ≡ true → IsStopExit here words (exits.Fault faults.Words)
-  no_process : {exit : Exit} → IsNoProcess here words exit → IsStopExit here words exit
-  no_inputs : {exit : Exit} (process : Process) → IsNamedProcess here words process → IsNoInputs here words exit → IsStopExit here words exit
+-- there is nothing to run or to plan: a cache is named beside a record or an archive; else the document is looked at first, then the
+-- inputs, then the record is opened where one is named
+pub data IsUnready (here : Text) (words : RunWish) : Exit → Type 0 where
+  twofold : is_twofold words ≡ true → IsUnready here words (exits.Fault faults.Words)
+  no_process : {exit : Exit} → IsNoProcess here words exit → IsUnready here words exit
+  no_inputs : {exit : Exit} (process : Process) → IsNamedProcess here words process → IsNoInputs here words exit → IsUnready here words exit
   no_record : (given : Given) (file : Text) (fault : RecordFault) → IsReady here words given → record_of words ≡ Some file →
-      IsStopExit here words (exits.Fault (faults.Unopened file fault))
+      IsUnready here words (exits.Fault (faults.Unopened file fault))
+
+-- or then the work folder can't be made, or last the output folder can't be used, which is looked at where an output can be or hold a File or
+-- Directory
+pub data IsStopExit (here : Text) (words : RunWish) : Exit → Type 0 where
+  unready : {exit : Exit} → IsUnready here words exit → IsStopExit here words exit
   no_work : (given : Given) (why : WorkTrouble) → IsReady here words given →
       IsStopExit here words (exits.Fault (faults.Work (from_root here words.work) why))
   no_outdir : (given : Given) (why : Hindrance) → IsReady here words given → can_hold_files given.process ≡ true →

@@ -10,6 +10,7 @@ use Rattle.record_program.specs.declared.ending.Ending.TheVariants.{Rows}
 use Rattle.cwl_program.specs.Certificates.{IsCheck}
 use Rattle.cwl_program.specs.CommandLine.{Asks, command_line, wish_of}
 use Rattle.cwl_program.specs.Demo.{IsDemoExit}
+use Rattle.cwl_program.specs.Plans.{IsEndOfPlan}
 use Rattle.cwl_program.specs.RunWords.{wish_of_run}
 use Rattle.cwl_program.specs.Runs.{IsEndOfRun}
 use Rattle.cwl_program.specs.Savings.{savings_line}
@@ -17,9 +18,9 @@ use Rattle.cwl_program.specs.Status.{status_of}
 use Rattle.cwl_program.specs.Visible.{visible}
 use Rattle.cwl_program.specs.Words.{name_of, word_of, refusal_code}
 use Rattle.cwl_program.specs.declared.command.Choice.{Choice}
-use Rattle.cwl_program.specs.declared.command.Choice.TheVariants.{Demo, Check, Run, Record}
+use Rattle.cwl_program.specs.declared.command.Choice.TheVariants.{Demo, Check, Run, Plan, Record}
 use Rattle.cwl_program.specs.declared.exit.Exit.{Exit}
-use Rattle.cwl_program.specs.declared.exit.Exit.TheVariants.{Output, Broken, Record as Shows, Permanent, Temporary, Mismatch, Refused, Fault}
+use Rattle.cwl_program.specs.declared.exit.Exit.TheVariants.{Output, Plan as Planned, Broken, Record as Shows, Permanent, Temporary, Mismatch, Refused, Fault}
 use Rattle.cwl_program.specs.declared.exit.Fault.TheVariants as faults
 use Rattle.cwl_program.specs.declared.savings.Savings.{Savings}
 use Rattle.cwl_program.specs.declared.telling.Telling.{Telling}
@@ -33,9 +34,10 @@ Held = Option (List ℕ)
 abbrev pub IsGiven : List ℕ → Held → Held → Held → Held → Type 0
 IsGiven line old new other other_new = Appends old new (line ++ codes "\n") × (other_new ≡ other)
 
--- results on the output, and what went wrong on the errors
+-- results on the output, and what went wrong on the errors; of a plan the certificate on the output, and its lines on the errors
 abbrev pub Prints : Exit → (out out_new err err_new : Held) → Type 0
 Prints (Output line) out out_new err err_new = IsGiven line out out_new err err_new
+Prints (Planned texts) out out_new err err_new = Appends out out_new texts.paper × Appends err err_new texts.lines
 Prints (Broken rule) out out_new err err_new = IsGiven (codes "broken " ++ name_of rule) out out_new err err_new
 Prints (Shows ending) out out_new err err_new = record_program.Prints ending out out_new err err_new
 Prints (Permanent place cause) out out_new err err_new = IsGiven (codes "permanentFail " ++ place) err err_new out out_new
@@ -53,6 +55,7 @@ abbrev pub IsEndOf : (path : Text) → Choice → Exit → (left : Option Text) 
 IsEndOf path (Demo explains) exit left = IsDemoExit path exit × (left ≡ None)
 IsEndOf path (Check file explains) exit left = IsCheck file.now exit × (left ≡ None)
 IsEndOf path (Run words) exit left = IsEndOfRun (wish_of_run words) path exit left
+IsEndOf path (Plan words) exit left = IsEndOfPlan (wish_of_run words.run) words.dot path exit × (left ≡ None)
 IsEndOf path (Record words) exit left = IsRecordExit exit × (left ≡ None)
 
 -- whether the choice asks for words on what went wrong
@@ -60,6 +63,7 @@ abbrev pub asks_why : Choice → Bool
 asks_why (Demo explains) = explains
 asks_why (Check file explains) = explains
 asks_why (Run words) = words.explain
+asks_why (Plan words) = words.run.explain
 asks_why (Record words) = words.explain
 
 -- how the choice wants the jobs of a run to be told of
@@ -113,15 +117,17 @@ abbrev pub IsEndingExplained : Ending → (err err_new : Held) → Type 0
 IsEndingExplained (Rows lines) err err_new = err_new ≡ err
 IsEndingExplained ending err err_new = HasLine err err_new
 
--- what follows the line of an end on the errors: nothing where nothing went wrong, else a line in words
+-- what follows the line of an end on the errors: nothing where nothing went wrong, of a plan its reasons, else a line in words
 abbrev pub IsExplained : Exit → (err err_new : Held) → Type 0
 IsExplained (Output line) err err_new = err_new ≡ err
+IsExplained (Planned texts) err err_new = Appends err err_new texts.reasons
 IsExplained (Shows ending) err err_new = IsEndingExplained ending err err_new
 IsExplained exit err err_new = HasLine err err_new
 
 -- lines on what failed: none where nothing did
 abbrev pub AreNotes : Exit → (err err_new : Held) → Type 0
 AreNotes (Output line) err err_new = err_new ≡ err
+AreNotes (Planned texts) err err_new = err_new ≡ err
 AreNotes (Shows ending) err err_new = err_new ≡ err
 AreNotes exit err err_new = HasLines err err_new
 

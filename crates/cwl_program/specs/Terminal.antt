@@ -11,7 +11,9 @@ is_run words = bytes_eq (command_of words) (codes "run")
 
 -- another command that can explain what went wrong
 abbrev pub is_other : List (List ℕ) → Bool
-is_other words = bytes_eq (command_of words) (codes "check") || bytes_eq (command_of words) (codes "record") || bytes_eq (command_of words) (codes "demo")
+is_other words =
+    bytes_eq (command_of words) (codes "plan") || bytes_eq (command_of words) (codes "check")
+    || bytes_eq (command_of words) (codes "record") || bytes_eq (command_of words) (codes "demo")
 
 -- the words with this one behind the command, if it is not there already
 abbrev pub with_word : (word : List ℕ) → List (List ℕ) → List (List ℕ)

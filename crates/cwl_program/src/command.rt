@@ -1,10 +1,11 @@
 ghost use Rattle.std.specs.Prelude.{◌≡◌, IfOk, IfErr, map};
 ghost use Rattle.clap.specs.Words.{HasKind, app_of, fault_of, found_of, kind_of, rows_of, subcommand_rows_of};
-ghost use Rattle.cwl_program.specs.CommandLine.{Asks, check_command as checking, check_wish, command_line, demo_command as demonstrating, with_check, with_demo, with_run, wish_of, wished};
+ghost use Rattle.cwl_program.specs.CommandLine.{Asks, check_command as checking, check_wish, command_line, demo_command as demonstrating, with_check, with_demo, with_plan, with_run, wish_of, wished};
 ghost use Rattle.cwl_program.specs.Flags.{IsLocal};
 ghost use Rattle.std.specs.Prelude.{string_bytes};
 
 use crate::flags::{is_wanted, with_flags};
+use crate::planning::{PlanWords, plan_command, plan_words};
 use crate::record_words::{RecordWords, record_command, record_words};
 use crate::run_words::{RunWords, run_command, run_words};
 use clap::error::ErrorKind;
@@ -18,8 +19,10 @@ pub enum Choice<'a> {
     Demo(bool),
     /// Check the certificate in this file, and say in words what is wrong with it, or not.
     Check(&'a str, bool),
-    /// Run a tool.
+    /// Run a tool or a workflow.
     Run(RunWords<'a>),
+    /// Say what a run would load, compute and not need.
+    Plan(PlanWords<'a>),
     /// Show a record.
     Record(RecordWords<'a>),
 }
@@ -33,7 +36,7 @@ fn check_command<'a>(alloc: Global) -> Result<Command<'a>, Error>
     let file = Arg::new(alloc, "CERTIFICATE")
         .required(true)
         .action(ArgAction::Set)
-        .help("The certificate's file");
+        .help("The certificate's file, or `-` for standard input");
     let check = Command::new(alloc, "check")
         .about("Says whether a certificate shows its plan to be a cheapest one")
         .arg(file)?;
@@ -83,13 +86,23 @@ fn with_run<'a>(alloc: Global) -> Result<Command<'a>, Error>
     Ok(whole)
 }
 
+// And with `plan`.
+fn with_plan<'a>(alloc: Global) -> Result<Command<'a>, Error>
+    ensures ok { IfOk result (λ command. app_of command ≡ with_plan) }
+    ensures err { IfErr result (λ e. kind_of e ≡ ErrorKind.OutOfMemory) }
+{
+    let plan = plan_command(alloc)?;
+    let whole = with_run(alloc)?.subcommand(plan)?;
+    Ok(whole)
+}
+
 // The program's command.
 fn command<'a>(alloc: Global) -> Result<Command<'a>, Error>
     ensures ok { IfOk result (λ command. app_of command ≡ command_line) }
     ensures err { IfErr result (λ e. kind_of e ≡ ErrorKind.OutOfMemory) }
 {
     let record = record_command(alloc)?;
-    let whole = with_run(alloc)?.subcommand(record)?;
+    let whole = with_plan(alloc)?.subcommand(record)?;
     Ok(whole)
 }
 
@@ -110,6 +123,7 @@ fn chosen<'a>(matches: &ArgMatches<'a>) -> Choice<'a>
     match matches.subcommand() {
         Some(("check", words)) => check_choice(words),
         Some(("run", words)) => Choice::Run(run_words(words)),
+        Some(("plan", words)) => Choice::Plan(plan_words(words)),
         Some(("record", words)) => Choice::Record(record_words(words)),
         Some((_, words)) => Choice::Demo(is_wanted(words, "explain")),
         None => Choice::Demo(false),

@@ -9,6 +9,7 @@ use crate::command::{Choice, choice_of};
 use crate::demo::exit_of_demo;
 use crate::exit::{Exit, Fault};
 use crate::explaining::{explain_exit, put_left, put_notes, put_savings};
+use crate::plan::end_of_plan;
 use crate::record_words::RecordWords;
 use crate::run::end_of_process;
 use crate::run_end::RunEnd;
@@ -22,7 +23,7 @@ use record_program::Records;
 use std::alloc::{AllocError, Global};
 use std::io::{IsTerminal, Write};
 use std::process::{ExitCode, Stdio};
-use std::rt::Env;
+use std::rt::{Env, Input};
 use std::{env, fs, io, mem};
 
 /// The status of a fault, and of a command line that is refused.
@@ -66,7 +67,7 @@ fn words(rt: &HostRuntime) -> io::Result<Vec<String>> {
 /// Returns the exit status: 0 success, 1 a permanent failure or a broken certificate, 2 a temporary failure, 33 a refused
 /// document, input or certificate, 3 any other fault. A write that fails ends with 3, and so do words of `--explain` for which
 /// there is no memory. With `run --verbose` or `--progress` the errors also take what is told of the jobs while the run goes on.
-pub fn main_run<R: World + Env + Records, O: Write, E: Write>(
+pub fn main_run<R: World + Env + Input + Records, O: Write, E: Write>(
     rt: &R,
     words: &[String],
     path: &str,
@@ -127,7 +128,7 @@ fn tell<O: Write, E: Write>(alloc: Global, end: &End, out: &mut O, err: &mut E) 
 
 /// Returns the end that the words lead to, or `clap`'s error. The jobs of a run are told of on the errors where the words want it.
 #[tactic(auto, using(crate::specs::Tells::unread))]
-fn end_of<R: World + Env + Records, E: Write>(
+fn end_of<R: World + Env + Input + Records, E: Write>(
     rt: &R,
     words: &[String],
     path: &str,
@@ -160,7 +161,7 @@ where
     }
 }
 
-fn end_of_choice<R: World + Env + Records, E: Write>(
+fn end_of_choice<R: World + Env + Input + Records, E: Write>(
     rt: &R,
     choice: &Choice,
     path: &str,
@@ -175,6 +176,7 @@ where
         Choice::Demo(_) => bare(rt.alloc(), exit_of_demo(rt.alloc(), path)),
         Choice::Check(file, _) => bare(rt.alloc(), exit_of_check(rt, file)),
         Choice::Run(words) => end_of_process(rt, words, path, err),
+        Choice::Plan(words) => end_of_plan(rt, words, path),
         Choice::Record(words) => bare(rt.alloc(), exit_of_record(rt, words)),
     }
 }
@@ -213,6 +215,7 @@ fn asks_why(choice: &Choice) -> bool
         Choice::Demo(explains) => *explains,
         Choice::Check(_, explains) => *explains,
         Choice::Run(words) => words.explain,
+        Choice::Plan(words) => words.run.explain,
         Choice::Record(words) => words.explain,
     }
 }

@@ -1,4 +1,5 @@
 ghost use Rattle.std.specs.Prelude.{◌≡◌, OnOk};
+ghost use Rattle.std.specs.Io.KnownBytes.{Appends};
 ghost use Rattle.cwl_program.specs.Status.{status_of};
 ghost use Rattle.cwl_program.specs.Tells.{Prints};
 ghost use Rattle.cwl_program.specs.Words.{name_of, word_of, refusal_code};
@@ -24,6 +25,8 @@ use workflow_check::LinkCheckFault;
 pub enum Exit {
     /// A line for standard output.
     Output(Text),
+    /// What a plan is.
+    Plan(PlanTexts),
     /// A certificate breaks this rule.
     Broken(Broken),
     /// The rows of a record, or why they can't be shown.
@@ -38,6 +41,17 @@ pub enum Exit {
     Refused(Refusal),
     /// Anything else went wrong.
     Fault(Fault),
+}
+
+/// What is said of a plan.
+#[derive(Drop)]
+pub struct PlanTexts {
+    /// Its certificate or its picture, for standard output.
+    pub paper: Text,
+    /// What it costs, and what is done with each job.
+    pub lines: Text,
+    /// Why that is done, in words.
+    pub reasons: Text,
 }
 
 /// Why what the program was given is no document, input object or certificate.
@@ -152,7 +166,7 @@ impl Exit {
         ensures { result ≡ status_of self.now }
     {
         match self {
-            Exit::Output(_) => 0,
+            Exit::Output(_) | Exit::Plan(_) => 0,
             Exit::Broken(_) | Exit::Permanent(_, _) => 1,
             Exit::Temporary(_) => 2,
             Exit::Record(ending) => ending.status(),
@@ -168,6 +182,7 @@ impl Exit {
     {
         match self {
             Exit::Output(line) => writeln!(out, "{line}"),
+            Exit::Plan(texts) => print_plan(texts, out, err),
             Exit::Broken(broken) => writeln!(out, "broken {}", rule_name(*broken)),
             Exit::Record(ending) => ending.print(out, err),
             Exit::Permanent(place, _) => writeln!(err, "permanentFail {place}"),
@@ -177,4 +192,14 @@ impl Exit {
             Exit::Fault(fault) => writeln!(err, "fault: {}", fault.word()),
         }
     }
+}
+
+// The certificate goes to the output, and the lines to the errors.
+fn print_plan<O: Write, E: Write>(texts: &PlanTexts, out: &mut O, err: &mut E) -> io::Result<()>
+    ensures { OnOk result (Appends (O.contents out.old) (O.contents out.new) texts.now.paper
+        × Appends (E.contents err.old) (E.contents err.new) texts.now.lines) }
+{
+    let (paper, lines) = (&texts.paper, &texts.lines);
+    write!(out, "{paper}")?;
+    write!(err, "{lines}")
 }

@@ -1,8 +1,9 @@
 //! What went wrong, in words (`--explain`).
 ghost use Rattle.std.specs.Prelude.{◌≡◌, IfOk, OnOk, string_bytes};
+ghost use Rattle.std.specs.Io.KnownBytes.{Appends};
 ghost use Rattle.cwl_program.specs.Tells.{AreNotes, HasLine, HasLines, IsEndingExplained, IsExplained, IsLeftTold, IsPut, IsSavingsLine, IsSavingsTold, left_words};
 
-use crate::exit::{Exit, Fault, Refusal, Unreadable};
+use crate::exit::{Exit, Fault, PlanTexts, Refusal, Unreadable};
 use crate::savings::{Savings, savings_line};
 use crate::shell_words::add_word;
 use crate::visible::{cut, visible};
@@ -18,12 +19,13 @@ use std::alloc::{AllocError, Global};
 use std::io;
 use std::io::Write;
 
-/// Writes a line that says what went wrong and where; nothing of an end in which nothing did.
+/// Writes a line that says what went wrong and where, or why a plan is as it is; nothing of another end in which nothing went wrong.
 pub fn explain_exit<E: Write>(alloc: Global, exit: &Exit, err: &mut E) -> io::Result<()>
     ensures { OnOk result (IsExplained exit.now (E.contents err.old) (E.contents err.new)) }
 {
     match exit {
         Exit::Output(_) => Ok(()),
+        Exit::Plan(texts) => put_reasons(texts, err),
         Exit::Broken(broken) => put_words(alloc, broken_words(alloc, *broken)?.as_str(), err),
         Exit::Record(ending) => explain_ending(alloc, ending, err),
         Exit::Refused(refusal) => put_words(alloc, refusal_words(alloc, refusal)?.as_str(), err),
@@ -34,6 +36,13 @@ pub fn explain_exit<E: Write>(alloc: Global, exit: &Exit, err: &mut E) -> io::Re
         Exit::Mismatch(place) => put_words(alloc, mismatch_words(alloc, place)?.as_str(), err),
         Exit::Fault(fault) => put_words(alloc, fault_words(alloc, fault)?.as_str(), err),
     }
+}
+
+fn put_reasons<E: Write>(texts: &PlanTexts, err: &mut E) -> io::Result<()>
+    ensures { OnOk result (Appends (E.contents err.old) (E.contents err.new) texts.now.reasons) }
+{
+    let reasons = &texts.reasons;
+    write!(err, "{reasons}")
 }
 
 // Writes a line that says why a record can't be shown; nothing where it is.
@@ -61,7 +70,7 @@ pub fn put_notes<E: Write>(
     ensures { OnOk result (AreNotes exit.now (E.contents err.old) (E.contents err.new)) }
 {
     match exit {
-        Exit::Output(_) | Exit::Record(_) => Ok(()),
+        Exit::Output(_) | Exit::Plan(_) | Exit::Record(_) => Ok(()),
         _ => put_lines(alloc, notes, err),
     }
 }

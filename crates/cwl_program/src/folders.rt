@@ -102,7 +102,8 @@ where
     end.leaving(rt.alloc(), call.words, &places.work)
 }
 
-fn options_of(alloc: Global, places: &Places, call: &Call<'_>) -> Result<Options, AllocError>
+/// What the words let a run use, and where.
+pub fn options_of(alloc: Global, places: &Places, call: &Call<'_>) -> Result<Options, AllocError>
     requires { AreNamed call.now.here.now (wish_of_run call.now.words.now) places.now }
     ensures limits { IfOk result IsWithinLimits }
     ensures asked { IfOk result (IsAsked call.now.here.now (wish_of_run call.now.words.now)

@@ -1,5 +1,5 @@
-//! The program behind a command line: `deparohi run DOCUMENT [INPUTS]`, `deparohi check CERTIFICATE`, `deparohi record FILE` and
-//! `deparohi demo`.
+//! The program behind a command line: `deparohi run DOCUMENT [INPUTS]`, `deparohi plan DOCUMENT [INPUTS]`, `deparohi check CERTIFICATE`,
+//! `deparohi record FILE` and `deparohi demo`.
 //!
 //! `main_run` is the whole program over two writers, and `program` hands it the words, `PATH`, the standard output and
 //! the standard error. Its contract, `Tells`, says which words lead to which end, and which line and status say it:
@@ -25,10 +25,14 @@ mod input_notes;
 mod inputs;
 mod jobs;
 mod laws;
+mod looks;
 mod notes;
 mod on_machine;
 mod outdir;
 mod paths;
+mod plan;
+mod plan_texts;
+mod planning;
 mod reading;
 mod record_words;
 mod report;

@@ -65,7 +65,8 @@ fn memory_of(words: &RunWords) -> Memory {
     }
 }
 
-fn machine_of<R: World>(rt: &R, places: &Places, keep: bool) -> Result<Machine<R>, AllocError>
+/// A machine that works in these places, and keeps the folders of its jobs or not.
+pub fn machine_of<R: World>(rt: &R, places: &Places, keep: bool) -> Result<Machine<R>, AllocError>
     ensures { IfOk result (λ host. host.running ≡ []) }
 {
     let places = places.clone_in(rt.alloc())?;
@@ -205,7 +206,7 @@ fn millis_since<R: Clock>(rt: &R, start: Instant) -> Option<u64> {
 }
 
 /// Adds what is told of a failure, and of a success.
-fn noted<R: World>(
+pub fn noted<R: World>(
     rt: &R,
     host: &Machine<R>,
     given: &Given,
@@ -213,7 +214,8 @@ fn noted<R: World>(
     exit: Result<Exit, AllocError>,
     savings: Option<Savings>,
 ) -> Result<RunEnd, AllocError>
-    ensures { IfOk result (λ end. exit ≡ Ok end.exit) }
+    ensures exit { IfOk result (λ end. exit ≡ Ok end.exit) }
+    ensures left { IfOk result (λ end. end.left ≡ None) }
 {
     let exit = exit?;
     let notes = notes_on(rt, host, given, tickets, &exit);

@@ -4,7 +4,8 @@ ghost use Rattle.cwl_program.specs.Stops.{IsTrouble, IsCause, most_bytes};
 
 use crate::exit::Unreadable;
 use std::fs::Metadata;
-use std::rt::Files;
+use std::io::Read;
+use std::rt::{Files, Input};
 use std::{fs, io, mem};
 
 /// The most bytes of a file that is read: 64 MiB.
@@ -39,6 +40,17 @@ pub fn bytes_of_file<R: AllocGlobal + Files>(rt: &R, path: &str) -> Result<Vec<u
     let metadata = fs::metadata(rt, path)?;
     looked_at(&metadata)?;
     let bytes = fs::read(rt, path)?;
+    within(bytes)
+}
+
+/// Reads standard input, to its end or to 64 MiB.
+pub fn bytes_of_input<R: AllocGlobal + Input>(rt: &R) -> Result<Vec<u8>, NoBytes>
+    ensures ok { IfOk result (λ bytes. length bytes.items ≤ most_bytes) }
+    ensures err { IfErr result IsTrouble }
+{
+    let mut bytes = Vec::new(rt.alloc());
+    let mut reader = rt.reader().take(MOST_BYTES + 1);
+    reader.read_to_end(&mut bytes)?;
     within(bytes)
 }
 

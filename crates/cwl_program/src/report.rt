@@ -60,7 +60,8 @@ fn of_outputs(alloc: Global, outputs: Value) -> Result<Exit, AllocError>
     Ok(Exit::Output(line?))
 }
 
-fn of_failure(alloc: Global, place: JobPlace, cause: Cause) -> Result<Exit, AllocError>
+/// Says how a job's permanent failure ends the program.
+pub fn of_failure(alloc: Global, place: JobPlace, cause: Cause) -> Result<Exit, AllocError>
     ensures { IfOk result (λ exit. exit ≡ outcome_exit (Outcome.PermanentFail place cause)) }
 {
     let text = place_in(alloc, &place);
@@ -82,7 +83,8 @@ pub fn place_in(alloc: Global, place: &JobPlace) -> Result<Text, AllocError>
     visible_text(alloc, &text)
 }
 
-fn of_fault(alloc: Global, log: &[Entry], fault: &RunFault) -> Result<Exit, AllocError>
+/// Says how a run without an outcome ends the program, over whose host this is the log.
+pub fn of_fault(alloc: Global, log: &[Entry], fault: &RunFault) -> Result<Exit, AllocError>
     ensures { IfOk result (λ told. told ≡ fault_exit log.now fault.now) }
 {
     match fault {

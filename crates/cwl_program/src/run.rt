@@ -65,13 +65,14 @@ where
     }
 }
 
-fn here_of<R: World + Env>(rt: &R) -> io::Result<String> {
+/// The folder that the program is called in.
+pub fn here_of<R: World + Env>(rt: &R) -> io::Result<String> {
     let here = env::current_dir(rt)?;
     Ok(String::from_str(rt.alloc(), here.as_path().as_str())?)
 }
 
 /// The end of a program that can't tell the folder that it is called in.
-fn without_folder(alloc: Global, error: &io::Error) -> Result<RunEnd, AllocError>
+pub fn without_folder(alloc: Global, error: &io::Error) -> Result<RunEnd, AllocError>
     ensures exit { IfOk result (λ end. end.exit ≡ Exit.Fault Fault.Folder) }
     ensures left { IfOk result (λ end. end.left ≡ None) }
 {
@@ -116,7 +117,7 @@ where
 }
 
 /// Reads the document with all that it leads to.
-fn process_of<R: World>(rt: &R, call: &Call<'_>) -> Result<Process, Stop>
+pub fn process_of<R: World>(rt: &R, call: &Call<'_>) -> Result<Process, Stop>
     ensures ok { IfOk result (IsNamedProcess call.now.here.now (wish_of_run call.now.words.now)) }
     ensures err { IfErr result
         (IsStop (IsNoProcess call.now.here.now (wish_of_run call.now.words.now))) }
@@ -184,7 +185,7 @@ where
 }
 
 /// Reads the input object. Its locations are on the URL of its own file.
-fn inputs_of<R: World>(rt: &R, call: &Call<'_>) -> Result<Keyed<Value>, Stop>
+pub fn inputs_of<R: World>(rt: &R, call: &Call<'_>) -> Result<Keyed<Value>, Stop>
     ensures ok { IfOk result (IsNamedInputs call.now.here.now (wish_of_run call.now.words.now)) }
     ensures err { IfErr result
         (IsStop (IsNoInputs call.now.here.now (wish_of_run call.now.words.now))) }
@@ -228,7 +229,7 @@ where
 }
 
 /// The folders as paths from the root, that of the archive too where one is named.
-fn places_of(alloc: Global, call: &Call<'_>) -> Result<Places, AllocError>
+pub fn places_of(alloc: Global, call: &Call<'_>) -> Result<Places, AllocError>
     ensures { IfOk result (AreNamed call.now.here.now (wish_of_run call.now.words.now)) }
 {
     let work = from_root(alloc, call.here, call.words.work)?;

@@ -97,7 +97,7 @@ where
 }
 
 /// The end of a program that can't open the record of this file.
-fn without_record(alloc: Global, fault: RecordFault, file: &str) -> Result<RunEnd, AllocError>
+pub fn without_record(alloc: Global, fault: RecordFault, file: &str) -> Result<RunEnd, AllocError>
     ensures exit { IfOk result (λ end. end.exit ≡ Exit.Fault (Fault.Unopened file.now fault)) }
     ensures left { IfOk result (λ end. end.left ≡ None) }
 {

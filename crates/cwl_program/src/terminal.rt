@@ -29,7 +29,7 @@ fn is_run(words: &[String]) -> bool
 fn is_other(words: &[String]) -> bool
     ensures { result ≡ spec.is_other (map string_bytes words.now) }
 {
-    matches!(command_of(words), "check" | "record" | "demo")
+    matches!(command_of(words), "plan" | "check" | "record" | "demo")
 }
 
 // The word behind the program's name; none is the empty one.

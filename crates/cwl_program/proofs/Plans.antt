@@ -1,0 +1,66 @@
+-- What ends the program where there is nothing to plan, and where there is.
+use Rattle.std.proofs.Common.{◌≡◌, true, Bool, Option, None, Some, Result, Ok, Err, IfOk, subst, sym}
+use Rattle.std.proofs.lemmas.Result.{IfOk-weaker}
+use Rattle.std.specs.declared.alloc.AllocError.{AllocError}
+use Rattle.clap.specs.Words.{Text}
+use Rattle.document_links.specs.declared.process.Process.{Process}
+use Rattle.job_record.specs.declared.fault.RecordFault.{RecordFault}
+use Rattle.run_rules.specs.declared.setting.Options.{Options}
+use Rattle.cwl_program.specs.Caches.{is_twofold, record_of}
+use Rattle.cwl_program.specs.Plans.{IsEndOfPlan, IsPlanned, lost, plans, stops}
+use Rattle.cwl_program.specs.RunWords.{RunWish}
+use Rattle.cwl_program.specs.Runs.{IsAsked, IsNamedProcess, IsNoInputs, IsNoProcess, IsReady, no_inputs, no_process, no_record, twofold}
+use Rattle.cwl_program.specs.Stops.{IsStop}
+use Rattle.cwl_program.specs.declared.exit.Exit.{Exit}
+use Rattle.cwl_program.specs.declared.exit.Exit.TheVariants as exits
+use Rattle.cwl_program.specs.declared.exit.Fault.TheVariants as faults
+use Rattle.cwl_program.specs.declared.given.Given.{Given}
+use Rattle.cwl_program.specs.declared.run_end.RunEnd.{RunEnd}
+use Rattle.cwl_program.specs.declared.stop.Stop.{Stop}
+use Rattle.cwl_program.specs.declared.stop.Stop.TheVariants.{Early}
+use Rattle.cwl_program.proofs.Stops.{ends_as, run_ends_so, stop_so}
+
+abbrev ends : (words : RunWish) (dot : Bool) (path : Text) → Exit → Option Text → Type 0
+ends words dot path exit left = IsEndOfPlan words dot path exit
+
+pub plan_without_folder : (words : RunWish) (dot : Bool) (path : Text) (answer : Result RunEnd AllocError)
+    → IfOk answer (λ end. end.exit ≡ exits.Fault faults.Folder) → IfOk answer (λ end. end.left ≡ None)
+    → IfOk answer (λ end. IsEndOfPlan words dot path end.exit)
+plan_without_folder words dot path answer is gone = ends_as (ends words dot path) _ answer lost is gone
+
+pub plan_without_one_meaning : (here : Text) (words : RunWish) (dot : Bool) (path : Text) (end : RunEnd)
+    → is_twofold words ≡ true → end.exit ≡ exits.Fault faults.Words → IsEndOfPlan words dot path end.exit
+plan_without_one_meaning here words dot path end twice is =
+    subst (λ (e : Exit). IsEndOfPlan words dot path e) (sym is) (stops here (twofold twice))
+
+pub plan_without_process : (here : Text) (words : RunWish) (dot : Bool) (path : Text) (stop : Stop) (answer : Result RunEnd AllocError)
+    → IsStop (IsNoProcess here words) stop → IfOk answer (λ end. stop ≡ Early end.exit) → IfOk answer (λ end. end.left ≡ None)
+    → IfOk answer (λ end. IsEndOfPlan words dot path end.exit)
+plan_without_process here words dot path stop answer is same gone =
+    run_ends_so (ends words dot path) stop answer (stop_so _ _ (λ exit end. stops here (no_process end)) stop is) same gone
+
+pub plan_without_inputs : (here : Text) (words : RunWish) (dot : Bool) (path : Text) (process : Process) (stop : Stop) (answer : Result RunEnd AllocError)
+    → IsNamedProcess here words process → IsStop (IsNoInputs here words) stop
+    → IfOk answer (λ end. stop ≡ Early end.exit) → IfOk answer (λ end. end.left ≡ None)
+    → IfOk answer (λ end. IsEndOfPlan words dot path end.exit)
+plan_without_inputs here words dot path process stop answer named is same gone =
+    run_ends_so (ends words dot path) stop answer (stop_so _ _ (λ exit end. stops here (no_inputs process named end)) stop is) same gone
+
+pub plan_without_record : (here : Text) (words : RunWish) (dot : Bool) (path : Text) (given : Given) (file : Text) (fault : RecordFault) (answer : Result RunEnd AllocError)
+    → IsReady here words given → record_of words ≡ Some file
+    → IfOk answer (λ end. end.exit ≡ exits.Fault (faults.Unopened file fault)) → IfOk answer (λ end. end.left ≡ None)
+    → IfOk answer (λ end. IsEndOfPlan words dot path end.exit)
+plan_without_record here words dot path given file fault answer ready named is gone =
+    ends_as (ends words dot path) _ answer (stops here (no_record given file fault ready named)) is gone
+
+pub plans_so : (here : Text) (words : RunWish) (dot : Bool) (path : Text) (given : Given) (options : Options) (answer : Result RunEnd AllocError)
+    → IsReady here words given → IsAsked here words path options
+    → IfOk answer (λ end. IsPlanned given.process given.inputs options dot end.exit)
+    → IfOk answer (λ end. IsEndOfPlan words dot path end.exit)
+plans_so here words dot path given options answer ready asked is = IfOk-weaker answer _ _ (λ end p. plans here given options ready asked p) is
+
+-- an end with what was noted of it is as the exit
+pub noted_as : (IsEnd : Exit → Type 0) (told : Result Exit AllocError) (answer : Result RunEnd AllocError)
+    → IfOk told IsEnd → IfOk answer (λ end. told ≡ Ok end.exit) → IfOk answer (λ end. IsEnd end.exit)
+noted_as IsEnd told (Err error) is same = tt
+noted_as IsEnd told (Ok end) is same = subst (λ (t : Result Exit AllocError). IfOk t IsEnd) same is

@@ -1,0 +1,75 @@
+-- How a plan of a document on inputs ends the program.
+use Rattle.std.specs.Prelude.{◌≡◌, ◌++◌, Bool, true, List, length, map, Result, Ok, Err, if◌then◌else◌}
+use Rattle.clap.specs.Words.{Text}
+use Rattle.document_links.specs.declared.process.Process.{Process}
+use Rattle.job_graph.specs.Words.{Fields}
+use Rattle.plan_checker.specs.Certificate.{IsCertificate}
+use Rattle.plan_checker.specs.Charges.{IsCounted}
+use Rattle.plan_checker.specs.Format.{certificate_text}
+use Rattle.plan_words.specs.Lines.{plan_lines}
+use Rattle.plan_words.specs.Picture.{picture}
+use Rattle.plan_words.specs.Reasons.{reasons}
+use Rattle.plan_words.specs.declared.reasons.Known.{Known}
+use Rattle.proc_host.specs.declared.call.Entry.{Entry}
+use Rattle.run_rules.specs.PlannedFirst.{are_looks}
+use Rattle.run_rules.specs.Reports.{entries_of}
+use Rattle.run_rules.specs.declared.request.Pair.{Pair}
+use Rattle.run_rules.specs.declared.setting.Options.{Options}
+use Rattle.workflow_engine.specs.FirstPlan as first
+use Rattle.workflow_engine.specs.declared.planned.PlanFault.{PlanFault}
+use Rattle.workflow_engine.specs.declared.planned.PlanFault.TheVariants as plan_faults
+use Rattle.workflow_engine.specs.declared.planned.Planned.{Planned}
+use Rattle.cwl_program.specs.RunWords.{RunWish}
+use Rattle.cwl_program.specs.Runs.{IsAsked, IsReady, IsUnready, fault_exit, place_json}
+use Rattle.cwl_program.specs.declared.exit.Exit.{Exit}
+use Rattle.cwl_program.specs.declared.exit.Exit.TheVariants as exits
+use Rattle.cwl_program.specs.declared.exit.Fault.TheVariants as faults
+use Rattle.cwl_program.specs.declared.exit.PlanTexts.{PlanTexts}
+use Rattle.cwl_program.specs.declared.given.Given.{Given}
+
+-- ---- what is said of a plan
+
+-- a place, a mark and charges for each vertex
+pub record AreCounted (made : Planned) : Type 0 where
+  pub places : length made.places ≡ length made.graph
+  pub marks : length made.plan.marks ≡ length made.graph
+  pub charges : IsCounted made.graph made.charges
+
+-- for the output: the certificate, or the picture where that is wanted
+abbrev pub paper_of : (dot : Bool) → Planned → (places : List Text) → Text
+paper_of dot made places =
+    if dot then picture made.cost made.graph made.plan.marks made.charges places
+    else certificate_text made.graph made.plan.marks made.charges
+
+-- for the errors: `cost N` and a line for each job, and with `--explain` why each is treated so, by what is known of it
+pub record AreTextsOf (dot : Bool) (made : Planned) (texts : PlanTexts) : Type 0 where
+  pub known : List Known
+  pub each : length known ≡ length made.graph
+  pub paper : texts.paper ≡ paper_of dot made (map place_json made.places)
+  pub lines : texts.lines ≡ plan_lines made.cost made.plan.marks (map place_json made.places)
+  pub reasons : texts.reasons ≡ reasons made.graph made.plan.marks known (map place_json made.places)
+
+-- a process that fails before anything is started ends as its run does, and so does a fault
+abbrev pub plan_fault_exit : (log : List Entry) → PlanFault → Exit
+plan_fault_exit log (plan_faults.Failed place cause) = exits.Permanent (place_json place) cause
+plan_fault_exit log (plan_faults.Run fault) = fault_exit log fault
+
+pub data IsPlanTold (dot : Bool) (log : List Entry) : Result Planned PlanFault → Exit → Type 0 where
+  told : (made : Planned) (texts : PlanTexts) → AreTextsOf dot made texts → IsPlanTold dot log (Ok made) (exits.Plan texts)
+  failed : (fault : PlanFault) → IsPlanTold dot log (Err fault) (plan_fault_exit log fault)
+
+-- looks were made, after which a run of this process on these inputs comes to its first plan, or to its end; the program ends as that
+pub data IsPlanned (process : Process) (inputs : Fields) (options : Options) (dot : Bool) : Exit → Type 0 where
+  planned : {exit : Exit} (before after : List Entry) (looks : List Pair) (result : Result Planned PlanFault) → are_looks looks ≡ true →
+      after ≡ before ++ entries_of looks → first.Tells (record { process = process; inputs = inputs; options = options }) looks result →
+      IsPlanTold dot after result exit → IsPlanned process inputs options dot exit
+
+-- ---- how the words of `plan` end the program
+
+-- a plan of the named process on the named inputs, or nothing to plan
+pub data IsEndOfPlan (words : RunWish) (dot : Bool) (path : Text) : Exit → Type 0 where
+  plans : {exit : Exit} (here : Text) (given : Given) (options : Options) → IsReady here words given → IsAsked here words path options →
+      IsPlanned given.process given.inputs options dot exit → IsEndOfPlan words dot path exit
+  stops : {exit : Exit} (here : Text) → IsUnready here words exit → IsEndOfPlan words dot path exit
+  -- the folder that the program is called in can't be told
+  lost : IsEndOfPlan words dot path (exits.Fault faults.Folder)

@@ -1,0 +1,70 @@
+//! A record that is looked into for a plan.
+ghost use Rattle.std.specs.Prelude.{◌≡◌, ◌++◌};
+ghost use Rattle.job_rows.specs.declared.log.Command.TheVariants as command;
+ghost use Rattle.job_rows.specs.Log.{entries_of, told_of};
+ghost use Rattle.job_rows.specs.Map.{RowMap, Finds, Puts, Drops};
+
+use job_rows::{Record, RecordError, Row};
+use plain_data::Text;
+use plan_words::Known;
+use std::alloc::Global;
+
+/// Another record, with what it said of the jobs that it was asked for, in their order. What there is no room for is left out.
+#[derive(Drop)]
+pub struct Looks<'a, K: Record> {
+    rows: &'a mut K,
+    answers: Vec<Known>,
+}
+
+impl<'a, K: Record> Looks<'a, K> {
+    pub fn new(alloc: Global, rows: &'a mut K) -> Looks<'a, K> {
+        Looks {
+            rows,
+            answers: Vec::new(alloc),
+        }
+    }
+
+    /// What the record said.
+    pub fn answers(&self) -> &[Known] {
+        self.answers.as_slice()
+    }
+}
+
+impl<K: Record> Record for Looks<'_, K> {
+    ghost log = { λ looks. K.log looks.rows.now };
+
+    ghost is_sound = { λ looks. K.is_sound looks.rows.now };
+
+    ghost holds = { λ looks map. K.holds looks.rows.now map };
+
+    fn find(&mut self, key: &Text) -> Result<Option<Row>, RecordError> {
+        let answer = self.rows.find(key);
+        if let Ok(row) = &answer {
+            let _noted = self.answers.push(known_by(row));
+        }
+        answer
+    }
+
+    fn put(&mut self, row: &Row) -> Result<(), RecordError> {
+        self.rows.put(row)
+    }
+
+    fn drop_archive(&mut self, key: &Text) -> Result<(), RecordError> {
+        self.rows.drop_archive(key)
+    }
+}
+
+// What a row says of its job.
+fn known_by(row: &Option<Row>) -> Known {
+    match row {
+        None => Known::NotRecorded,
+        Some(row) => known_of_row(row.archived),
+    }
+}
+
+fn known_of_row(is_archived: bool) -> Known {
+    if is_archived {
+        return Known::Archived;
+    }
+    Known::NotArchived
+}

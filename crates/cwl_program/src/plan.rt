@@ -1,0 +1,286 @@
+//! The plan of a run of the user's own process: what it would load, compute and not need.
+ghost use Rattle.std.specs.Prelude.{◌≡◌, None, Some, IfOk};
+ghost use Rattle.run_core.specs.Limits.{IsWithinLimits};
+ghost use Rattle.cwl_program.specs.Caches.{record_of as file_of_record};
+ghost use Rattle.cwl_program.specs.Plans.{IsEndOfPlan, IsPlanned};
+ghost use Rattle.cwl_program.specs.RunWords.{wish_of_run};
+ghost use Rattle.cwl_program.specs.Runs.{IsNamedProcess, IsReady};
+
+use crate::caches::{is_twofold, record_of};
+use crate::exit::{Exit, Fault};
+use crate::folders::options_of;
+use crate::given::{Call, Given, Places};
+use crate::looks::Looks;
+use crate::on_machine::{machine_of, noted};
+use crate::plan_texts::exit_of_plan;
+use crate::planning::PlanWords;
+use crate::run::{here_of, inputs_of, places_of, process_of, without_folder};
+use crate::run_end::RunEnd;
+use crate::run_record::without_record;
+use crate::stop::stopped_run;
+use document_links::Process;
+use job_rows::{MemoryRecord, Record};
+use plain_data::Keyed;
+use process_machine::{Machine, World};
+use record_program::Records;
+use run_core::Options;
+use std::alloc::AllocError;
+use std::process::Stdio;
+use std::rt::Env;
+use std::{fs, io, mem};
+use workflow_engine::{Unwatched, plan_only};
+
+/// Plans a run of the process of a document on an input object, by the record that the words name. Nothing is made, started, fetched or
+/// kept.
+pub fn end_of_plan<R: World + Env + Records>(
+    rt: &R,
+    words: &PlanWords,
+    path: &str,
+) -> Result<RunEnd, AllocError>
+where
+    R::File: Into<Stdio>,
+    ensures end { IfOk result (λ end. IsEndOfPlan (wish_of_run words.now.run) words.now.dot path.now
+        end.exit) }
+    ensures left { IfOk result (λ end. end.left ≡ None) }
+{
+    match here_of(rt) {
+        Ok(here) => {
+            let call = Call {
+                here: here.as_str(),
+                words: &words.run,
+                path,
+            };
+            let end = end_of_call(rt, &call, words.dot);
+            mem::drop(here);
+            end
+        }
+        Err(error) => without_folder(rt.alloc(), &error),
+    }
+}
+
+fn end_of_call<R: World + Records>(rt: &R, call: &Call<'_>, dot: bool) -> Result<RunEnd, AllocError>
+where
+    R::File: Into<Stdio>,
+    ensures end { IfOk result (λ end. IsEndOfPlan (wish_of_run call.now.words.now) dot
+        call.now.path.now end.exit) }
+    ensures left { IfOk result (λ end. end.left ≡ None) }
+{
+    if is_twofold(call.words) {
+        return Ok(RunEnd::bare(rt.alloc(), Exit::Fault(Fault::Words)));
+    }
+    match process_of(rt, call) {
+        Ok(process) => on_process(rt, process, call, dot),
+        Err(stop) => stopped_run(rt, stop, call.words.inputs),
+    }
+}
+
+fn on_process<R: World + Records>(
+    rt: &R,
+    process: Process,
+    call: &Call<'_>,
+    dot: bool,
+) -> Result<RunEnd, AllocError>
+where
+    R::File: Into<Stdio>,
+    requires { IsNamedProcess call.now.here.now (wish_of_run call.now.words.now) process }
+    ensures end { IfOk result (λ end. IsEndOfPlan (wish_of_run call.now.words.now) dot
+        call.now.path.now end.exit) }
+    ensures left { IfOk result (λ end. end.left ≡ None) }
+{
+    match inputs_of(rt, call) {
+        Ok(inputs) => {
+            let given = Given { process, inputs };
+            let end = over_record(rt, &given, call, dot);
+            mem::drop(given);
+            end
+        }
+        Err(stop) => {
+            mem::drop(process);
+            stopped_run(rt, stop, call.words.inputs)
+        }
+    }
+}
+
+/// Plans by the record that the words name, or by one without rows.
+fn over_record<R: World + Records>(
+    rt: &R,
+    given: &Given,
+    call: &Call<'_>,
+    dot: bool,
+) -> Result<RunEnd, AllocError>
+where
+    R::File: Into<Stdio>,
+    requires { IsReady call.now.here.now (wish_of_run call.now.words.now) given.now }
+    ensures end { IfOk result (λ end. IsEndOfPlan (wish_of_run call.now.words.now) dot
+        call.now.path.now end.exit) }
+    ensures left { IfOk result (λ end. end.left ≡ None) }
+{
+    match record_of(rt.alloc(), call.words)? {
+        None => in_memory(rt, given, call, dot),
+        Some(file) => {
+            let end = over_file(rt, given, call, file.as_str(), dot);
+            mem::drop(file);
+            end
+        }
+    }
+}
+
+fn over_file<R: World + Records>(
+    rt: &R,
+    given: &Given,
+    call: &Call<'_>,
+    file: &str,
+    dot: bool,
+) -> Result<RunEnd, AllocError>
+where
+    R::File: Into<Stdio>,
+    requires ready { IsReady call.now.here.now (wish_of_run call.now.words.now) given.now }
+    requires file { file_of_record (wish_of_run call.now.words.now) ≡ Some file.now }
+    ensures end { IfOk result (λ end. IsEndOfPlan (wish_of_run call.now.words.now) dot
+        call.now.path.now end.exit) }
+    ensures left { IfOk result (λ end. end.left ≡ None) }
+{
+    if is_kept(rt, file) {
+        return in_file(rt, given, call, file, dot);
+    }
+    in_memory(rt, given, call, dot)
+}
+
+/// Whether a file is opened as a record. Of one that is not there, and of one without a byte, a run would make a record; a plan makes none,
+/// and takes it as one without rows.
+fn is_kept<R: World>(rt: &R, file: &str) -> bool {
+    match fs::metadata(rt, file) {
+        Ok(found) => found.len() > 0,
+        Err(error) => !matches!(error.kind(), io::ErrorKind::NotFound),
+    }
+}
+
+fn in_memory<R: World>(
+    rt: &R,
+    given: &Given,
+    call: &Call<'_>,
+    dot: bool,
+) -> Result<RunEnd, AllocError>
+where
+    R::File: Into<Stdio>,
+    requires { IsReady call.now.here.now (wish_of_run call.now.words.now) given.now }
+    ensures end { IfOk result (λ end. IsEndOfPlan (wish_of_run call.now.words.now) dot
+        call.now.path.now end.exit) }
+    ensures left { IfOk result (λ end. end.left ≡ None) }
+{
+    let mut rows = MemoryRecord::new(rt.alloc());
+    let end = by_rows(rt, given, call, &mut rows, dot);
+    mem::drop(rows);
+    end
+}
+
+fn in_file<R: World + Records>(
+    rt: &R,
+    given: &Given,
+    call: &Call<'_>,
+    file: &str,
+    dot: bool,
+) -> Result<RunEnd, AllocError>
+where
+    R::File: Into<Stdio>,
+    requires ready { IsReady call.now.here.now (wish_of_run call.now.words.now) given.now }
+    requires file { file_of_record (wish_of_run call.now.words.now) ≡ Some file.now }
+    ensures end { IfOk result (λ end. IsEndOfPlan (wish_of_run call.now.words.now) dot
+        call.now.path.now end.exit) }
+    ensures left { IfOk result (λ end. end.left ≡ None) }
+{
+    match rt.open_record(file) {
+        Ok(mut rows) => {
+            let end = by_rows(rt, given, call, &mut rows, dot);
+            rt.close_record(rows);
+            end
+        }
+        Err(fault) => without_record(rt.alloc(), fault, file),
+    }
+}
+
+/// Plans by the rows of a record.
+fn by_rows<R: World, K: Record>(
+    rt: &R,
+    given: &Given,
+    call: &Call<'_>,
+    rows: &mut K,
+    dot: bool,
+) -> Result<RunEnd, AllocError>
+where
+    R::File: Into<Stdio>,
+    requires { IsReady call.now.here.now (wish_of_run call.now.words.now) given.now }
+    ensures end { IfOk result (λ end. IsEndOfPlan (wish_of_run call.now.words.now) dot
+        call.now.path.now end.exit) }
+    ensures left { IfOk result (λ end. end.left ≡ None) }
+{
+    let places = places_of(rt.alloc(), call)?;
+    let options = options_of(rt.alloc(), &places, call)?;
+    with_machine(rt, given, options, &places, rows, dot)
+}
+
+fn with_machine<R: World, K: Record>(
+    rt: &R,
+    given: &Given,
+    options: Options,
+    places: &Places,
+    rows: &mut K,
+    dot: bool,
+) -> Result<RunEnd, AllocError>
+where
+    R::File: Into<Stdio>,
+    requires { IsWithinLimits options }
+    ensures exit { IfOk result (λ end. IsPlanned given.now.process given.now.inputs options dot
+        end.exit) }
+    ensures left { IfOk result (λ end. end.left ≡ None) }
+{
+    match machine_of(rt, places, false) {
+        Ok(host) => planned(rt, host, given, options, rows, dot),
+        Err(error) => {
+            mem::drop(options);
+            Err(error)
+        }
+    }
+}
+
+/// Plans on a machine that looks at files alone.
+fn planned<R: World, K: Record>(
+    rt: &R,
+    mut host: Machine<R>,
+    given: &Given,
+    options: Options,
+    rows: &mut K,
+    dot: bool,
+) -> Result<RunEnd, AllocError>
+where
+    R::File: Into<Stdio>,
+    requires { IsWithinLimits options }
+    ensures exit { IfOk result (λ end. IsPlanned given.now.process given.now.inputs options dot
+        end.exit) }
+    ensures left { IfOk result (λ end. end.left ≡ None) }
+{
+    let mut looks = Looks::new(rt.alloc(), rows);
+    let made = plan_only(
+        rt.alloc(),
+        &mut host,
+        &mut looks,
+        &given.process,
+        &given.inputs,
+        options,
+        &mut Unwatched,
+    );
+    let exit = exit_of_plan(
+        rt.alloc(),
+        host.log(),
+        &given.process,
+        made,
+        looks.answers(),
+        dot,
+    );
+    let tickets = Keyed::new(rt.alloc());
+    let end = noted(rt, &host, given, &tickets, exit, None);
+    mem::drop(tickets);
+    mem::drop(looks);
+    mem::drop(host);
+    end
+}
