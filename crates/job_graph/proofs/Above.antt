@@ -16,7 +16,7 @@ use Rattle.job_graph.specs.inner.Views.{met_of}
 use Rattle.job_graph.proofs.Gone.{leaves_itself}
 use Rattle.job_graph.proofs.laws_of_walks.Reads.{none_in}
 
-through_first : (ended : JobPlace) (g : Segment) (id : Name) → 0 < length ended → g ≡ get_or ended 0 g → goes_through ended id ≡ bytes_eq g.step id
+pub through_first : (ended : JobPlace) (g : Segment) (id : Name) → 0 < length ended → g ≡ get_or ended 0 g → goes_through ended id ≡ bytes_eq g.step id
 through_first [] g id below is = absurd (omega (arith, below))
 through_first (t ∷ rest) g id below is = ap (λ (s : Segment). bytes_eq s.step id) (sym is)
 

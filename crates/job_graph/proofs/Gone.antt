@@ -55,7 +55,7 @@ leaves_push f g old met now more xs i x is before last below at =
     ∙ ap (λ back. flat_map f (map g (take i xs)) ++ back) (append-nil (f (g x))) in
     subst₂ (LeavesOut old) (sym is) (sym parts) (leaves_append old met (flat_map f (map g (take i xs))) more (f (g x)) before last)
 
-in_left : (m : Met) (xs ys : List Met) → IsIn m xs → IsIn m (xs ++ ys)
+pub in_left : (m : Met) (xs ys : List Met) → IsIn m xs → IsIn m (xs ++ ys)
 in_left m [] ys at = absurd at
 in_left m (x ∷ xs) ys (inl here) = inl here
 in_left m (x ∷ xs) ys (inr later) = inr (in_left m xs ys later)
@@ -64,7 +64,7 @@ in_right : (m : Met) (xs ys : List Met) → IsIn m ys → IsIn m (xs ++ ys)
 in_right m [] ys at = at
 in_right m (x ∷ xs) ys at = inr (in_right m xs ys at)
 
-in_one : {X Y : Type 0} (f : Y → List Met) (g : X → Y) (m : Met) (x : X) (xs : List X) → IsIn x xs → IsIn m (f (g x)) → IsIn m (flat_map f (map g xs))
+pub in_one : {X Y : Type 0} (f : Y → List Met) (g : X → Y) (m : Met) (x : X) (xs : List X) → IsIn x xs → IsIn m (f (g x)) → IsIn m (flat_map f (map g xs))
 in_one f g m x [] among at = absurd among
 in_one f g m x (y ∷ ys) (inl here) at = in_left m (f (g y)) (flat_map f (map g ys)) (subst (λ z. IsIn m (f (g z))) here at)
 in_one f g m x (y ∷ ys) (inr later) at = in_right m (f (g y)) (flat_map f (map g ys)) (in_one f g m x ys later at)

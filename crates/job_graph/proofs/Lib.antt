@@ -14,6 +14,7 @@ mod Loops
 mod Marks
 mod MetMore
 mod OneOpen
+mod OneTuple
 mod OpenKept
 mod Outs
 mod Vertices

@@ -6,6 +6,7 @@ pub mod Inside
 pub mod Kept
 pub mod Levels
 pub mod Marks
+pub mod OneTuple
 pub mod Outputs
 pub mod Rounds
 pub mod Told

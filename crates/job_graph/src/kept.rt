@@ -9,7 +9,7 @@ ghost use Rattle.job_graph.specs.inner.Views.{made_from, met_of};
 use crate::inputs::workflow_inputs;
 use crate::links::Env;
 use crate::made::Facts;
-use crate::waiting::walk_on;
+use crate::one_tuple::walk_further;
 use crate::walk::{Walk, failed_process, walk_tool};
 use crate::workflow::{Walked, walk_keeping};
 use cwl_value::{Segment, Value};
@@ -114,7 +114,7 @@ fn go_on<'a>(
     let Kept { inputs, env } = kept;
     let outputs = workflow.outputs.as_slice();
     let ended: &[Segment] = last.at.place.as_slice();
-    let walked = walk_on(
+    let walked = walk_further(
         alloc,
         facts,
         &workflow.steps,

@@ -23,6 +23,7 @@ mod learned;
 mod links;
 mod made;
 mod mark;
+mod one_tuple;
 mod open;
 mod outcome;
 mod parents;

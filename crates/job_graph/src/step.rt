@@ -48,9 +48,9 @@ pub(crate) fn walk_process<'a>(
 
 /// The inputs of a step: those that fail, and all together once each is known.
 #[derive(Drop)]
-struct Entered<'a> {
-    faults: Items<Met<'a>>,
-    values: Option<Keyed<Value>>,
+pub(crate) struct Entered<'a> {
+    pub faults: Items<Met<'a>>,
+    pub values: Option<Keyed<Value>>,
 }
 
 /// The walk through a step of a workflow with these inputs, whose steps have these outputs.
@@ -84,7 +84,7 @@ pub(crate) fn walk_step<'a>(
     }
 }
 
-fn enter<'a>(
+pub(crate) fn enter<'a>(
     alloc: Global,
     measures: &Keyed<Measure>,
     id: &Text,
@@ -227,7 +227,7 @@ fn instances<'a>(
 }
 
 #[cycle(walk)]
-fn instance_at<'a>(
+pub(crate) fn instance_at<'a>(
     alloc: Global,
     facts: &Facts,
     id: &Text,

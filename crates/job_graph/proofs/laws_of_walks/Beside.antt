@@ -77,11 +77,11 @@ not_longer place s rest is =
 pub first_segment : (place w : JobPlace) (s t : Segment) (p q : JobPlace) → w ≡ place ++ s ∷ p → w ≡ place ++ t ∷ q → s ≡ t
 first_segment place w s t p q one other = heads_alike s t p q (goes_alike place s t p q (sym one ∙ other))
 
-none_first : {T : Type 0} (o : Option (List T)) → with_first None o ≡ None
+pub none_first : {T : Type 0} (o : Option (List T)) → with_first None o ≡ None
 none_first None = refl
 none_first (Some vs) = refl
 
-none_later : {T : Type 0} (o : Option T) → with_first o None ≡ None
+pub none_later : {T : Type 0} (o : Option T) → with_first o None ≡ None
 none_later None = refl
 none_later (Some v) = refl
 
