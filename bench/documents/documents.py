@@ -2,14 +2,14 @@
 
 usage: documents.py PROGRAM [WORD..]
 
-Each kind is made four times, with 0.25, 0.5, 1 and 2 MB. A document is given with an input object that is not there, so the run ends once the
-document is read and accepted; an input object with a work folder that is there already, so the run ends once the object is read. No job is started
-and no file measured. The times are milliseconds of the processor, so that other work on the computer counts for little: the median of 3 (or of
-REPEATS), or the first where that takes three seconds, less that of a tiny document. 'growth' says how many times longer each size takes than the one
-before: 2.0 is linear, and a line where the last two are above 2.4, in their mean, ends with '!'. 'memory' is the peak of the process in MB,
-'json' how long Python's json takes to read the same file, and 'ratio' how many times longer the program takes, all three of the largest size that
-was read. A size that takes over 30 seconds or over 4 GB has '-', as those after it have. WORD picks the kinds that have it in their names.
-Needs Python 3.8 or later.
+Each kind is made four times, with 0.25, 0.5, 1 and 2 MB, or with the four sizes that MEGABYTES has, as "2 4 8 16". A document is given with an
+input object that is not there, so the run ends once the document is read and accepted; an input object with a work folder that is there already, so
+the run ends once the object is read. No job is started and no file measured. The times are milliseconds of the processor, so that other work on the
+computer counts for little: the median of 3 (or of REPEATS), or the first where that takes three seconds, less that of a tiny document. 'growth' says
+how many times longer each size takes than the one before: 2.0 is linear, and a line where the last two are above 2.4, in their mean, ends with '!'.
+'memory' is the peak of the process in MB, 'json' how long Python's json takes to read the same file, and 'ratio' how many times longer the program
+takes, all three of the largest size that was read. A size that takes over 30 seconds or over 4 GB has '-', as those after it have. WORD picks the
+kinds that have it in their names. Needs Python 3.8 or later.
 """
 
 import json
@@ -21,7 +21,8 @@ import sys
 import tempfile
 import time
 
-SIZES = (250_000, 500_000, 1_000_000, 2_000_000)
+MEGABYTES = os.environ.get("MEGABYTES", "0.25 0.5 1 2").split()
+SIZES = [int(float(it) * 1_000_000) for it in MEGABYTES]
 MOST_GROWTH = 2.4
 MOST_SECONDS = int(os.environ.get("SECONDS_EACH", 30))
 MOST_BYTES = 4 << 30
@@ -320,7 +321,8 @@ def row(name, kind, file, words, ending):
 def main():
     program, wanted = sys.argv[1], sys.argv[2:]
     fast = count = 0
-    print(f"{'the bytes are mostly':31}{'0.25 MB':>9}{'0.5 MB':>9}{'1 MB':>9}{'2 MB':>9}   {'growth':16}{'memory':>8}{'json':>7}{'ratio':>8}")
+    heads = "".join(f"{it + ' MB':>9}" for it in MEGABYTES)
+    print(f"{'the bytes are mostly':31}{heads}   {'growth':16}{'memory':>8}{'json':>7}{'ratio':>8}")
     with tempfile.TemporaryDirectory() as here:
         document, inputs, absent = (os.path.join(here, name) for name in ("document.json", "inputs.json", "absent.json"))
         for kinds, file, given, ending in ((DOCUMENTS, document, absent, b"fault: input\n"), (INPUTS, inputs, inputs, b"fault: work\n")):

@@ -14,7 +14,7 @@ use crate::paths::base_of;
 use crate::report::exit_of_run;
 use crate::stop::{Stop, stopped};
 use cwl_value::Value;
-use document_links::{Docs, Process};
+use document_links::{Docs, Document, Process};
 use job_rows::MemoryRecord;
 use plain_data::{Items, Keyed, Text};
 use proc_host::{Reply, Scripted};
@@ -51,13 +51,15 @@ fn process_of(alloc: Global) -> Result<Process, Stop>
     ensures err { IfErr result (IsStop spec.IsNoDemoProcess) }
 {
     let base = base_of(alloc, ROOT, "hello.json")?;
-    accepted_of(
-        alloc,
-        DOCUMENT.as_bytes(),
-        &base,
-        &Docs::new(alloc),
-        &Keyed::new(alloc),
-    )
+    let document = document(alloc)?;
+    let docs = Docs::of(alloc, Keyed::new(alloc))?;
+    accepted_of(alloc, &document, &base, &docs, &Keyed::new(alloc))
+}
+
+fn document(alloc: Global) -> Result<Document, AllocError>
+    ensures { IfOk result (λ document. document ≡ DOCUMENT.now) }
+{
+    Document::read(alloc, Items::from_vec(DOCUMENT.as_bytes().to_vec(alloc)?))
 }
 
 fn on_process(alloc: Global, process: Process, path: &str) -> Result<Exit, AllocError>

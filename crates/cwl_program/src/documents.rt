@@ -7,7 +7,9 @@ ghost use Rattle.cwl_program.specs.Stops.{IsCause, IsStop};
 use crate::exit::{Exit, Refusal, Unreadable};
 use crate::reading::sound;
 use crate::stop::{Stop, unread_for};
-use document_links::{Docs, LinkError, LinkFault, MOST_PROCESSES, Process, read_process};
+use document_links::{
+    Docs, Document, LinkError, LinkFault, MOST_PROCESSES, Process, read_process,
+};
 use file_values::{FileError, location_to_path};
 use plain_data::{Keyed, Text};
 use std::alloc::Global;
@@ -19,7 +21,7 @@ use workflow_check::{AcceptError, accept};
 /// why, under their paths.
 pub fn accepted_of(
     alloc: Global,
-    document: &[u8],
+    document: &Document,
     base: &Url,
     docs: &Docs,
     missed: &Keyed<Unreadable>,
@@ -34,7 +36,7 @@ pub fn accepted_of(
 /// Puts a document and those that it leads to together.
 fn linked(
     alloc: Global,
-    document: &[u8],
+    document: &Document,
     base: &Url,
     docs: &Docs,
     missed: &Keyed<Unreadable>,
@@ -52,7 +54,7 @@ fn linked(
 /// Says what is wrong with a document, or with those that it leads to.
 fn faulty(
     alloc: Global,
-    _document: &[u8],
+    _document: &Document,
     base: &Url,
     docs: &Docs,
     missed: &Keyed<Unreadable>,
@@ -83,7 +85,7 @@ fn wrong(fault: LinkFault) -> Stop
 /// Says why a document is not there: there are too many of them, its URL is no file's, or its file can't be read.
 fn not_loaded(
     alloc: Global,
-    _document: &[u8],
+    _document: &Document,
     base: &Url,
     docs: &Docs,
     missed: &Keyed<Unreadable>,
@@ -119,7 +121,7 @@ fn cause_in(missed: &Keyed<Unreadable>, path: &str) -> Unreadable
 /// Looks at the links of a process.
 fn accepted(
     alloc: Global,
-    _document: &[u8],
+    _document: &Document,
     _base: &Url,
     _docs: &Docs,
     process: Process,

@@ -22,8 +22,8 @@ use crate::run_words::RunWords;
 use crate::search::reached_from;
 use crate::stop::{Stop, stopped_run, unread};
 use cwl_value::Value;
-use document_links::Process;
-use plain_data::{Keyed, Text};
+use document_links::{Document, Process};
+use plain_data::{Items, Keyed, Text};
 use process_machine::World;
 use record_program::Records;
 use std::alloc::{AllocError, Global};
@@ -122,12 +122,12 @@ pub fn process_of<R: World>(rt: &R, call: &Call<'_>) -> Result<Process, Stop>
     ensures err { IfErr result
         (IsStop (IsNoProcess call.now.here.now (wish_of_run call.now.words.now))) }
 {
-    let document = document_bytes(rt, call)?;
+    let document = document_of(rt, call)?;
     let base = base_of(rt.alloc(), call.here, call.words.document)?;
-    process_at(rt, document.as_slice(), &base)
+    process_at(rt, &document, &base)
 }
 
-fn process_at<R: World>(rt: &R, document: &[u8], base: &Url) -> Result<Process, Stop>
+fn process_at<R: World>(rt: &R, document: &Document, base: &Url) -> Result<Process, Stop>
     ensures ok { IfOk result (λ process. (docs : Documents)
         × IsAccepted document.now base.now docs process) }
     ensures err { IfErr result (IsStop (λ exit. (docs : Documents)
@@ -137,6 +137,15 @@ fn process_at<R: World>(rt: &R, document: &[u8], base: &Url) -> Result<Process, 
     let process = accepted_of(rt.alloc(), document, base, &reached.docs, &reached.missed);
     mem::drop(reached);
     process
+}
+
+fn document_of<R: World>(rt: &R, call: &Call<'_>) -> Result<Document, Stop>
+    ensures ok { IfOk result IsRead }
+    ensures err { IfErr result
+        (IsStop (IsNoProcess call.now.here.now (wish_of_run call.now.words.now))) }
+{
+    let bytes = document_bytes(rt, call)?;
+    Ok(Document::read(rt.alloc(), Items::from_vec(bytes))?)
 }
 
 fn document_bytes<R: World>(rt: &R, call: &Call<'_>) -> Result<Vec<u8>, Stop>

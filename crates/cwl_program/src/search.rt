@@ -2,7 +2,7 @@
 
 use crate::exit::Unreadable;
 use crate::reading::{NoBytes, bytes_of_file};
-use document_links::{Docs, LinkError, MOST_PROCESSES, needed_docs};
+use document_links::{Docs, Document, LinkError, MOST_PROCESSES, needed_docs};
 use file_values::{FileError, location_to_path};
 use plain_data::{Items, Keyed, Text};
 use std::alloc::{AllocError, Global};
@@ -20,7 +20,7 @@ pub struct Reached {
 /// The documents that are read so far.
 #[derive(Drop)]
 struct Search {
-    docs: Docs,
+    docs: Keyed<Document>,
     missed: Keyed<Unreadable>,
     // the URLs that were named so far
     named: Keyed<bool>,
@@ -28,12 +28,12 @@ struct Search {
     waiting: Vec<Text>,
 }
 
-/// Reads the documents that a document leads to, where their files can be read: `MOST_PROCESSES` at most, since more are refused.
+/// Reads the documents that a document leads to, each once, where their files can be read: `MOST_PROCESSES` at most, since more are refused.
 ///
 /// A document with a fault names nothing here: what is wrong, and what is absent, is said where the documents are put together.
 pub fn reached_from<R: AllocGlobal + Files>(
     rt: &R,
-    document: &[u8],
+    document: &Document,
     base: &Url,
 ) -> Result<Reached, AllocError> {
     let mut search = Search::new(rt.alloc());
@@ -52,13 +52,19 @@ pub fn reached_from<R: AllocGlobal + Files>(
     } = search;
     mem::drop(named);
     mem::drop(waiting);
-    Ok(Reached { docs, missed })
+    match Docs::of(rt.alloc(), docs) {
+        Ok(docs) => Ok(Reached { docs, missed }),
+        Err(error) => {
+            mem::drop(missed);
+            Err(error)
+        }
+    }
 }
 
 impl Search {
     fn new(alloc: Global) -> Search {
         Search {
-            docs: Docs::new(alloc),
+            docs: Keyed::new(alloc),
             missed: Keyed::new(alloc),
             named: Keyed::new(alloc),
             waiting: Vec::new(alloc),
@@ -96,8 +102,9 @@ impl Search {
         base: &Url,
         bytes: Vec<u8>,
     ) -> Result<(), AllocError> {
-        self.add_named(alloc, bytes.as_slice(), base)?;
-        self.docs.insert(url, Items::from_vec(bytes))?;
+        let document = Document::read(alloc, Items::from_vec(bytes))?;
+        self.add_named(alloc, &document, base)?;
+        self.docs.insert(url, document)?;
         Ok(())
     }
 
@@ -107,7 +114,12 @@ impl Search {
     }
 
     // Adds the URLs that a document names.
-    fn add_named(&mut self, alloc: Global, document: &[u8], base: &Url) -> Result<(), AllocError> {
+    fn add_named(
+        &mut self,
+        alloc: Global,
+        document: &Document,
+        base: &Url,
+    ) -> Result<(), AllocError> {
         match needed_docs(alloc, document, base) {
             Ok(urls) => self.add_all(alloc, urls.as_slice()),
             Err(LinkError::Refused(_)) => Ok(()),

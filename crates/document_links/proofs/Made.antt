@@ -1,8 +1,7 @@
 -- What was made of documents so far: each beside what it reads as.
-use Rattle.std.proofs.Common.{◌≡◌, ℕ, ◌+◌, ◌<◌, List, [], ◌∷◌, ◌++◌, length, take, get_or, Bool, true, false, Option, Some, None, refl, sym, ap, subst, ◌∙◌, bytes_eq, add-one, cond, MatchOption}
+use Rattle.std.proofs.Common.{◌≡◌, ℕ, List, [], ◌∷◌, ◌++◌, Bool, true, false, Option, Some, None, append-nil, refl, sym, ap, subst, ◌∙◌, bytes_eq, cond, MatchOption}
 use Rattle.std.specs.Prelude.{option_map, ⊤}
 use Rattle.std.specs.Map.{keys_of}
-use Rattle.std.proofs.Math.Seq.{take-length, take-suc}
 use Rattle.std.proofs.lemmas.Option.{none-some, same_Some}
 use Rattle.std.specs.List.Sorted.{IsStrictlySortedBy}
 use Rattle.plain_data.specs.ByName.{IsByName, name_cmp, value_at}
@@ -19,28 +18,25 @@ AreMade [] (m ∷ ms) = ⊥
 AreMade (e ∷ es) [] = ⊥
 AreMade (e ∷ es) (m ∷ ms) = IsMade e m × AreMade es ms
 
-snoc : (es : Documents) (ms : Readings) (e : List ℕ × List ℕ) (m : List ℕ × Reading) → AreMade es ms → IsMade e m → AreMade (es ++ e ∷ []) (ms ++ m ∷ [])
-snoc [] [] e m all one = (one, tt)
-snoc [] (x ∷ ms) e m all one = absurd all
-snoc (x ∷ es) [] e m all one = absurd all
-snoc (x ∷ es) (y ∷ ms) e m all one = (all.0, snoc es ms e m all.1 one)
-
 -- one more
-pub made_next : (es : Documents) (ms : Readings) (i : ℕ) (e : List ℕ × List ℕ) (m : List ℕ × Reading) → AreMade (take i es) ms → i < length es → e ≡ get_or es i e → IsMade e m
-    → AreMade (take (i + 1) es) (ms ++ m ∷ [])
-made_next es ms i e m all within at one =
-    subst (λ front. AreMade front (ms ++ m ∷ []))
-    (sym (ap (λ n. take n es) (add-one i) ∙ take-suc es i e within ∙ ap (λ x. take i es ++ x ∷ []) (sym at)))
-    (snoc (take i es) ms e m all one)
+pub made_more : (es : Documents) (ms : Readings) (e : List ℕ × List ℕ) (m : List ℕ × Reading) → AreMade es ms → IsMade e m → AreMade (es ++ e ∷ []) (ms ++ m ∷ [])
+made_more [] [] e m all one = (one, tt)
+made_more [] (x ∷ ms) e m all one = absurd all
+made_more (x ∷ es) [] e m all one = absurd all
+made_more (x ∷ es) (y ∷ ms) e m all one = (all.0, made_more es ms e m all.1 one)
+
+-- all of them, once none is left
+pub all_held : (all yielded rest held : Documents) → all ≡ yielded ++ rest → rest ≡ [] → held ≡ yielded → held ≡ all
+all_held all yielded rest held whole over kept = kept ∙ sym (whole ∙ ap (λ more. yielded ++ more) over ∙ append-nil yielded)
+
+pub all_made : (all yielded rest : Documents) (ms : Readings) → all ≡ yielded ++ rest → rest ≡ [] → AreMade yielded ms → AreMade all ms
+all_made all yielded rest ms whole over made = subst (λ es. AreMade es ms) (all_held all yielded rest yielded whole over refl) made
 
 same_names : (es : Documents) (ms : Readings) → AreMade es ms → keys_of es ≡ keys_of ms
 same_names [] [] all = refl
 same_names [] (m ∷ ms) all = absurd all
 same_names (e ∷ es) [] all = absurd all
 same_names (e ∷ es) (m ∷ ms) all = ap (λ name. name ∷ keys_of es) (sym all.0.0) ∙ ap (λ names. m.0 ∷ names) (same_names es ms all.1)
-
-pub all_made : (es : Documents) (ms : Readings) (i : ℕ) → i ≡ length es → AreMade (take i es) ms → AreMade es ms
-all_made es ms i is all = subst (λ front. AreMade front ms) (ap (λ n. take n es) is ∙ take-length es) all
 
 pub by_name : (es : Documents) (ms : Readings) → AreMade es ms → IsByName es → IsByName ms
 by_name es ms all sorted = subst (λ names. IsStrictlySortedBy name_cmp names) (same_names es ms all) sorted

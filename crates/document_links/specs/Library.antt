@@ -43,9 +43,6 @@ seen (Wrong fault) = Err fault
 abbrev pub finds_among : Readings → Finds
 finds_among readings url = option_map seen (value_at url readings)
 
-abbrev pub AreReadAs : Documents → Readings → Type 0
-AreReadAs docs readings = IsLookUp docs (finds_among readings)
-
 abbrev pub finds_in : Library → Finds
 finds_in (Read readings) = finds_among readings
 finds_in (Any v) = λ url. Some (Ok (view v.json))

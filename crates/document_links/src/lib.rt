@@ -7,6 +7,8 @@
 
 mod bounds;
 mod defaults;
+mod docs;
+mod document;
 mod fault;
 mod home;
 mod joining;
@@ -21,6 +23,8 @@ mod target;
 mod walk;
 
 pub use bounds::{MOST_PROCESSES, MOST_WORKFLOWS};
+pub use docs::Docs;
+pub use document::Document;
 pub use fault::{LinkError, LinkFault};
 pub use laws::{
     a_document_has_one_process, only_bounds_refuse_a_process,
@@ -28,4 +32,4 @@ pub use laws::{
     what_is_linked_is_the_process, what_is_linked_needs_documents,
 };
 pub use process::{Process, Step, Workflow};
-pub use reading::{Docs, needed_docs, read_process};
+pub use reading::{needed_docs, read_process};

@@ -1,11 +1,11 @@
 //! What other documents read as.
 ghost use Rattle.std.specs.Prelude.{IfOk};
-ghost use Rattle.document_links.specs.Library.{AreReadAs, IsLookUp, IsReadAs, finds_in, seen};
-ghost use Rattle.document_links.specs.inner.Sound.{AllProcesses, AllSound, IsSoundReading};
+ghost use Rattle.document_links.specs.Library.{IsReadAs, seen};
+ghost use Rattle.document_links.specs.inner.Sound.{IsSoundReading};
 
 use cwl_process::read_sound;
 use document_table::{DocumentError, DocumentFault, Indexed};
-use plain_data::{Items, Keyed};
+use plain_data::Keyed;
 use std::alloc::{AllocError, Global};
 
 /// What a document reads as.
@@ -25,28 +25,9 @@ pub enum Library {
     Any(Indexed),
 }
 
-/// Reads each of the documents once.
-pub(crate) fn read_library(alloc: Global, docs: &Keyed<Items<u8>>) -> Result<Library, AllocError>
-    ensures read { IfOk result (λ library. IsLookUp docs.now (finds_in library)) }
-    ensures processes { IfOk result (λ library. AllProcesses library) }
-{
-    Ok(Library::Read(read_all(alloc, docs)?))
-}
-
-fn read_all(alloc: Global, docs: &Keyed<Items<u8>>) -> Result<Keyed<Reading>, AllocError>
-    ensures read { IfOk result (λ readings. AreReadAs docs.now readings) }
-    ensures processes { IfOk result (λ readings. AllSound readings) }
-{
-    let mut entries = Vec::new(alloc);
-    for entry in docs.as_slice() {
-        let url = entry.0.copied(alloc)?;
-        entries.push((url, read_as(alloc, entry.1.as_slice())?))?;
-    }
-    Ok(Keyed::from_sorted(entries))
-}
-
+/// Reads a document.
 #[tactic(auto, using(cwl_process::proofs::Forms::document_is_process))]
-fn read_as(alloc: Global, bytes: &[u8]) -> Result<Reading, AllocError>
+pub(crate) fn read_as(alloc: Global, bytes: &[u8]) -> Result<Reading, AllocError>
     ensures read { IfOk result (λ reading. IsReadAs bytes.now (seen reading)) }
     ensures process { IfOk result IsSoundReading }
 {

@@ -10,24 +10,22 @@ ghost use Rattle.document_links.specs.Names.{anything};
 ghost use Rattle.document_links.specs.ProcessOf.{IsItsProcess};
 
 use crate::bounds::{MOST_PROCESSES, MOST_WORKFLOWS, left};
+use crate::docs::Docs;
+use crate::document::Document;
 use crate::fault::{LinkError, LinkFault};
 use crate::home::Home;
 use crate::joining::url_text;
-use crate::library::{Library, read_library};
+use crate::library::{Library, Reading};
 use crate::linking::linked;
 use crate::names::document_urls;
 use crate::process::Process;
 use crate::walk::{WalkError, told_of};
-use cwl_process::{nothing_asked, read_sound};
-use document_table::{DocumentError, Indexed};
-use plain_data::{Items, Keyed, Text};
+use cwl_process::nothing_asked;
+use document_table::Indexed;
+use plain_data::{Items, Text};
 use serde_json::Value;
 use std::alloc::Global;
-use std::mem;
 use url::Url;
-
-/// The bytes of documents by their URLs.
-pub type Docs = Keyed<Items<u8>>;
 
 /// The process of a document at that URL, with those that its steps name (CWL v1.2, Workflow Description, `WorkflowStep`).
 ///
@@ -36,31 +34,30 @@ pub type Docs = Keyed<Items<u8>>;
 #[tactic(auto, using(cwl_process::proofs::Forms::document_is_process))]
 pub fn read_process(
     alloc: Global,
-    bytes: &[u8],
+    document: &Document,
     base: &Url,
     docs: &Docs,
 ) -> Result<Process, LinkError>
-    ensures ok { IfOk result (λ process. IsLinked bytes.now base.now docs.now process) }
-    ensures process { IfOk result (λ process. IsItsProcess bytes.now base.now docs.now process) }
-    ensures err { IfErr result (λ e. IsRefused e bytes.now base.now docs.now) }
+    ensures ok { IfOk result (λ process. IsLinked document.now base.now docs.now process) }
+    ensures process { IfOk result
+        (λ process. IsItsProcess document.now base.now docs.now process) }
+    ensures err { IfErr result (λ e. IsRefused e document.now base.now docs.now) }
 {
-    let document = own_document(alloc, bytes, base)?;
-    let process = together(alloc, base, docs, &document);
-    mem::drop(document);
-    process
+    let found = own_document(alloc, document, base)?;
+    together(alloc, base, docs, found)
 }
 
 /// The URLs of the documents that a document names, in the order of its steps, each once.
 ///
 /// It refuses what `read_process` refuses whatever the other documents are: C1 to C8 of the document itself, C10 where a step names an item
 /// that isn't there, and C9 where a document in the place of each name already makes too many.
-pub fn needed_docs(alloc: Global, bytes: &[u8], base: &Url) -> Result<Items<Text>, LinkError>
-    ensures ok { IfOk result (λ urls. IsNeeded bytes.now base.now urls) }
-    ensures err { IfErr result (λ e. IsNotNeeding e bytes.now base.now) }
+pub fn needed_docs(alloc: Global, document: &Document, base: &Url) -> Result<Items<Text>, LinkError>
+    ensures ok { IfOk result (λ urls. IsNeeded document.now base.now urls) }
+    ensures err { IfErr result (λ e. IsNotNeeding e document.now base.now) }
 {
-    let document = own_document(alloc, bytes, base)?;
-    check_alone(alloc, base, &document)?;
-    Ok(document_urls(alloc, base, &document)?)
+    let found = own_document(alloc, document, base)?;
+    check_alone(alloc, base, found)?;
+    Ok(document_urls(alloc, base, found)?)
 }
 
 /// The process of a document, with those that its steps name.
@@ -76,15 +73,15 @@ fn together(
         (λ process. IsTogether (view document.now.json) base.now docs.now process) }
     ensures err { IfErr result (λ e. IsApart e (view document.now.json) base.now docs.now) }
 {
-    let library = read_library(alloc, docs)?;
-    check_bounds(alloc, &library, base, document)?;
+    let library = docs.library();
+    check_bounds(alloc, library, base, document)?;
     let home = Home {
         url: base,
         document,
     };
     Ok(linked(
         alloc,
-        &library,
+        library,
         MOST_WORKFLOWS,
         home,
         &nothing_asked(),
@@ -135,16 +132,20 @@ fn check_bounds(
     }
 }
 
-fn own_document(alloc: Global, bytes: &[u8], base: &Url) -> Result<Indexed, LinkError>
-    ensures ok { IfOk result (λ document. one.IsSound bytes.now (view document.json)) }
-    ensures err { IfErr result (λ e. IsOwnError e bytes.now base.now) }
+/// The document itself, where it has no fault.
+fn own_document<'d>(
+    alloc: Global,
+    document: &'d Document,
+    base: &Url,
+) -> Result<&'d Indexed, LinkError>
+    ensures ok { IfOk result (λ found. one.IsSound document.now (view found.now.json)) }
+    ensures err { IfErr result (λ e. IsOwnError e document.now base.now) }
 {
-    match read_sound(alloc, bytes) {
-        Ok(json) => Ok(Indexed::of(alloc, json)?),
-        Err(DocumentError::Refused(fault)) => {
+    match document.reading() {
+        Reading::Sound(found) => Ok(found),
+        Reading::Wrong(fault) => {
             let url = Text::from_text(alloc, url_text(base))?;
-            Err(LinkError::Refused(LinkFault::Document(url, fault)))
+            Err(LinkError::Refused(LinkFault::Document(url, fault.clone_in(alloc)?)))
         }
-        Err(DocumentError::OutOfMemory) => Err(LinkError::OutOfMemory),
     }
 }

@@ -4,7 +4,7 @@ use crate::process::{put_asked, put_key, put_texts};
 use crate::values::put_default;
 use cwl_process::Tool;
 use document_links::{
-    Docs, LinkError, LinkFault, Process, Step, Workflow, needed_docs, read_process,
+    Docs, Document, LinkError, LinkFault, Process, Step, Workflow, needed_docs, read_process,
 };
 use plain_data::{Items, Keyed, Text};
 use row_io::{Row, RowFault, json_text};
@@ -27,7 +27,7 @@ pub(crate) fn read(alloc: Global, row: &Row) -> Result<String, RowFault> {
 
 /// The process of the row's document, which names no other: a row whose document is refused has no answer.
 pub(crate) fn process_of(alloc: Global, row: &Row) -> Result<Process, RowFault> {
-    let docs: Docs = Keyed::<Items<u8>>::new(alloc);
+    let docs = Docs::of(alloc, Keyed::new(alloc))?;
     let found = found(alloc, row, "file:///d/w.json", &docs);
     mem::drop(docs);
     match found? {
@@ -48,9 +48,9 @@ pub(crate) fn needed(alloc: Global, row: &Row) -> Result<String, RowFault> {
 type Urls = Result<Items<Text>, LinkError>;
 
 fn urls(alloc: Global, row: &Row) -> Result<Urls, RowFault> {
-    let text = json_text(alloc, row.json("document")?)?;
+    let document = document(alloc, row.json("document")?)?;
     let base = base_url(alloc, row.text("base")?)?;
-    Ok(needed_docs(alloc, text.as_bytes(), &base))
+    Ok(needed_docs(alloc, &document, &base))
 }
 
 fn urls_answer(alloc: Global, urls: &Urls) -> Result<String, RowFault> {
@@ -70,9 +70,9 @@ fn urls_text(alloc: Global, urls: &[Text]) -> Result<String, RowFault> {
 type Found = Result<Process, LinkError>;
 
 fn found(alloc: Global, row: &Row, base: &str, docs: &Docs) -> Result<Found, RowFault> {
-    let text = json_text(alloc, row.json("document")?)?;
+    let document = document(alloc, row.json("document")?)?;
     let base = base_url(alloc, base)?;
-    Ok(read_process(alloc, text.as_bytes(), &base, docs))
+    Ok(read_process(alloc, &document, &base, docs))
 }
 
 fn answer(alloc: Global, found: &Found) -> Result<String, RowFault> {
@@ -109,17 +109,18 @@ fn fault_told(alloc: Global, fault: &LinkFault) -> Result<String, RowFault> {
 fn docs(alloc: Global, row: &Row) -> Result<Docs, RowFault> {
     let mut docs = Keyed::new(alloc);
     if let Some(Value::Object(members)) = row.find("docs") {
-        for (url, document) in members.iter() {
+        for (url, json) in members.iter() {
             let name = Text::from_text(alloc, url.as_str())?;
-            let _old = docs.insert(name, bytes(alloc, document)?)?;
+            let _old = docs.insert(name, document(alloc, json)?)?;
         }
     }
     Ok(docs)
 }
 
-fn bytes(alloc: Global, document: &Value) -> Result<Items<u8>, RowFault> {
-    let text = json_text(alloc, document)?;
-    Ok(Items::from_vec(text.as_bytes().to_vec(alloc)?))
+fn document(alloc: Global, json: &Value) -> Result<Document, RowFault> {
+    let text = json_text(alloc, json)?;
+    let bytes = text.as_bytes().to_vec(alloc)?;
+    Ok(Document::read(alloc, Items::from_vec(bytes))?)
 }
 
 #[cycle(linked)]

@@ -6,10 +6,10 @@ use crate::list::numbers;
 use crate::requests::requests;
 use crate::script::script_of;
 use cwl_value::{Value, from_json};
-use document_links::{Process, read_process};
+use document_links::{Docs, Document, Process, read_process};
 use file_values::resolve;
 use job_rows::MemoryRecord;
-use plain_data::{Keyed, Text};
+use plain_data::{Items, Keyed, Text};
 use proc_host::Scripted;
 use row_io::{Row, RowFault, json_text};
 use run_core::Options;
@@ -113,9 +113,12 @@ fn accepted(alloc: Global, row: &Row) -> Result<Accepted, RowFault> {
 
 /// The row's document, in a file of the folder `/d`; there is no other document.
 fn process_of(alloc: Global, row: &Row) -> Result<Process, RowFault> {
-    let document = json_text(alloc, row.json("document")?)?;
+    let text = json_text(alloc, row.json("document")?)?;
+    let bytes = text.as_bytes().to_vec(alloc)?;
+    let document = Document::read(alloc, Items::from_vec(bytes))?;
     let base = done(Url::parse(alloc, "file:///d/document.json"))?;
-    done(read_process(alloc, document.as_bytes(), &base, &Keyed::new(alloc)))
+    let docs = Docs::of(alloc, Keyed::new(alloc))?;
+    done(read_process(alloc, &document, &base, &docs))
 }
 
 /// The inputs of a row, in a file of the folder `/d`.

@@ -6,4 +6,4 @@ use Rattle.document_links.proofs.reading.needed_docs.Goals as goal
 pub returns-in_err-check_alone-clause-err : goal.returns-in_err-check_alone-clause-err
 returns-in_err-check_alone-clause-err c =
     let p = err_from_is_err_and c.from_residual-in_err-check_alone.result c.from_residual-in_err-check_alone.ensures.1 in
-    rw (p.1, p.2) (not_needing c.args.bytes.now c.args.base.now (view c.in_ok-document.document.json) _ c.in_ok-document.ensures.ok c.in_err-check_alone.ensures.err)
+    rw (p.1, p.2) (not_needing c.args.document.now c.args.base.now (view c.in_ok-found.found.now.json) _ c.in_ok-found.ensures.ok c.in_err-check_alone.ensures.err)

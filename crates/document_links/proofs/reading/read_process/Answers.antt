@@ -7,7 +7,7 @@ use Rattle.document_links.proofs.reading.read_process.Goals as goal
 
 pub returns-clause-process : goal.returns-clause-process
 returns-clause-process c =
-    let d = view c.in_ok-document.document.json in
-    IfOk-weaker c.together-process.result (IsTogether d c.args.base.now c.args.docs.now) (IsItsProcess c.args.bytes.now c.args.base.now c.args.docs.now)
-    (λ process is. linked_is_process c.args.bytes.now c.args.base.now c.args.docs.now process (d, c.in_ok-document.ensures.ok, is))
-    c.together-process.ensures.ok
+    let d = view c.in_ok-found.found.now.json in
+    IfOk-weaker c.together.result (IsTogether d c.args.base.now c.args.docs.now) (IsItsProcess c.args.document.now c.args.base.now c.args.docs.now)
+    (λ process is. linked_is_process c.args.document.now c.args.base.now c.args.docs.now process (d, c.in_ok-found.ensures.ok, is))
+    c.together.ensures.ok
