@@ -3,20 +3,18 @@ ghost use Rattle.std.specs.Prelude.{◌≡◌, [], false, IfOk};
 ghost use Rattle.record_program.specs.Endings.{IsEnding, Says};
 
 use crate::ending::Ending;
+use crate::look::{Look, looked, looked_if_there, remove_log};
 use crate::store::shown;
+use crate::tables::as_record;
 use job_record::{JobRecord, RecordFault};
 use job_rows::Record;
-use sqlite::{Alter, Connection, Error, FileStore};
-use sqlite_resolve::CompileError;
-use sqlite_std_file::File;
-use std::alloc::Global;
+use sqlite::{Connection, Error, FileStore};
+use sqlite_std_file::{File, Unknown};
 use std::io::Write;
-use std::{fs, io};
+use std::{fs, io, mem};
 
 /// The status of a fault.
 const FAULT: u8 = 3;
-
-const META: &str = "SELECT value FROM meta WHERE name = 'version'";
 
 /// A runtime whose files may hold records.
 pub trait Records {
@@ -54,26 +52,52 @@ impl Records for HostRuntime {
     }
 }
 
+// A file that is absent, or has no byte, is made a record, and so is a database with neither table.
 fn opened(rt: &HostRuntime, file: &str) -> Result<JobRecord<FileStore<File>>, RecordFault>
     ensures { IfOk result (λ kept. kept.log.items ≡ []) }
 {
-    match Connection::open(rt, file) {
-        Ok(conn) => opened_in(rt.alloc(), conn),
-        Err(error) => Err(RecordFault::Store(error)),
+    match looked_if_there(rt, file) {
+        Ok(Some(look)) => opened_at(rt, file, look.new_log(), true),
+        Ok(None) => opened_at(rt, file, None, true),
+        Err(fault) => Err(fault),
     }
 }
 
+// Where this is refused, the log that it made is removed again.
+fn opened_at(
+    rt: &HostRuntime,
+    file: &str,
+    new_log: Option<&str>,
+    makes: bool,
+) -> Result<JobRecord<FileStore<File>>, RecordFault>
+    ensures { IfOk result (λ kept. kept.log.items ≡ []) }
+{
+    match Connection::open_from(rt, file, false, Unknown) {
+        Ok(conn) => opened_in(rt, conn, new_log, makes),
+        Err((error, None)) => Err(RecordFault::Store(error)),
+        Err((error, Some(left))) => {
+            remove_log(rt, new_log);
+            mem::drop(left);
+            Err(RecordFault::Store(error))
+        }
+    }
+}
+
+// What is refused is let go and not closed: closing would write its log into it.
 fn opened_in(
-    alloc: Global,
+    rt: &HostRuntime,
     conn: Connection<FileStore<File>>,
+    new_log: Option<&str>,
+    makes: bool,
 ) -> Result<JobRecord<FileStore<File>>, RecordFault>
     requires { conn.in_transaction ≡ false }
     ensures { IfOk result (λ kept. kept.log.items ≡ []) }
 {
-    match JobRecord::open_record(alloc, conn) {
+    match as_record(rt.alloc(), conn, makes) {
         Ok(record) => Ok(record),
         Err((fault, conn)) => {
-            let _closed = conn.close();
+            remove_log(rt, new_log);
+            mem::drop(conn);
             Err(fault)
         }
     }
@@ -100,14 +124,12 @@ pub fn main_run<O: Write, E: Write>(
     }
 }
 
-// A file that holds nothing is no record, and is not opened, since the store would begin one in it.
 #[tactic(auto, using(crate::specs::Endings::no_file, crate::specs::Endings::faulty))]
 fn ending_of(rt: &HostRuntime, file: &str, forget: Option<&str>) -> Ending
     ensures { IsEnding result }
 {
     match fs::metadata(rt, file) {
         Ok(found) if found.is_dir() => Ending::Input,
-        Ok(found) if found.len() == 0 => Ending::Record(RecordFault::NotARecord),
         Ok(_) => in_file(rt, file, forget),
         Err(error) => unseen(&error),
     }
@@ -127,18 +149,59 @@ fn unseen(error: &io::Error) -> Ending
 fn in_file(rt: &HostRuntime, file: &str, forget: Option<&str>) -> Ending
     ensures { IsEnding result }
 {
-    match Connection::open(rt, file) {
-        Ok(conn) => in_database(rt.alloc(), conn, forget),
-        Err(error) => Ending::Record(RecordFault::Store(error)),
+    match looked(rt, file) {
+        Ok(look) => in_look(rt, file, &look, forget),
+        Err(fault) => Ending::Record(fault),
     }
 }
 
-fn in_database(alloc: Global, conn: Connection<FileStore<File>>, forget: Option<&str>) -> Ending
-    requires { conn.in_transaction ≡ false }
+// A file that holds nothing is no record, and is not opened, since the store would begin one in it.
+#[tactic(auto, using(crate::specs::Endings::no_file, crate::specs::Endings::faulty))]
+fn in_look(rt: &HostRuntime, file: &str, look: &Look, forget: Option<&str>) -> Ending
     ensures { IsEnding result }
 {
-    let (ending, conn) = in_store(alloc, conn, forget);
-    match conn.close() {
+    if look.is_empty() {
+        return Ending::Record(RecordFault::NotARecord);
+    }
+    match opened_at(rt, file, look.new_log(), false) {
+        Ok(record) => in_record(rt, record, look, forget),
+        Err(fault) => Ending::Record(fault),
+    }
+}
+
+fn in_record(
+    rt: &HostRuntime,
+    record: JobRecord<FileStore<File>>,
+    look: &Look,
+    forget: Option<&str>,
+) -> Ending
+    ensures { IsEnding result }
+{
+    match forget {
+        Some(sum) => forgotten(rt, record, sum),
+        None => only_shown(rt, record, look.new_log()),
+    }
+}
+
+// Nothing is written: the record is let go and not closed, so its log stays as it is, and one that was made is removed.
+fn only_shown(
+    rt: &HostRuntime,
+    mut record: JobRecord<FileStore<File>>,
+    new_log: Option<&str>,
+) -> Ending
+    ensures { IsEnding result }
+{
+    let ending = shown(rt.alloc(), &mut record, None);
+    remove_log(rt, new_log);
+    mem::drop(record);
+    ending
+}
+
+fn forgotten(rt: &HostRuntime, mut record: JobRecord<FileStore<File>>, sum: &str) -> Ending
+    ensures { IsEnding result }
+{
+    let ending = shown(rt.alloc(), &mut record, Some(sum));
+    match record.into_connection().close() {
         Ok(()) => ending,
         Err(error) => ended_with(ending, error),
     }
@@ -153,36 +216,5 @@ fn ended_with(ending: Ending, error: Error) -> Ending
     match ending {
         Ending::Rows(_) => Ending::Record(RecordFault::Store(error)),
         other => other,
-    }
-}
-
-#[tactic(auto, using(crate::specs::Endings::no_file, crate::specs::Endings::faulty))]
-fn in_store<S: Alter + Drop>(
-    alloc: Global,
-    mut conn: Connection<S>,
-    forget: Option<&str>,
-) -> (Ending, Connection<S>)
-    requires { conn.in_transaction ≡ false }
-    ensures { IsEnding result.0 }
-{
-    if lacks_version(&mut conn) {
-        return (Ending::Record(RecordFault::NotARecord), conn);
-    }
-    match JobRecord::open_record(alloc, conn) {
-        Ok(mut record) => {
-            let ending = shown(alloc, &mut record, forget);
-            (ending, record.into_connection())
-        }
-        Err((fault, conn)) => (Ending::Record(fault), conn),
-    }
-}
-
-// A store without the table of the version is no record. Opened as one it would be made one.
-fn lacks_version<S: Alter>(conn: &mut Connection<S>) -> bool
-    ensures { conn.old.in_transaction ≡ false → conn.new.in_transaction ≡ false }
-{
-    match conn.prepare(META) {
-        Err(Error::SqlInputError(CompileError::NoSuchTable)) => true,
-        _ => false,
     }
 }

@@ -9,13 +9,17 @@
 
 mod ending;
 mod file;
+mod head;
 mod keys;
 mod lines;
+mod look;
 mod store;
+mod tables;
 mod words;
 
 pub use ending::Ending;
 pub use file::{Records, main_run};
+pub use head::{Head, head_of, is_other_log, refusal_of};
 pub use keys::keys_with;
 pub use lines::rows_text;
 pub use store::{ended, shown};

@@ -1,0 +1,143 @@
+//! What the first bytes of a file and of its log say, before the store sees them.
+ghost use Rattle.std.specs.Prelude.{◌≡◌, ◌≤◌, length};
+ghost use Rattle.record_program.specs.Head.{is_blank, has_magic, has_pages, is_utf16, is_vacuumed, form_of, head_of, is_log, has_log_pages, is_other_log, of_log, refusal_of};
+
+use job_record::RecordFault;
+use sqlite::{Error, ErrorCode};
+
+/// How many bytes the header of a database file has.
+pub const HEADER: usize = 100;
+
+/// How many bytes the header of a log has.
+pub const LOG_HEADER: usize = 32;
+
+const MAGIC: &[u8] = b"SQLite format 3\0";
+
+/// What a file is by its first bytes.
+#[derive(Clone, Copy, Debug, PartialEq, Eq)]
+pub enum Head {
+    /// There are none but zeros: the first page was not written yet.
+    Blank,
+    /// They are no header of a database.
+    NoDatabase,
+    /// The pages have another size than 4,096 bytes.
+    OtherPages,
+    /// The texts are in UTF-16.
+    OtherText,
+    /// The file has the pages that auto_vacuum keeps.
+    AutoVacuum,
+    /// The file may hold a record.
+    Database,
+}
+
+/// Returns what a file is by its first 100 bytes, or by all that it has where they are fewer.
+pub fn head_of(bytes: &[u8]) -> Head
+    ensures { result ≡ head_of bytes.now }
+{
+    if is_blank(bytes) {
+        return Head::Blank;
+    }
+    if bytes.len() < HEADER {
+        return Head::NoDatabase;
+    }
+    form_of(bytes)
+}
+
+fn is_blank(bytes: &[u8]) -> bool
+    ensures { result ≡ is_blank bytes.now }
+{
+    bytes.iter().all(|byte| *byte == 0)
+}
+
+fn form_of(bytes: &[u8]) -> Head
+    requires { 100 ≤ length bytes.now }
+    ensures { result ≡ form_of bytes.now }
+{
+    if !has_magic(bytes) {
+        Head::NoDatabase
+    } else if !has_pages(bytes) {
+        Head::OtherPages
+    } else if is_utf16(bytes) {
+        Head::OtherText
+    } else if is_vacuumed(bytes) {
+        Head::AutoVacuum
+    } else {
+        Head::Database
+    }
+}
+
+fn has_magic(bytes: &[u8]) -> bool
+    requires { 100 ≤ length bytes.now }
+    ensures { result ≡ has_magic bytes.now }
+{
+    &bytes[..16] == MAGIC
+}
+
+fn has_pages(bytes: &[u8]) -> bool
+    requires { 100 ≤ length bytes.now }
+    ensures { result ≡ has_pages bytes.now }
+{
+    bytes[16] == 0x10 && bytes[17] == 0
+}
+
+fn is_utf16(bytes: &[u8]) -> bool
+    requires { 100 ≤ length bytes.now }
+    ensures { result ≡ is_utf16 bytes.now }
+{
+    bytes[59] == 2 || bytes[59] == 3
+}
+
+fn is_vacuumed(bytes: &[u8]) -> bool
+    requires { 100 ≤ length bytes.now }
+    ensures { result ≡ is_vacuumed bytes.now }
+{
+    bytes[52] != 0 || bytes[53] != 0 || bytes[54] != 0 || bytes[55] != 0
+}
+
+/// Whether these first 32 bytes of a log, or all that it has, say that its pages have another size than 4,096 bytes.
+pub fn is_other_log(bytes: &[u8]) -> bool
+    ensures { result ≡ is_other_log bytes.now }
+{
+    bytes.len() >= LOG_HEADER && is_log(bytes) && !has_log_pages(bytes)
+}
+
+fn is_log(bytes: &[u8]) -> bool
+    requires { 32 ≤ length bytes.now }
+    ensures { result ≡ is_log bytes.now }
+{
+    bytes[0] == 0x37 && bytes[1] == 0x7f && bytes[2] == 6 && (bytes[3] == 0x82 || bytes[3] == 0x83)
+}
+
+fn has_log_pages(bytes: &[u8]) -> bool
+    requires { 32 ≤ length bytes.now }
+    ensures { result ≡ has_log_pages bytes.now }
+{
+    bytes[8] == 0 && bytes[9] == 0 && bytes[10] == 0x10 && bytes[11] == 0
+}
+
+/// Returns why such a file is not opened: R1 for a database that no record is, and R4 for what is none. `other_log` says
+/// that the pages of its log have another size.
+pub fn refusal_of(head: Head, other_log: bool) -> Option<RecordFault>
+    ensures { result ≡ refusal_of head other_log }
+{
+    match head {
+        Head::NoDatabase => Some(RecordFault::Store(Error::SqliteFailure(
+            ErrorCode::NotADatabase,
+        ))),
+        Head::OtherPages => Some(RecordFault::NotARecord),
+        Head::OtherText => Some(RecordFault::NotARecord),
+        Head::AutoVacuum => Some(RecordFault::NotARecord),
+        Head::Blank => of_log(other_log),
+        Head::Database => of_log(other_log),
+    }
+}
+
+fn of_log(other_log: bool) -> Option<RecordFault>
+    ensures { result ≡ of_log other_log }
+{
+    if other_log {
+        Some(RecordFault::NotARecord)
+    } else {
+        None
+    }
+}

@@ -1,0 +1,115 @@
+//! A file and its log, looked at before the store opens them.
+ghost use Rattle.std.specs.Prelude.{◌≤◌, IfOk, length};
+
+use crate::head::{HEADER, Head, LOG_HEADER, head_of, is_other_log, refusal_of};
+use job_record::RecordFault;
+use sqlite::{Error, ErrorCode};
+use std::io::Read;
+use std::{fs, io};
+
+const CANNOT_OPEN: RecordFault = RecordFault::Store(Error::SqliteFailure(ErrorCode::CannotOpen));
+
+/// A file that may be opened.
+#[derive(Drop)]
+pub struct Look {
+    head: Head,
+    log: String,
+    has_log: bool,
+}
+
+impl Look {
+    /// Whether nothing of a database is there.
+    pub fn is_empty(&self) -> bool {
+        matches!(self.head, Head::Blank) && !self.has_log
+    }
+
+    /// Returns the name of the log that an opening makes beside a database.
+    pub fn new_log(&self) -> Option<&str> {
+        match self.head {
+            Head::Database if !self.has_log => Some(self.log.as_str()),
+            _ => None,
+        }
+    }
+}
+
+/// Looks at a file and at its log, and refuses what no record is.
+pub fn looked(rt: &HostRuntime, file: &str) -> Result<Look, RecordFault> {
+    let head = head_at(rt, file)?;
+    let log = log_name(rt, file)?;
+    let (has_log, is_other) = log_at(rt, log.as_str())?;
+    match refusal_of(head, is_other) {
+        Some(fault) => Err(fault),
+        None => Ok(Look { head, log, has_log }),
+    }
+}
+
+/// The same, where the file may be absent.
+pub fn looked_if_there(rt: &HostRuntime, file: &str) -> Result<Option<Look>, RecordFault> {
+    match fs::metadata(rt, file) {
+        Err(error) if error.kind() == io::ErrorKind::NotFound => Ok(None),
+        _ => Ok(Some(looked(rt, file)?)),
+    }
+}
+
+/// Removes the log that an opening has made, while the files are held.
+pub fn remove_log(rt: &HostRuntime, new_log: Option<&str>) {
+    if let Some(log) = new_log {
+        let _removed = fs::remove_file(rt, log);
+    }
+}
+
+fn head_at(rt: &HostRuntime, file: &str) -> Result<Head, RecordFault> {
+    let mut bytes = [0; HEADER];
+    let count = first_bytes(rt, file, &mut bytes)?;
+    Ok(head_of(&bytes[..count]))
+}
+
+// As in SQLite, the log lies beside the file that a link leads to.
+fn log_name(rt: &HostRuntime, file: &str) -> Result<String, RecordFault> {
+    match fs::canonicalize(rt, file) {
+        Ok(path) => Ok(format!(in rt.alloc(); "{}-wal", path.as_str())?),
+        Err(error) => Err(of_io(&error)),
+    }
+}
+
+// Whether the log is there, and whether its pages have another size than a record's.
+fn log_at(rt: &HostRuntime, log: &str) -> Result<(bool, bool), RecordFault> {
+    match fs::symlink_metadata(rt, log) {
+        Ok(_) => Ok((true, is_other_at(rt, log)?)),
+        Err(error) if error.kind() == io::ErrorKind::NotFound => Ok((false, false)),
+        Err(error) => Err(of_io(&error)),
+    }
+}
+
+fn is_other_at(rt: &HostRuntime, log: &str) -> Result<bool, RecordFault> {
+    let mut bytes = [0; LOG_HEADER];
+    let count = first_bytes(rt, log, &mut bytes)?;
+    Ok(is_other_log(&bytes[..count]))
+}
+
+fn first_bytes(rt: &HostRuntime, path: &str, bytes: &mut [u8]) -> Result<usize, RecordFault>
+    ensures { IfOk result (λ count. count ≤ length bytes.old) }
+{
+    match read_first(rt, path, bytes) {
+        Ok(count) => Ok(count),
+        Err(error) => Err(of_io(&error)),
+    }
+}
+
+// Reads what a regular file begins with. No other is opened, since a pipe would wait.
+fn read_first(rt: &HostRuntime, path: &str, bytes: &mut [u8]) -> io::Result<usize>
+    ensures { IfOk result (λ count. count ≤ length bytes.old) }
+{
+    if !fs::metadata(rt, path)?.is_file() {
+        return Err(io::ErrorKind::Unsupported.into());
+    }
+    let mut file = fs::File::open(rt, path)?;
+    file.read(bytes)
+}
+
+fn of_io(error: &io::Error) -> RecordFault {
+    match error.kind() {
+        io::ErrorKind::OutOfMemory => RecordFault::OutOfMemory,
+        _ => CANNOT_OPEN,
+    }
+}
