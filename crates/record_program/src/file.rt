@@ -26,8 +26,8 @@ pub trait Records {
     fn record_ending(&self, file: &str, forget: Option<&str>) -> Ending
         ensures { IsEnding result };
 
-    /// Opens the record of a file. Makes one where nothing is there, and in a database that has neither of its tables. No other
-    /// process can open it until it is closed.
+    /// Opens the record of a file. Makes one where nothing is there, and in a database that has neither of its tables. What is
+    /// refused keeps every byte. No other process can open it until it is closed.
     fn open_record(&self, file: &str) -> Result<Self::Kept, RecordFault>
         ensures { IfOk result (λ kept. Self.Kept.log kept ≡ []) };
 

@@ -121,9 +121,7 @@ pub fn refusal_of(head: Head, other_log: bool) -> Option<RecordFault>
     ensures { result ≡ refusal_of head other_log }
 {
     match head {
-        Head::NoDatabase => Some(RecordFault::Store(Error::SqliteFailure(
-            ErrorCode::NotADatabase,
-        ))),
+        Head::NoDatabase => Some(RecordFault::Store(Error::SqliteFailure(ErrorCode::NotADatabase))),
         Head::OtherPages => Some(RecordFault::NotARecord),
         Head::OtherText => Some(RecordFault::NotARecord),
         Head::AutoVacuum => Some(RecordFault::NotARecord),

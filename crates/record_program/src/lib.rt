@@ -5,6 +5,8 @@
 //! over two writers. It opens the file, forgets the rows whose key has a given SHA-1, and prints a line for each row that is left.
 //! `ended` says from the rows alone what is printed (`specs/Lines.antt`), and `keys_with` which keys have the sum. A file
 //! that holds no record is refused and left as it is: the command makes nothing of it. For a run a record is made where there is none.
+//! Before the store opens a file, `look` reads the first bytes of it and of its log, and `head_of` says what they are
+//! (`specs/Head.antt`); before a row is read, `tables` looks whether both tables are tables.
 #![tactic(auto)]
 
 mod ending;

@@ -9,7 +9,7 @@ pub fn fault_words(alloc: Global, fault: RecordFault) -> Result<String, AllocErr
     match fault {
         RecordFault::NotARecord => String::from_str(
             alloc,
-            "this is no record of jobs, or a row of it does not read",
+            "this is no record of jobs, or a row of it does not read: a record is a database with the tables meta and job, pages of 4096 bytes, texts in UTF-8 and no auto_vacuum",
         ),
         RecordFault::WrongVersion => String::from_str(
             alloc,
@@ -33,7 +33,7 @@ fn store_words(alloc: Global, error: Error) -> Result<String, AllocError> {
         Error::SqliteFailure(ErrorCode::NotADatabase | ErrorCode::DatabaseCorrupt) => {
             String::from_str(
                 alloc,
-                "this is no database of SQLite, or one that is damaged, and so no record",
+                "this is no database of SQLite, or one that is damaged or has virtual tables (as of FTS), and so no record",
             )
         }
         error => format!(in alloc; "{error}"),
