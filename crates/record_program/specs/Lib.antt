@@ -1,3 +1,4 @@
 pub mod Head
+pub mod Views
 pub mod Lines
 pub mod Endings

@@ -1,5 +1,11 @@
 //! Whether a database has the tables of a record, before a row of theirs is read.
-ghost use Rattle.std.specs.Prelude.{◌≡◌, [], false, IfOk};
+ghost use Rattle.std.specs.Prelude.{◌≡◌, ℤ, pos, [], false, not, IfOk};
+ghost use Rattle.std.specs.Ordering.{int_eq};
+ghost use Rattle.sqlite.specs.Order.{column};
+ghost use Rattle.sqlite.specs.declared.types.Value.TheVariants.{Int};
+ghost use Rattle.sqlite.specs.State.{HasCleanDisk, QueriesRow};
+ghost use Rattle.sqlite.specs.Held.{state};
+ghost use Rattle.record_program.specs.Views.{views_text};
 
 use job_record::{JobRecord, RecordFault};
 use sqlite::{Alter, Connection, Error};
@@ -37,8 +43,12 @@ fn refusal_in<S: Alter>(conn: &mut Connection<S>, makes: bool) -> Option<RecordF
     }
 }
 
+// Whether the schema has such a view.
 fn has_views<S: Alter>(conn: &mut Connection<S>) -> Result<bool, Error>
-    ensures { conn.old.in_transaction ≡ false → conn.new.in_transaction ≡ false }
+    ensures ok { HasCleanDisk (state S.Store conn.new) → IfOk result (λ found. (c : _)
+        × QueriesRow views_text [] (state S.Store conn.old) (state S.Store conn.new) (Ok c)
+        × (n : ℤ) × (column c 0 ≡ Int n) × (found ≡ not (int_eq n (pos 0)))) }
+    ensures mode { conn.old.in_transaction ≡ false → conn.new.in_transaction ≡ false }
 {
     let columns = conn.query_row(VIEWS, &[])?;
     columns.get(0)
