@@ -183,7 +183,7 @@ fn in_record(
     }
 }
 
-// Nothing is written: the record is let go and not closed, so its log stays as it is, and one that was made is removed.
+// The file is not written: the record is let go and not closed, so its log stays beside it, and one that was made is removed.
 fn only_shown(
     rt: &HostRuntime,
     mut record: JobRecord<FileStore<File>>,
