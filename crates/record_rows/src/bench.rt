@@ -18,8 +18,9 @@ struct Counts {
     times: u64,
 }
 
-/// The microseconds that the record of a file with so many rows takes: to open, to find so many keys that are there and
-/// as many that are not, and to put as many rows. The file's keys have to be those that are looked for.
+/// The microseconds that the record of a file with so many rows takes: to open, of which `connect` to open the file as a database,
+/// to find so many keys that are there and as many that are not, and to put as many rows. The file's keys have to be those that are
+/// looked for.
 pub(crate) fn measured(rt: &HostRuntime, row: &Row) -> Result<String, RowFault> {
     let file = row.text("file")?;
     let counts = Counts {
@@ -28,8 +29,23 @@ pub(crate) fn measured(rt: &HostRuntime, row: &Row) -> Result<String, RowFault> 
     };
     let start = now(rt)?;
     match Connection::open(rt, file) {
-        Ok(conn) => on_connection(rt, conn, counts, start),
+        Ok(conn) => connected(rt, conn, counts, start),
         Err(_) => Err(RowFault::BadArgument),
+    }
+}
+
+fn connected<S: Alter + Drop>(
+    rt: &HostRuntime,
+    conn: Connection<S>,
+    counts: Counts,
+    start: Instant,
+) -> Result<String, RowFault> {
+    match micros_since(rt, start) {
+        Ok(connect) => on_connection(rt, conn, counts, start, connect),
+        Err(fault) => {
+            mem::drop(conn);
+            Err(fault)
+        }
     }
 }
 
@@ -38,10 +54,11 @@ fn on_connection<S: Alter + Drop>(
     conn: Connection<S>,
     counts: Counts,
     start: Instant,
+    connect: u128,
 ) -> Result<String, RowFault> {
     match opened(rt.alloc(), conn) {
         Ok(mut record) => {
-            let answer = times_text(rt, &mut record, counts, start);
+            let answer = times_text(rt, &mut record, counts, start, connect);
             mem::drop(record);
             answer
         }
@@ -57,13 +74,14 @@ fn times_text<S: Alter>(
     record: &mut JobRecord<S>,
     counts: Counts,
     start: Instant,
+    connect: u128,
 ) -> Result<String, RowFault> {
     let open = micros_since(rt, start)?;
     let find = find_all(rt, record, counts, "", counts.times)?;
     let absent = find_all(rt, record, counts, "x", 0)?;
     let put = put_all(rt, record, counts)?;
     Ok(format!(in rt.alloc();
-        "{{\"open\":{open},\"find\":{find},\"absent\":{absent},\"put\":{put}}}"
+        "{{\"connect\":{connect},\"open\":{open},\"find\":{find},\"absent\":{absent},\"put\":{put}}}"
     )?)
 }
 
