@@ -1,5 +1,5 @@
 -- What was made of documents so far: each beside what it reads as.
-use Rattle.std.proofs.Common.{◌≡◌, ℕ, List, [], ◌∷◌, ◌++◌, Bool, true, false, Option, Some, None, append-nil, refl, sym, ap, subst, ◌∙◌, bytes_eq, cond, MatchOption}
+use Rattle.std.proofs.Common.{◌≡◌, ℕ, List, [], ◌∷◌, ◌++◌, Bool, true, false, Option, Some, None, append-nil, append_assoc, refl, sym, ap, subst, ◌∙◌, bytes_eq, cond, MatchOption}
 use Rattle.std.specs.Prelude.{option_map, ⊤}
 use Rattle.std.specs.Map.{keys_of}
 use Rattle.std.proofs.lemmas.Option.{none-some, same_Some}
@@ -24,6 +24,9 @@ made_more [] [] e m all one = (one, tt)
 made_more [] (x ∷ ms) e m all one = absurd all
 made_more (x ∷ es) [] e m all one = absurd all
 made_more (x ∷ es) (y ∷ ms) e m all one = (all.0, made_more es ms e m all.1 one)
+
+pub whole_more : (all yielded rest left : Documents) (e : List ℕ × List ℕ) → all ≡ yielded ++ rest → rest ≡ e ∷ left → all ≡ (yielded ++ e ∷ []) ++ left
+whole_more all yielded rest left e whole is = whole ∙ ap (λ more. yielded ++ more) is ∙ sym (append_assoc yielded (e ∷ []) left)
 
 -- all of them, once none is left
 pub all_held : (all yielded rest held : Documents) → all ≡ yielded ++ rest → rest ≡ [] → held ≡ yielded → held ≡ all
