@@ -114,7 +114,7 @@ fn docs(alloc: Global, row: &Row) -> Result<Docs, RowFault> {
             let _old = docs.insert(name, document(alloc, json)?)?;
         }
     }
-    Ok(docs)
+    Ok(Docs::of(alloc, docs)?)
 }
 
 fn document(alloc: Global, json: &Value) -> Result<Document, RowFault> {
