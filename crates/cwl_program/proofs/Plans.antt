@@ -1,19 +1,32 @@
 -- What ends the program where there is nothing to plan, and where there is.
-use Rattle.std.proofs.Common.{◌≡◌, true, Bool, Option, None, Some, Result, Ok, Err, IfOk, subst, sym}
+use Rattle.std.proofs.Common.{◌≡◌, ◌++◌, true, Bool, List, length, map, Option, None, Some, Result, Ok, Err, IfOk, subst, sym}
 use Rattle.std.proofs.lemmas.Result.{IfOk-weaker}
 use Rattle.std.specs.declared.alloc.AllocError.{AllocError}
 use Rattle.clap.specs.Words.{Text}
 use Rattle.document_links.specs.declared.process.Process.{Process}
+use Rattle.job_graph.specs.Words.{Fields}
 use Rattle.job_record.specs.declared.fault.RecordFault.{RecordFault}
+use Rattle.plan_words.specs.Lines.{plan_lines}
+use Rattle.plan_words.specs.Reasons.{reasons}
+use Rattle.plan_words.specs.declared.reasons.Known.{Known}
+use Rattle.proc_host.specs.declared.call.Entry.{Entry}
+use Rattle.run_rules.specs.PlannedFirst.{are_looks}
+use Rattle.run_rules.specs.Reports.{entries_of}
+use Rattle.run_rules.specs.declared.request.Pair.{Pair}
 use Rattle.run_rules.specs.declared.setting.Options.{Options}
+use Rattle.run_rules.specs.declared.setting.Setting.{Setting}
+use Rattle.workflow_engine.specs.FirstPlan as first
+use Rattle.workflow_engine.specs.declared.planned.PlanFault.{PlanFault}
+use Rattle.workflow_engine.specs.declared.planned.Planned.{Planned}
 use Rattle.cwl_program.specs.Caches.{is_twofold, record_of}
-use Rattle.cwl_program.specs.Plans.{IsEndOfPlan, IsPlanned, lost, plans, stops}
+use Rattle.cwl_program.specs.Plans.{AreCounted, AreTextsOf, IsEndOfPlan, IsPlanTold, IsPlanned, lost, paper_of, planned, plans, stops}
 use Rattle.cwl_program.specs.RunWords.{RunWish}
-use Rattle.cwl_program.specs.Runs.{IsAsked, IsNamedProcess, IsNoInputs, IsNoProcess, IsReady, no_inputs, no_process, no_record, twofold}
+use Rattle.cwl_program.specs.Runs.{IsAsked, IsNamedProcess, IsNoInputs, IsNoProcess, IsReady, no_inputs, no_process, no_record, place_json, twofold}
 use Rattle.cwl_program.specs.Stops.{IsStop}
 use Rattle.cwl_program.specs.declared.exit.Exit.{Exit}
 use Rattle.cwl_program.specs.declared.exit.Exit.TheVariants as exits
 use Rattle.cwl_program.specs.declared.exit.Fault.TheVariants as faults
+use Rattle.cwl_program.specs.declared.exit.PlanTexts.{PlanTexts}
 use Rattle.cwl_program.specs.declared.given.Given.{Given}
 use Rattle.cwl_program.specs.declared.run_end.RunEnd.{RunEnd}
 use Rattle.cwl_program.specs.declared.stop.Stop.{Stop}
@@ -64,3 +77,44 @@ pub noted_as : (IsEnd : Exit → Type 0) (told : Result Exit AllocError) (answer
     → IfOk told IsEnd → IfOk answer (λ end. told ≡ Ok end.exit) → IfOk answer (λ end. IsEnd end.exit)
 noted_as IsEnd told (Err error) is same = tt
 noted_as IsEnd told (Ok end) is same = subst (λ (t : Result Exit AllocError). IfOk t IsEnd) same is
+
+-- a first plan has a place, a mark and charges for each vertex
+pub counted_of : (setting : Setting) (looks : List Pair) (made : Result Planned PlanFault) → first.Tells setting looks made → IfOk made AreCounted
+counted_of setting looks (Ok made) told =
+    record { places = told.each; marks = told.certified.valid.one_each; charges = told.certified.fair.counted }
+counted_of setting looks (Err fault) told = tt
+
+-- a plan after these looks, with what was noted of it
+pub planned_so : (process : Process) (inputs : Fields) (options : Options) (dot : Bool) (before after : List Entry) (looks : List Pair)
+    (made : Result Planned PlanFault) (told : Result Exit AllocError) (answer : Result RunEnd AllocError)
+    → are_looks looks ≡ true → after ≡ before ++ entries_of looks
+    → first.Tells (record { process = process; inputs = inputs; options = options }) looks made
+    → IfOk told (IsPlanTold dot after made) → IfOk answer (λ end. told ≡ Ok end.exit)
+    → IfOk answer (λ end. IsPlanned process inputs options dot end.exit)
+planned_so process inputs options dot before after looks made told answer are logged tells is same =
+    noted_as (IsPlanned process inputs options dot) told answer
+    (IfOk-weaker told _ _ (λ exit p. planned before after looks made are logged tells p) is) same
+
+-- the texts of a plan, where the places are written so
+pub are_texts : (dot : Bool) (made : Planned) (places : List Text) (known : List Known) (answer : Result PlanTexts AllocError)
+    → places ≡ map place_json made.places → length known ≡ length made.graph
+    → IfOk answer (λ texts. texts.paper ≡ paper_of dot made places)
+    → IfOk answer (λ texts. texts.lines ≡ plan_lines made.cost made.plan.marks places)
+    → IfOk answer (λ texts. texts.reasons ≡ reasons made.graph made.plan.marks known places)
+    → IfOk answer (AreTextsOf dot made)
+are_texts dot made places known (Err error) named each paper lines why = tt
+are_texts dot made places known (Ok texts) named each paper lines why =
+    record {
+        known = known;
+        each = each;
+        paper = subst (λ (p : List Text). texts.paper ≡ paper_of dot made p) named paper;
+        lines = subst (λ (p : List Text). texts.lines ≡ plan_lines made.cost made.plan.marks p) named lines;
+        reasons = subst (λ (p : List Text). texts.reasons ≡ reasons made.graph made.plan.marks known p) named why;
+    }
+
+-- an end that leaves nothing
+pub and_leaves_nothing : (IsEnd : Exit → Type 0) (answer : Result RunEnd AllocError)
+    → IfOk answer (λ end. IsEnd end.exit) → IfOk answer (λ end. end.left ≡ None)
+    → IfOk answer (λ end. IsEnd end.exit × (end.left ≡ None))
+and_leaves_nothing IsEnd (Err error) is gone = tt
+and_leaves_nothing IsEnd (Ok end) is gone = (is, gone)

@@ -8,7 +8,7 @@ use crate::stop::{stopped, unread};
 use plain_data::Text;
 use plan_checker::{CertificateError, Charges, Graph, Plan, check, read_certificate};
 use std::alloc::{AllocError, Global};
-use std::rt::{Files, Input};
+use std::rt::Files;
 
 /// The name that stands for standard input.
 const INPUT: &str = "-";

@@ -23,7 +23,7 @@ use record_program::Records;
 use std::alloc::{AllocError, Global};
 use std::io::{IsTerminal, Write};
 use std::process::{ExitCode, Stdio};
-use std::rt::{Env, Input};
+use std::rt::Env;
 use std::{env, fs, io, mem};
 
 /// The status of a fault, and of a command line that is refused.

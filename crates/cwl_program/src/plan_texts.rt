@@ -1,6 +1,8 @@
 //! What the program says of a plan.
 ghost use Rattle.std.specs.Prelude.{◌≡◌, length, map, IfOk};
 ghost use Rattle.plan_checker.specs.Format.{certificate_text};
+ghost use Rattle.plan_words.specs.Lines.{plan_lines};
+ghost use Rattle.plan_words.specs.Reasons.{reasons};
 ghost use Rattle.cwl_program.specs.Plans.{AreCounted, AreTextsOf, IsPlanTold, paper_of as paper, plan_fault_exit};
 ghost use Rattle.cwl_program.specs.Runs.{place_json};
 
@@ -64,15 +66,29 @@ fn texts_of(
 {
     let places = shown(alloc, made.places.as_slice())?;
     let known = known_of(alloc, process, made.places.as_slice(), answers)?;
-    let lines = plan_lines(alloc, made.cost, &made.plan, places.as_slice())?;
-    let reasons = plan_reasons(
-        alloc,
-        &made.graph,
-        &made.plan,
-        known.as_slice(),
-        places.as_slice(),
-    )?;
-    let paper = paper_of(alloc, made, places.as_slice(), dot)?;
+    texts_with(alloc, made, places.as_slice(), known.as_slice(), dot)
+}
+
+// The texts, with places that are written so.
+fn texts_with(
+    alloc: Global,
+    made: &Planned,
+    places: &[Text],
+    known: &[Known],
+    dot: bool,
+) -> Result<PlanTexts, AllocError>
+    requires made { AreCounted made.now }
+    requires places { length places.now ≡ length made.now.graph }
+    requires known { length known.now ≡ length made.now.graph }
+    ensures paper { IfOk result (λ texts. texts.paper ≡ paper dot made.now places.now) }
+    ensures lines { IfOk result (λ texts. texts.lines
+        ≡ plan_lines made.now.cost made.now.plan.marks places.now) }
+    ensures reasons { IfOk result (λ texts. texts.reasons
+        ≡ reasons made.now.graph made.now.plan.marks known.now places.now) }
+{
+    let lines = plan_lines(alloc, made.cost, &made.plan, places)?;
+    let reasons = plan_reasons(alloc, &made.graph, &made.plan, known, places)?;
+    let paper = paper_of(alloc, made, places, dot)?;
     Ok(PlanTexts {
         paper,
         lines,
@@ -110,7 +126,8 @@ fn certificate_of(alloc: Global, made: &Planned) -> Result<Text, AllocError>
 
 // The places of jobs as JSON text.
 fn shown(alloc: Global, places: &[JobPlace]) -> Result<Vec<Text>, AllocError>
-    ensures { IfOk result (λ texts. texts.items ≡ map place_json places.now) }
+    ensures texts { IfOk result (λ texts. texts.items ≡ map place_json places.now) }
+    ensures count { IfOk result (λ texts. length texts.items ≡ length places.now) }
 {
     let mut texts = Vec::with_capacity(alloc, places.len())?;
     for place in places {

@@ -5,7 +5,7 @@ ghost use Rattle.cwl_program.specs.Stops.{IsTrouble, IsCause, most_bytes};
 use crate::exit::Unreadable;
 use std::fs::Metadata;
 use std::io::Read;
-use std::rt::{Files, Input};
+use std::rt::Files;
 use std::{fs, io, mem};
 
 /// The most bytes of a file that is read: 64 MiB.
