@@ -49,6 +49,7 @@ pub struct Jobs<'a, L: Listen> {
     // the jobs whose command has ended, or whose files were loaded
     done: Keyed<bool>,
     loaded: u64,
+    // what it took to compute the jobs that this run did not compute
     gained: u64,
     // whether nothing was left out
     is_whole: bool,
@@ -78,12 +79,13 @@ impl<'a, L: Listen> Jobs<'a, L> {
         &self.tickets
     }
 
-    /// Takes note that the run has succeeded: jobs of which it needed nothing are told of.
+    /// Takes note that the run has succeeded: jobs of which it needed nothing are told of, and what computing them took was saved.
     pub fn succeed(&mut self) {
         let settled = self.settle();
         self.note(settled);
-        for (place, _) in self.recalled.as_slice() {
+        for (place, recalled) in self.recalled.as_slice() {
             if !self.done.contains(place.as_str()) {
+                self.gained = self.gained.saturating_add(recalled.cost);
                 self.listener.omitted(place);
             }
         }

@@ -12,7 +12,7 @@ pub struct Savings {
     pub computed: u64,
     /// The milliseconds that the run took.
     pub millis: u64,
-    /// The milliseconds that it took to compute what was loaded, by the rows of the record.
+    /// The milliseconds that it took to compute what was loaded or not needed, by the rows of the record.
     pub gained: u64,
 }
 
