@@ -156,7 +156,7 @@ fn add_row(whole: &mut String, line: &str) -> Result<(), AllocError> {
     whole.push_str("\n")
 }
 
-// The same, with `_` for how long a child ran.
+// The same, with `_` for how long a child and a run took.
 fn put_told(
     alloc: Global,
     out: &mut AnswerText,
@@ -164,18 +164,25 @@ fn put_told(
     place: &str,
 ) -> Result<(), RowFault> {
     match str::from_utf8(bytes) {
-        Ok(text) => put_shown(alloc, out, without_millis(alloc, text)?.as_bytes(), place),
+        Ok(text) => put_shown(alloc, out, without_times(alloc, text)?.as_bytes(), place),
         Err(_) => Err(RowFault::BadArgument),
     }
 }
 
-// A text in which each line that ends with milliseconds has `_` for them.
-fn without_millis(alloc: Global, text: &str) -> Result<String, AllocError> {
+// A text that has `_` for the milliseconds at the end of a line, and for the seconds in the line on what a run saved.
+fn without_times(alloc: Global, text: &str) -> Result<String, AllocError> {
+    let ended = masked(alloc, text, " ms\n")?;
+    let taken = masked(alloc, ended.as_str(), " s, ")?;
+    masked(alloc, taken.as_str(), " s saved\n")
+}
+
+// A text that has `_` for each number before this unit.
+fn masked(alloc: Global, text: &str, unit: &str) -> Result<String, AllocError> {
     let mut whole = String::new(alloc);
     let mut before = None;
-    for part in text.split(" ms\n") {
-        if let Some(line) = before {
-            add_masked(&mut whole, line)?;
+    for part in text.split(unit) {
+        if let Some(front) = before {
+            add_masked(&mut whole, front, unit)?;
         }
         before = Some(part);
     }
@@ -183,13 +190,17 @@ fn without_millis(alloc: Global, text: &str) -> Result<String, AllocError> {
     Ok(whole)
 }
 
-fn add_masked(whole: &mut String, line: &str) -> Result<(), AllocError> {
-    whole.push_str(line.trim_end_matches(is_digit))?;
-    whole.push_str("_ ms\n")
+fn add_masked(whole: &mut String, front: &str, unit: &str) -> Result<(), AllocError> {
+    let words = front.trim_end_matches(is_of_number);
+    whole.push_str(words)?;
+    if words.len() < front.len() {
+        whole.push_str("_")?;
+    }
+    whole.push_str(unit)
 }
 
-fn is_digit(c: char) -> bool {
-    c.is_ascii_digit()
+fn is_of_number(c: char) -> bool {
+    c.is_ascii_digit() || c == '.'
 }
 
 fn replaced(alloc: Global, text: &str, old: &str, new: &str) -> Result<String, AllocError> {
