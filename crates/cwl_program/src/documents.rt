@@ -7,9 +7,7 @@ ghost use Rattle.cwl_program.specs.Stops.{IsCause, IsStop};
 use crate::exit::{Exit, Refusal, Unreadable};
 use crate::reading::sound;
 use crate::stop::{Stop, unread_for};
-use document_links::{
-    Docs, Document, LinkError, LinkFault, MOST_PROCESSES, Process, read_process,
-};
+use document_links::{Docs, Document, LinkError, LinkFault, MOST_PROCESSES, Process, read_process};
 use file_values::{FileError, location_to_path};
 use plain_data::{Keyed, Text};
 use std::alloc::Global;
