@@ -3,4 +3,4 @@ use Rattle.cwl_program.specs.Runs.{place_json}
 use Rattle.cwl_program.proofs.plan_texts.shown.Given as goal
 
 abbrev pub invariant-loop-place : goal.invariant-loop-place
-invariant-loop-place l = l.texts.items ≡ map place_json (take l.place-index l.args.places.now)
+invariant-loop-place l = l.texts.items ≡ map place_json (take l.place-index l.places)
