@@ -19,7 +19,7 @@ use clap::Error;
 use clap::error::ErrorKind;
 use plain_data::Text;
 use process_machine::World;
-use record_program::Records;
+use record_program::{Ending, Records};
 use std::alloc::{AllocError, Global};
 use std::io::{IsTerminal, Write};
 use std::process::{ExitCode, Stdio};
@@ -105,8 +105,27 @@ fn say<O: Write, E: Write>(alloc: Global, end: &End, out: &mut O, err: &mut E) -
 {
     match tell(alloc, end, out, err) {
         Ok(()) => end.run.exit.status(),
-        Err(_) => FAULT,
+        Err(error) => {
+            tell_unwritten(end, &error, err);
+            FAULT
+        }
     }
+}
+
+// Says that standard output did not take what goes there, where that is to be explained.
+fn tell_unwritten<E: Write>(end: &End, error: &io::Error, err: &mut E) {
+    let is_of_memory = matches!(error.kind(), io::ErrorKind::OutOfMemory);
+    if end.explains && !is_of_memory && is_for_output(&end.run.exit) {
+        let _told = writeln!(err, "standard output can't be written: {error}");
+    }
+}
+
+// Whether an end is said on standard output.
+fn is_for_output(exit: &Exit) -> bool {
+    matches!(
+        exit,
+        Exit::Output(_) | Exit::Plan(_) | Exit::Broken(_) | Exit::Record(Ending::Rows(_))
+    )
 }
 
 // Writes the line of an end, and behind it the words that it is to be explained in, the notes on it, what became of the jobs, and where the

@@ -32,7 +32,8 @@ pub fn program_out_of_room(rt: &HostRuntime, row: &Row) -> Result<String, RowFau
     let mut out = room.as_mut_slice();
     let mut err = Vec::new(alloc);
     let status = main_run(rt, words.as_slice(), "/bin", &mut out, &mut err);
-    Ok(format!(in alloc; "{{\"status\":{status}}}")?)
+    let err = written(alloc, err.as_slice())?;
+    Ok(format!(in alloc; "{{\"status\":{status},\"err\":{err}}}")?)
 }
 
 fn written(alloc: Global, bytes: &[u8]) -> Result<String, RowFault> {
