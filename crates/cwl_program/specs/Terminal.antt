@@ -27,3 +27,7 @@ with_progress words = if is_run words then with_word (codes "--progress") words 
 abbrev pub terminal_words : List (List ℕ) → List (List ℕ)
 terminal_words words =
     if is_run words || is_other words then with_word (codes "--explain") (with_progress words) else words
+
+-- each command explains what went wrong, and that alone
+abbrev pub explained_words : List (List ℕ) → List (List ℕ)
+explained_words words = if is_run words || is_other words then with_word (codes "--explain") words else words

@@ -14,7 +14,7 @@ use crate::record_words::RecordWords;
 use crate::run::end_of_process;
 use crate::run_end::RunEnd;
 use crate::telling::Telling;
-use crate::terminal::add_terminal_words;
+use crate::terminal::{add_explain_word, add_terminal_words};
 use clap::Error;
 use clap::error::ErrorKind;
 use plain_data::Text;
@@ -30,7 +30,8 @@ use std::{env, fs, io, mem};
 const FAULT: u8 = 3;
 
 /// Runs the program on its arguments, `PATH` (empty where it is absent), standard output and standard error. Where standard error is
-/// a terminal it adds `--explain`, and for a run `--progress`.
+/// a terminal it adds `--explain`, and for a run `--progress`; on one whose `TERM` is `dumb`, and where `DEPAROHI_EXPLAIN` is 1,
+/// `--explain` alone.
 ///
 /// A word that is no UTF-8 ends with status 3.
 pub fn program(rt: HostRuntime) -> ExitCode {
@@ -56,10 +57,21 @@ pub fn program(rt: HostRuntime) -> ExitCode {
 
 fn words(rt: &HostRuntime) -> io::Result<Vec<String>> {
     let mut words = env::args(rt)?.collect(rt.alloc())?;
-    if rt.stderr().is_terminal() {
+    let is_terminal = rt.stderr().is_terminal();
+    if is_terminal && !is_set(rt, "TERM", "dumb") {
         add_terminal_words(rt.alloc(), &mut words)?;
+    } else if is_terminal || is_set(rt, "DEPAROHI_EXPLAIN", "1") {
+        add_explain_word(rt.alloc(), &mut words)?;
     }
     Ok(words)
+}
+
+// Whether a variable of the environment has this value.
+fn is_set(rt: &HostRuntime, name: &str, value: &str) -> bool {
+    match env::var(rt, name) {
+        Ok(found) => found.as_str() == value,
+        Err(_) => false,
+    }
 }
 
 /// Runs the whole program over two writers, for these words (the program's name first) and this `PATH` for children.

@@ -20,6 +20,17 @@ pub fn add_terminal_words(alloc: Global, words: &mut Vec<String>) -> Result<(), 
     Ok(())
 }
 
+/// Adds `--explain` alone, in the same way.
+pub fn add_explain_word(alloc: Global, words: &mut Vec<String>) -> Result<(), AllocError>
+    ensures { OnOk result (map string_bytes words.new.items
+        ≡ spec.explained_words (map string_bytes words.old.items)) }
+{
+    if is_run(words) || is_other(words) {
+        add_word(alloc, words, "--explain")?;
+    }
+    Ok(())
+}
+
 fn is_run(words: &[String]) -> bool
     ensures { result ≡ spec.is_run (map string_bytes words.now) }
 {
