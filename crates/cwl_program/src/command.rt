@@ -4,7 +4,7 @@ ghost use Rattle.cwl_program.specs.CommandLine.{Asks, check_command as checking,
 ghost use Rattle.cwl_program.specs.Flags.{IsLocal};
 ghost use Rattle.std.specs.Prelude.{string_bytes};
 
-use crate::flags::{is_wanted, with_flags};
+use crate::flags::{CHECK_END, DEMO_END, is_wanted, with_flags};
 use crate::planning::{PlanWords, plan_command, plan_words};
 use crate::record_words::{RecordWords, record_command, record_words};
 use crate::run_words::{RunWords, run_command, run_words};
@@ -39,6 +39,7 @@ fn check_command<'a>(alloc: Global) -> Result<Command<'a>, Error>
         .help("The certificate's file, or `-` for standard input");
     let check = Command::new(alloc, "check")
         .about("Says whether a certificate shows its plan to be a cheapest one")
+        .after_help(CHECK_END)
         .arg(file)?;
     with_flags(alloc, check)
 }
@@ -49,7 +50,9 @@ fn demo_command<'a>(alloc: Global) -> Result<Command<'a>, Error>
     ensures local { IfOk result IsLocal }
     ensures err { IfErr result (λ e. kind_of e ≡ ErrorKind.OutOfMemory) }
 {
-    let demo = Command::new(alloc, "demo").about("Runs a small tool over a scripted host");
+    let demo = Command::new(alloc, "demo")
+        .about("Runs a small tool over a scripted host")
+        .after_help(DEMO_END);
     with_flags(alloc, demo)
 }
 

@@ -12,6 +12,22 @@ const EXPLAIN_HELP: &str =
 
 const QUIET_HELP: &str = "Say no more than what came of it";
 
+/// What stands below the help of each command: an example, and its statuses.
+pub const RUN_END: &str =
+    "Example: deparohi run --outdir results document.json inputs.json\n\nStatus: 0 success, 1 a job failed, 2 a job failed temporarily, 3 anything else went wrong, 33 the document or the inputs are refused";
+
+pub const PLAN_END: &str =
+    "Example: deparohi plan --cache cache document.json inputs.json >plan.txt\n\nStatus: 0 there is a plan, 1 a job can't have its inputs, 3 anything else went wrong, 33 the document or the inputs are refused";
+
+pub const CHECK_END: &str =
+    "Example: deparohi plan document.json inputs.json | deparohi check -\n\nStatus: 0 no plan costs less, 1 a rule of certificates is broken, 3 the file can't be read, 33 its text is no certificate";
+
+pub const RECORD_END: &str =
+    "Example: deparohi record cache\n\nStatus: 0 the rows are shown, 3 the file can't be read, or is no record";
+
+pub const DEMO_END: &str =
+    "Example: deparohi demo\n\nStatus: 0 success, 3 out of memory, or standard output can't be written";
+
 /// An option without a value, as `--explain`.
 pub fn flag<'a>(alloc: Global, id: &'a str, help: &'a str) -> Arg<'a>
     ensures rule { rule_of result ≡ flag_rule id.now }

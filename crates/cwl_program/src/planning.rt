@@ -4,7 +4,7 @@ ghost use Rattle.clap.specs.Words.{app_of, found_of, kind_of, rows_of};
 ghost use Rattle.cwl_program.specs.Flags.{IsLocal};
 ghost use Rattle.cwl_program.specs.PlanWords.{plan_command, plan_wish, wish_of_plan};
 
-use crate::flags::{flag, is_given, with_flags};
+use crate::flags::{PLAN_END, flag, is_given, with_flags};
 use crate::run_words::{RunWords, run_words, with_costs, with_inputs};
 use clap::error::ErrorKind;
 use clap::{ArgMatches, Command, Error};
@@ -26,9 +26,11 @@ pub fn plan_command<'a>(alloc: Global) -> Result<Command<'a>, Error>
     ensures local { IfOk result IsLocal }
     ensures err { IfErr result (λ e. kind_of e ≡ ErrorKind.OutOfMemory) }
 {
-    let command = Command::new(alloc, "plan").about(
-        "Says what a run would load, compute and not need, with a certificate that nothing costs less",
-    );
+    let command = Command::new(alloc, "plan")
+        .about(
+            "Says what a run would load, compute and not need, with a certificate that nothing costs less",
+        )
+        .after_help(PLAN_END);
     let dot = flag(alloc, "dot", DOT_HELP);
     let command = with_costs(alloc, command)?.arg(dot)?;
     let command = with_flags(alloc, command)?;

@@ -3,7 +3,7 @@ ghost use Rattle.clap.specs.Words.{app_of, found_of, kind_of, rows_of};
 ghost use Rattle.cwl_program.specs.RecordWords.{record_command, record_wish, wish_of_record};
 ghost use Rattle.cwl_program.specs.Flags.{IsLocal};
 
-use crate::flags::{is_wanted, with_flags};
+use crate::flags::{RECORD_END, is_wanted, with_flags};
 use crate::run_words::{named, placed};
 use clap::error::ErrorKind;
 use clap::{ArgMatches, Command, Error};
@@ -29,6 +29,7 @@ pub fn record_command<'a>(alloc: Global) -> Result<Command<'a>, Error>
     let forget = named(alloc, "forget", "HEX", FORGET_HELP);
     let command = Command::new(alloc, "record")
         .about("Shows the rows of a record of jobs")
+        .after_help(RECORD_END)
         .arg(forget)?;
     let command = with_flags(alloc, command)?;
     let file = placed(

@@ -3,7 +3,7 @@ ghost use Rattle.clap.specs.Words.{app_of, found_of, kind_of, rows_of, rule_of};
 ghost use Rattle.cwl_program.specs.Flags.{IsLocal};
 ghost use Rattle.cwl_program.specs.RunWords.{IsChosen, named_rule, numbered_rule, placed_rule, run_command, run_wish, telling_in, wish_of_run, with_archive, with_base, with_cache, with_costs, with_document, with_folders, with_inputs, with_keep, with_keep_failed, with_numbers, with_progress, with_record, with_slots, with_verbose};
 
-use crate::flags::{flag, is_given, is_wanted, with_flags};
+use crate::flags::{RUN_END, flag, is_given, is_wanted, with_flags};
 use crate::telling::Telling;
 use clap::builder::ValueParser;
 use clap::error::ErrorKind;
@@ -253,7 +253,9 @@ fn verbose_command<'a>(alloc: Global) -> Result<Command<'a>, Error>
     ensures local { IfOk result IsLocal }
     ensures err { IfErr result (λ e. kind_of e ≡ ErrorKind.OutOfMemory) }
 {
-    let command = Command::new(alloc, "run").about("Runs a process and prints its output object");
+    let command = Command::new(alloc, "run")
+        .about("Runs a process and prints its output object")
+        .after_help(RUN_END);
     let verbose = flag(alloc, "verbose", VERBOSE_HELP);
     let command = with_costs(alloc, command)?.arg(verbose)?;
     Ok(command)
