@@ -2,6 +2,7 @@
 
 use crate::exit::{Exit, Refusal};
 use crate::reading::bytes_of_file;
+use crate::refused_inputs::refused_line;
 use crate::search::path_at;
 use crate::wrong_form::form_lines;
 use cwl_value::{FileField, ValueRefusal};
@@ -68,16 +69,36 @@ fn fault_lines<R: World>(
     }
 }
 
+// The first line says why the input object is refused and where, so that it stands in place of the words.
 fn inputs_lines<R: World>(
     rt: &R,
     refusal: ValueRefusal,
     inputs: Option<&str>,
 ) -> Result<Vec<String>, AllocError> {
-    match (refusal, inputs) {
-        (ValueRefusal::NotJson, Some(file)) => text_lines(rt, file),
-        (ValueRefusal::BadFile(FileField::Location), _) => line(rt.alloc(), LITERAL),
-        _ => Ok(Vec::new(rt.alloc())),
+    let Some(file) = inputs else {
+        return Ok(Vec::new(rt.alloc()));
+    };
+    match bytes_of_file(rt, file) {
+        Ok(bytes) => refused_lines(rt.alloc(), refusal, bytes.as_slice(), file),
+        Err(_) => Ok(Vec::new(rt.alloc())),
     }
+}
+
+fn refused_lines(
+    alloc: Global,
+    refusal: ValueRefusal,
+    bytes: &[u8],
+    file: &str,
+) -> Result<Vec<String>, AllocError> {
+    let mut lines = line(alloc, refused_line(alloc, refusal, bytes, file)?.as_str())?;
+    match refusal {
+        ValueRefusal::NotJson => lines.push(words_for(alloc, bytes)?)?,
+        ValueRefusal::BadFile(FileField::Location) => {
+            lines.push(String::from_str(alloc, LITERAL)?)?
+        }
+        _ => {}
+    }
+    Ok(lines)
 }
 
 // What the text of a file looks like that is no JSON.

@@ -149,8 +149,9 @@ fn tell<O: Write, E: Write>(alloc: Global, end: &End, out: &mut O, err: &mut E) 
 {
     end.run.exit.print(out, err)?;
     if end.explains {
-        explain_exit(alloc, &end.run.exit, err)?;
-        put_notes(alloc, &end.run.exit, end.run.notes.as_slice(), err)?;
+        let notes = end.run.notes.as_slice();
+        explain_exit(alloc, &end.run.exit, notes, err)?;
+        put_notes(alloc, &end.run.exit, notes, err)?;
         put_savings(alloc, &end.run.exit, &end.run.savings, err)?;
         return put_left(alloc, &end.run.left, err);
     }

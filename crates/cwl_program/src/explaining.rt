@@ -4,10 +4,14 @@ ghost use Rattle.std.specs.Io.KnownBytes.{Appends};
 ghost use Rattle.cwl_program.specs.Tells.{AreNotes, HasLine, HasLines, IsEndingExplained, IsExplained, IsLeftTold, IsPut, IsSavingsLine, IsSavingsTold, left_words};
 
 use crate::exit::{Exit, Fault, PlanTexts, Refusal, Unreadable};
+use crate::refused_inputs::value_words;
 use crate::savings::{Savings, savings_line};
 use crate::shell_words::add_word;
 use crate::visible::{cut, visible};
+use command_line::BuildFault;
+use cwl_value::ValueRefusal;
 use job_graph::Cause as NoValue;
+use param_refs::RefFault;
 use plain_data::Text;
 use plan_checker::Broken;
 use proc_host::HostFault;
@@ -19,8 +23,17 @@ use std::alloc::{AllocError, Global};
 use std::io;
 use std::io::Write;
 
-/// Writes a line that says what went wrong and where, or why a plan is as it is; nothing of another end in which nothing went wrong.
-pub fn explain_exit<E: Write>(alloc: Global, exit: &Exit, err: &mut E) -> io::Result<()>
+/// The place of the process itself, as JSON text.
+const ROOT: &str = "\"main\"";
+
+/// Writes a line that says what went wrong and where, or why a plan is as it is; nothing of another end in which nothing went wrong. Where
+/// the first of the notes says all of it (`is_led`), it is that line.
+pub fn explain_exit<E: Write>(
+    alloc: Global,
+    exit: &Exit,
+    notes: &[String],
+    err: &mut E,
+) -> io::Result<()>
     ensures { OnOk result (IsExplained exit.now (E.contents err.old) (E.contents err.new)) }
 {
     match exit {
@@ -28,9 +41,15 @@ pub fn explain_exit<E: Write>(alloc: Global, exit: &Exit, err: &mut E) -> io::Re
         Exit::Plan(texts) => put_reasons(texts, err),
         Exit::Broken(broken) => put_words(alloc, broken_words(alloc, *broken)?.as_str(), err),
         Exit::Record(ending) => explain_ending(alloc, ending, err),
-        Exit::Refused(refusal) => put_words(alloc, refusal_words(alloc, refusal)?.as_str(), err),
+        Exit::Refused(refusal) => {
+            put_words(alloc, refusal_words(alloc, refusal, notes)?.as_str(), err)
+        }
         Exit::Permanent(place, cause) => {
-            put_words(alloc, cause_words(alloc, place, cause)?.as_str(), err)
+            put_words(
+                alloc,
+                cause_words(alloc, place, cause, notes)?.as_str(),
+                err,
+            )
         }
         Exit::Temporary(place) => put_words(alloc, temporary_words(alloc, place)?.as_str(), err),
         Exit::Mismatch(place) => put_words(alloc, mismatch_words(alloc, place)?.as_str(), err),
@@ -60,7 +79,7 @@ fn explain_ending<E: Write>(alloc: Global, ending: &Ending, err: &mut E) -> io::
     }
 }
 
-/// Writes the lines on what failed; none where nothing did.
+/// Writes the lines on what failed, but for one that stands in place of the words; none where nothing did.
 pub fn put_notes<E: Write>(
     alloc: Global,
     exit: &Exit,
@@ -71,7 +90,25 @@ pub fn put_notes<E: Write>(
 {
     match exit {
         Exit::Output(_) | Exit::Plan(_) | Exit::Record(_) => Ok(()),
-        _ => put_lines(alloc, notes, err),
+        _ => put_lines(alloc, behind_words(exit, notes), err),
+    }
+}
+
+// The lines that stand behind the words.
+fn behind_words<'a>(exit: &Exit, notes: &'a [String]) -> &'a [String] {
+    match notes {
+        [_, rest @ ..] if is_led(exit) => rest,
+        _ => notes,
+    }
+}
+
+// Whether the first line on an end says what its words would, with the place: of an input object that is refused, and of an input of the
+// process itself that is lacking or of another type.
+fn is_led(exit: &Exit) -> bool {
+    match exit {
+        Exit::Refused(Refusal::Inputs(_)) => true,
+        Exit::Permanent(place, Cause::Equation(NoValue::Kind(_))) => place.as_str() == ROOT,
+        _ => false,
     }
 }
 
@@ -140,14 +177,28 @@ fn put_line<E: Write>(alloc: Global, line: &str, err: &mut E) -> io::Result<()>
     writeln!(err, "{shown}")
 }
 
-fn refusal_words(alloc: Global, refusal: &Refusal) -> Result<String, AllocError> {
+fn refusal_words(alloc: Global, refusal: &Refusal, notes: &[String]) -> Result<String, AllocError> {
     match refusal {
         Refusal::Document(fault) => format!(in alloc; "{fault}"),
         Refusal::Links(fault) => format!(in alloc; "{fault}"),
-        Refusal::Inputs(refusal) => format!(in alloc; "the input object: {refusal}"),
+        Refusal::Inputs(refusal) => inputs_words(alloc, *refusal, notes.first()),
         Refusal::Location(fault) => format!(in alloc; "a document or an input file: {fault}"),
         Refusal::Certificate(line) => {
             format!(in alloc; "line {line} of the file is no line of a certificate")
+        }
+    }
+}
+
+fn inputs_words(
+    alloc: Global,
+    refusal: ValueRefusal,
+    note: Option<&String>,
+) -> Result<String, AllocError> {
+    match note {
+        Some(line) => String::from_str(alloc, line.as_str()),
+        None => {
+            let words = value_words(alloc, refusal)?;
+            format!(in alloc; "the input object: {words}")
         }
     }
 }
@@ -208,9 +259,21 @@ fn temporary_words(alloc: Global, place: &Text) -> Result<String, AllocError> {
     )
 }
 
-fn cause_words(alloc: Global, place: &Text, cause: &Cause) -> Result<String, AllocError> {
+fn cause_words(
+    alloc: Global,
+    place: &Text,
+    cause: &Cause,
+    notes: &[String],
+) -> Result<String, AllocError> {
     match cause {
+        Cause::Equation(NoValue::Kind(input)) if place.as_str() == ROOT => {
+            misfit_words(alloc, input, notes.first())
+        }
         Cause::Equation(cause) => equation_words(alloc, cause),
+        Cause::Build(BuildFault::Reference(fault)) => {
+            let more = known_names(*fault);
+            format!(in alloc; "no command: {fault}{more}")
+        }
         Cause::Build(fault) => format!(in alloc; "no command: {fault}"),
         Cause::Exit(Some(code)) => {
             format!(in alloc; "the command of {place} ended with code {code}")
@@ -221,6 +284,22 @@ fn cause_words(alloc: Global, place: &Text, cause: &Cause) -> Result<String, All
     }
 }
 
+fn misfit_words(alloc: Global, input: &Text, note: Option<&String>) -> Result<String, AllocError> {
+    match note {
+        Some(line) => String::from_str(alloc, line.as_str()),
+        None => format!(in alloc; "the value of input `{input}` does not fit its type"),
+    }
+}
+
+// What a reference may begin with, where it begins with another name.
+fn known_names(fault: RefFault) -> &'static str {
+    match fault {
+        RefFault::NoName =>
+            "; only `inputs`, `self` and `runtime` are known, and a command of the shell is not run",
+        _ => "",
+    }
+}
+
 fn equation_words(alloc: Global, cause: &NoValue) -> Result<String, AllocError> {
     match cause {
         NoValue::Missing(input) => {
@@ -228,15 +307,14 @@ fn equation_words(alloc: Global, cause: &NoValue) -> Result<String, AllocError> 
                 "a File or Directory of input `{input}` is absent, or of the other kind"
             )
         }
-        NoValue::Kind(input) => {
-            format!(in alloc; "the value of input `{input}` does not fit its type")
-        }
+        NoValue::Kind(input) => misfit_words(alloc, input, None),
         NoValue::Secondary(input) => {
             format!(in alloc; "a file of input `{input}` lacks a secondary file")
         }
         NoValue::Link(fault) => format!(in alloc; "{fault}"),
         NoValue::Reference(fault) => {
-            format!(in alloc; "a reference of `valueFrom` or `when` has no value: {fault}")
+            let more = known_names(*fault);
+            format!(in alloc; "a reference of `valueFrom` or `when` has no value: {fault}{more}")
         }
         NoValue::Scatter(fault) => format!(in alloc; "{fault}"),
     }

@@ -35,6 +35,7 @@ mod plan_texts;
 mod planning;
 mod reading;
 mod record_words;
+mod refused_inputs;
 mod report;
 mod reuse;
 mod run;

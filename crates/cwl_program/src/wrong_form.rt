@@ -56,8 +56,11 @@ fn words_of(alloc: Global, value: &Value) -> Result<String, AllocError> {
 }
 
 fn script_words(alloc: Global, text: &str) -> Result<String, AllocError> {
-    let words =
-        "JavaScript is not evaluated, and a reference is as `$(inputs.name)` or `$(inputs.name.path)`";
+    let words = if text.contains('\\') {
+        "a text with a reference takes no backslash, so that nothing can be kept from being one"
+    } else {
+        "JavaScript is not evaluated, and a reference is as `$(inputs.name)` or `$(inputs.name.path)`"
+    };
     cut(
         alloc,
         format!(in alloc; "it is `{text}`: {words}")?.as_str(),
