@@ -3,7 +3,7 @@
 use crate::exit::{Exit, Fault};
 use crate::explaining::hindrance_words;
 use crate::given::Given;
-use crate::input_notes::{misfit_lines, missing_lines};
+use crate::input_notes::{misfit_lines, missing_lines, secondary_lines};
 use crate::shell_words::line_of;
 use crate::start_notes::{add_listing, start_lines};
 use crate::telling::ending;
@@ -67,6 +67,7 @@ fn value_lines(
     match cause {
         NoValue::Kind(input) => misfit_lines(alloc, given, input),
         NoValue::Missing(input) => missing_lines(alloc, log, given, input),
+        NoValue::Secondary(input) => secondary_lines(alloc, log, given, input),
         _ => Ok(Vec::new(alloc)),
     }
 }
