@@ -8,7 +8,7 @@ use command_line::Launch;
 use cwl_value::JobPlace;
 use job_rows::Row;
 use plain_data::{Keyed, Text};
-use proc_host::{ChildEnd, HostAnswer, HostRequest};
+use proc_host::{ChildEnd, HostAnswer, HostFault, HostRequest};
 use run_core::{RecordAnswer, RecordRequest};
 use std::alloc::{AllocError, Global};
 use workflow_engine::Watch;
@@ -29,6 +29,34 @@ struct Running {
     place: Text,
 }
 
+/// What a run left that tells of its jobs, whose places are JSON text.
+#[derive(Drop)]
+pub struct Traces {
+    // the last child of each job
+    tickets: Keyed<u64>,
+    // for the code of each fault of the host the first job that met it
+    failures: Keyed<Text>,
+}
+
+impl Traces {
+    pub fn new(alloc: Global) -> Traces {
+        Traces {
+            tickets: Keyed::new(alloc),
+            failures: Keyed::new(alloc),
+        }
+    }
+
+    /// The ticket of the last child of the job at a place.
+    pub fn ticket_at(&self, place: &str) -> Option<&u64> {
+        self.tickets.get(place)
+    }
+
+    /// The place of the first job for which a call of the host failed so.
+    pub fn failed_at(&self, fault: HostFault) -> Option<&Text> {
+        self.failures.get(fault.code())
+    }
+}
+
 /// Keeps what becomes of each job, under its place as JSON text, and tells a listener. What there is no room for is left out.
 #[derive(Drop)]
 pub struct Jobs<'a, L: Listen> {
@@ -44,8 +72,7 @@ pub struct Jobs<'a, L: Listen> {
     // the job whose files were fetched last, until the run goes on with them
     fetched: Option<Text>,
     running: Vec<Running>,
-    // the last child of each job
-    tickets: Keyed<u64>,
+    traces: Traces,
     // the jobs whose command has ended, or whose files were loaded
     done: Keyed<bool>,
     loaded: u64,
@@ -66,7 +93,7 @@ impl<'a, L: Listen> Jobs<'a, L> {
             altered: Keyed::new(alloc),
             fetched: None,
             running: Vec::new(alloc),
-            tickets: Keyed::new(alloc),
+            traces: Traces::new(alloc),
             done: Keyed::new(alloc),
             loaded: 0,
             gained: 0,
@@ -74,9 +101,9 @@ impl<'a, L: Listen> Jobs<'a, L> {
         }
     }
 
-    /// The ticket of the last child of each job.
-    pub fn tickets(&self) -> &Keyed<u64> {
-        &self.tickets
+    /// What can be told of jobs by their places.
+    pub fn traces(&self) -> &Traces {
+        &self.traces
     }
 
     /// Takes note that the run has succeeded: jobs of which it needed nothing are told of, and what computing them took was saved.
@@ -99,7 +126,7 @@ impl<'a, L: Listen> Jobs<'a, L> {
         Some(Savings {
             jobs: self.known as u64,
             loaded: self.loaded,
-            computed: self.tickets.len() as u64,
+            computed: self.traces.tickets.len() as u64,
             millis,
             gained: self.gained,
         })
@@ -155,13 +182,27 @@ impl<'a, L: Listen> Jobs<'a, L> {
                 self.fetched = Some(place_in(self.alloc, place)?);
                 Ok(())
             }
+            HostAnswer::Failed(fault) => self.note_failure(place, *fault),
             _ => Ok(()),
         }
     }
 
+    // Keeps the first job whose call failed so.
+    fn note_failure(&mut self, place: &JobPlace, fault: HostFault) -> Result<(), AllocError> {
+        if self.traces.failures.contains(fault.code()) {
+            return Ok(());
+        }
+        let place = place_in(self.alloc, place)?;
+        let code = Text::from_text(self.alloc, fault.code())?;
+        self.traces.failures.insert(code, place)?;
+        Ok(())
+    }
+
     fn note_start(&mut self, place: &JobPlace, ticket: u64) -> Result<(), AllocError> {
         let place = place_in(self.alloc, place)?;
-        self.tickets.insert(place.copied(self.alloc)?, ticket)?;
+        self.traces
+            .tickets
+            .insert(place.copied(self.alloc)?, ticket)?;
         self.running.push(Running { ticket, place })?;
         let counts = self.counts();
         self.listener.started(counts);

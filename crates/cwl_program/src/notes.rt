@@ -4,12 +4,13 @@ use crate::exit::{Exit, Fault};
 use crate::explaining::hindrance_words;
 use crate::given::Given;
 use crate::input_notes::{misfit_lines, missing_lines, secondary_lines};
+use crate::jobs::Traces;
 use crate::shell_words::line_of;
-use crate::start_notes::{add_listing, start_lines};
+use crate::start_notes::{add_listing, add_obstacle, add_start};
 use crate::telling::ending;
 use command_line::Launch;
 use job_graph::Cause as NoValue;
-use plain_data::{Keyed, Text};
+use plain_data::Text;
 use proc_host::{ChildEnd, Entry, HostFault};
 use process_machine::{Machine, World, last_lines, messages_file};
 use run_core::{Cause, CollectCause};
@@ -26,10 +27,10 @@ pub fn notes_on<R: World>(
     rt: &R,
     host: &Machine<R>,
     given: &Given,
-    tickets: &Keyed<u64>,
+    traces: &Traces,
     exit: &Exit,
 ) -> Vec<String> {
-    match lines_on(rt, host, given, tickets, exit) {
+    match lines_on(rt, host, given, traces, exit) {
         Ok(lines) => lines,
         Err(AllocError) => Vec::new(rt.alloc()),
     }
@@ -39,7 +40,7 @@ fn lines_on<R: World>(
     rt: &R,
     host: &Machine<R>,
     given: &Given,
-    tickets: &Keyed<u64>,
+    traces: &Traces,
     exit: &Exit,
 ) -> Result<Vec<String>, AllocError> {
     match exit {
@@ -47,16 +48,52 @@ fn lines_on<R: World>(
             value_lines(rt.alloc(), host.log(), given, cause)
         }
         Exit::Permanent(place, Cause::Collect(CollectCause::Output(_))) => {
-            output_lines(rt, host.log(), tickets.get(place.as_str()))
+            output_lines(rt, host.log(), traces.ticket_at(place.as_str()))
         }
         Exit::Permanent(place, Cause::Exit(_) | Cause::Collect(_)) | Exit::Temporary(place) => {
-            job_lines(rt, host.log(), tickets.get(place.as_str()))
+            job_lines(rt, host.log(), traces.ticket_at(place.as_str()))
         }
-        Exit::Fault(Fault::Host(HostFault::Start, _)) => start_lines(rt.alloc(), host.log()),
         Exit::Fault(Fault::Host(HostFault::Deliver, _)) => delivery_lines(rt.alloc(), host),
+        Exit::Fault(Fault::Host(fault, _)) => call_lines(rt.alloc(), host, traces, *fault),
         _ => Ok(Vec::new(rt.alloc())),
     }
 }
+
+// ---- a call of the host
+
+// The place of the job that it was for, and what hindered it.
+fn call_lines<R: World>(
+    alloc: Global,
+    host: &Machine<R>,
+    traces: &Traces<'_>,
+    fault: HostFault,
+) -> Result<Vec<String>, AllocError> {
+    let mut lines = Vec::new(alloc);
+    add_place(alloc, traces.failed_at(fault), &mut lines)?;
+    match fault {
+        HostFault::Start => add_start(alloc, host.log(), &mut lines)?,
+        HostFault::Scan => add_obstacle(alloc, host.unlisted(), &mut lines)?,
+        _ => {}
+    }
+    Ok(lines)
+}
+
+// Adds the place of a job, where that is not the process itself.
+fn add_place(
+    alloc: Global,
+    place: Option<&Text>,
+    lines: &mut Vec<String>,
+) -> Result<(), AllocError> {
+    match place {
+        Some(place) if place.as_str() != ROOT => {
+            lines.push(format!(in alloc; "at {place}")?)?;
+            Ok(())
+        }
+        _ => Ok(()),
+    }
+}
+
+// ---- an input
 
 fn value_lines(
     alloc: Global,

@@ -8,7 +8,7 @@ ghost use Rattle.cwl_program.specs.Tells.{IsRunTold};
 use crate::caches::{keeps_archive, remembers};
 use crate::exit::Exit;
 use crate::given::{Given, Places};
-use crate::jobs::{Jobs, Memory};
+use crate::jobs::{Jobs, Memory, Traces};
 use crate::notes::notes_on;
 use crate::report::exit_of_run;
 use crate::run_end::RunEnd;
@@ -16,7 +16,6 @@ use crate::run_words::RunWords;
 use crate::savings::Savings;
 use crate::telling::{Listen, Silent, Teller, Telling};
 use job_rows::Record;
-use plain_data::Keyed;
 use process_machine::{Machine, World};
 use run_core::Options;
 use std::alloc::AllocError;
@@ -178,7 +177,7 @@ where
     );
     let exit = exit_of_run(rt.alloc(), host.log(), report);
     let savings = savings_of(rt, &exit, &mut jobs, start);
-    let end = noted(rt, &host, given, jobs.tickets(), exit, savings);
+    let end = noted(rt, &host, given, jobs.traces(), exit, savings);
     mem::drop(jobs);
     mem::drop(host);
     end
@@ -210,7 +209,7 @@ pub fn noted<R: World>(
     rt: &R,
     host: &Machine<R>,
     given: &Given,
-    tickets: &Keyed<u64>,
+    traces: &Traces,
     exit: Result<Exit, AllocError>,
     savings: Option<Savings>,
 ) -> Result<RunEnd, AllocError>
@@ -218,7 +217,7 @@ pub fn noted<R: World>(
     ensures left { IfOk result (λ end. end.left ≡ None) }
 {
     let exit = exit?;
-    let notes = notes_on(rt, host, given, tickets, &exit);
+    let notes = notes_on(rt, host, given, traces, &exit);
     Ok(RunEnd {
         exit,
         left: None,

@@ -10,6 +10,7 @@ use crate::caches::{is_twofold, record_of};
 use crate::exit::{Exit, Fault};
 use crate::folders::options_of;
 use crate::given::{Call, Given, Places};
+use crate::jobs::Traces;
 use crate::looks::Looks;
 use crate::on_machine::{machine_of, noted};
 use crate::plan_texts::exit_of_plan;
@@ -20,7 +21,6 @@ use crate::run_record::without_record;
 use crate::stop::stopped_run;
 use document_links::Process;
 use job_rows::{MemoryRecord, Record};
-use plain_data::Keyed;
 use process_machine::{Machine, World};
 use record_program::Records;
 use run_core::Options;
@@ -277,9 +277,9 @@ where
         looks.answers(),
         dot,
     );
-    let tickets = Keyed::new(rt.alloc());
-    let end = noted(rt, &host, given, &tickets, exit, None);
-    mem::drop(tickets);
+    let traces = Traces::new(rt.alloc());
+    let end = noted(rt, &host, given, &traces, exit, None);
+    mem::drop(traces);
     mem::drop(looks);
     mem::drop(host);
     end

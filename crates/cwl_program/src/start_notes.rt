@@ -1,8 +1,8 @@
-//! What is told of a command that can't be started, and of what a job left.
+//! What is told of a command that can't be started, of a folder that can't be listed, and of what a job left.
 
-use crate::advice::line;
 use command_line::Launch;
 use proc_host::{Entry, HostAnswer, HostFault};
+use process_machine::{Obstacle, Unlisted};
 use run_facts::{launch_in, launch_with, listing_of};
 use staging::Found;
 use std::alloc::{AllocError, Global};
@@ -10,11 +10,11 @@ use std::alloc::{AllocError, Global};
 /// How many names of a folder are told.
 const MOST_NAMES: usize = 10;
 
-/// Returns a line with the folders that a program was looked for in, which was named without one.
-pub fn start_lines(alloc: Global, log: &[Entry]) -> Result<Vec<String>, AllocError> {
+/// Adds a line with the folders that a program was looked for in, which was named without one.
+pub fn add_start(alloc: Global, log: &[Entry], lines: &mut Vec<String>) -> Result<(), AllocError> {
     match unstarted(log) {
-        Some(launch) => path_lines(alloc, launch),
-        None => Ok(Vec::new(alloc)),
+        Some(launch) => add_path(alloc, launch, lines),
+        None => Ok(()),
     }
 }
 
@@ -28,16 +28,14 @@ fn unstarted(log: &[Entry]) -> Option<&Launch> {
     None
 }
 
-fn path_lines(alloc: Global, launch: &Launch) -> Result<Vec<String>, AllocError> {
+fn add_path(alloc: Global, launch: &Launch, lines: &mut Vec<String>) -> Result<(), AllocError> {
     match launch.words.get(0) {
         Some(program) if !program.as_str().contains('/') => {
             let path = path_of(launch);
-            line(
-                alloc,
-                format!(in alloc; "it was looked for in {path}")?.as_str(),
-            )
+            lines.push(format!(in alloc; "it was looked for in {path}")?)?;
+            Ok(())
         }
-        _ => Ok(Vec::new(alloc)),
+        _ => Ok(()),
     }
 }
 
@@ -48,6 +46,31 @@ fn path_of(launch: &Launch) -> &str {
         }
     }
     ""
+}
+
+/// Adds a line on what kept a folder from being listed: the entry, and what it is.
+pub fn add_obstacle(
+    alloc: Global,
+    unlisted: Option<&Unlisted>,
+    lines: &mut Vec<String>,
+) -> Result<(), AllocError> {
+    let Some(Unlisted { path, why }) = unlisted else {
+        return Ok(());
+    };
+    let why = obstacle_words(*why);
+    lines.push(format!(in alloc; "{path}: {why}")?)?;
+    Ok(())
+}
+
+fn obstacle_words(why: Obstacle) -> &'static str {
+    match why {
+        Obstacle::NotUtf8 => "a name in this folder is not UTF-8",
+        Obstacle::TooDeep => "it is more than 32 folders deep",
+        Obstacle::TooMany => "65,536 others are there before it, and no more are listed",
+        Obstacle::OfNoKind => "it is a pipe, a socket, a device or a link to nothing",
+        Obstacle::Forbidden => "it may not be looked at",
+        Obstacle::Other => "it can't be looked at",
+    }
 }
 
 /// Adds a line with what was in the output folder of the job whose child has this ticket.
