@@ -49,6 +49,7 @@ mod start_notes;
 mod stop;
 mod telling;
 mod terminal;
+mod tool_texts;
 mod visible;
 mod work_folder;
 mod wrong_form;

@@ -8,7 +8,10 @@ use crate::jobs::Traces;
 use crate::shell_words::line_of;
 use crate::start_notes::{add_listing, add_obstacle, add_start};
 use crate::telling::ending;
-use command_line::Launch;
+use crate::tool_texts::{add_output, step_lines, tool_lines, tool_of};
+use collected_outputs::OutputFault;
+use command_line::{BuildFault, Launch};
+use cwl_process::Tool;
 use job_graph::Cause as NoValue;
 use plain_data::Text;
 use proc_host::{ChildEnd, Entry, HostFault};
@@ -20,9 +23,10 @@ use std::alloc::{AllocError, Global};
 /// The place of the process itself, as JSON text.
 const ROOT: &str = "\"main\"";
 
-/// Returns lines on what failed. Of a job they have its command, how it ended, the last that it said, and what it left where an output
-/// is lacking; of an input of the process its value or file; of a command that can't be started where it was looked for; of a delivery the
-/// result that is lacking, why, and where it lies. Where memory runs out there are none.
+/// Returns lines on what failed. Of a job they have its command, how it ended, the last that it said, and where an output is lacking its
+/// pattern and what is there; of an input of the process its value or file; of a reference the text that it stands in; of a call of the host
+/// the place of the job, and where a program was looked for or what is in a folder that can't be listed; of a delivery the result that is
+/// lacking, why, and where it lies. Where memory runs out there are none.
 pub fn notes_on<R: World>(
     rt: &R,
     host: &Machine<R>,
@@ -47,8 +51,21 @@ fn lines_on<R: World>(
         Exit::Permanent(place, Cause::Equation(cause)) if place.as_str() == ROOT => {
             value_lines(rt.alloc(), host.log(), given, cause)
         }
-        Exit::Permanent(place, Cause::Collect(CollectCause::Output(_))) => {
-            output_lines(rt, host.log(), traces.ticket_at(place.as_str()))
+        Exit::Permanent(place, Cause::Equation(NoValue::Reference(_))) => {
+            step_lines(rt.alloc(), &given.process, place.as_str())
+        }
+        Exit::Permanent(place, Cause::Build(BuildFault::Reference(_))) => {
+            tool_lines(rt.alloc(), &given.process, place.as_str())
+        }
+        Exit::Permanent(place, Cause::Collect(CollectCause::Output(fault))) => {
+            let tool = tool_of(&given.process, place.as_str());
+            output_lines(
+                rt,
+                host.log(),
+                traces.ticket_at(place.as_str()),
+                tool,
+                fault,
+            )
         }
         Exit::Permanent(place, Cause::Exit(_) | Cause::Collect(_)) | Exit::Temporary(place) => {
             job_lines(rt, host.log(), traces.ticket_at(place.as_str()))
@@ -125,13 +142,18 @@ fn job_lines<R: World>(
     }
 }
 
-// The same, and what the job left.
+// The same, the pattern of an output or what it refers to, and what the job left.
 fn output_lines<R: World>(
     rt: &R,
     log: &[Entry],
     ticket: Option<&u64>,
+    tool: Option<&Tool>,
+    fault: &OutputFault,
 ) -> Result<Vec<String>, AllocError> {
     let mut lines = job_lines(rt, log, ticket)?;
+    if let Some(tool) = tool {
+        add_output(rt.alloc(), tool, fault, &mut lines)?;
+    }
     match ticket {
         Some(ticket) => add_listing(rt.alloc(), log, *ticket, &mut lines)?,
         None => {}
