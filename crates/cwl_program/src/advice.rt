@@ -1,6 +1,7 @@
 //! What would do where a document or an input object is refused.
 
 use crate::exit::{Exit, Refusal};
+use crate::near_names::near_lines;
 use crate::reading::bytes_of_file;
 use crate::refused_inputs::refused_line;
 use crate::search::path_at;
@@ -64,6 +65,7 @@ fn fault_lines<R: World>(
             Ok(bytes) => form_lines(rt.alloc(), bytes.as_slice(), fault.outward.as_slice()),
             Err(_) => Ok(Vec::new(rt.alloc())),
         },
+        Cause::UnknownField => near_lines(rt.alloc(), fault.outward.as_slice()),
         Cause::UnknownRequirement => line(rt.alloc(), NOT_MET),
         _ => Ok(Vec::new(rt.alloc())),
     }

@@ -26,6 +26,7 @@ mod inputs;
 mod jobs;
 mod laws;
 mod looks;
+mod near_names;
 mod notes;
 mod on_machine;
 mod outdir;
