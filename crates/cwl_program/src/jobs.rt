@@ -13,9 +13,11 @@ use run_core::{RecordAnswer, RecordRequest};
 use std::alloc::{AllocError, Global};
 use workflow_engine::Watch;
 
-/// What of an earlier run is asked for.
-#[derive(Clone, Copy, Debug, PartialEq, Eq)]
-pub struct Memory {
+/// What of an earlier run is asked for, and which document is run.
+#[derive(Clone, Copy, Debug, Drop)]
+pub struct Memory<'a> {
+    /// The document's name.
+    pub document: &'a str,
     /// Whether a record or an archive is named, so that a job could be loaded.
     pub remembers: bool,
     /// Whether an archive is kept.
@@ -31,16 +33,19 @@ struct Running {
 
 /// What a run left that tells of its jobs, whose places are JSON text.
 #[derive(Drop)]
-pub struct Traces {
+pub struct Traces<'a> {
+    /// The name of the document, where its hints are to be told of.
+    pub document: Option<&'a str>,
     // the last child of each job
     tickets: Keyed<u64>,
     // for the code of each fault of the host the first job that met it
     failures: Keyed<Text>,
 }
 
-impl Traces {
-    pub fn new(alloc: Global) -> Traces {
+impl<'a> Traces<'a> {
+    pub fn new(alloc: Global, document: Option<&'a str>) -> Traces<'a> {
         Traces {
+            document,
             tickets: Keyed::new(alloc),
             failures: Keyed::new(alloc),
         }
@@ -62,7 +67,7 @@ impl Traces {
 pub struct Jobs<'a, L: Listen> {
     alloc: Global,
     listener: &'a mut L,
-    memory: Memory,
+    memory: Memory<'a>,
     // how many jobs were known at the last question
     known: usize,
     // what the record said
@@ -72,7 +77,7 @@ pub struct Jobs<'a, L: Listen> {
     // the job whose files were fetched last, until the run goes on with them
     fetched: Option<Text>,
     running: Vec<Running>,
-    traces: Traces,
+    traces: Traces<'a>,
     // the jobs whose command has ended, or whose files were loaded
     done: Keyed<bool>,
     loaded: u64,
@@ -83,7 +88,7 @@ pub struct Jobs<'a, L: Listen> {
 }
 
 impl<'a, L: Listen> Jobs<'a, L> {
-    pub fn new(alloc: Global, listener: &'a mut L, memory: Memory) -> Jobs<'a, L> {
+    pub fn new(alloc: Global, listener: &'a mut L, memory: Memory<'a>) -> Jobs<'a, L> {
         Jobs {
             alloc,
             listener,
@@ -93,7 +98,7 @@ impl<'a, L: Listen> Jobs<'a, L> {
             altered: Keyed::new(alloc),
             fetched: None,
             running: Vec::new(alloc),
-            traces: Traces::new(alloc),
+            traces: Traces::new(alloc, Some(memory.document)),
             done: Keyed::new(alloc),
             loaded: 0,
             gained: 0,
@@ -102,7 +107,7 @@ impl<'a, L: Listen> Jobs<'a, L> {
     }
 
     /// What can be told of jobs by their places.
-    pub fn traces(&self) -> &Traces {
+    pub fn traces(&self) -> &Traces<'a> {
         &self.traces
     }
 

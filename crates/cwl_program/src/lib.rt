@@ -37,6 +37,7 @@ mod planning;
 mod reading;
 mod record_words;
 mod refused_inputs;
+mod remarks;
 mod report;
 mod reuse;
 mod run;

@@ -5,6 +5,7 @@ use crate::explaining::hindrance_words;
 use crate::given::Given;
 use crate::input_notes::{misfit_lines, missing_lines, secondary_lines};
 use crate::jobs::Traces;
+use crate::remarks::add_remarks;
 use crate::shell_words::line_of;
 use crate::start_notes::{add_listing, add_obstacle, add_start};
 use crate::telling::ending;
@@ -26,25 +27,39 @@ const ROOT: &str = "\"main\"";
 /// Returns lines on what failed. Of a job they have its command, how it ended, the last that it said, and where an output is lacking its
 /// pattern and what is there; of an input of the process its value or file; of a reference the text that it stands in; of a call of the host
 /// the place of the job, and where a program was looked for or what is in a folder that can't be listed; of a delivery the result that is
-/// lacking, why, and where it lies. Where memory runs out there are none.
+/// lacking, why, and where it lies. Of a run they also say what it has ignored. Where memory runs out there are none.
 pub fn notes_on<R: World>(
     rt: &R,
     host: &Machine<R>,
     given: &Given,
-    traces: &Traces,
+    traces: &Traces<'_>,
     exit: &Exit,
 ) -> Vec<String> {
-    match lines_on(rt, host, given, traces, exit) {
+    match all_lines(rt, host, given, traces, exit) {
         Ok(lines) => lines,
         Err(AllocError) => Vec::new(rt.alloc()),
     }
+}
+
+fn all_lines<R: World>(
+    rt: &R,
+    host: &Machine<R>,
+    given: &Given,
+    traces: &Traces<'_>,
+    exit: &Exit,
+) -> Result<Vec<String>, AllocError> {
+    let mut lines = lines_on(rt, host, given, traces, exit)?;
+    if let Some(document) = traces.document {
+        add_remarks(rt, given, document, &mut lines)?;
+    }
+    Ok(lines)
 }
 
 fn lines_on<R: World>(
     rt: &R,
     host: &Machine<R>,
     given: &Given,
-    traces: &Traces,
+    traces: &Traces<'_>,
     exit: &Exit,
 ) -> Result<Vec<String>, AllocError> {
     match exit {

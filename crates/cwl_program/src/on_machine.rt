@@ -57,8 +57,9 @@ where
     }
 }
 
-fn memory_of(words: &RunWords) -> Memory {
+fn memory_of<'a>(words: &RunWords<'a>) -> Memory<'a> {
     Memory {
+        document: words.document,
         remembers: remembers(words),
         keeps: keeps_archive(words),
     }
@@ -94,7 +95,7 @@ fn told_of<R: World, K: Record, E: Write>(
     given: &Given,
     options: Options,
     telling: Telling,
-    memory: Memory,
+    memory: Memory<'_>,
     rows: &mut K,
     err: &mut E,
 ) -> Result<RunEnd, AllocError>
@@ -128,7 +129,7 @@ fn told_by<R: World, K: Record, E: Write>(
     given: &Given,
     options: Options,
     mut teller: Teller<'_, E>,
-    memory: Memory,
+    memory: Memory<'_>,
     rows: &mut K,
 ) -> Result<RunEnd, AllocError>
 where
@@ -152,7 +153,7 @@ fn ended<R: World, K: Record, L: Listen>(
     given: &Given,
     options: Options,
     listener: &mut L,
-    memory: Memory,
+    memory: Memory<'_>,
     rows: &mut K,
 ) -> Result<RunEnd, AllocError>
 where
@@ -209,7 +210,7 @@ pub fn noted<R: World>(
     rt: &R,
     host: &Machine<R>,
     given: &Given,
-    traces: &Traces,
+    traces: &Traces<'_>,
     exit: Result<Exit, AllocError>,
     savings: Option<Savings>,
 ) -> Result<RunEnd, AllocError>

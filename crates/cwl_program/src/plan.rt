@@ -277,7 +277,7 @@ where
         looks.answers(),
         dot,
     );
-    let traces = Traces::new(rt.alloc());
+    let traces = Traces::new(rt.alloc(), None);
     let end = noted(rt, &host, given, &traces, exit, None);
     mem::drop(traces);
     mem::drop(looks);
