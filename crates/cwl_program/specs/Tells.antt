@@ -124,9 +124,8 @@ IsExplained (Planned texts) err err_new = Appends err err_new texts.reasons
 IsExplained (Shows ending) err err_new = IsEndingExplained ending err err_new
 IsExplained exit err err_new = HasLine err err_new
 
--- lines on what failed: none where nothing did
+-- lines on what failed, and after a run also on what it has ignored: none behind a plan and behind the rows of a record
 abbrev pub AreNotes : Exit → (err err_new : Held) → Type 0
-AreNotes (Output line) err err_new = err_new ≡ err
 AreNotes (Planned texts) err err_new = err_new ≡ err
 AreNotes (Shows ending) err err_new = err_new ≡ err
 AreNotes exit err err_new = HasLines err err_new

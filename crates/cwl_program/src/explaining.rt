@@ -79,7 +79,8 @@ fn explain_ending<E: Write>(alloc: Global, ending: &Ending, err: &mut E) -> io::
     }
 }
 
-/// Writes the lines on what failed, but for one that stands in place of the words; none where nothing did.
+/// Writes the lines on what failed, but for one that stands in place of the words, and those on what a run has ignored; none behind a
+/// plan and behind the rows of a record.
 pub fn put_notes<E: Write>(
     alloc: Global,
     exit: &Exit,
@@ -89,7 +90,7 @@ pub fn put_notes<E: Write>(
     ensures { OnOk result (AreNotes exit.now (E.contents err.old) (E.contents err.new)) }
 {
     match exit {
-        Exit::Output(_) | Exit::Plan(_) | Exit::Record(_) => Ok(()),
+        Exit::Plan(_) | Exit::Record(_) => Ok(()),
         _ => put_lines(alloc, behind_words(exit, notes), err),
     }
 }
