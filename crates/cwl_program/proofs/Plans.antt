@@ -105,11 +105,11 @@ pub are_texts : (dot : Bool) (made : Planned) (places : List Text) (known : List
 are_texts dot made places known (Err error) named each paper lines why = tt
 are_texts dot made places known (Ok texts) named each paper lines why =
     record {
-        known = known;
-        each = each;
-        paper = subst (λ (p : List Text). texts.paper ≡ paper_of dot made p) named paper;
-        lines = subst (λ (p : List Text). texts.lines ≡ plan_lines made.cost made.plan.marks p) named lines;
-        reasons = subst (λ (p : List Text). texts.reasons ≡ reasons made.graph made.plan.marks known p) named why;
+      known = known;
+      each = each;
+      paper = subst (λ (p : List Text). texts.paper ≡ paper_of dot made p) named paper;
+      lines = subst (λ (p : List Text). texts.lines ≡ plan_lines made.cost made.plan.marks p) named lines;
+      reasons = subst (λ (p : List Text). texts.reasons ≡ reasons made.graph made.plan.marks known p) named why;
     }
 
 -- an end that leaves nothing
