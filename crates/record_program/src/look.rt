@@ -23,12 +23,12 @@ impl Look {
         matches!(self.head, Head::Blank) && !self.has_log
     }
 
-    /// Returns the name of the log that an opening makes beside a database.
+    /// Returns the name of the log that an opening makes beside the file.
     pub fn new_log(&self) -> Option<&str> {
-        match self.head {
-            Head::Database if !self.has_log => Some(self.log.as_str()),
-            _ => None,
+        if self.has_log {
+            return None;
         }
+        Some(self.log.as_str())
     }
 }
 
