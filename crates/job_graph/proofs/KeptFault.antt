@@ -23,6 +23,7 @@ follows_still walks learned held fault follows = record {
   outs = follows.outs;
   apart = follows.apart;
   kept = follows.kept;
+  ended = follows.ended;
 }
 
 pub same_kept : (old mid new : Progress) (error told : UnfoldError) → IsOfOneProcess old mid → Keeps mid error new told → IsOfOneProcess old new

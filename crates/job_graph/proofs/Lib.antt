@@ -1,6 +1,7 @@
 mod Above
 mod Ahead
 mod AheadOf
+mod Flags
 mod Graphs
 mod Going
 mod GoingOn

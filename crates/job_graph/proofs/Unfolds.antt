@@ -1,6 +1,7 @@
 -- What is known once one more place is learned.
-use Rattle.std.proofs.Common.{◌≡◌, ◌∙◌, ℕ, List, [], ◌∷◌, ◌++◌, map, Option, Some, None, true, Ok, Err, refl, sym, ap, subst, length, take, arith}
+use Rattle.std.proofs.Common.{◌≡◌, ◌∙◌, ℕ, List, [], ◌∷◌, ◌++◌, map, Bool, Option, Some, None, true, Ok, Err, refl, sym, ap, subst, length, take, arith}
 use Rattle.std.specs.Prelude.{MatchOption}
+use Rattle.std.specs.Global.{Vec}
 use Rattle.std.proofs.Math.Seq.{take-append_seam}
 use Rattle.std.proofs.lemmas.List.{length_push, map-append}
 use Rattle.document_links.specs.declared.process.Process.{Process}
@@ -21,11 +22,13 @@ use Rattle.job_graph.specs.KnownJobs.{jobs_in, known_of}
 use Rattle.job_graph.specs.Unfolding.{Blames}
 use Rattle.job_graph.specs.Beside.{is_one_open}
 use Rattle.job_graph.specs.inner.Growth.{AreCounted, IsAhead, IsOfOneProcess, Unfolds, UnfoldsTo, walk_in}
-use Rattle.job_graph.specs.inner.Inside.{Follows, Stands, walks_in}
+use Rattle.job_graph.specs.inner.Ended.{ended_of}
+use Rattle.job_graph.specs.inner.Inside.{Follows, IsFlagged, Stands, walks_in}
 use Rattle.job_graph.specs.inner.Kept.{KeepsRoot, met_by}
 use Rattle.job_graph.specs.inner.Outputs.{result_of}
 use Rattle.job_graph.specs.inner.Views.{resolved_of}
 use Rattle.job_graph.proofs.AheadOf.{ahead, kept_open}
+use Rattle.job_graph.proofs.Flags.{no_flags}
 use Rattle.job_graph.proofs.laws_of_walks.Open.{more_jobs, more_fault, unfolded_same}
 
 -- the last one is taken off again
@@ -41,8 +44,8 @@ popped before now after x (Some last) is off =
 
 -- ---- of an unfolding
 
-abbrev pub with_learned : Progress → List KeptResolved → Progress
-with_learned held learned = record held { facts = record held.facts { learned = learned } }
+abbrev pub with_learned : Progress → List KeptResolved → Vec Bool → Progress
+with_learned held learned flags = record held { facts = record held.facts { learned = learned }; ended = flags }
 
 abbrev task : Measures → Process → Fields → Walker
 task measures process fields made = meaning_of measures made process [] fields
@@ -62,8 +65,8 @@ walk_is walks learned held walker places =
 pub knows_after : (walks : Walker) (past : List Job) (learned : List Resolved) (held new : Progress) →
     walks_in held ≡ walks → map resolved_of held.facts.learned ≡ learned → jobs_in held.known.items ≡ past → AreCounted held.known.items held.entries →
     (unfolded walks learned).jobs ≡ with_met past (walks (made_by learned)).met → (unfolded walks learned).fault ≡ first_fault past (walks (made_by learned)).met →
-    ids_differ held.process.now ≡ true → IsAhead held → Unfolds held new (Ok tt) → Follows walks learned new
-knows_after walks past learned held new walker places known counted all fault apart ahead unfolds =
+    ids_differ held.process.now ≡ true → IsAhead held → IsFlagged held → Unfolds held new (Ok tt) → Follows walks learned new
+knows_after walks past learned held new walker places known counted all fault apart ahead flagged unfolds =
     let found : UnfoldsTo held new (Ok tt) = unfolds.unfolds ahead counted in
     let walk : walk_in held ≡ walks (made_by learned) = walk_is walks learned held walker places in
     let jobs : jobs_in new.known.items ≡ (unfolded walks learned).jobs =
@@ -79,6 +82,7 @@ knows_after walks past learned held new walker places known counted all fault ap
       outs = found.outs ∙ ap (λ (w : Walk). those_named w.outs) walk;
       apart = ap ids_differ unfolds.same.process ∙ apart;
       kept = unfolds.root;
+      ended = unfolds.ended flagged;
     }
 
 pub blames_after : (walks : Walker) (past : List Job) (learned : List Resolved) (held new : Progress) (error : UnfoldError) →
@@ -106,9 +110,9 @@ none_ahead held known kept = record {
 }
 
 pub knows_first : (walks : Walker) (held new : Progress) → walks_in held ≡ walks → held.facts.learned ≡ [] → held.known.items ≡ [] → held.entries ≡ 0 →
-    held.kept ≡ None → ids_differ held.process.now ≡ true → Unfolds held new (Ok tt) → Follows walks [] new
-knows_first walks held new walker learned known entries kept apart unfolds =
-    knows_after walks [] [] held new walker (ap (map resolved_of) learned) (ap jobs_in known) (none_counted held.known.items held.entries known entries) refl refl apart (none_ahead held known kept) unfolds
+    held.ended.items ≡ [] → held.kept ≡ None → ids_differ held.process.now ≡ true → Unfolds held new (Ok tt) → Follows walks [] new
+knows_first walks held new walker learned known entries ended kept apart unfolds =
+    knows_after walks [] [] held new walker (ap (map resolved_of) learned) (ap jobs_in known) (none_counted held.known.items held.entries known entries) refl refl apart (none_ahead held known kept) (no_flags held known ended) unfolds
 
 pub blames_first : (walks : Walker) (held new : Progress) (error : UnfoldError) → walks_in held ≡ walks → held.facts.learned ≡ [] → held.known.items ≡ [] → held.entries ≡ 0 →
     held.kept ≡ None → Unfolds held new (Err error) → Blames (unfolded walks []).fault error
@@ -126,24 +130,30 @@ more_places : (learned : List Resolved) (before more : List KeptResolved) (resol
 more_places learned before more resolved places is =
     ap (map resolved_of) is ∙ map-append resolved_of before (resolved ∷ []) ∙ ap (λ (front : List Resolved). front ++ resolved_of resolved ∷ []) places
 
-pub knows_more : (walks : Walker) (learned : List Resolved) (old new : Progress) (resolved : KeptResolved) (more : List KeptResolved) → Stands old → Follows walks learned old →
-    more ≡ old.facts.learned ++ resolved ∷ [] → Unfolds (with_learned old more) new (Ok tt) → Follows walks (learned ++ resolved_of resolved ∷ []) new
-knows_more walks learned old new resolved more stands knows is unfolds =
-    knows_after walks (unfolded walks learned).jobs (learned ++ resolved_of resolved ∷ []) (with_learned old more) new
-    knows.walker (more_places learned old.facts.learned more resolved knows.places is) knows.jobs (is_counted walks learned old knows)
-    (more_jobs walks learned (resolved_of resolved)) (more_fault walks learned (resolved_of resolved) knows.fault) knows.apart (ahead old resolved more is stands) unfolds
+module _ (old : Progress) (resolved : KeptResolved) (more : List KeptResolved) (flags : Vec Bool) (is : more ≡ old.facts.learned ++ resolved ∷ []) (stands : Stands old) where
+  is_ahead : IsAhead (with_learned old more flags)
+  is_ahead = record { seen = (ahead old resolved more is stands).seen; met = (ahead old resolved more is stands).met }
 
-pub blames_more : (walks : Walker) (learned : List Resolved) (old new : Progress) (resolved : KeptResolved) (more : List KeptResolved) (error : UnfoldError) → Stands old → Follows walks learned old →
-    more ≡ old.facts.learned ++ resolved ∷ [] → Unfolds (with_learned old more) new (Err error) → Blames (unfolded walks (learned ++ resolved_of resolved ∷ [])).fault error
-blames_more walks learned old new resolved more error stands knows is unfolds =
-    blames_after walks (unfolded walks learned).jobs (learned ++ resolved_of resolved ∷ []) (with_learned old more) new error
+pub knows_more : (walks : Walker) (learned : List Resolved) (old new : Progress) (resolved : KeptResolved) (more : List KeptResolved) (flags : Vec Bool) → Stands old → Follows walks learned old →
+    more ≡ old.facts.learned ++ resolved ∷ [] → flags.items ≡ ended_of (map resolved_of more) old.known.items → Unfolds (with_learned old more flags) new (Ok tt) →
+    Follows walks (learned ++ resolved_of resolved ∷ []) new
+knows_more walks learned old new resolved more flags stands knows is flagged unfolds =
+    knows_after walks (unfolded walks learned).jobs (learned ++ resolved_of resolved ∷ []) (with_learned old more flags) new
     knows.walker (more_places learned old.facts.learned more resolved knows.places is) knows.jobs (is_counted walks learned old knows)
-    (more_fault walks learned (resolved_of resolved) knows.fault) (ahead old resolved more is stands) unfolds
+    (more_jobs walks learned (resolved_of resolved)) (more_fault walks learned (resolved_of resolved) knows.fault) knows.apart (is_ahead old resolved more flags is stands) flagged unfolds
 
-pub knows_still : (walks : Walker) (learned : List Resolved) (old new : Progress) (more less : List KeptResolved) (error : UnfoldError) → Follows walks learned old →
-    less ≡ old.facts.learned → Unfolds (with_learned old more) new (Err error) → Follows walks learned (with_learned new less)
-knows_still walks learned old new more less error knows is unfolds = record {
-  walker = same_walks (with_learned old more) new unfolds.same ∙ knows.walker;
+pub blames_more : (walks : Walker) (learned : List Resolved) (old new : Progress) (resolved : KeptResolved) (more : List KeptResolved) (flags : Vec Bool) (error : UnfoldError) → Stands old → Follows walks learned old →
+    more ≡ old.facts.learned ++ resolved ∷ [] → Unfolds (with_learned old more flags) new (Err error) → Blames (unfolded walks (learned ++ resolved_of resolved ∷ [])).fault error
+blames_more walks learned old new resolved more flags error stands knows is unfolds =
+    blames_after walks (unfolded walks learned).jobs (learned ++ resolved_of resolved ∷ []) (with_learned old more flags) new error
+    knows.walker (more_places learned old.facts.learned more resolved knows.places is) knows.jobs (is_counted walks learned old knows)
+    (more_fault walks learned (resolved_of resolved) knows.fault) (is_ahead old resolved more flags is stands) unfolds
+
+pub knows_still : (walks : Walker) (learned : List Resolved) (old new : Progress) (more less : List KeptResolved) (flags later : Vec Bool) (error : UnfoldError) → Follows walks learned old →
+    less ≡ old.facts.learned → later.items ≡ ended_of (map resolved_of less) new.known.items → Unfolds (with_learned old more flags) new (Err error) →
+    Follows walks learned (with_learned new less later)
+knows_still walks learned old new more less flags later error knows is flagged unfolds = record {
+  walker = same_walks (with_learned old more flags) new unfolds.same ∙ knows.walker;
   places = ap (map resolved_of) is ∙ knows.places;
   jobs = ap jobs_in unfolds.alike.jobs ∙ knows.jobs;
   parents = ap (map known_of) unfolds.alike.jobs ∙ knows.parents;
@@ -153,14 +163,16 @@ knows_still walks learned old new more less error knows is unfolds = record {
   outs = ap (λ (outputs : Outputs). outputs.named.items) unfolds.alike.outputs ∙ knows.outs;
   apart = ap ids_differ unfolds.same.process ∙ knows.apart;
   kept = subst (λ (k : Option Kept). KeepsRoot (record new.facts { learned = less }) new.fields new.process.now k) (sym unfolds.none) tt;
+  ended = flagged;
 }
 
 -- once one more place is learned, while a job beside it is open
 
-still_knows : (walks : Walker) (learned : List Resolved) (old : Progress) (one : Resolved) (more : List KeptResolved) → map resolved_of more ≡ learned ++ one ∷ [] →
+still_knows : (walks : Walker) (learned : List Resolved) (old : Progress) (one : Resolved) (more : List KeptResolved) (flags : Vec Bool) → map resolved_of more ≡ learned ++ one ∷ [] →
     Follows walks learned old → unfolded walks (learned ++ one ∷ []) ≡ unfolded walks learned →
-    KeepsRoot (record old.facts { learned = more }) old.fields old.process.now old.kept → Follows walks (learned ++ one ∷ []) (with_learned old more)
-still_knows walks learned old one more places knows same kept = record {
+    KeepsRoot (record old.facts { learned = more }) old.fields old.process.now old.kept → flags.items ≡ ended_of (map resolved_of more) old.known.items →
+    Follows walks (learned ++ one ∷ []) (with_learned old more flags)
+still_knows walks learned old one more flags places knows same kept flagged = record {
   walker = knows.walker;
   places = places;
   jobs = knows.jobs ∙ sym (ap (λ (u : Unfolded). u.jobs) same);
@@ -171,21 +183,22 @@ still_knows walks learned old one more places knows same kept = record {
   outs = knows.outs ∙ sym (ap (λ (u : Unfolded). u.outs) same);
   apart = knows.apart;
   kept = kept;
+  ended = flagged;
 }
 
-pub knows_open : (walks : Walker) (learned : List Resolved) (old : Progress) (resolved : KeptResolved) (more : List KeptResolved) → Stands old → Follows walks learned old →
+pub knows_open : (walks : Walker) (learned : List Resolved) (old : Progress) (resolved : KeptResolved) (more : List KeptResolved) (flags : Vec Bool) → Stands old → Follows walks learned old →
     more ≡ old.facts.learned ++ resolved ∷ [] →
     is_one_open (map resolved_of old.facts.learned) (resolved_of resolved).place (jobs_in old.known.items) ≡ true →
-    Follows walks (learned ++ resolved_of resolved ∷ []) (with_learned old more)
-knows_open walks learned old resolved more stands knows is waits =
+    flags.items ≡ ended_of (map resolved_of more) old.known.items → Follows walks (learned ++ resolved_of resolved ∷ []) (with_learned old more flags)
+knows_open walks learned old resolved more flags stands knows is waits flagged =
     let one : Resolved = resolved_of resolved in
     let through : walks_in old ≡ walks = knows.walker in
     let here : is_one_open learned one.place (unfolded (walks_in old) learned).jobs ≡ true =
     sym (ap (λ (found : List Resolved). is_one_open found one.place (jobs_in old.known.items)) knows.places
     ∙ ap (λ (jobs : List Job). is_one_open learned one.place jobs) (knows.jobs ∙ ap (λ (w : Walker). (unfolded w learned).jobs) (sym through))) ∙ waits in
     let none : (unfolded (walks_in old) learned).fault ≡ None = ap (λ (w : Walker). (unfolded w learned).fault) through ∙ knows.fault in
-    subst (λ (w : Walker). Follows w (learned ++ one ∷ []) (with_learned old more)) through
-    (still_knows (walks_in old) learned old one more (more_places learned old.facts.learned more resolved knows.places is)
+    subst (λ (w : Walker). Follows w (learned ++ one ∷ []) (with_learned old more flags)) through
+    (still_knows (walks_in old) learned old one more flags (more_places learned old.facts.learned more resolved knows.places is)
     (subst (λ (w : Walker). Follows w learned old) (sym through) knows)
     (unfolded_same old.process.now old.fields old.facts.measures knows.apart learned one here none)
-    (kept_open old resolved more is stands waits))
+    (kept_open old resolved more is stands waits) flagged)

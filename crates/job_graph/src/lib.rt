@@ -12,6 +12,7 @@
 
 mod cause;
 mod costs;
+mod ended;
 mod fault;
 mod gather;
 mod growth;

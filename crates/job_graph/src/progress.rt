@@ -14,8 +14,9 @@ ghost use Rattle.job_graph.specs.inner.Outputs.{result_of};
 ghost use Rattle.job_graph.specs.inner.Views.{resolved_of};
 
 use crate::costs::Costs;
+use crate::ended::{end_last, grow_flagged, look_up};
 use crate::fault::{UnfoldError, UnfoldFault};
-use crate::growth::{KnownJob, grow};
+use crate::growth::KnownJob;
 use crate::ids::see_ids;
 use crate::inputs::root_fields;
 use crate::kept::{Kept, Rooted, walk_from_root};
@@ -42,6 +43,8 @@ pub(crate) struct Progress<'a> {
     fields: Keyed<Value>,
     facts: Facts,
     pub known: Vec<KnownJob<'a>>,
+    /// For each known job, whether it has ended: whether its outputs were learned.
+    ended: Vec<bool>,
     /// How many parents the known jobs have in all.
     entries: usize,
     fault: Option<UnfoldFault>,
@@ -74,6 +77,7 @@ impl<'a> Progress<'a> {
                 learned: Learned::new(alloc),
             },
             known: Vec::new(alloc),
+            ended: Vec::new(alloc),
             entries: 0,
             fault: None,
             outputs: Outputs::new(alloc),
@@ -130,8 +134,9 @@ impl<'a> Progress<'a> {
             return Err(UnfoldError::Refused(fault.clone_in(self.alloc)?));
         }
         let outs = self.outputs.named.as_slice();
+        let ended = self.ended.as_slice();
         let known = self.known.as_slice();
-        let vertices = vertices_of(self.alloc, &self.facts.learned, outs, known, costs)?;
+        let vertices = vertices_of(self.alloc, outs, ended, known, costs)?;
         graph_of(self.alloc, vertices)
     }
 
@@ -150,6 +155,7 @@ impl<'a> Progress<'a> {
         let place = &resolved.at.place;
         let is_open = is_one_open(&self.facts.learned, place, self.known.as_slice());
         self.facts.learned.push(resolved)?;
+        end_last(&mut self.ended, &self.facts.learned, self.known.as_slice());
         if is_open {
             return Ok(());
         }
@@ -157,6 +163,7 @@ impl<'a> Progress<'a> {
             Ok(()) => Ok(()),
             Err(error) => {
                 mem::drop(self.facts.learned.pop());
+                look_up(&mut self.ended, &self.facts.learned, self.known.as_slice());
                 Err(error)
             }
         }
@@ -192,7 +199,15 @@ impl<'a> Progress<'a> {
         let are_all = are_there(outs.as_slice());
         let named = those_named(self.alloc, outs)?;
         let before = self.known.len();
-        match grow(self.alloc, &mut self.known, self.entries, met) {
+        let flags = self.ended.len();
+        match grow_flagged(
+            self.alloc,
+            &self.facts.learned,
+            &mut self.known,
+            &mut self.ended,
+            self.entries,
+            met,
+        ) {
             Ok(entries) => {
                 self.entries = entries;
                 let is_whole = are_whole(are_all, &self.facts.learned, self.known.as_slice());
@@ -203,6 +218,7 @@ impl<'a> Progress<'a> {
             }
             Err(error) => {
                 self.known.truncate(before);
+                self.ended.truncate(flags);
                 Err(error)
             }
         }

@@ -5,7 +5,7 @@ use Rattle.job_graph.specs.Jobs.{Job, Met, met_fault, met_job, Walk, Walker, res
 use Rattle.job_graph.specs.KnownJobs.{jobs_in, known_of}
 use Rattle.job_graph.specs.Unfold.{Resolved, entries_from, first_fault, is_known, known_from, or_else, unfolded, with_met}
 use Rattle.job_graph.specs.Unfolding.{Blames, fault_of}
-use Rattle.job_graph.specs.inner.Inside.{Follows, walks_in}
+use Rattle.job_graph.specs.inner.Inside.{Follows, IsFlagged, walks_in}
 use Rattle.job_graph.specs.inner.Kept.{KeepsRoot, met_by}
 use Rattle.job_graph.specs.inner.Outputs.{result_of}
 use Rattle.job_graph.specs.inner.Views.{made_from}
@@ -49,6 +49,7 @@ pub record IsAlike (old new : Progress) : Type 0 where
   pub jobs : new.known.items ≡ old.known.items
   pub entries : new.entries ≡ old.entries
   pub outputs : new.outputs ≡ old.outputs
+  pub ended : new.ended.items ≡ old.ended.items
 
 -- once its walk was made
 pub record IsWalked (old new : Progress) : Type 0 where
@@ -73,6 +74,7 @@ pub record Unfolds (old new : Progress) (result : Result (Unit {0}) UnfoldError)
   pub alike : OnErr result (IsAlike old new)
   pub root : OnOk result (KeepsRoot new.facts new.fields new.process.now new.kept)
   pub none : OnErr result (new.kept ≡ None)
+  pub ended : IsFlagged old → IsFlagged new
   pub unfolds : IsAhead old → AreCounted old.known.items old.entries → UnfoldsTo old new result
 
 -- one more place is learned, or nothing changes

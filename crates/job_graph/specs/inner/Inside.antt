@@ -6,6 +6,7 @@ use Rattle.job_graph.specs.KnownJobs.{jobs_in, known_of}
 use Rattle.job_graph.specs.Unfold.{Resolved, entries_from, known_from, unfolded}
 use Rattle.job_graph.specs.UnfoldedSoFar.{UnfoldedSoFar, walks_of}
 use Rattle.job_graph.specs.Unfolding.{fault_of}
+use Rattle.job_graph.specs.inner.Ended.{ended_of}
 use Rattle.job_graph.specs.inner.Kept.{KeepsRoot}
 use Rattle.job_graph.specs.inner.Outputs.{result_of}
 use Rattle.job_graph.specs.inner.Views.{resolved_of}
@@ -25,6 +26,10 @@ seen held = record {
 abbrev pub walks_in : Progress → Walker
 walks_in held = walks_of (seen held)
 
+-- its flags say which of its jobs have ended
+abbrev pub IsFlagged : Progress → Type 0
+IsFlagged held = held.ended.items ≡ ended_of (map resolved_of held.facts.learned) held.known.items
+
 -- its jobs, their parents and outputs are what these places unfold, learned in this order, and no equation fails
 pub record Follows (walks : Walker) (learned : List Resolved) (held : Progress) : Type 0 where
   pub walker : walks_in held ≡ walks
@@ -37,6 +42,7 @@ pub record Follows (walks : Walker) (learned : List Resolved) (held : Progress) 
   pub outs : held.outputs.named.items ≡ (unfolded walks learned).outs
   pub apart : ids_differ held.process.now ≡ true
   pub kept : KeepsRoot held.facts held.fields held.process.now held.kept
+  pub ended : IsFlagged held
 
 -- it follows what it has learned, also once a fault was met
 abbrev pub Stands : Progress → Type 0

@@ -1,11 +1,9 @@
 use Rattle.std.proofs.Common.{◌≡◌, ◌++◌, drop, map}
 use Rattle.std.specs.List.{zip}
-use Rattle.job_graph.specs.KnownJobs.{known_of}
-use Rattle.job_graph.specs.PresentJobGraph.{vertex_of}
-use Rattle.job_graph.specs.inner.Views.{resolved_of}
+use Rattle.job_graph.specs.inner.Ended.{vertex_by}
 use Rattle.job_graph.proofs.present.vertices_of.Given as goal
 
 abbrev pub invariant-loop-number : goal.invariant-loop-number
 invariant-loop-number l =
-    l.vertices.items ++ map (vertex_of (map resolved_of l.learned) l.outs) (zip (map known_of (drop l.number l.known)) (drop l.number l.costs))
-    ≡ map (vertex_of (map resolved_of l.learned) l.outs) (zip (map known_of l.known) l.costs)
+    l.vertices.items ++ map (vertex_by l.outs) (zip (drop l.number l.ended) (zip (drop l.number l.known) (drop l.number l.costs)))
+    ≡ map (vertex_by l.outs) (zip l.ended (zip l.known l.costs))

@@ -1,0 +1,104 @@
+-- Flags of the known jobs: what sets them, and what they say once they are set.
+use Rattle.std.proofs.Common.{◌≡◌, ◌∙◌, ℕ, List, [], ◌∷◌, ◌++◌, map, length, take, drop, find, get_or, Bool, true, false, cond, Option, Some, None, option_map, refl, sym, ap, ap₂, arith}
+use Rattle.std.specs.Prelude.{◌||◌, is_some}
+use Rattle.std.specs.List.{zip}
+use Rattle.std.proofs.Math.Seq.{get_or-append_seam}
+use Rattle.std.proofs.lemmas.List.{length-map, length_push, map-append, take-append-drop}
+use Rattle.job_graph.specs.declared.costs.Costs.{Costs}
+use Rattle.job_graph.specs.declared.growth.KnownJob.{KnownJob}
+use Rattle.job_graph.specs.declared.made.Resolved.{Resolved as KeptResolved}
+use Rattle.job_graph.specs.declared.progress.Progress.{Progress}
+use Rattle.job_graph.specs.Words.{Fields, JobPlace, is_same_place}
+use Rattle.job_graph.specs.KnownJobs.{known_of}
+use Rattle.job_graph.specs.PresentJobGraph.{vertex_of}
+use Rattle.job_graph.specs.Unfold.{Resolved, outputs_at}
+use Rattle.job_graph.specs.inner.Ended.{ended_after, ended_of, has_ended, vertex_by}
+use Rattle.job_graph.specs.inner.Inside.{IsFlagged}
+use Rattle.job_graph.specs.inner.Views.{resolved_of}
+
+-- ---- once one more place is learned
+
+abbrev found_at : Option Resolved → Bool
+found_at found = is_some (option_map (λ r. r.outputs) found)
+
+at_last : (one : Resolved) (same : Bool) → found_at (cond same (Some one) None) ≡ (false || same)
+at_last one true = refl
+at_last one false = refl
+
+past_one : (r : Resolved) (here same : Bool) (later before : Option Resolved) → found_at later ≡ (found_at before || same) →
+    found_at (cond here (Some r) later) ≡ (found_at (cond here (Some r) before) || same)
+past_one r true same later before is = refl
+past_one r false same later before is = is
+
+-- outputs are there where they were, or where the places are the same
+pub one_more : (learned : List Resolved) (one : Resolved) (place : JobPlace) →
+    is_some (outputs_at (learned ++ one ∷ []) place) ≡ (is_some (outputs_at learned place) || is_same_place one.place place)
+one_more [] one place = at_last one (is_same_place one.place place)
+one_more (r ∷ rs) one place =
+    past_one r (is_same_place r.place place) (is_same_place one.place place)
+    (find (λ r. is_same_place r.place place) (rs ++ one ∷ [])) (find (λ r. is_same_place r.place place) rs) (one_more rs one place)
+
+pub ended_more : (learned : List Resolved) (one : Resolved) (known : List KnownJob) →
+    map (ended_after one.place) (zip (ended_of learned known) known) ≡ ended_of (learned ++ one ∷ []) known
+ended_more learned one [] = refl
+ended_more learned one (k ∷ ks) = ap₂ (λ (b : Bool) (bs : List Bool). b ∷ bs) (sym (one_more learned one k.job.place)) (ended_more learned one ks)
+
+same_last : {X : Type 0} (before early : List X) (one last : X) → before ++ one ∷ [] ≡ early ++ last ∷ [] → one ≡ last
+same_last before early one last is =
+    let lengths : length (before ++ one ∷ []) ≡ length (early ++ last ∷ []) = ap length is in
+    let as_many : length before ≡ length early = omega (arith, length_push before one, length_push early last) in
+    sym (get_or-append_seam before one [] last) ∙ ap₂ (λ xs (n : ℕ). get_or xs n last) is as_many ∙ get_or-append_seam early last [] last
+
+none_last : {X : Type 0} (before : List X) (one : X) → [] ≡ before ++ one ∷ [] → ⊥
+none_last before one is = let none : 0 ≡ length (before ++ one ∷ []) = ap length is in absurd (omega (arith, length_push before one))
+
+module _ (learned : List KeptResolved) (known : List KnownJob) (flags after : List Bool) where
+  pub flags_none : learned ≡ [] → (before : List KeptResolved) (one : KeptResolved) → learned ≡ before ++ one ∷ [] → flags ≡ ended_of (map resolved_of before) known →
+      after ≡ ended_of (map resolved_of learned) known
+  flags_none none before one is were = absurd (none_last before one (sym none ∙ is))
+
+  pub flags_last : (early : List KeptResolved) (last : KeptResolved) → learned ≡ early ++ last ∷ [] → after ≡ map (ended_after last.at.place) (zip flags known) →
+      (before : List KeptResolved) (one : KeptResolved) → learned ≡ before ++ one ∷ [] → flags ≡ ended_of (map resolved_of before) known →
+      after ≡ ended_of (map resolved_of learned) known
+  flags_last early last at_end set before one is were =
+      set
+      ∙ ap₂ (λ (r : KeptResolved) (fs : List Bool). map (ended_after r.at.place) (zip fs known)) (same_last early before last one (sym at_end ∙ is)) were
+      ∙ ended_more (map resolved_of before) (resolved_of one) known
+      ∙ ap (λ (places : List Resolved). ended_of places known) (sym (map-append resolved_of before (one ∷ [])) ∙ ap (map resolved_of) (sym is))
+
+-- ---- once more jobs are known
+
+pub flags_grow : (learned : List Resolved) (old new : List KnownJob) (before after : List Bool) → take (length old) new ≡ old → before ≡ ended_of learned old →
+    after ≡ before ++ ended_of learned (drop (length before) new) → after ≡ ended_of learned new
+flags_grow learned old new before after front were grown =
+    let as_many : length before ≡ length old = ap length were ∙ length-map old (has_ended learned) in
+    grown
+    ∙ ap₂ (λ (flags : List Bool) (n : ℕ). flags ++ ended_of learned (drop n new)) (were ∙ ap (ended_of learned) (sym front)) as_many
+    ∙ sym (map-append (has_ended learned) (take (length old) new) (drop (length old) new))
+    ∙ ap (ended_of learned) (take-append-drop (length old) new)
+
+-- ---- of an unfolding
+
+-- there are as many flags as jobs
+pub flags_fit : (held : Progress) (known : List KnownJob) → IsFlagged held → known ≡ held.known.items → length held.ended.items ≡ length known
+flags_fit held known flagged is =
+    ap length flagged ∙ length-map held.known.items (has_ended (map resolved_of held.facts.learned)) ∙ ap length (sym is)
+
+pub no_flags : (held : Progress) → held.known.items ≡ [] → held.ended.items ≡ [] → IsFlagged held
+no_flags held known none = none ∙ sym (ap (ended_of (map resolved_of held.facts.learned)) known)
+
+-- what is set at the place that was learned last
+pub flags_more : (old : Progress) (resolved : KeptResolved) (more : List KeptResolved) (known : List KnownJob) (flags : List Bool) → IsFlagged old →
+    more ≡ old.facts.learned ++ resolved ∷ [] → known ≡ old.known.items →
+    ((before : List KeptResolved) (one : KeptResolved) → more ≡ before ++ one ∷ [] → old.ended.items ≡ ended_of (map resolved_of before) known → flags ≡ ended_of (map resolved_of more) known) →
+    flags ≡ ended_of (map resolved_of more) old.known.items
+flags_more old resolved more known flags flagged is same set =
+    set old.facts.learned resolved is (flagged ∙ ap (ended_of (map resolved_of old.facts.learned)) (sym same)) ∙ ap (ended_of (map resolved_of more)) same
+
+-- ---- vertices by flags
+
+pub vertices_by : (learned : List Resolved) (outs : Fields) (known : List KnownJob) (costs : List Costs) →
+    map (vertex_by outs) (zip (ended_of learned known) (zip known costs)) ≡ map (vertex_of learned outs) (zip (map known_of known) costs)
+vertices_by learned outs [] costs = refl
+vertices_by learned outs (k ∷ ks) [] = refl
+vertices_by learned outs (k ∷ ks) (c ∷ cs) = ap (λ vs. vertex_of learned outs (known_of k, c) ∷ vs) (vertices_by learned outs ks cs)

@@ -1,0 +1,29 @@
+-- Which of the known jobs have ended, as flags beside them.
+use Rattle.std.specs.Prelude.{◌||◌, not, Bool, List, is_some, map}
+use Rattle.plan_checker.specs.declared.vertex.Vertex.{Vertex}
+use Rattle.job_graph.specs.Words.{Fields, JobPlace, is_same_place}
+use Rattle.job_graph.specs.Made.{any_made}
+use Rattle.job_graph.specs.Unfold.{Resolved, outputs_at}
+use Rattle.job_graph.specs.declared.costs.Costs.{Costs}
+use Rattle.job_graph.specs.declared.growth.KnownJob.{KnownJob}
+
+-- whether the outputs of a known job were learned
+abbrev pub has_ended : List Resolved → KnownJob → Bool
+has_ended learned known = is_some (outputs_at learned known.job.place)
+
+-- the same of each of them
+abbrev pub ended_of : List Resolved → List KnownJob → List Bool
+ended_of learned known = map (has_ended learned) known
+
+-- a job's flag once a place is learned: it had ended, or is at this place
+abbrev pub ended_after : JobPlace → Bool × KnownJob → Bool
+ended_after place entry = entry.0 || is_same_place place entry.1.job.place
+
+-- the vertex of a known job with its flag and its costs
+abbrev pub vertex_by : Fields → Bool × (KnownJob × Costs) → Vertex
+vertex_by outs entry = record {
+  load = entry.1.1.load;
+  compute = entry.1.1.compute;
+  parents = entry.1.0.parents;
+  needed = not entry.0 || any_made entry.1.0.job.place outs;
+}
