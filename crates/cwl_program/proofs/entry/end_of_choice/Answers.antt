@@ -20,5 +20,5 @@ returns-in-Check-clause-end g c =
 pub returns-in-Plan-clause-end : goal.returns-in-Plan-clause-end
 returns-in-Plan-clause-end g c =
     subst (λ (choice : Choice). IfOk c.end_of_plan.result (λ end. IsEndOf c.args.path.now choice end.exit end.left)) (sym c.in-Plan.is)
-    (and_leaves_nothing (IsEndOfPlan (wish_of_run c.in-Plan.words.now.run) c.in-Plan.words.now.dot c.args.path.now) _
+    (and_leaves_nothing (IsEndOfPlan (wish_of_run c.in-Plan.words.run) c.in-Plan.words.dot c.args.path.now) _
     c.end_of_plan.ensures.end c.end_of_plan.ensures.left)
