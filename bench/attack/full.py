@@ -69,7 +69,9 @@ class Scene:
         words = [self.program, "run", "--explain", "--work", work, "--outdir", out, *more, "document", "inputs"]
         ran = subprocess.run(words, cwd=self.folder, stdin=subprocess.DEVNULL, stdout=subprocess.PIPE, stderr=subprocess.PIPE, text=True, timeout=SECONDS, check=False)
         started = f"{self.folder}/started"
-        return ran.returncode, ran.stdout, ran.stderr.splitlines(), len(open(started).readlines()) if os.path.exists(started) else 0
+        # (how many jobs were loaded and computed is said of each success)
+        told = [line for line in ran.stderr.splitlines() if not line.endswith(" saved")]
+        return ran.returncode, ran.stdout, told, len(open(started).readlines()) if os.path.exists(started) else 0
 
     def is_right(self, path, letter):
         with open(path, "rb") as it:

@@ -215,7 +215,7 @@ def wrong_answer(words, status, out, err):
         return f"status {status}", ["what it wrote is no UTF-8"]
     first, wrong = err.partition("\n")[0], []
     said = re.match(TOLD[status], err)
-    if not said or "--explain" not in words and said[0] != err or status == 0 and err:
+    if not said or "--explain" not in words and said[0] != err or status == 0 and err and "--explain" not in words:
         wrong.append(f"standard error: {err!r}")
     if HIDDEN.search(err):
         wrong.append(f"what a terminal hides is shown: {err!r}")

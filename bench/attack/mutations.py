@@ -3,6 +3,7 @@
 Each of the functions takes what chance decides (`random.Random`), so that a seed gives the same texts again.
 """
 
+import copy
 import json
 import sqlite3
 
@@ -101,7 +102,8 @@ def altered_value(chance, text, others):
             other = chance.choice(held)
             holder[key] = json.loads(json.dumps(other)) if len(json.dumps(other)) < 10_000 else None
         else:
-            holder[key] = some_value(chance, others)
+            # (a copy, since a piece that is put into itself has no end)
+            holder[key] = copy.deepcopy(some_value(chance, others))
     return json.dumps(value, ensure_ascii=chance.random() < 0.5).encode(errors="surrogatepass")
 
 

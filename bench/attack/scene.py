@@ -19,6 +19,8 @@ import time
 SIZES = (0, 1, 1_000, 65_536, 65_537, 200_000, 3, 400_000)
 JOBS = 2 * len(SIZES) + 2
 SECONDS = int(os.environ.get("SECONDS_EACH", 120))
+# The lines in which a run tells of its jobs.
+TOLD = ("start ", "end ", "compute ", "load ", "omit ")
 
 
 def sum_of(content):
@@ -102,7 +104,7 @@ class Scene:
         said, told = child.communicate(timeout=SECONDS)
         lines = told.splitlines()
         starts = [line.split()[1] for line in lines if line.startswith("start ")]
-        others = [line for line in lines if not line.startswith(("start ", "end "))]
+        others = [line for line in lines if not line.startswith(TOLD)]
         return child.returncode, said, starts, others
 
     def clear_run(self):
