@@ -7,6 +7,7 @@ use Rattle.std.proofs.lemmas.Bool.{cases_eq, true≢false}
 use Rattle.plan_checker.specs.declared.vertex.Vertex.{Vertex}
 use Rattle.plan_checker.specs.declared.charges.Charges.{Charges}
 use Rattle.plan_checker.specs.Graph.{vertex, no_vertex, IsGraph}
+use Rattle.plan_checker.specs.declared.graph.TheConstants.{MOST_VERTICES}
 use Rattle.std.proofs.lemmas.List.{get_or_default}
 use Rattle.path_planner.specs.declared.search.Search.{Search}
 use Rattle.path_planner.specs.declared.search.Kept.{Kept}
@@ -14,7 +15,7 @@ use Rattle.path_planner.specs.declared.search.Computed.{Computed}
 use Rattle.path_planner.specs.inner.Search.{kept_at, computed_at, CanKeep, CanCompute, IsSearching, IsUnderWay, HasKept, HasComputed, Advances, Enters, GoesBack, GoesThrough, IsPassedBack, IsLeft, IsSettled}
 use Rattle.path_planner.proofs.Reach.{keeps, computes, reached-le}
 
-pub length-graph-le : (graph : List Vertex) → IsGraph graph → length graph ≤ 4096
+pub length-graph-le : (graph : List Vertex) → IsGraph graph → length graph ≤ MOST_VERTICES
 length-graph-le graph good =
     ⊎_elim (λ none. omega arith)
     (λ some. let last = (good (length graph - 1) (omega arith)).few_vertices in omega arith)

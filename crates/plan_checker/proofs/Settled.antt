@@ -7,6 +7,7 @@ use Rattle.plan_checker.specs.declared.plan.Mark.TheVariants.{Load, Compute, Pru
 use Rattle.plan_checker.specs.declared.charges.Charges.{Charges}
 use Rattle.plan_checker.specs.declared.claim.Claim.{Claim}
 use Rattle.plan_checker.specs.declared.broken.Broken.TheVariants.{NeededPruned, NoLoad, ParentPruned, EnterNotNeeded, ThroughOverLoad, PayOverCompute, InNotThrough, ThroughNotOut}
+use Rattle.plan_checker.specs.declared.graph.TheConstants.{MOST_VERTICES}
 use Rattle.plan_checker.specs.Graph.{vertex, IsGraph}
 use Rattle.plan_checker.specs.Plan.{mark, cost_of, IsAllowed, IsValid}
 use Rattle.plan_checker.specs.Charges.{received, passes, value, IsFair, AreFair}
@@ -78,8 +79,8 @@ all_computed graph good = record {
       subst P (sym (computed graph i h)) parents_kept;
 }
 
-few_vertices : (graph : List Vertex) → IsGraph graph → length graph ≤ 4096
-few_vertices graph good = ⊎_elim (λ lt. let few = (good 4096 lt).few_vertices in absurd (omega arith)) (λ le. le) (cases_lt 4096 (length graph))
+few_vertices : (graph : List Vertex) → IsGraph graph → length graph ≤ MOST_VERTICES
+few_vertices graph good = ⊎_elim (λ lt. let few = (good MOST_VERTICES lt).few_vertices in absurd (omega arith)) (λ le. le) (cases_lt MOST_VERTICES (length graph))
 
 pub value_is_small : (graph : List Vertex) (charges : Charges) → IsGraph graph → AreFair graph charges → value charges < 2 ^ 64
 value_is_small graph charges good fair =

@@ -15,9 +15,9 @@ use std::alloc::{AllocError, Global};
 use std::marker::Model;
 
 /// The most vertices that a graph has.
-pub const MOST_VERTICES: usize = 4096;
+pub const MOST_VERTICES: usize = 16_384;
 /// The most parent entries that a graph has, over all its vertices.
-pub const MOST_ENTRIES: usize = 65_536;
+pub const MOST_ENTRIES: usize = 262_144;
 /// The highest cost of loading or computing a vertex.
 pub const MOST_COST: u64 = 1_000_000_000_000;
 

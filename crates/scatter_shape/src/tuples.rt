@@ -11,7 +11,7 @@ use plain_data::Items;
 use std::alloc::{AllocError, Global};
 
 /// The most jobs that one scattered step has.
-pub const MOST_TUPLES: usize = 4096;
+pub const MOST_TUPLES: usize = 16_384;
 
 /// The tuples of indexes of a scattered step's jobs, in the order of their first differing entry. Refused where a
 /// dotproduct has different lengths (S1) and where there are more tuples than `MOST_TUPLES` (S3). A length of 0
