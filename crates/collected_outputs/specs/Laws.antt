@@ -23,7 +23,9 @@ use Rattle.collected_outputs.specs.Object.{Named}
 use Rattle.collected_outputs.specs.Outputs.{Left, has_object}
 use Rattle.collected_outputs.specs.Throughout.{all_pass, all_places, has_no_contents}
 use Rattle.collected_outputs.specs.Values.{checksum_of}
+use Rattle.collected_outputs.specs.declared.contents.TheConstants.{MOST_CONTENTS}
 use Rattle.collected_outputs.specs.declared.listing.Entry.{Entry}
+use Rattle.collected_outputs.specs.declared.object.TheConstants.{MOST_OBJECT}
 
 -- a job that has ended has outputs or a fault
 abbrev pub EveryFolderHasOutputsOrAFault : Type 0
@@ -122,3 +124,7 @@ NamesAreThoseMatched = (listing : Listing) (patterns : List (List PatternItem)) 
 -- and those of one pattern are in the order of their bytes, in whatever order the folder was read
 abbrev pub NamesAreInOrder : Type 0
 NamesAreInOrder = (found : List Found) (pattern : List PatternItem) (names : List Name) → AreOf (listing_of found) pattern names → IsStrictlySortedBy name_cmp names
+
+-- the limits of what is read of a job's folder, in bytes (`cwl.output.json`: own; contents: CWL v1.2, `loadContents`, "64 KiB")
+abbrev pub FilesReadAreLimited : Type 0
+FilesReadAreLimited = (MOST_OBJECT ≡ 1048576) × (MOST_CONTENTS ≡ 65536)

@@ -1,5 +1,5 @@
 //! What holds of all folders: each law is the contract of a function that does nothing.
-ghost use Rattle.collected_outputs.specs.Laws.{EveryFolderHasOutputsOrAFault, SomeHeadsAreWanted, EachFileWasFound, EachPlaceIsAName, ContentsAreDropped, SizesAreThoseFound, OutputsAreThoseDeclared, NamesAreThoseMatched, NamesAreInOrder};
+ghost use Rattle.collected_outputs.specs.Laws.{EveryFolderHasOutputsOrAFault, SomeHeadsAreWanted, EachFileWasFound, EachPlaceIsAName, ContentsAreDropped, SizesAreThoseFound, OutputsAreThoseDeclared, NamesAreThoseMatched, NamesAreInOrder, FilesReadAreLimited};
 
 /// For each tool, and whatever its command left behind, there are outputs or a fault.
 pub fn every_folder_has_outputs_or_a_fault()
@@ -35,4 +35,9 @@ pub fn outputs_are_those_declared()
 pub fn names_are_those_matched()
     ensures exactly { NamesAreThoseMatched }
     ensures order { NamesAreInOrder }
+{}
+
+/// Says how many bytes a job's `cwl.output.json` may have, and a file whose contents are asked for.
+pub fn files_read_are_limited()
+    ensures { FilesReadAreLimited }
 {}

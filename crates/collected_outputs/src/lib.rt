@@ -27,7 +27,8 @@ pub use contents::MOST_CONTENTS;
 pub use fault::{CollectError, CollectFault, OutputFault};
 pub use heads::{head_limit, heads_wanted};
 pub use laws::{
-    every_folder_has_outputs_or_a_fault, names_are_those_matched, outputs_are_of_their_job,
-    outputs_are_those_declared, sizes_are_those_found, some_heads_are_wanted,
+    every_folder_has_outputs_or_a_fault, files_read_are_limited, names_are_those_matched,
+    outputs_are_of_their_job, outputs_are_those_declared, sizes_are_those_found,
+    some_heads_are_wanted,
 };
 pub use object::{MOST_OBJECT, OUTPUT_OBJECT};

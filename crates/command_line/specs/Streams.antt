@@ -1,5 +1,5 @@
 -- The files of a command's streams (CWL v1.2, Command Line Tool Description, "CommandLineTool": stdin, stdout, stderr).
-use Rattle.std.specs.Prelude.{ℕ, Bool, true, false, not, ◌==◌, ◌&&◌, if◌then◌else◌, List, Option, Some, None, Result, Ok, Err, codes, length}
+use Rattle.std.specs.Prelude.{ℕ, Bool, true, false, not, ◌==◌, ◌&&◌, ◌||◌, if◌then◌else◌, List, [], Option, Some, None, Result, Ok, Err, codes, bytes_eq}
 use Rattle.std.specs.List.{find, list_any}
 use Rattle.cwl_value.specs.declared.value.DirVal.{DirVal}
 use Rattle.cwl_value.specs.declared.value.FileVal.{FileVal, out-FileVal}
@@ -36,9 +36,10 @@ is_stderr (output_type.Members kinds) = false
 abbrev pub collects : (OutputType → Bool) → Tool → Bool
 collects is_it tool = list_any (λ output. is_it output.1.kind) tool.outputs
 
--- the name of a file right in the output folder: not empty, without `/`
+-- the name of a file right in the output folder: not empty, without `/`, and neither `.` nor `..`
 abbrev pub is_file_name : List ℕ → Bool
-is_file_name name = not (length name == 0) && not (list_any (λ byte. byte == 47) name) && is_plain name
+is_file_name name =
+    not (bytes_eq name [] || bytes_eq name (codes ".") || bytes_eq name (codes "..") || list_any (λ byte. byte == 47) name) && is_plain name
 
 abbrev pub file_named : LaunchText → List ℕ → Result (Option (List ℕ)) BuildFault
 file_named place name = if is_file_name name then Ok (Some name) else Err (NotText place)

@@ -113,7 +113,13 @@ fn collects_stderr(outputs: &[(Text, ToolOutput)]) -> bool
 fn is_file_name(name: &str) -> bool
     ensures { result ≡ is_file_name name.now }
 {
-    !name.is_empty() && !name.as_bytes().contains(&b'/') && is_plain(name)
+    !(name.is_empty() || name == "." || name == ".." || has_slash(name)) && is_plain(name)
+}
+
+fn has_slash(name: &str) -> bool
+    ensures { result ≡ list_any (λ byte. byte == 47) name.now }
+{
+    name.as_bytes().iter().any(|byte| *byte == b'/')
 }
 
 /// The file that the child reads: the one that the tool names, or that of its input of type `stdin`, or none.

@@ -9,6 +9,7 @@ ghost use Rattle.url.specs.Parts.{Parts};
 ghost use Rattle.document_links.specs.Absent.{LacksItem, NamesAbsent};
 ghost use Rattle.document_links.specs.Documents.{IsLinked, IsNeeded, IsRefused, bounded};
 ghost use Rattle.document_links.specs.Homes.{Home, home};
+ghost use Rattle.document_links.specs.declared.bounds.TheConstants.{MOST_PROCESSES, MOST_WORKFLOWS};
 ghost use Rattle.document_links.specs.LeadsTo.{Lacks, LeadsTo};
 ghost use Rattle.document_links.specs.Library.{Documents, Finds};
 ghost use Rattle.document_links.specs.Linked.{linked};
@@ -70,4 +71,9 @@ pub fn what_is_linked_needs_documents()
         → (m : ℕ) × (bounded anything base d ≡ Ok m) }
     ensures read { (bytes : List ℕ) (base : Parts) (docs : Documents) (process : Process)
         → IsLinked bytes base docs process → (urls : List (List ℕ)) × IsNeeded bytes base urls }
+{}
+
+/// At most 16 workflows are inside one another, and a document comes to at most 4,096 processes.
+pub fn processes_are_limited()
+    ensures { (MOST_WORKFLOWS ≡ 16) × (MOST_PROCESSES ≡ 4096) }
 {}

@@ -28,7 +28,7 @@ pub use document::Document;
 pub use fault::{LinkError, LinkFault};
 pub use laws::{
     a_document_has_one_process, only_bounds_refuse_a_process,
-    only_items_that_steps_name_are_missing, only_what_is_named_is_missing,
+    only_items_that_steps_name_are_missing, only_what_is_named_is_missing, processes_are_limited,
     what_is_linked_is_the_process, what_is_linked_needs_documents,
 };
 pub use process::{Process, Step, Workflow};

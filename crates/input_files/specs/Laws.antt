@@ -147,3 +147,7 @@ ContentsAreThoseAsked = (inputs : List NamedInput) (staged read : Fields) (heads
 abbrev pub NothingIsReadUnasked : Type 0
 NothingIsReadUnasked = (inputs : List NamedInput) (staged : Fields) (heads : Heads) → list_any (λ (i : NamedInput). i.1.load_contents) inputs ≡ false
     → (heads_wanted inputs staged ≡ []) × (with_contents inputs staged heads ≡ Ok staged)
+
+-- the limit of contents, in bytes (CWL v1.2: `loadContents`, "64 KiB")
+abbrev pub ContentsAreLimited : Type 0
+ContentsAreLimited = MOST_CONTENTS ≡ 65536

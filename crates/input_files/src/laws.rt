@@ -1,5 +1,5 @@
 //! What follows from the definitions alone: each law is the contract of a function that does nothing.
-ghost use Rattle.input_files.specs.Laws.{UntouchedWithoutFiles, PathsAreThoseNeeded, MeasuredSaysWhatIsThere, FilesAreAsFound, ContentsAreThoseAsked, NothingIsReadUnasked};
+ghost use Rattle.input_files.specs.Laws.{UntouchedWithoutFiles, PathsAreThoseNeeded, MeasuredSaysWhatIsThere, FilesAreAsFound, ContentsAreThoseAsked, ContentsAreLimited, NothingIsReadUnasked};
 
 /// A value without Files and Directories is there whatever was measured, lacks no file, has no path to measure, and stays as it is.
 pub fn values_without_files_stay()
@@ -24,4 +24,5 @@ pub fn measured_values_say_what_is_there()
 pub fn contents_are_those_asked()
     ensures loaded { ContentsAreThoseAsked }
     ensures unasked { NothingIsReadUnasked }
+    ensures limit { ContentsAreLimited }
 {}

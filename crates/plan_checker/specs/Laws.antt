@@ -1,9 +1,10 @@
 -- What holds of all graphs, plans, charges and texts; each law is the contract of a function in src/laws.rt.
-use Rattle.std.specs.Prelude.{◌≡◌, ℕ, ◌≤◌, List}
+use Rattle.std.specs.Prelude.{◌≡◌, ℕ, ◌^◌, ◌≤◌, List}
 use Rattle.plan_checker.specs.declared.vertex.Vertex.{Vertex}
 use Rattle.plan_checker.specs.declared.plan.Mark.{Mark}
 use Rattle.plan_checker.specs.declared.charges.Charges.{Charges}
 use Rattle.plan_checker.specs.declared.broken.Broken.{Broken}
+use Rattle.plan_checker.specs.declared.graph.TheConstants.{MOST_VERTICES, MOST_ENTRIES, MOST_COST}
 use Rattle.plan_checker.specs.Graph.{IsGraph}
 use Rattle.plan_checker.specs.Plan.{cost, IsValid}
 use Rattle.plan_checker.specs.Least.{IsCheapest, IsLeast}
@@ -57,3 +58,7 @@ pub record TextsTellCertificates : Type 0 where
 -- a text has at most one first bad line
 abbrev pub OneBadLineIsFirst : Type 0
 OneBadLineIsFirst = (text : List ℕ) (number other : ℕ) → IsFirstBad text number → IsFirstBad text other → number ≡ other
+
+-- the limits of a graph, as numbers (own)
+abbrev pub AreLimited : Type 0
+AreLimited = (MOST_VERTICES ≡ 16384) × (MOST_ENTRIES ≡ 262144) × (MOST_COST ≡ 10 ^ 12)

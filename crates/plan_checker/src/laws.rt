@@ -1,6 +1,6 @@
 //! What certificates show, over all graphs: each law is the contract of a function that does nothing.
 
-ghost use Rattle.plan_checker.specs.Laws.{CertificatesAreCheapest, CertificatesBreakNothing, ChargesBoundCosts, EachHasLeast, LeastIsOne, OneBadLineIsFirst, TextsTellCertificates};
+ghost use Rattle.plan_checker.specs.Laws.{AreLimited, CertificatesAreCheapest, CertificatesBreakNothing, ChargesBoundCosts, EachHasLeast, LeastIsOne, OneBadLineIsFirst, TextsTellCertificates};
 
 /// Fair charges are worth no more than any valid plan costs.
 pub fn charges_bound_costs()
@@ -35,4 +35,9 @@ pub fn texts_tell_certificates()
 /// A text has at most one first bad line.
 pub fn one_bad_line_is_first()
     ensures { OneBadLineIsFirst }
+{}
+
+/// A graph has at most 16,384 vertices and 262,144 entries of parents, and a cost is at most 10^12.
+pub fn graphs_are_limited()
+    ensures { AreLimited }
 {}

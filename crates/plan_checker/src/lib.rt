@@ -33,7 +33,7 @@ pub use graph::{Graph, MOST_COST, MOST_ENTRIES, MOST_VERTICES};
 pub use graph_error::GraphError;
 pub use laws::{
     certificates_are_cheapest, certificates_break_nothing, charges_bound_costs, each_has_least,
-    least_is_one, one_bad_line_is_first, texts_tell_certificates,
+    graphs_are_limited, least_is_one, one_bad_line_is_first, texts_tell_certificates,
 };
 pub use plan::{Mark, Plan};
 pub use reader::read_certificate;

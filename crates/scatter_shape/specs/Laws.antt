@@ -2,6 +2,7 @@
 use Rattle.std.specs.Prelude.{◌≡◌, ◌<◌, ℕ, List, [], ◌∷◌, ◌⊎◌, ◌↔◌, map, fold, replicate, All, AllPairs, Contains, Option, Some, None, slice_set}
 use Rattle.cwl_value.specs.declared.value.Value.{Value}
 use Rattle.scatter_shape.specs.declared.shape.Method.{Method}
+use Rattle.scatter_shape.specs.declared.tuples.TheConstants.{MOST_TUPLES}
 use Rattle.scatter_shape.specs.Tuples.{below, cross, tuples_of}
 use Rattle.scatter_shape.specs.Gathered.{filled, gathered}
 
@@ -41,3 +42,7 @@ AnyOrderOfEnds =
     (n : ℕ) (at : ℕ → Value) (ends : List (ℕ × Value)) →
     All (λ end. end.1 ≡ at end.0) ends → ((k : ℕ) → k < n → Contains (map (λ end. end.0) ends) k) →
     after_ends (replicate n None) ends ≡ map (λ k. Some (at k)) (below n)
+
+-- the limit of tuples, as a number (own)
+abbrev pub AreLimited : Type 0
+AreLimited = MOST_TUPLES ≡ 16384

@@ -19,7 +19,9 @@ mod shape;
 mod tuples;
 
 pub use gathering::Gathering;
-pub use laws::{any_order_of_ends, each_value_at_its_tuple, tuples_are_all_below};
+pub use laws::{
+    any_order_of_ends, each_value_at_its_tuple, tuples_are_all_below, tuples_are_limited,
+};
 pub use lengths::lengths_of;
 pub use nesting::gather;
 pub use refusal::{ScatterError, ScatterFault};

@@ -1,5 +1,5 @@
 //! Looks for an order of steps or for a circle of their links, in one walk along the links. What it finds is checked by `order`, so a
-//! mistake here would cost time alone.
+//! mistake here could cost time and memory, and change no answer.
 use cwl_process::{Source, StepInput};
 use document_links::Step;
 use plain_data::{Items, Text};
