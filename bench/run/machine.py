@@ -60,6 +60,7 @@ RUNS = [
     ("scatter of 4,000", scatter(4000), 4),
     ("scatter of 1,000", scatter(1000), 64),
     ("scatter of 4,000", scatter(4000), 64),
+    ("scatter of 16,000", scatter(16000), 64),
     ("1,000 that feed 1,000", two_scatters(1000), 4),
     ("200 of 200 files each", of_many_files(200), 4),
 ]
