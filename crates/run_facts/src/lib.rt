@@ -12,6 +12,7 @@ mod looks;
 mod made_by;
 mod misfits;
 mod past_calls;
+mod repeats;
 mod tools;
 mod value_words;
 
@@ -21,5 +22,6 @@ pub use looks::{Look, look_of, words_for};
 pub use made_by::{KEPT, WorkTrouble, mark_of, number_in, trouble_of};
 pub use misfits::first_misfit;
 pub use past_calls::{end_of, launch_in, launch_with, listing_of, measure_of, moves_in};
+pub use repeats::repeated_keys;
 pub use tools::tool_at;
 pub use value_words::{find_in, input_type, kind_of, type_words};
