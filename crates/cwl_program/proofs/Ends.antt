@@ -4,15 +4,16 @@ use Rattle.std.specs.declared.alloc.AllocError.{AllocError}
 use Rattle.clap.specs.Words.{HasKind, Text, fault_of, kind_of}
 use Rattle.clap.specs.declared.error.Error.{Error}
 use Rattle.clap.specs.declared.error.ErrorKind.TheVariants.{OutOfMemory}
-use Rattle.cwl_program.specs.CommandLine.{Asks, command_line, wish_of}
-use Rattle.cwl_program.specs.Tells.{AreNotes, Explains, Held, IsEndOf, IsExplained, IsLeftTold, IsSavingsTold, IsTold, LeadsTo, Prints, Tells, alone, asks_why, chooses, explained as and_words, explains, out_of_memory, telling_of}
-use Rattle.cwl_program.specs.declared.command.Choice.{Choice}
-use Rattle.cwl_program.specs.declared.exit.Exit.{Exit}
-use Rattle.cwl_program.specs.declared.exit.Exit.TheVariants.{Fault}
-use Rattle.cwl_program.specs.declared.exit.Fault.TheVariants as faults
-use Rattle.cwl_program.specs.declared.run_end.RunEnd.{RunEnd}
-use Rattle.cwl_program.specs.declared.savings.Savings.{Savings}
-use Rattle.cwl_program.specs.declared.telling.Telling.{Telling}
+use Rattle.program_words.specs.CommandLine.{Asks, command_line, wish_of}
+use Rattle.end_words.specs.Told.{AreNotes, Held, IsExplained, IsLeftTold, IsSavingsTold, IsTold, Prints, alone, explained as and_words}
+use Rattle.cwl_program.specs.Tells.{Explains, IsEndOf, LeadsTo, Tells, asks_why, chooses, explains, out_of_memory, telling_of}
+use Rattle.program_words.specs.declared.command.Choice.{Choice}
+use Rattle.end_words.specs.declared.exit.Exit.{Exit}
+use Rattle.end_words.specs.declared.exit.Exit.TheVariants.{Fault}
+use Rattle.end_words.specs.declared.exit.Fault.TheVariants as faults
+use Rattle.end_words.specs.declared.run_end.RunEnd.{RunEnd}
+use Rattle.program_words.specs.declared.savings.Savings.{Savings}
+use Rattle.program_words.specs.declared.telling.Telling.{Telling}
 
 -- what a choice comes to, or the fault where memory was short
 pub chosen_or_fault : (words : List Text) (path : Text) (choice : Choice) (answer : Result RunEnd AllocError) (end : RunEnd) (why : Bool) (telling : Telling)

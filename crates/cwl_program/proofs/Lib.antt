@@ -1,11 +1,5 @@
-pub mod CodeTexts
-pub mod CommandLines
 pub mod Ends
-pub mod JobLines
 pub mod Located
 pub mod Plans
-pub mod ReadOnce
-pub mod SavingsLine
-pub mod ShellWords
 pub mod Stops
 pub mod Verdicts

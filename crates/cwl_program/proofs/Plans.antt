@@ -20,17 +20,18 @@ use Rattle.workflow_engine.specs.declared.planned.PlanFault.{PlanFault}
 use Rattle.workflow_engine.specs.declared.planned.Planned.{Planned}
 use Rattle.cwl_program.specs.Caches.{is_twofold, record_of}
 use Rattle.cwl_program.specs.Plans.{AreCounted, AreTextsOf, IsEndOfPlan, IsPlanTold, IsPlanned, lost, paper_of, planned, plans, stops}
-use Rattle.cwl_program.specs.RunWords.{RunWish}
-use Rattle.cwl_program.specs.Runs.{IsAsked, IsNamedProcess, IsNoInputs, IsNoProcess, IsReady, no_inputs, no_process, no_record, place_json, twofold}
-use Rattle.cwl_program.specs.Stops.{IsStop}
-use Rattle.cwl_program.specs.declared.exit.Exit.{Exit}
-use Rattle.cwl_program.specs.declared.exit.Exit.TheVariants as exits
-use Rattle.cwl_program.specs.declared.exit.Fault.TheVariants as faults
-use Rattle.cwl_program.specs.declared.exit.PlanTexts.{PlanTexts}
-use Rattle.cwl_program.specs.declared.given.Given.{Given}
-use Rattle.cwl_program.specs.declared.run_end.RunEnd.{RunEnd}
-use Rattle.cwl_program.specs.declared.stop.Stop.{Stop}
-use Rattle.cwl_program.specs.declared.stop.Stop.TheVariants.{Early}
+use Rattle.program_words.specs.RunWords.{RunWish}
+use Rattle.end_words.specs.RunEnds.{place_json}
+use Rattle.cwl_program.specs.Runs.{IsAsked, IsNamedProcess, IsNoInputs, IsNoProcess, IsReady, no_inputs, no_process, no_record, twofold}
+use Rattle.end_words.specs.Stops.{IsStop}
+use Rattle.end_words.specs.declared.exit.Exit.{Exit}
+use Rattle.end_words.specs.declared.exit.Exit.TheVariants as exits
+use Rattle.end_words.specs.declared.exit.Fault.TheVariants as faults
+use Rattle.end_words.specs.declared.exit.PlanTexts.{PlanTexts}
+use Rattle.end_words.specs.declared.given.Given.{Given}
+use Rattle.end_words.specs.declared.run_end.RunEnd.{RunEnd}
+use Rattle.end_words.specs.declared.stop.Stop.{Stop}
+use Rattle.end_words.specs.declared.stop.Stop.TheVariants.{Early}
 use Rattle.cwl_program.proofs.Stops.{ends_as, run_ends_so, stop_so}
 
 abbrev ends : (words : RunWish) (dot : Bool) (path : Text) → Exit → Option Text → Type 0

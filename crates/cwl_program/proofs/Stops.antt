@@ -23,22 +23,22 @@ use Rattle.run_rules.specs.Recorded.{Line}
 use Rattle.run_rules.specs.declared.setting.Options.{Options}
 use Rattle.cwl_program.specs.Caches.{is_twofold, record_of}
 use Rattle.cwl_program.specs.Demo as demo
-use Rattle.cwl_program.specs.Leaving.{left_of}
-use Rattle.cwl_program.specs.RunWords.{RunWish}
+use Rattle.end_words.specs.Leaving.{left_of}
+use Rattle.program_words.specs.RunWords.{RunWish}
 use Rattle.cwl_program.specs.Paths.{IsAt, from_root}
 use Rattle.cwl_program.specs.Runs.{IsAsked, IsEndOfRun, IsInputsText, IsInputsUnread, IsInputsUrl, IsNamedInputs, IsNamedProcess, IsNoInputs, IsNoProcess, IsRanOver, IsRead, IsReady, IsRunExit, IsUnready, document_unread, document_wrong, inputs_unread, inputs_wrong, lost, no_inputs, no_outdir, no_process, no_record, no_work, runs, stops, twofold, unready}
 use Rattle.cwl_program.specs.Certificates.{IsCheck, unread}
 use Rattle.cwl_program.specs.Sources.{IsAbsent, IsAccepted, IsDocumentStop, IsInputs, IsInputsStop, IsOfDocuments, bad_document, no_object, too_many}
-use Rattle.cwl_program.specs.Stops.{IsStop, IsUnread}
-use Rattle.cwl_program.specs.declared.exit.Exit.{Exit}
-use Rattle.cwl_program.specs.declared.exit.Exit.TheVariants as exits
-use Rattle.cwl_program.specs.declared.exit.Fault.TheVariants as faults
-use Rattle.cwl_program.specs.declared.exit.Refusal.TheVariants as refusals
+use Rattle.end_words.specs.Stops.{IsStop, IsUnread}
+use Rattle.end_words.specs.declared.exit.Exit.{Exit}
+use Rattle.end_words.specs.declared.exit.Exit.TheVariants as exits
+use Rattle.end_words.specs.declared.exit.Fault.TheVariants as faults
+use Rattle.end_words.specs.declared.exit.Refusal.TheVariants as refusals
 use Rattle.document_links.specs.declared.fault.LinkFault.TheVariants as link_faults
-use Rattle.cwl_program.specs.declared.given.Given.{Given}
-use Rattle.cwl_program.specs.declared.run_end.RunEnd.{RunEnd}
-use Rattle.cwl_program.specs.declared.stop.Stop.{Stop}
-use Rattle.cwl_program.specs.declared.stop.Stop.TheVariants.{Early, OutOfMemory}
+use Rattle.end_words.specs.declared.given.Given.{Given}
+use Rattle.end_words.specs.declared.run_end.RunEnd.{RunEnd}
+use Rattle.end_words.specs.declared.stop.Stop.{Stop}
+use Rattle.end_words.specs.declared.stop.Stop.TheVariants.{Early, OutOfMemory}
 
 pub wrong_document : (bytes : List ℕ) (base : Parts) (docs : Documents) (fault : LinkFault) (stop : Stop)
     → IsRefused (link_errors.Refused fault) bytes base docs → IsOfDocuments fault

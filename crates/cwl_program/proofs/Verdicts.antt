@@ -7,9 +7,9 @@ use Rattle.plan_checker.specs.Certificate.{IsCertificate}
 use Rattle.plan_checker.specs.Plan.{cost}
 use Rattle.plan_checker.specs.Format.{IsFirstBad}
 use Rattle.cwl_program.specs.Certificates.{IsJudgement, IsVerdict, holds, ok_line, unreadable}
-use Rattle.cwl_program.specs.declared.exit.Exit.{Exit}
-use Rattle.cwl_program.specs.declared.exit.Exit.TheVariants.{Output, Refused}
-use Rattle.cwl_program.specs.declared.exit.Refusal.TheVariants as refusals
+use Rattle.end_words.specs.declared.exit.Exit.{Exit}
+use Rattle.end_words.specs.declared.exit.Exit.TheVariants.{Output, Refused}
+use Rattle.end_words.specs.declared.exit.Refusal.TheVariants as refusals
 
 pub told_ok : (graph : List Vertex) (marks : List Mark) (charges : Charges) (total : ℕ) (exit : Exit)
     → exit ≡ Output (ok_line total)

@@ -1,7 +1,7 @@
 -- The record and the archive that the words of `run` name: their own, or those of a cache.
 use Rattle.std.specs.Prelude.{Bool, ◌&&◌, ◌||◌, Option, Some, None, is_some, ◌++◌, codes}
 use Rattle.clap.specs.Words.{Text}
-use Rattle.cwl_program.specs.RunWords.{RunWish}
+use Rattle.program_words.specs.RunWords.{RunWish}
 
 -- what is in a folder under a name
 abbrev pub within : (folder name : Text) → Text

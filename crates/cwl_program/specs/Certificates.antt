@@ -8,10 +8,10 @@ use Rattle.plan_checker.specs.Broken.{IsFirstBroken}
 use Rattle.plan_checker.specs.Certificate.{IsCertificate}
 use Rattle.plan_checker.specs.Format.{IsTextOf, IsFirstBad}
 use Rattle.plan_checker.specs.Plan.{cost}
-use Rattle.cwl_program.specs.Stops.{IsUnread, most_bytes}
-use Rattle.cwl_program.specs.declared.exit.Exit.{Exit}
-use Rattle.cwl_program.specs.declared.exit.Exit.TheVariants.{Output, Broken, Refused}
-use Rattle.cwl_program.specs.declared.exit.Refusal.TheVariants as refusals
+use Rattle.end_words.specs.Stops.{IsUnread, most_bytes}
+use Rattle.end_words.specs.declared.exit.Exit.{Exit}
+use Rattle.end_words.specs.declared.exit.Exit.TheVariants.{Output, Broken, Refused}
+use Rattle.end_words.specs.declared.exit.Refusal.TheVariants as refusals
 
 -- the line for a certificate of this cost
 abbrev pub ok_line : ℕ → List ℕ

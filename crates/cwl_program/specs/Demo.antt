@@ -9,7 +9,7 @@ use Rattle.cwl_program.specs.Paths.{IsAt}
 use Rattle.cwl_program.specs.Runs.{IsRan}
 use Rattle.cwl_program.specs.Sources.{IsAccepted, IsDocumentStop, IsInputs, IsInputsStop}
 use Rattle.cwl_program.specs.declared.demo.TheConstants.{DOCUMENT, INPUTS}
-use Rattle.cwl_program.specs.declared.exit.Exit.{Exit}
+use Rattle.end_words.specs.declared.exit.Exit.{Exit}
 
 -- the URLs of its document and of its inputs
 abbrev pub IsDocumentUrl : Parts → Type 0

@@ -19,13 +19,14 @@ use Rattle.workflow_engine.specs.FirstPlan as first
 use Rattle.workflow_engine.specs.declared.planned.PlanFault.{PlanFault}
 use Rattle.workflow_engine.specs.declared.planned.PlanFault.TheVariants as plan_faults
 use Rattle.workflow_engine.specs.declared.planned.Planned.{Planned}
-use Rattle.cwl_program.specs.RunWords.{RunWish}
-use Rattle.cwl_program.specs.Runs.{IsAsked, IsReady, IsUnready, fault_exit, place_json}
-use Rattle.cwl_program.specs.declared.exit.Exit.{Exit}
-use Rattle.cwl_program.specs.declared.exit.Exit.TheVariants as exits
-use Rattle.cwl_program.specs.declared.exit.Fault.TheVariants as faults
-use Rattle.cwl_program.specs.declared.exit.PlanTexts.{PlanTexts}
-use Rattle.cwl_program.specs.declared.given.Given.{Given}
+use Rattle.program_words.specs.RunWords.{RunWish}
+use Rattle.end_words.specs.RunEnds.{fault_exit, place_json}
+use Rattle.cwl_program.specs.Runs.{IsAsked, IsReady, IsUnready}
+use Rattle.end_words.specs.declared.exit.Exit.{Exit}
+use Rattle.end_words.specs.declared.exit.Exit.TheVariants as exits
+use Rattle.end_words.specs.declared.exit.Fault.TheVariants as faults
+use Rattle.end_words.specs.declared.exit.PlanTexts.{PlanTexts}
+use Rattle.end_words.specs.declared.given.Given.{Given}
 
 -- ---- what is said of a plan
 

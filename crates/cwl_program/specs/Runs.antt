@@ -1,22 +1,14 @@
 -- How a run of a document on inputs ends the program.
-use Rattle.std.specs.Prelude.{◌≡◌, ◌≤◌, ℕ, true, false, List, [], length, codes, Option, Some, None, unwrap_or, Result, Ok, Err, IfErr, is_some, option_map}
-use Rattle.serde_json.specs.Written.{compact_text}
+use Rattle.std.specs.Prelude.{◌≡◌, ◌≤◌, ℕ, true, false, List, [], length, codes, Option, Some, None, unwrap_or, Result, IfErr, is_some, option_map}
 use Rattle.clap.specs.Words.{Text}
 use Rattle.url.specs.Parts.{Parts}
 use Rattle.document_links.specs.Library.{Documents}
 use Rattle.document_links.specs.declared.process.Process.{Process}
-use Rattle.cwl_value.specs.Json.{json_of}
-use Rattle.cwl_value.specs.Places.{job_text}
-use Rattle.cwl_value.specs.declared.value.Value.TheVariants as values
-use Rattle.cwl_value.specs.declared.place.Segment.{Segment}
 use Rattle.proc_host.specs.declared.call.Entry.{Entry}
 use Rattle.job_graph.specs.Words.{Fields}
 use Rattle.job_record.specs.declared.fault.RecordFault.{RecordFault}
-use Rattle.run_rules.specs.declared.outcome.Outcome.{Outcome}
-use Rattle.run_rules.specs.declared.outcome.Outcome.TheVariants as outcomes
 use Rattle.run_rules.specs.declared.outcome.Report.{Report}
 use Rattle.run_rules.specs.declared.outcome.RunFault.{RunFault}
-use Rattle.run_rules.specs.declared.outcome.RunFault.TheVariants as run_faults
 use Rattle.run_rules.specs.declared.setting.Options.{Options}
 use Rattle.run_rules.specs.Recorded.{Line}
 use Rattle.workflow_engine.specs.Blame.{IsHostsFault}
@@ -25,41 +17,17 @@ use Rattle.process_machine.specs.declared.trouble.Hindrance.{Hindrance}
 use Rattle.run_facts.specs.Holding.{can_hold_files}
 use Rattle.run_facts.specs.declared.made_by.WorkTrouble.{WorkTrouble}
 use Rattle.cwl_program.specs.Caches.{archive_of, is_twofold, record_of}
-use Rattle.cwl_program.specs.FailedCalls.{failed_on}
-use Rattle.cwl_program.specs.Leaving.{left_of}
+use Rattle.end_words.specs.Leaving.{left_of}
 use Rattle.cwl_program.specs.Paths.{IsAt, from_root}
-use Rattle.cwl_program.specs.RunWords.{IsChosen, RunWish}
+use Rattle.program_words.specs.RunWords.{IsChosen, RunWish}
 use Rattle.cwl_program.specs.Sources.{IsAccepted, IsDocumentStop, IsInputs, IsInputsStop}
-use Rattle.cwl_program.specs.Stops.{IsUnread, most_bytes}
-use Rattle.cwl_program.specs.Visible.{visible}
-use Rattle.cwl_program.specs.declared.exit.Exit.{Exit}
-use Rattle.cwl_program.specs.declared.exit.Exit.TheVariants as exits
-use Rattle.cwl_program.specs.declared.exit.Fault.{Fault}
-use Rattle.cwl_program.specs.declared.exit.Fault.TheVariants as faults
-use Rattle.cwl_program.specs.declared.given.Given.{Given}
-use Rattle.cwl_program.specs.declared.given.Places.{Places}
-
--- the place of a job as JSON text, as `"main/step[0]"`, where what a terminal would not show is escaped
-abbrev pub place_json : List Segment → List ℕ
-place_json place = visible (compact_text (json_of (values.Text (job_text place))))
-
--- the output object in one line, or which job failed and how
-abbrev pub outcome_exit : Outcome → Exit
-outcome_exit (outcomes.Success outputs) = exits.Output (compact_text (json_of outputs))
-outcome_exit (outcomes.PermanentFail place cause) = exits.Permanent (place_json place) cause
-outcome_exit (outcomes.TemporaryFail place) = exits.Temporary (place_json place)
-
--- a run that has no outcome is a fault; of the host's one it is told what the call was about, of a mismatch which job it was
-abbrev pub fault_exit : (log : List Entry) → RunFault → Exit
-fault_exit log (run_faults.Host fault running) = exits.Fault (faults.Host fault (failed_on log fault))
-fault_exit log (run_faults.Record refusal) = exits.Fault (faults.Record refusal)
-fault_exit log (run_faults.Mismatch place) = exits.Mismatch (place_json place)
-fault_exit log run_faults.TooManyJobs = exits.Fault faults.TooManyJobs
-fault_exit log run_faults.OutOfMemory = exits.Fault faults.OutOfMemory
-
-abbrev pub run_exit : (log : List Entry) → Result Report RunFault → Exit
-run_exit log (Ok report) = outcome_exit report.outcome
-run_exit log (Err fault) = fault_exit log fault
+use Rattle.end_words.specs.RunEnds.{run_exit}
+use Rattle.end_words.specs.Stops.{IsUnread, most_bytes}
+use Rattle.end_words.specs.declared.exit.Exit.{Exit}
+use Rattle.end_words.specs.declared.exit.Exit.TheVariants as exits
+use Rattle.end_words.specs.declared.exit.Fault.TheVariants as faults
+use Rattle.end_words.specs.declared.given.Given.{Given}
+use Rattle.end_words.specs.declared.given.Places.{Places}
 
 -- the log of a host, and that of a record of which nothing was asked before, gained a run of this process on these inputs, where a fault is
 -- the host's only if a call of it failed so, and the program ends as that run; the record's log has these lines then

@@ -19,11 +19,11 @@ use Rattle.cwl_value.specs.declared.refusal.ValueRefusal.{ValueRefusal}
 use Rattle.cwl_value.specs.declared.value.Value.{Value}
 use Rattle.cwl_value.specs.declared.value.Value.TheVariants as values
 use Rattle.job_graph.specs.Words.{Fields}
-use Rattle.cwl_program.specs.Stops.{IsUnread}
-use Rattle.cwl_program.specs.declared.exit.Exit.{Exit}
-use Rattle.cwl_program.specs.declared.exit.Exit.TheVariants as exits
-use Rattle.cwl_program.specs.declared.exit.Fault.TheVariants as faults
-use Rattle.cwl_program.specs.declared.exit.Refusal.TheVariants as refusals
+use Rattle.end_words.specs.Stops.{IsUnread}
+use Rattle.end_words.specs.declared.exit.Exit.{Exit}
+use Rattle.end_words.specs.declared.exit.Exit.TheVariants as exits
+use Rattle.end_words.specs.declared.exit.Fault.TheVariants as faults
+use Rattle.end_words.specs.declared.exit.Refusal.TheVariants as refusals
 
 -- The bytes are a document, which with those among `docs` that it leads to is this process, and each link of it is right.
 abbrev pub IsAccepted : (bytes : List ℕ) (base : Parts) (docs : Documents) → Process → Type 0

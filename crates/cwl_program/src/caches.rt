@@ -1,11 +1,11 @@
 //! The record and the archive of a run: those that the words name, or those of a cache.
 ghost use Rattle.std.specs.Prelude.{◌≡◌, IfOk, is_some, option_map};
 ghost use Rattle.cwl_program.specs.Caches as spec;
-ghost use Rattle.cwl_program.specs.RunWords.{wish_of_run};
+ghost use Rattle.program_words.specs.RunWords.{wish_of_run};
 
-use crate::run_words::RunWords;
 use plain_data::Text;
 use process_machine::World;
+use program_words::RunWords;
 use std::alloc::{AllocError, Global};
 use std::fs;
 

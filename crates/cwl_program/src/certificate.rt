@@ -1,10 +1,8 @@
 ghost use Rattle.std.specs.Prelude.{◌≡◌, ◌≤◌, length, IfOk, IfErr, decimal};
-ghost use Rattle.cwl_program.specs.Stops.{IsTrouble, most_bytes};
+ghost use Rattle.end_words.specs.Stops.{IsTrouble, most_bytes};
 ghost use Rattle.cwl_program.specs.Certificates.{IsCheck, IsJudgement, IsVerdict, ok_line};
 
-use crate::exit::{Exit, Refusal};
-use crate::reading::{NoBytes, bytes_of_file, bytes_of_input};
-use crate::stop::{stopped, unread};
+use end_words::{Exit, NoBytes, Refusal, bytes_of_file, bytes_of_input, stopped, unread};
 use plain_data::Text;
 use plan_checker::{CertificateError, Charges, Graph, Plan, check, read_certificate};
 use std::alloc::{AllocError, Global};

@@ -1,24 +1,22 @@
 ghost use Rattle.std.specs.Prelude.{◌≡◌, ◌≢◌, None, Ok, IfOk, IfErr, OnOk, OnErr, map, string_bytes};
 ghost use Rattle.clap.specs.Words.{HasKind, fault_of, kind_of};
-ghost use Rattle.cwl_program.specs.CommandLine.{Asks, command_line};
-ghost use Rattle.cwl_program.specs.Tells.{Explains, IsEndOf, IsRecordExit, IsRunTold, IsTold, LeadsTo, Says, Tells, asks_why, telling_of};
+ghost use Rattle.program_words.specs.CommandLine.{Asks, command_line};
+ghost use Rattle.end_words.specs.Told.{IsTold, Says};
+ghost use Rattle.cwl_program.specs.Tells.{Explains, IsEndOf, IsRecordExit, IsRunTold, LeadsTo, Tells, asks_why, telling_of};
 
 use crate::caches::{RECORD, within};
 use crate::certificate::exit_of_check;
-use crate::command::{Choice, choice_of};
 use crate::demo::exit_of_demo;
-use crate::exit::{Exit, Fault};
-use crate::explaining::{explain_exit, put_left, put_notes, put_savings};
 use crate::plan::end_of_plan;
-use crate::record_words::RecordWords;
 use crate::run::end_of_process;
-use crate::run_end::RunEnd;
-use crate::telling::Telling;
-use crate::terminal::{add_explain_word, add_terminal_words};
 use clap::Error;
 use clap::error::ErrorKind;
+use end_words::{Exit, Fault, RunEnd, explain_exit, put_left, put_notes, put_savings};
 use plain_data::Text;
 use process_machine::World;
+use program_words::{
+    Choice, RecordWords, Telling, add_explain_word, add_terminal_words, choice_of,
+};
 use record_program::{Ending, Records};
 use std::alloc::{AllocError, Global};
 use std::io::{IsTerminal, Write};

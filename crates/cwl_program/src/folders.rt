@@ -1,20 +1,19 @@
 //! A run in its folders.
 ghost use Rattle.std.specs.Prelude.{◌≡◌, [], IfOk};
 ghost use Rattle.run_core.specs.Limits.{IsWithinLimits};
-ghost use Rattle.cwl_program.specs.RunWords.{wish_of_run};
+ghost use Rattle.program_words.specs.RunWords.{wish_of_run};
 ghost use Rattle.cwl_program.specs.Runs.{AreNamed, IsAsked, IsReady, IsRunExit};
 ghost use Rattle.cwl_program.specs.Tells.{IsRunTold};
 
 use crate::caches::keeps_archive;
-use crate::given::{Call, Given, Places};
 use crate::on_machine::with_options;
 use crate::outdir::{outdir_for, without_outdir};
-use crate::run_end::RunEnd;
-use crate::run_words::{load_base_of, load_rate_of, retries_of, slots_of};
 use crate::work_folder::{leave, mark_made, without_work};
+use end_words::{Call, Given, Places, RunEnd};
 use job_rows::Record;
 use plain_data::Text;
 use process_machine::World;
+use program_words::{load_base_of, load_rate_of, retries_of, slots_of};
 use run_core::Options;
 use std::alloc::{AllocError, Global};
 use std::fs;

@@ -3,11 +3,10 @@ ghost use Rattle.std.specs.Prelude.{◌≡◌, ◌≢◌, ℕ, List, IfOk, IfErr
 ghost use Rattle.cwl_value.specs.Texts.{ReadsAs};
 ghost use Rattle.cwl_value.specs.declared.refusal.ValueRefusal.TheVariants.{OutOfMemory};
 ghost use Rattle.cwl_program.specs.Sources.{IsInputs, IsInputsStop};
-ghost use Rattle.cwl_program.specs.Stops.{IsStop};
+ghost use Rattle.end_words.specs.Stops.{IsStop};
 
-use crate::exit::{Exit, Fault, Refusal};
-use crate::stop::Stop;
 use cwl_value::{Value, ValueRefusal, read_value};
+use end_words::{Exit, Fault, Refusal, Stop};
 use file_values::{FileError, resolve};
 use plain_data::Keyed;
 use std::alloc::Global;

@@ -1,14 +1,12 @@
 //! What becomes of the jobs of a run.
 
-use crate::report::place_in;
-use crate::reuse::{Recalled, Why, reason_for};
-use crate::savings::Savings;
-use crate::telling::{Counts, Listen};
 use command_line::Launch;
 use cwl_value::JobPlace;
+use end_words::place_in;
 use job_rows::Row;
 use plain_data::{Keyed, Text};
 use proc_host::{ChildEnd, HostAnswer, HostFault, HostRequest};
+use program_words::{Counts, Listen, Recalled, Savings, Why, reason_for};
 use run_core::{RecordAnswer, RecordRequest};
 use std::alloc::{AllocError, Global};
 use workflow_engine::Watch;

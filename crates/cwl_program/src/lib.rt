@@ -8,53 +8,23 @@
 //! jobs while it goes on where the words want it.
 #![tactic(auto)]
 
-mod advice;
 mod caches;
 mod certificate;
-mod command;
 mod demo;
 mod documents;
 mod entry;
-mod exit;
-mod explaining;
-mod failed_call;
-mod flags;
 mod folders;
-mod given;
-mod input_notes;
 mod inputs;
 mod jobs;
-mod laws;
 mod looks;
-mod near_names;
 mod notes;
 mod on_machine;
 mod outdir;
 mod paths;
 mod plan;
 mod plan_texts;
-mod planning;
-mod reading;
-mod record_words;
-mod refused_inputs;
-mod remarks;
-mod report;
-mod reuse;
 mod run;
-mod run_end;
 mod run_record;
-mod run_words;
-mod savings;
-mod search;
-mod shell_words;
-mod start_notes;
-mod stop;
-mod telling;
-mod terminal;
-mod tool_texts;
-mod visible;
 mod work_folder;
-mod wrong_form;
 
 pub use entry::{main_run, program};
-pub use laws::{line_is_one_command, text_is_one_word};

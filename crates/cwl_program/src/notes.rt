@@ -1,22 +1,18 @@
 //! What is told of the job or the input that failed, and of the result that could not be delivered.
 
-use crate::exit::{Exit, Fault};
-use crate::explaining::hindrance_words;
-use crate::given::Given;
-use crate::input_notes::{misfit_lines, missing_lines, secondary_lines};
 use crate::jobs::Traces;
-use crate::remarks::add_remarks;
-use crate::shell_words::line_of;
-use crate::start_notes::{add_listing, add_obstacle, add_start};
-use crate::telling::ending;
-use crate::tool_texts::{add_output, step_lines, tool_lines, tool_of};
 use collected_outputs::OutputFault;
 use command_line::{BuildFault, Launch};
 use cwl_process::Tool;
+use end_words::{
+    Exit, Fault, Given, add_listing, add_obstacle, add_output, add_remarks, add_start,
+    hindrance_words, misfit_lines, missing_lines, secondary_lines, step_lines, tool_lines, tool_of,
+};
 use job_graph::Cause as NoValue;
 use plain_data::Text;
 use proc_host::{ChildEnd, Entry, HostFault};
 use process_machine::{Machine, World, last_lines, messages_file};
+use program_words::{ending, line_of};
 use run_core::{Cause, CollectCause};
 use run_facts::{end_of, launch_with, moves_in};
 use std::alloc::{AllocError, Global};

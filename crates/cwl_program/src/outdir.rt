@@ -2,9 +2,8 @@
 ghost use Rattle.std.specs.Prelude.{◌≡◌, true, None, IfOk, OnErr};
 ghost use Rattle.run_facts.specs.Holding.{can_hold_files};
 
-use crate::exit::{Exit, Fault};
-use crate::run_end::RunEnd;
 use document_links::Process;
+use end_words::{Exit, Fault, RunEnd};
 use plain_data::Text;
 use process_machine::{Hindrance, World};
 use run_facts::can_hold_files;

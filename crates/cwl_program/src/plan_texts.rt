@@ -4,12 +4,11 @@ ghost use Rattle.plan_checker.specs.Format.{certificate_text};
 ghost use Rattle.plan_words.specs.Lines.{plan_lines};
 ghost use Rattle.plan_words.specs.Reasons.{reasons};
 ghost use Rattle.cwl_program.specs.Plans.{AreCounted, AreTextsOf, IsPlanTold, paper_of as paper, plan_fault_exit};
-ghost use Rattle.cwl_program.specs.Runs.{place_json};
+ghost use Rattle.end_words.specs.RunEnds.{place_json};
 
-use crate::exit::{Exit, PlanTexts};
-use crate::report::{of_failure, of_fault, place_in};
 use cwl_value::JobPlace;
 use document_links::Process;
+use end_words::{Exit, PlanTexts, of_failure, of_fault, place_in};
 use plain_data::Text;
 use plan_checker::write_certificate;
 use plan_words::{Known, plan_lines, plan_picture, plan_reasons};

@@ -3,28 +3,26 @@ ghost use Rattle.std.specs.Prelude.{◌≡◌, None, IfOk, IfErr, option_map};
 ghost use Rattle.document_links.specs.Library.{Documents};
 ghost use Rattle.cwl_program.specs.Caches.{archive_of as folder_of_archive};
 ghost use Rattle.cwl_program.specs.Paths.{from_root as path_from_root};
-ghost use Rattle.cwl_program.specs.RunWords.{wish_of_run};
+ghost use Rattle.program_words.specs.RunWords.{wish_of_run};
 ghost use Rattle.cwl_program.specs.Runs.{AreNamed, IsEndOfRun, IsInputsText, IsNamedInputs, IsNamedProcess, IsNoInputs, IsNoProcess, IsRead, IsReady};
 ghost use Rattle.cwl_program.specs.Sources.{IsAccepted, IsDocumentStop};
-ghost use Rattle.cwl_program.specs.Stops.{IsStop, IsUnread};
+ghost use Rattle.end_words.specs.Stops.{IsStop, IsUnread};
 ghost use Rattle.cwl_program.specs.Tells.{IsRunTold};
 
 use crate::caches::{archive_of, is_twofold};
 use crate::documents::accepted_of;
-use crate::exit::{Exit, Fault};
-use crate::given::{Call, Given, Places};
 use crate::inputs::inputs_at;
 use crate::paths::{base_of, from_root};
-use crate::reading::bytes_of_file;
-use crate::run_end::RunEnd;
 use crate::run_record::with_record;
-use crate::run_words::RunWords;
-use crate::search::reached_from;
-use crate::stop::{Stop, stopped_run, unread};
 use cwl_value::Value;
 use document_links::{Document, Process};
+use end_words::{
+    Call, Exit, Fault, Given, Places, RunEnd, Stop, bytes_of_file, reached_from, stopped_run,
+    unread,
+};
 use plain_data::{Items, Keyed, Text};
 use process_machine::World;
+use program_words::RunWords;
 use record_program::Records;
 use std::alloc::{AllocError, Global};
 use std::io::Write;

@@ -1,15 +1,13 @@
 //! The record that a run asks.
 ghost use Rattle.std.specs.Prelude.{◌≡◌, None, Some, IfOk};
 ghost use Rattle.cwl_program.specs.Caches.{record_of as file_of_record};
-ghost use Rattle.cwl_program.specs.RunWords.{wish_of_run};
+ghost use Rattle.program_words.specs.RunWords.{wish_of_run};
 ghost use Rattle.cwl_program.specs.Runs.{AreNamed, IsEndOfRun, IsReady};
 ghost use Rattle.cwl_program.specs.Tells.{IsRunTold};
 
 use crate::caches::{make_cache, record_of};
-use crate::exit::{Exit, Fault};
 use crate::folders::on_disk;
-use crate::given::{Call, Given, Places};
-use crate::run_end::RunEnd;
+use end_words::{Call, Exit, Fault, Given, Places, RunEnd};
 use job_record::RecordFault;
 use job_rows::MemoryRecord;
 use plain_data::Text;

@@ -1,12 +1,10 @@
 //! The mark of a work folder, and what it tells where the folder is in the way.
 ghost use Rattle.std.specs.Prelude.{◌≡◌, None, IfOk};
 
-use crate::exit::{Exit, Fault};
-use crate::reading::bytes_of_file;
-use crate::run_end::RunEnd;
-use crate::run_words::RunWords;
+use end_words::{Exit, Fault, RunEnd, bytes_of_file};
 use plain_data::Text;
 use process_machine::{World, remove_folder};
+use program_words::RunWords;
 use run_facts::{KEPT, WorkTrouble, mark_of, number_in, trouble_of};
 use std::alloc::AllocError;
 use std::{fs, io, str};

@@ -1,7 +1,7 @@
 use Rattle.std.proofs.Common.{subst, sym}
 use Rattle.std.proofs.lemmas.Result.{IfOk-weaker}
 use Rattle.cwl_program.specs.Runs.{IsRan, ran}
-use Rattle.cwl_program.specs.declared.exit.Exit.{Exit}
+use Rattle.end_words.specs.declared.exit.Exit.{Exit}
 use Rattle.cwl_program.proofs.demo.ended.Goals as goal
 
 pub returns : goal.returns

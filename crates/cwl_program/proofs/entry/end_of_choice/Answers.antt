@@ -2,9 +2,9 @@ use Rattle.std.proofs.Common.{IfOk, subst, sym}
 use Rattle.cwl_program.proofs.Plans.{and_leaves_nothing}
 use Rattle.cwl_program.proofs.Stops.{bare_so}
 use Rattle.cwl_program.specs.Plans.{IsEndOfPlan}
-use Rattle.cwl_program.specs.RunWords.{wish_of_run}
+use Rattle.program_words.specs.RunWords.{wish_of_run}
 use Rattle.cwl_program.specs.Tells.{IsEndOf}
-use Rattle.cwl_program.specs.declared.command.Choice.{Choice}
+use Rattle.program_words.specs.declared.command.Choice.{Choice}
 use Rattle.cwl_program.proofs.entry.end_of_choice.Goals as goal
 
 pub returns-in-Demo-clause-end : goal.returns-in-Demo-clause-end

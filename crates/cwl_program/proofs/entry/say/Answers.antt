@@ -1,4 +1,4 @@
-use Rattle.cwl_program.specs.Tells.{says, fails}
+use Rattle.end_words.specs.Told.{says, fails}
 use Rattle.cwl_program.proofs.entry.say.Goals as goal
 
 pub returns-in-Ok : goal.returns-in-Ok

@@ -1,4 +1,4 @@
-use Rattle.cwl_program.specs.RunWords.{wish_of_run}
+use Rattle.program_words.specs.RunWords.{wish_of_run}
 use Rattle.cwl_program.proofs.Stops.{without_outdir}
 use Rattle.cwl_program.proofs.folders.in_work.Goals as goal
 

@@ -1,4 +1,4 @@
-use Rattle.cwl_program.specs.RunWords.{wish_of_run}
+use Rattle.program_words.specs.RunWords.{wish_of_run}
 use Rattle.cwl_program.proofs.Plans.{plans_so}
 use Rattle.cwl_program.proofs.plan.by_rows.Goals as goal
 

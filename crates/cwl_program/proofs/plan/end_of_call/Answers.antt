@@ -1,5 +1,5 @@
 use Rattle.std.proofs.Common.{◌∙◌, sym}
-use Rattle.cwl_program.specs.RunWords.{wish_of_run}
+use Rattle.program_words.specs.RunWords.{wish_of_run}
 use Rattle.cwl_program.proofs.Plans.{plan_without_one_meaning, plan_without_process}
 use Rattle.cwl_program.proofs.plan.end_of_call.Goals as goal
 

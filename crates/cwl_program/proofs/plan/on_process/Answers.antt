@@ -1,4 +1,4 @@
-use Rattle.cwl_program.specs.RunWords.{wish_of_run}
+use Rattle.program_words.specs.RunWords.{wish_of_run}
 use Rattle.cwl_program.proofs.Plans.{plan_without_inputs}
 use Rattle.cwl_program.proofs.plan.on_process.Goals as goal
 

@@ -3,8 +3,8 @@ use Rattle.std.proofs.lemmas.Result.{IfOk-weaker}
 use Rattle.workflow_engine.specs.declared.planned.PlanFault.{PlanFault}
 use Rattle.workflow_engine.specs.declared.planned.Planned.{Planned}
 use Rattle.cwl_program.specs.Plans.{IsPlanTold, failed, told}
-use Rattle.cwl_program.specs.declared.exit.Exit.{Exit}
-use Rattle.cwl_program.specs.declared.exit.Exit.TheVariants.{Plan}
+use Rattle.end_words.specs.declared.exit.Exit.{Exit}
+use Rattle.end_words.specs.declared.exit.Exit.TheVariants.{Plan}
 use Rattle.cwl_program.proofs.plan_texts.exit_of_plan.Goals as goal
 
 pub returns-in_ok-texts-in-Ok : goal.returns-in_ok-texts-in-Ok

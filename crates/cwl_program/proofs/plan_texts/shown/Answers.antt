@@ -1,7 +1,7 @@
 use Rattle.std.proofs.Common.{◌≡◌, ◌∙◌, ap, arith, length, map, rules}
 use Rattle.std.proofs.lemmas.Grind.{common_steps}
 use Rattle.std.proofs.lemmas.List.{length-map}
-use Rattle.cwl_program.specs.Runs.{place_json}
+use Rattle.end_words.specs.RunEnds.{place_json}
 use Rattle.cwl_program.proofs.plan_texts.shown.Goals as goal
 
 pub returns-clause-count : goal.returns-clause-count

@@ -1,5 +1,5 @@
 use Rattle.std.proofs.Common.{◌≡◌, map, take}
-use Rattle.cwl_program.specs.Runs.{place_json}
+use Rattle.end_words.specs.RunEnds.{place_json}
 use Rattle.cwl_program.proofs.plan_texts.shown.Given as goal
 
 abbrev pub invariant-loop-place : goal.invariant-loop-place

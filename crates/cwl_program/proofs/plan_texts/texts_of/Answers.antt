@@ -1,5 +1,5 @@
 use Rattle.std.proofs.Common.{◌≡◌, ◌∙◌, map, length}
-use Rattle.cwl_program.specs.Runs.{place_json}
+use Rattle.end_words.specs.RunEnds.{place_json}
 use Rattle.cwl_program.proofs.Plans.{are_texts}
 use Rattle.cwl_program.proofs.plan_texts.texts_of.Goals as goal
 

@@ -1,5 +1,5 @@
 use Rattle.std.proofs.Common.{◌∙◌, sym}
-use Rattle.cwl_program.specs.RunWords.{wish_of_run}
+use Rattle.program_words.specs.RunWords.{wish_of_run}
 use Rattle.cwl_program.proofs.Stops.{without_one_meaning}
 use Rattle.cwl_program.proofs.run.end_of_call.Goals as goal
 

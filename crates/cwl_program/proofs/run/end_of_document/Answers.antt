@@ -1,4 +1,4 @@
-use Rattle.cwl_program.specs.RunWords.{wish_of_run}
+use Rattle.program_words.specs.RunWords.{wish_of_run}
 use Rattle.cwl_program.proofs.Stops.{without_process}
 use Rattle.cwl_program.proofs.run.end_of_document.Goals as goal
 

@@ -1,5 +1,5 @@
 use Rattle.std.proofs.Common.{ap, option_map}
-use Rattle.cwl_program.specs.RunWords.{wish_of_run}
+use Rattle.program_words.specs.RunWords.{wish_of_run}
 use Rattle.cwl_program.proofs.Stops.{read_inputs, unread_inputs}
 use Rattle.cwl_program.proofs.run.inputs_bytes.Goals as goal
 

@@ -1,8 +1,8 @@
 use Rattle.std.proofs.Common.{◌≡◌, refl, option_map}
 use Rattle.std.specs.Prelude.{unwrap_or}
-use Rattle.cwl_program.specs.RunWords.{wish_of_run}
+use Rattle.program_words.specs.RunWords.{wish_of_run}
 use Rattle.cwl_program.specs.Runs.{IsInputsUrl}
-use Rattle.cwl_program.proofs.CommandLines.{or_other}
+use Rattle.program_words.proofs.CommandLines.{or_other}
 use Rattle.cwl_program.proofs.Stops.{named_inputs, no_named_inputs}
 use Rattle.cwl_program.proofs.run.inputs_of.Goals as goal
 

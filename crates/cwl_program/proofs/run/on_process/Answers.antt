@@ -1,4 +1,4 @@
-use Rattle.cwl_program.specs.RunWords.{wish_of_run}
+use Rattle.program_words.specs.RunWords.{wish_of_run}
 use Rattle.cwl_program.proofs.Stops.{without_inputs}
 use Rattle.cwl_program.proofs.run.on_process.Goals as goal
 

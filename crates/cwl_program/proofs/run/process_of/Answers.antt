@@ -1,4 +1,4 @@
-use Rattle.cwl_program.specs.RunWords.{wish_of_run}
+use Rattle.program_words.specs.RunWords.{wish_of_run}
 use Rattle.cwl_program.proofs.Stops.{named_process, no_named_process}
 use Rattle.cwl_program.proofs.run.process_of.Goals as goal
 

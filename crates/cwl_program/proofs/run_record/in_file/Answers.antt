@@ -1,4 +1,4 @@
-use Rattle.cwl_program.specs.RunWords.{wish_of_run}
+use Rattle.program_words.specs.RunWords.{wish_of_run}
 use Rattle.cwl_program.proofs.Stops.{some_lines, without_record}
 use Rattle.cwl_program.proofs.run_record.in_file.Goals as goal
 

@@ -1,5 +1,0 @@
-use Rattle.cwl_program.specs.Tells.{HasLines}
-use Rattle.cwl_program.proofs.explaining.put_lines.Given as goal
-
-abbrev pub invariant-loop-line : goal.invariant-loop-line
-invariant-loop-line g l = HasLines (g.E.Write.contents l.fn.err) (g.E.Write.contents l.err)

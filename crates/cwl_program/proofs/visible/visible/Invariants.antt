@@ -1,7 +1,0 @@
-use Rattle.std.proofs.Common.{◌≡◌, string_bytes}
-use Rattle.std.specs.Prelude.{flat_map}
-use Rattle.cwl_program.specs.Visible.{shown_char}
-use Rattle.cwl_program.proofs.visible.visible.Given as goal
-
-abbrev pub invariant-loop-c : goal.invariant-loop-c
-invariant-loop-c l = string_bytes l.shown ≡ flat_map shown_char l.yielded

@@ -1,0 +1,41 @@
+//! How the program ends, and the words for it: of refused documents and inputs, of failed jobs, and of faults.
+//!
+//! - `Exit` is an end: its status, and its line on the output or the errors (`specs/Told.antt`).
+//! - `exit_of_run` says how the report of a run ends the program, with what the host's failed call was about.
+//! - `explain_exit`, `put_notes`, `put_savings` and `put_left` write what follows that line where it is to be explained; each line is shown
+//!   without what a terminal would hide. Which words those are is in no contract.
+//! - `bytes_of_file` reads 64 MiB at most, or says why not; `Stop` is why there is nothing to run.
+//! - `RunEnd::leaving` says where the work folder stays.
+//! - The rest are lines on what failed: of a text that is no JSON, a field, a reference, an input, an output, a start.
+#![tactic(auto)]
+
+mod advice;
+mod exit;
+mod explaining;
+mod failed_call;
+mod given;
+mod input_notes;
+mod near_names;
+mod reading;
+mod refused_inputs;
+mod remarks;
+mod report;
+mod run_end;
+mod search;
+mod start_notes;
+mod stop;
+mod tool_texts;
+mod wrong_form;
+
+pub use exit::{Exit, Fault, PlanTexts, Refusal, Unreadable};
+pub use explaining::{explain_exit, hindrance_words, put_left, put_notes, put_savings};
+pub use given::{Call, Given, Places};
+pub use input_notes::{misfit_lines, missing_lines, secondary_lines};
+pub use reading::{NoBytes, bytes_of_file, bytes_of_input, sound};
+pub use remarks::add_remarks;
+pub use report::{exit_of_run, of_failure, of_fault, place_in};
+pub use run_end::RunEnd;
+pub use search::{Reached, reached_from};
+pub use start_notes::{add_listing, add_obstacle, add_start};
+pub use stop::{Stop, stopped, stopped_run, unread, unread_for};
+pub use tool_texts::{add_output, step_lines, tool_lines, tool_of};

@@ -1,0 +1,92 @@
+//! How a run ends the program, and what it leaves.
+ghost use Rattle.std.specs.Prelude.{◌≡◌, None, IfOk};
+ghost use Rattle.program_words.specs.RunWords.{wish_of_run};
+ghost use Rattle.end_words.specs.Leaving as spec;
+
+use crate::exit::{Exit, Fault};
+use plain_data::Text;
+use proc_host::HostFault;
+use program_words::{RunWords, Savings};
+use std::alloc::{AllocError, Global};
+
+/// How the program ends, and what is told beside that.
+#[derive(Drop)]
+pub struct RunEnd {
+    pub exit: Exit,
+    /// The work folder, where it stays.
+    pub left: Option<Text>,
+    /// Lines on what failed.
+    pub notes: Vec<String>,
+    /// What became of its jobs, where a run that succeeded tells of it.
+    pub savings: Option<Savings>,
+}
+
+impl RunEnd {
+    /// An end of which nothing else is told.
+    pub fn bare(alloc: Global, exit: Exit) -> RunEnd
+        ensures exit { result.exit ≡ exit }
+        ensures left { result.left ≡ None }
+    {
+        RunEnd {
+            exit,
+            left: None,
+            notes: Vec::new(alloc),
+            savings: None,
+        }
+    }
+
+    /// Adds the work folder, where it stays for this end.
+    pub fn leaving(self, alloc: Global, words: &RunWords, work: &Text) -> Result<RunEnd, AllocError>
+        ensures exit { IfOk result (λ end. end.exit ≡ self.exit) }
+        ensures left { IfOk result (λ end. end.left
+            ≡ spec.left_of (wish_of_run words.now) self.exit work.now) }
+    {
+        let RunEnd {
+            exit,
+            left: _,
+            notes,
+            savings,
+        } = self;
+        let left = left_of(alloc, words, &exit, work)?;
+        Ok(RunEnd {
+            exit,
+            left,
+            notes,
+            savings,
+        })
+    }
+}
+
+fn left_of(
+    alloc: Global,
+    words: &RunWords,
+    exit: &Exit,
+    work: &Text,
+) -> Result<Option<Text>, AllocError>
+    ensures { IfOk result (λ left. left
+        ≡ spec.left_of (wish_of_run words.now) exit.now work.now) }
+{
+    if stays(words, exit) {
+        return Ok(Some(work.copied(alloc)?));
+    }
+    Ok(None)
+}
+
+// Whether the work folder stays: where that is asked for, and where a result lies there that could not be delivered.
+fn stays(words: &RunWords, exit: &Exit) -> bool
+    ensures { result ≡ spec.stays (wish_of_run words.now) exit.now }
+{
+    words.keep || (words.keep_failed && is_failure(exit)) || is_undelivered(exit)
+}
+
+fn is_failure(exit: &Exit) -> bool
+    ensures { result ≡ spec.is_failure exit.now }
+{
+    !matches!(exit, Exit::Output(_))
+}
+
+fn is_undelivered(exit: &Exit) -> bool
+    ensures { result ≡ spec.is_undelivered exit.now }
+{
+    matches!(exit, Exit::Fault(Fault::Host(HostFault::Deliver, _)))
+}

@@ -1,0 +1,86 @@
+//! What ends the program before anything is run.
+ghost use Rattle.std.specs.Prelude.{◌≡◌, None, IfOk, OnErr};
+ghost use Rattle.end_words.specs.Stops.{IsTrouble, IsCause, IsStop, IsUnread};
+ghost use Rattle.end_words.specs.declared.stop.Stop.TheVariants.{OutOfMemory};
+
+use crate::advice::advice_on;
+use crate::exit::{Exit, Fault, Unreadable};
+use crate::reading::NoBytes;
+use crate::run_end::RunEnd;
+use plain_data::Text;
+use process_machine::World;
+use std::alloc::{AllocError, Global};
+
+/// Why there is nothing to run.
+#[derive(Drop)]
+pub enum Stop {
+    /// The program ends so.
+    Early(Exit),
+    OutOfMemory,
+}
+
+impl From<AllocError> for Stop {
+    ghost from_gives = { λ _ stop. stop ≡ OutOfMemory };
+
+    fn from(_error: AllocError) -> Stop {
+        Stop::OutOfMemory
+    }
+}
+
+/// The end of a program that has nothing to run.
+pub fn stopped(stop: Stop) -> Result<Exit, AllocError>
+    ensures ok { IfOk result (λ exit. stop ≡ Stop.Early exit) }
+    ensures err { OnErr result (stop ≡ Stop.OutOfMemory) }
+{
+    match stop {
+        Stop::Early(exit) => Ok(exit),
+        Stop::OutOfMemory => Err(AllocError),
+    }
+}
+
+/// The same end, as that of a run on inputs of this name, which left nothing, with what would do.
+pub fn stopped_run<R: World>(rt: &R, stop: Stop, inputs: Option<&str>) -> Result<RunEnd, AllocError>
+    ensures exit { IfOk result (λ end. stop ≡ Stop.Early end.exit) }
+    ensures left { IfOk result (λ end. end.left ≡ None) }
+{
+    match stop {
+        Stop::Early(exit) => Ok(advised(rt, exit, inputs)),
+        Stop::OutOfMemory => Err(AllocError),
+    }
+}
+
+fn advised<R: World>(rt: &R, exit: Exit, inputs: Option<&str>) -> RunEnd
+    ensures exit { result.exit ≡ exit }
+    ensures left { result.left ≡ None }
+{
+    let notes = advice_on(rt, &exit, inputs);
+    RunEnd {
+        exit,
+        left: None,
+        notes,
+        savings: None,
+    }
+}
+
+/// The end of a program that can't read the file of this name, unless the read was out of memory.
+pub fn unread(alloc: Global, trouble: NoBytes, name: &str) -> Stop
+    requires { IsTrouble trouble }
+    ensures { IsStop (IsUnread name.now) result }
+{
+    match trouble {
+        NoBytes::Unreadable(why) => unread_for(alloc, name, why),
+        NoBytes::OutOfMemory => Stop::OutOfMemory,
+    }
+}
+
+/// The end of a program that lacks the file of this name, and why.
+#[tactic(auto, using(crate::specs::Stops::unread))]
+pub fn unread_for(alloc: Global, name: &str, why: Unreadable) -> Stop
+    requires { IsCause why }
+    ensures { IsStop (IsUnread name.now) result }
+{
+    match Text::from_text(alloc, name) {
+        Ok(name) => Stop::Early(Exit::Fault(Fault::Unread(name, why))),
+        Err(error) => Stop::from(error),
+    }
+}

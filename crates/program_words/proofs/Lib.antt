@@ -1,0 +1,6 @@
+pub mod CodeTexts
+pub mod CommandLines
+pub mod JobLines
+pub mod ReadOnce
+pub mod SavingsLine
+pub mod ShellWords

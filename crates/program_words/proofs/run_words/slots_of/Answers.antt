@@ -1,0 +1,7 @@
+use Rattle.std.proofs.Common.{List, ℕ, Option, Bor, option_map, subst, sym}
+use Rattle.program_words.specs.RunWords.{IsChosen, absent}
+use Rattle.program_words.proofs.run_words.slots_of.Goals as goal
+
+pub returns-in-None-clause-chosen : goal.returns-in-None-clause-chosen
+returns-in-None-clause-chosen c =
+    subst (λ (given : Option (Bor (List ℕ))). IsChosen 1 64 1 (option_map (λ s. s.now) given) 1) (sym c.in-None.is) absent

@@ -1,0 +1,49 @@
+-- What a run tells of its jobs: the lines of `--verbose`, and the line of `--progress`. Of a job its place is told as JSON text.
+use Rattle.std.specs.Prelude.{◌≡◌, ℕ, ℤ, List, ◌∷◌, ◌++◌, Option, Some, None, codes, decimal}
+use Rattle.std.specs.Fmt.{signed_decimal}
+use Rattle.command_line.specs.declared.launch.Launch.{Launch}
+use Rattle.proc_host.specs.declared.child.ChildEnd.{ChildEnd}
+use Rattle.program_words.specs.Reuse.{why_words}
+use Rattle.program_words.specs.ShellWords.{IsLineOf}
+use Rattle.program_words.specs.declared.reuse.Why.{Why}
+use Rattle.program_words.specs.declared.telling.Counts.{Counts}
+
+-- ` [DONE/KNOWN]`: how many jobs are done, computed or loaded, of how many that are known
+abbrev pub counts_words : Counts → List ℕ
+counts_words counts = codes " [" ++ decimal counts.done ++ codes "/" ++ decimal counts.known ++ codes "]"
+
+-- `start PLACE [DONE/KNOWN] COMMAND`
+abbrev pub IsStartLine : (place : List ℕ) → Launch → Counts → List ℕ → Type 0
+IsStartLine place launch counts line =
+    (command : List ℕ) × IsLineOf launch command × (line ≡ codes "start " ++ place ++ counts_words counts ++ codes " " ++ command)
+
+-- `compute PLACE: WHY`, before the start of a job that could have been loaded
+abbrev pub why_line : (place : List ℕ) → Why → List ℕ
+why_line place why = codes "compute " ++ place ++ codes ": " ++ why_words why
+
+-- with a code, or by a signal
+abbrev pub ending : Option ℤ → List ℕ
+ending (Some code) = codes "exit " ++ signed_decimal code
+ending None = codes "signal"
+
+-- `end PLACE [DONE/KNOWN] exit CODE, MILLIS ms`
+abbrev pub end_line : (place : List ℕ) → Counts → ChildEnd → List ℕ
+end_line place counts end =
+    codes "end " ++ place ++ counts_words counts ++ codes " " ++ ending end.code ++ codes ", " ++ decimal end.millis ++ codes " ms"
+
+-- `load PLACE [DONE/KNOWN]`: the files of a job were fetched, and are what its row has
+abbrev pub load_line : (place : List ℕ) → Counts → List ℕ
+load_line place counts = codes "load " ++ place ++ counts_words counts
+
+-- `omit PLACE: not needed`
+abbrev pub omit_line : (place : List ℕ) → List ℕ
+omit_line place = codes "omit " ++ place ++ codes ": not needed"
+
+-- takes a terminal back to the beginning of its line, and empties that: a carriage return, and `ESC [ K` (ECMA-48, EL)
+abbrev pub erase : List ℕ
+erase = 13 ∷ 27 ∷ codes "[K"
+
+-- `DONE of KNOWN jobs done, RUNNING running`
+abbrev pub progress_line : Counts → List ℕ
+progress_line counts =
+    decimal counts.done ++ codes " of " ++ decimal counts.known ++ codes " jobs done, " ++ decimal counts.running ++ codes " running"

@@ -1,0 +1,11 @@
+pub mod CommandLine
+pub mod Flags
+pub mod JobLines
+pub mod PlanWords
+pub mod RecordWords
+pub mod Reuse
+pub mod RunWords
+pub mod Savings
+pub mod ShellWords
+pub mod Terminal
+pub mod Visible

@@ -1,0 +1,153 @@
+-- The words of `run`, in the terms of `clap`, and what they name.
+use Rattle.std.specs.Prelude.{◌≡◌, ◌≤◌, ℕ, List, Option, Some, None, Bool, true, false, codes, unwrap_or, option_map, if◌then◌else◌}
+use Rattle.std.specs.Str.Parse.{IsNumeral, digits_value, without_leading_plus}
+use Rattle.clap.specs.Words.{App, Row, Rule, Text, first_of, new_app, new_rule, with_rule}
+use Rattle.clap.specs.declared.builder.ArgAction.TheVariants.{Set}
+use Rattle.clap.specs.declared.builder.value_parser.ValueParser.TheVariants.{Unsigned}
+use Rattle.program_words.specs.Flags.{flag_rule, is_given, is_wanted, with_flags}
+use Rattle.program_words.specs.declared.run_words.RunWords.{RunWords}
+use Rattle.program_words.specs.declared.telling.Telling.{Telling}
+use Rattle.program_words.specs.declared.telling.Telling.TheVariants.{Nothing, Lines, OneLine}
+
+-- an argument by its place, and one by its name, as `--work DIR`
+abbrev pub placed_rule : Text → Bool → Rule
+placed_rule id is_required = record (new_rule id) { required = is_required; action = Some Set }
+
+abbrev pub named_rule : Text → Rule
+named_rule id = record (new_rule id) { long = Some id; action = Some Set; value_names = 1 }
+
+-- an option with a number within limits, as `--slots N`
+abbrev pub numbered_rule : Text → ℕ → ℕ → Rule
+numbered_rule id least most = record (named_rule id) { parser = Some (Unsigned least most) }
+
+-- a command with the two folders alone, with the two numbers, with the record, with the archive, with the cache, and with what a load costs
+abbrev pub with_folders : App → App
+with_folders command = with_rule (with_rule command (named_rule (codes "work"))) (named_rule (codes "outdir"))
+
+abbrev pub with_slots : App → App
+with_slots command = with_rule (with_folders command) (numbered_rule (codes "slots") 1 64)
+
+abbrev pub with_numbers : App → App
+with_numbers command = with_rule (with_slots command) (numbered_rule (codes "retries") 0 10)
+
+abbrev pub with_record : App → App
+with_record command = with_rule (with_numbers command) (named_rule (codes "record"))
+
+abbrev pub with_archive : App → App
+with_archive command = with_rule (with_record command) (named_rule (codes "archive"))
+
+abbrev pub with_cache : App → App
+with_cache command = with_rule (with_archive command) (named_rule (codes "cache"))
+
+abbrev pub with_base : App → App
+with_base command = with_rule (with_cache command) (numbered_rule (codes "base") 0 1000000000000)
+
+abbrev pub with_costs : App → App
+with_costs command = with_rule (with_base command) (numbered_rule (codes "rate") 1 1000000000000)
+
+-- and with its document, and with the input object too
+abbrev pub with_document : App → App
+with_document command = with_rule command (placed_rule (codes "DOCUMENT") true)
+
+abbrev pub with_inputs : App → App
+with_inputs command = with_rule (with_document command) (placed_rule (codes "INPUTS") false)
+
+-- `run` with these, with what it tells of its jobs, and with whether its work folder stays
+abbrev pub with_verbose : App
+with_verbose = with_rule (with_costs (new_app (codes "run"))) (flag_rule (codes "verbose"))
+
+abbrev pub with_progress : App
+with_progress = with_rule with_verbose (flag_rule (codes "progress"))
+
+abbrev pub with_keep : App
+with_keep = with_rule with_progress (flag_rule (codes "keep"))
+
+abbrev pub with_keep_failed : App
+with_keep_failed = with_rule with_keep (flag_rule (codes "keep-failed"))
+
+abbrev pub run_command : App
+run_command = with_inputs (with_flags with_keep_failed)
+
+-- how it tells of its jobs: `--verbose` comes before `--progress`, and `--quiet` before both
+abbrev pub telling_in : List Row → Telling
+telling_in rows =
+    if is_wanted (codes "verbose") rows then Lines
+    else if is_wanted (codes "progress") rows then OneLine
+    else Nothing
+
+-- the document, the input object's file where one is named, the two folders, the texts of the two numbers that are given, the record's file, the
+-- archive's folder and a cache's where they are named, the texts of what a load costs that are given, whether the work folder is to stay, and whether
+-- it is to stay after a failure, how to tell of the jobs, and whether to say in words what went wrong
+pub record RunWish : Type 0 where
+  pub document : Text
+  pub inputs : Option Text
+  pub work : Text
+  pub outdir : Text
+  pub slots : Option Text
+  pub retries : Option Text
+  pub record_file : Option Text
+  pub archive : Option Text
+  pub cache : Option Text
+  pub base : Option Text
+  pub rate : Option Text
+  pub keep : Bool
+  pub keep_failed : Bool
+  pub telling : Telling
+  pub explain : Bool
+
+-- what the words of `run` name
+abbrev pub run_wish : List Row → RunWish
+run_wish rows = record {
+  document = unwrap_or (first_of (codes "DOCUMENT") rows) (codes "");
+  inputs = first_of (codes "INPUTS") rows;
+  work = unwrap_or (first_of (codes "work") rows) (codes "cwl-work");
+  outdir = unwrap_or (first_of (codes "outdir") rows) (codes ".");
+  slots = first_of (codes "slots") rows;
+  retries = first_of (codes "retries") rows;
+  record_file = first_of (codes "record") rows;
+  archive = first_of (codes "archive") rows;
+  cache = first_of (codes "cache") rows;
+  base = first_of (codes "base") rows;
+  rate = first_of (codes "rate") rows;
+  keep = is_given (codes "keep") rows;
+  keep_failed = is_given (codes "keep-failed") rows;
+  telling = telling_in rows;
+  explain = is_wanted (codes "explain") rows;
+}
+
+abbrev pub wish_of_run : RunWords → RunWish
+wish_of_run words = record {
+  document = words.document.now;
+  inputs = option_map (λ s. s.now) words.inputs;
+  work = words.work.now;
+  outdir = words.outdir.now;
+  slots = option_map (λ s. s.now) words.slots;
+  retries = option_map (λ s. s.now) words.retries;
+  record_file = option_map (λ s. s.now) words.record_file;
+  archive = option_map (λ s. s.now) words.archive;
+  cache = option_map (λ s. s.now) words.cache;
+  base = option_map (λ s. s.now) words.base;
+  rate = option_map (λ s. s.now) words.rate;
+  keep = words.keep;
+  keep_failed = words.keep_failed;
+  telling = words.telling;
+  explain = words.explain;
+}
+
+-- ---- the numbers
+
+-- the text is a decimal of this number, which is within the limits
+pub record IsDecimal (least most : ℕ) (text : Text) (number : ℕ) : Type 0 where
+  pub numeral : IsNumeral 10 (without_leading_plus text)
+  pub value : number ≡ digits_value 10 (without_leading_plus text)
+  pub is_enough : least ≤ number
+  pub is_within : number ≤ most
+
+-- the number that an option gives
+pub data IsChosen (least most other : ℕ) : Option Text → ℕ → Type 0 where
+  -- its text's
+  written : (text : Text) (number : ℕ) → IsDecimal least most text number → IsChosen least most other (Some text) number
+  -- another, where it has no text
+  absent : IsChosen least most other None other
+  -- or none that is such a decimal, which `clap` refuses
+  unread : (text : Text) → ((number : ℕ) → IsDecimal least most text number → ⊥) → IsChosen least most other (Some text) other

@@ -1,0 +1,49 @@
+-- What a run says of its jobs at its end: how many it loaded, computed and did not need, how long it took, and what it saved.
+use Rattle.std.specs.Prelude.{ℕ, ◌+◌, ◌-◌, ◌/◌, ◌%◌, ◌==◌, nat_lt, List, ◌++◌, codes, decimal, if◌then◌else◌}
+use Rattle.program_words.specs.declared.savings.Savings.{Savings}
+
+-- what makes three digits of a number below 1000
+abbrev pub zeros_before : ℕ → List ℕ
+zeros_before n = if nat_lt n 10 then codes "00" else if nat_lt n 100 then codes "0" else codes ""
+
+abbrev pub with_comma : ℕ → List ℕ
+with_comma n = decimal (n / 1000) ++ codes "," ++ zeros_before (n % 1000) ++ decimal (n % 1000)
+
+-- a number below a million, with a comma before its last three digits; a run has at most 4,096 jobs
+abbrev pub grouped : ℕ → List ℕ
+grouped n = if nat_lt n 1000 then decimal n else with_comma n
+
+abbrev pub seconds_words : (millis : ℕ) → List ℕ
+seconds_words millis = decimal (millis / 1000) ++ codes "." ++ decimal (millis % 1000 / 100) ++ codes " s"
+
+abbrev pub minutes_words : (millis : ℕ) → List ℕ
+minutes_words millis = decimal (millis / 60000) ++ codes " minutes"
+
+abbrev pub hours_words : (millis : ℕ) → List ℕ
+hours_words millis = decimal (millis / 3600000) ++ codes " hours"
+
+-- tenths of a second below two minutes, minutes below two hours, else hours
+abbrev pub time_words : (millis : ℕ) → List ℕ
+time_words millis =
+    if nat_lt millis 120000 then seconds_words millis else if nat_lt millis 7200000 then minutes_words millis else hours_words millis
+
+abbrev pub gain_words : (millis : ℕ) → List ℕ
+gain_words millis = if millis == 0 then codes "nothing saved" else codes "about " ++ time_words millis ++ codes " saved"
+
+abbrev pub jobs_words : ℕ → List ℕ
+jobs_words n = if n == 1 then codes "1 job" else grouped n ++ codes " jobs"
+
+-- those that were neither loaded nor computed
+abbrev pub not_needed : Savings → ℕ
+not_needed savings = savings.jobs - (savings.loaded + savings.computed)
+
+abbrev pub line : (jobs loaded computed rest time gain : List ℕ) → List ℕ
+line jobs loaded computed rest time gain =
+    jobs ++ codes ": " ++ loaded ++ codes " loaded, " ++ computed ++ codes " computed, " ++ rest ++ codes " not needed; " ++ time
+    ++ codes ", " ++ gain
+
+-- `JOBS jobs: LOADED loaded, COMPUTED computed, REST not needed; TIME, about TIME saved`
+abbrev pub savings_line : Savings → List ℕ
+savings_line savings =
+    line (jobs_words savings.jobs) (grouped savings.loaded) (grouped savings.computed) (grouped (not_needed savings))
+    (time_words savings.millis) (gain_words savings.gained)

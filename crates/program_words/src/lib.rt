@@ -1,0 +1,35 @@
+//! The words that the program takes, and those in which it tells of jobs and commands; nothing here knows a run.
+//!
+//! - `choice_of` gives what words ask for, exactly as `clap` reads them by the rules of `specs/CommandLine.antt`, or a kind by which they may
+//!   be refused.
+//! - `add_terminal_words` adds what a terminal asks for unasked.
+//! - `line_of` writes a command as a shell takes it, each word once and as that word alone (`text_is_one_word`, `line_is_one_command`).
+//! - `Teller` writes the lines of `--verbose` and `--progress`, each where it is asked for alone; `reason_for` says why a job is computed.
+//! - `savings_line` says what a run saved.
+//! - `visible` shows foreign text with a code for what a terminal would hide.
+#![tactic(auto)]
+
+mod command;
+mod flags;
+mod laws;
+mod planning;
+mod record_words;
+mod reuse;
+mod run_words;
+mod savings;
+mod shell_words;
+mod shown;
+mod telling;
+mod terminal;
+
+pub use command::{Choice, choice_of};
+pub use laws::{line_is_one_command, text_is_one_word};
+pub use planning::PlanWords;
+pub use record_words::RecordWords;
+pub use reuse::{Recalled, Why, reason_for};
+pub use run_words::{RunWords, load_base_of, load_rate_of, retries_of, slots_of};
+pub use savings::{Savings, savings_line};
+pub use shell_words::{add_word, line_of};
+pub use shown::{cut, visible, visible_text};
+pub use telling::{Counts, Listen, Silent, Teller, Telling, ending};
+pub use terminal::{add_explain_word, add_terminal_words};

@@ -1,0 +1,54 @@
+ghost use Rattle.std.specs.Prelude.{◌≡◌, IfOk, IfErr, false};
+ghost use Rattle.clap.specs.Words.{app_of, found_of, kind_of, rows_of};
+ghost use Rattle.program_words.specs.RecordWords.{record_command, record_wish, wish_of_record};
+ghost use Rattle.program_words.specs.Flags.{IsLocal};
+
+use crate::flags::{RECORD_END, is_wanted, with_flags};
+use crate::run_words::{named, placed};
+use clap::error::ErrorKind;
+use clap::{ArgMatches, Command, Error};
+use std::alloc::Global;
+
+const FORGET_HELP: &str = "Forget the rows whose key has this SHA-1 first";
+
+/// The record's file, and the sum of the keys whose rows are to be forgotten.
+#[derive(Drop)]
+pub struct RecordWords<'a> {
+    pub file: &'a str,
+    pub forget: Option<&'a str>,
+    /// Whether to say in words what went wrong.
+    pub explain: bool,
+}
+
+/// The subcommand `record`.
+pub fn record_command<'a>(alloc: Global) -> Result<Command<'a>, Error>
+    ensures ok { IfOk result (λ command. app_of command ≡ record_command) }
+    ensures local { IfOk result IsLocal }
+    ensures err { IfErr result (λ e. kind_of e ≡ ErrorKind.OutOfMemory) }
+{
+    let forget = named(alloc, "forget", "HEX", FORGET_HELP);
+    let command = Command::new(alloc, "record")
+        .about("Shows the rows of a record of jobs")
+        .after_help(RECORD_END)
+        .arg(forget)?;
+    let command = with_flags(alloc, command)?;
+    let file = placed(
+        alloc,
+        "FILE",
+        true,
+        "The record's file, or the folder of a cache",
+    );
+    let command = command.arg(file)?;
+    Ok(command)
+}
+
+/// What the words of `record` name.
+pub fn record_words<'a>(words: &ArgMatches<'a>) -> RecordWords<'a>
+    ensures { wish_of_record result ≡ record_wish (rows_of (found_of words.now)) }
+{
+    RecordWords {
+        file: words.get_str("FILE").unwrap_or(""),
+        forget: words.get_str("forget"),
+        explain: is_wanted(words, "explain"),
+    }
+}

@@ -1,0 +1,408 @@
+ghost use Rattle.std.specs.Prelude.{◌≡◌, ◌≤◌, ◌^◌, IfOk, IfErr, Some, false, option_map};
+ghost use Rattle.clap.specs.Words.{app_of, found_of, kind_of, rows_of, rule_of};
+ghost use Rattle.program_words.specs.Flags.{IsLocal};
+ghost use Rattle.program_words.specs.RunWords.{IsChosen, named_rule, numbered_rule, placed_rule, run_command, run_wish, telling_in, wish_of_run, with_archive, with_base, with_cache, with_costs, with_document, with_folders, with_inputs, with_keep, with_keep_failed, with_numbers, with_progress, with_record, with_slots, with_verbose};
+
+use crate::flags::{RUN_END, flag, is_given, is_wanted, with_flags};
+use crate::telling::Telling;
+use clap::builder::ValueParser;
+use clap::error::ErrorKind;
+use clap::{Arg, ArgAction, ArgMatches, Command, Error};
+use plan_checker::MOST_COST;
+use std::alloc::Global;
+
+const LEAST_SLOTS: u64 = 1;
+
+const MOST_SLOTS: u64 = 64;
+
+const MOST_RETRIES: u64 = 10;
+
+const USUAL_BASE: u64 = 1;
+
+const LEAST_RATE: u64 = 1;
+
+const USUAL_RATE: u64 = 100_000;
+
+const WORK_HELP: &str = "The folder for the jobs, made and removed by the run [cwl-work]";
+
+const OUTDIR_HELP: &str = "The folder for the output files, made where it is absent [.]";
+
+const SLOTS_HELP: &str = "How many jobs may run side by side, from 1 to 64 [1]";
+
+const RETRIES_HELP: &str =
+    "How often a job that fails temporarily is started again, from 0 to 10 [0]";
+
+const RECORD_HELP: &str =
+    "The file of a record, made where it is absent, which keeps what each job gives and ends a run that gives something else";
+
+const ARCHIVE_HELP: &str =
+    "The folder that keeps the files of each job, made where it is absent; they are fetched where that costs less than the job";
+
+const CACHE_HELP: &str =
+    "The folder of a record and an archive, made where it is absent: `--record DIR/jobs.db --archive DIR/files`";
+
+const BASE_HELP: &str = "What it costs to load the files of any job, from 0 to 10^12 [1]";
+
+const RATE_HELP: &str = "How many bytes are loaded for a cost of 1, from 1 to 10^12 [100000]";
+
+const VERBOSE_HELP: &str =
+    "Tell of each job as it starts and ends, and show what the commands say on standard error";
+
+const PROGRESS_HELP: &str =
+    "Show in one line how many jobs are done; on a terminal it is shown unasked";
+
+const KEEP_HELP: &str = "Leave the work folder as it is at the end, and say where it is";
+
+const KEEP_FAILED_HELP: &str = "Leave it after a failure";
+
+const INPUTS_HELP: &str = "The input object's file, in JSON; without it the object is empty";
+
+/// The files and folders that the words of a run name, and the texts of its numbers.
+#[derive(Drop)]
+pub struct RunWords<'a> {
+    pub document: &'a str,
+    pub inputs: Option<&'a str>,
+    pub work: &'a str,
+    pub outdir: &'a str,
+    pub slots: Option<&'a str>,
+    pub retries: Option<&'a str>,
+    /// The file of the record that is asked for the jobs; without it the record ends with the run.
+    pub record_file: Option<&'a str>,
+    /// The folder that keeps the files of jobs; without it none are kept, and each job is computed.
+    pub archive: Option<&'a str>,
+    /// The folder that has both.
+    pub cache: Option<&'a str>,
+    /// What a load costs, and how many bytes cost 1 more.
+    pub base: Option<&'a str>,
+    pub rate: Option<&'a str>,
+    /// Whether the work folder is to stay, and whether it is to stay after a failure.
+    pub keep: bool,
+    pub keep_failed: bool,
+    /// How to tell of the jobs.
+    pub telling: Telling,
+    /// Whether to say in words what went wrong.
+    pub explain: bool,
+}
+
+/// An argument by its place.
+pub fn placed<'a>(alloc: Global, id: &'a str, is_required: bool, help: &'a str) -> Arg<'a>
+    ensures rule { rule_of result ≡ placed_rule id.now is_required }
+    ensures local { result.global ≡ false }
+{
+    Arg::new(alloc, id)
+        .required(is_required)
+        .action(ArgAction::Set)
+        .help(help)
+}
+
+/// An argument by its name, as `--work DIR`.
+pub fn named<'a>(alloc: Global, id: &'a str, value: &'a str, help: &'a str) -> Arg<'a>
+    ensures rule { rule_of result ≡ named_rule id.now }
+    ensures local { result.global ≡ false }
+{
+    Arg::new(alloc, id)
+        .long(id)
+        .value_name(value)
+        .action(ArgAction::Set)
+        .help(help)
+}
+
+/// An option with a number within limits, as `--slots N`.
+fn numbered<'a>(alloc: Global, id: &'a str, least: u64, most: u64, help: &'a str) -> Arg<'a>
+    ensures rule { rule_of result ≡ numbered_rule id.now least most }
+    ensures local { result.global ≡ false }
+{
+    Arg::new(alloc, id)
+        .long(id)
+        .value_name("N")
+        .action(ArgAction::Set)
+        .value_parser(ValueParser::Unsigned(least, most))
+        .help(help)
+}
+
+// A command with the two folders alone.
+fn with_folders<'a>(alloc: Global, command: Command<'a>) -> Result<Command<'a>, Error>
+    requires { IsLocal command }
+    ensures ok { IfOk result (λ whole. app_of whole ≡ with_folders (app_of command.entry)) }
+    ensures local { IfOk result IsLocal }
+    ensures err { IfErr result (λ e. kind_of e ≡ ErrorKind.OutOfMemory) }
+{
+    let work = named(alloc, "work", "DIR", WORK_HELP);
+    let command = command.arg(work)?;
+    let outdir = named(alloc, "outdir", "DIR", OUTDIR_HELP);
+    let command = command.arg(outdir)?;
+    Ok(command)
+}
+
+// And with how many jobs may run side by side.
+fn with_slots<'a>(alloc: Global, command: Command<'a>) -> Result<Command<'a>, Error>
+    requires { IsLocal command }
+    ensures ok { IfOk result (λ whole. app_of whole ≡ with_slots (app_of command.entry)) }
+    ensures local { IfOk result IsLocal }
+    ensures err { IfErr result (λ e. kind_of e ≡ ErrorKind.OutOfMemory) }
+{
+    let slots = numbered(alloc, "slots", LEAST_SLOTS, MOST_SLOTS, SLOTS_HELP);
+    let command = with_folders(alloc, command)?.arg(slots)?;
+    Ok(command)
+}
+
+// And with how often a job is started again.
+fn with_numbers<'a>(alloc: Global, command: Command<'a>) -> Result<Command<'a>, Error>
+    requires { IsLocal command }
+    ensures ok { IfOk result (λ whole. app_of whole ≡ with_numbers (app_of command.entry)) }
+    ensures local { IfOk result IsLocal }
+    ensures err { IfErr result (λ e. kind_of e ≡ ErrorKind.OutOfMemory) }
+{
+    let retries = numbered(alloc, "retries", 0, MOST_RETRIES, RETRIES_HELP);
+    let command = with_slots(alloc, command)?.arg(retries)?;
+    Ok(command)
+}
+
+// And with the record.
+fn with_record<'a>(alloc: Global, command: Command<'a>) -> Result<Command<'a>, Error>
+    requires { IsLocal command }
+    ensures ok { IfOk result (λ whole. app_of whole ≡ with_record (app_of command.entry)) }
+    ensures local { IfOk result IsLocal }
+    ensures err { IfErr result (λ e. kind_of e ≡ ErrorKind.OutOfMemory) }
+{
+    let record = named(alloc, "record", "FILE", RECORD_HELP);
+    let command = with_numbers(alloc, command)?.arg(record)?;
+    Ok(command)
+}
+
+// And with the archive.
+fn with_archive<'a>(alloc: Global, command: Command<'a>) -> Result<Command<'a>, Error>
+    requires { IsLocal command }
+    ensures ok { IfOk result (λ whole. app_of whole ≡ with_archive (app_of command.entry)) }
+    ensures local { IfOk result IsLocal }
+    ensures err { IfErr result (λ e. kind_of e ≡ ErrorKind.OutOfMemory) }
+{
+    let archive = named(alloc, "archive", "DIR", ARCHIVE_HELP);
+    let command = with_record(alloc, command)?.arg(archive)?;
+    Ok(command)
+}
+
+// And with the cache.
+fn with_cache<'a>(alloc: Global, command: Command<'a>) -> Result<Command<'a>, Error>
+    requires { IsLocal command }
+    ensures ok { IfOk result (λ whole. app_of whole ≡ with_cache (app_of command.entry)) }
+    ensures local { IfOk result IsLocal }
+    ensures err { IfErr result (λ e. kind_of e ≡ ErrorKind.OutOfMemory) }
+{
+    let cache = named(alloc, "cache", "DIR", CACHE_HELP);
+    let command = with_archive(alloc, command)?.arg(cache)?;
+    Ok(command)
+}
+
+// And with what any load costs.
+fn with_base<'a>(alloc: Global, command: Command<'a>) -> Result<Command<'a>, Error>
+    requires { IsLocal command }
+    ensures ok { IfOk result (λ whole. app_of whole ≡ with_base (app_of command.entry)) }
+    ensures local { IfOk result IsLocal }
+    ensures err { IfErr result (λ e. kind_of e ≡ ErrorKind.OutOfMemory) }
+{
+    let base = numbered(alloc, "base", 0, MOST_COST, BASE_HELP);
+    let command = with_cache(alloc, command)?.arg(base)?;
+    Ok(command)
+}
+
+/// A command with the options of each run, and of each plan of one.
+pub fn with_costs<'a>(alloc: Global, command: Command<'a>) -> Result<Command<'a>, Error>
+    requires { IsLocal command }
+    ensures ok { IfOk result (λ whole. app_of whole ≡ with_costs (app_of command.entry)) }
+    ensures local { IfOk result IsLocal }
+    ensures err { IfErr result (λ e. kind_of e ≡ ErrorKind.OutOfMemory) }
+{
+    let rate = numbered(alloc, "rate", LEAST_RATE, MOST_COST, RATE_HELP);
+    let command = with_base(alloc, command)?.arg(rate)?;
+    Ok(command)
+}
+
+// A command with its document.
+fn with_document<'a>(alloc: Global, command: Command<'a>) -> Result<Command<'a>, Error>
+    requires { IsLocal command }
+    ensures ok { IfOk result (λ whole. app_of whole ≡ with_document (app_of command.entry)) }
+    ensures local { IfOk result IsLocal }
+    ensures err { IfErr result (λ e. kind_of e ≡ ErrorKind.OutOfMemory) }
+{
+    let document = placed(
+        alloc,
+        "DOCUMENT",
+        true,
+        "The document of the process, in JSON",
+    );
+    let command = command.arg(document)?;
+    Ok(command)
+}
+
+/// A command with its document and its input object.
+pub fn with_inputs<'a>(alloc: Global, command: Command<'a>) -> Result<Command<'a>, Error>
+    requires { IsLocal command }
+    ensures ok { IfOk result (λ whole. app_of whole ≡ with_inputs (app_of command.entry)) }
+    ensures local { IfOk result IsLocal }
+    ensures err { IfErr result (λ e. kind_of e ≡ ErrorKind.OutOfMemory) }
+{
+    let inputs = placed(alloc, "INPUTS", false, INPUTS_HELP);
+    let command = with_document(alloc, command)?.arg(inputs)?;
+    Ok(command)
+}
+
+// The subcommand `run` with these, and with the lines on its jobs.
+fn verbose_command<'a>(alloc: Global) -> Result<Command<'a>, Error>
+    ensures ok { IfOk result (λ command. app_of command ≡ with_verbose) }
+    ensures local { IfOk result IsLocal }
+    ensures err { IfErr result (λ e. kind_of e ≡ ErrorKind.OutOfMemory) }
+{
+    let command = Command::new(alloc, "run")
+        .about("Runs a process and prints its output object")
+        .after_help(RUN_END);
+    let verbose = flag(alloc, "verbose", VERBOSE_HELP);
+    let command = with_costs(alloc, command)?.arg(verbose)?;
+    Ok(command)
+}
+
+// And with the one line on its jobs.
+fn progress_command<'a>(alloc: Global) -> Result<Command<'a>, Error>
+    ensures ok { IfOk result (λ command. app_of command ≡ with_progress) }
+    ensures local { IfOk result IsLocal }
+    ensures err { IfErr result (λ e. kind_of e ≡ ErrorKind.OutOfMemory) }
+{
+    let progress = flag(alloc, "progress", PROGRESS_HELP);
+    let command = verbose_command(alloc)?.arg(progress)?;
+    Ok(command)
+}
+
+// And with the option that leaves the work folder.
+fn keep_command<'a>(alloc: Global) -> Result<Command<'a>, Error>
+    ensures ok { IfOk result (λ command. app_of command ≡ with_keep) }
+    ensures local { IfOk result IsLocal }
+    ensures err { IfErr result (λ e. kind_of e ≡ ErrorKind.OutOfMemory) }
+{
+    let keep = flag(alloc, "keep", KEEP_HELP);
+    let command = progress_command(alloc)?.arg(keep)?;
+    Ok(command)
+}
+
+// And with the one that leaves it after a failure.
+fn keep_failed_command<'a>(alloc: Global) -> Result<Command<'a>, Error>
+    ensures ok { IfOk result (λ command. app_of command ≡ with_keep_failed) }
+    ensures local { IfOk result IsLocal }
+    ensures err { IfErr result (λ e. kind_of e ≡ ErrorKind.OutOfMemory) }
+{
+    let keep_failed = flag(alloc, "keep-failed", KEEP_FAILED_HELP);
+    let command = keep_command(alloc)?.arg(keep_failed)?;
+    Ok(command)
+}
+
+/// The subcommand `run`.
+pub fn run_command<'a>(alloc: Global) -> Result<Command<'a>, Error>
+    ensures ok { IfOk result (λ command. app_of command ≡ run_command) }
+    ensures local { IfOk result IsLocal }
+    ensures err { IfErr result (λ e. kind_of e ≡ ErrorKind.OutOfMemory) }
+{
+    let command = keep_failed_command(alloc)?;
+    let command = with_flags(alloc, command)?;
+    with_inputs(alloc, command)
+}
+
+/// What the words of `run` name.
+pub fn run_words<'a>(words: &ArgMatches<'a>) -> RunWords<'a>
+    ensures { wish_of_run result ≡ run_wish (rows_of (found_of words.now)) }
+{
+    RunWords {
+        document: words.get_str("DOCUMENT").unwrap_or(""),
+        inputs: words.get_str("INPUTS"),
+        work: words.get_str("work").unwrap_or("cwl-work"),
+        outdir: words.get_str("outdir").unwrap_or("."),
+        slots: words.get_str("slots"),
+        retries: words.get_str("retries"),
+        record_file: words.get_str("record"),
+        archive: words.get_str("archive"),
+        cache: words.get_str("cache"),
+        base: words.get_str("base"),
+        rate: words.get_str("rate"),
+        keep: is_given(words, "keep"),
+        keep_failed: is_given(words, "keep-failed"),
+        telling: telling_of(words),
+        explain: is_wanted(words, "explain"),
+    }
+}
+
+// How the words want the jobs to be told of.
+fn telling_of(words: &ArgMatches) -> Telling
+    ensures { result ≡ telling_in (rows_of (found_of words.now)) }
+{
+    if is_wanted(words, "verbose") {
+        return Telling::Lines;
+    }
+    if is_wanted(words, "progress") {
+        return Telling::OneLine;
+    }
+    Telling::Nothing
+}
+
+/// How many children may run side by side: one where the words don't say.
+pub fn slots_of(words: &RunWords) -> u64
+    ensures chosen { IsChosen 1 64 1 (option_map (λ s. s.now) words.now.slots) result }
+    ensures least { 1 ≤ result }
+    ensures most { result ≤ 64 }
+{
+    match words.slots {
+        None => LEAST_SLOTS,
+        Some(text) => read_or(text, LEAST_SLOTS, MOST_SLOTS, LEAST_SLOTS),
+    }
+}
+
+/// How often a job that fails temporarily is started again: never where the words don't say.
+pub fn retries_of(words: &RunWords) -> u64
+    ensures chosen { IsChosen 0 10 0 (option_map (λ s. s.now) words.now.retries) result }
+    ensures most { result ≤ 10 }
+{
+    match words.retries {
+        None => 0,
+        Some(text) => read_or(text, 0, MOST_RETRIES, 0),
+    }
+}
+
+/// What any load costs: 1 where the words don't say.
+pub fn load_base_of(words: &RunWords) -> u64
+    ensures chosen { IsChosen 0 1000000000000 1 (option_map (λ s. s.now) words.now.base) result }
+    ensures most { result ≤ 10 ^ 12 }
+{
+    match words.base {
+        None => USUAL_BASE,
+        Some(text) => read_or(text, 0, MOST_COST, USUAL_BASE),
+    }
+}
+
+/// How many bytes are loaded for a cost of 1: 100,000 where the words don't say.
+pub fn load_rate_of(words: &RunWords) -> u64
+    ensures chosen { IsChosen 1 1000000000000 100000 (option_map (λ s. s.now) words.now.rate)
+        result }
+    ensures least { 1 ≤ result }
+    ensures most { result ≤ 10 ^ 12 }
+{
+    match words.rate {
+        None => USUAL_RATE,
+        Some(text) => read_or(text, LEAST_RATE, MOST_COST, USUAL_RATE),
+    }
+}
+
+// The number of a text that `clap` has let through.
+fn read_or(text: &str, least: u64, most: u64, other: u64) -> u64
+    requires enough { least ≤ other }
+    requires within { other ≤ most }
+    ensures chosen { IsChosen least most other (Some text.now) result }
+    ensures least { least ≤ result }
+    ensures most { result ≤ most }
+{
+    match text.parse::<u64>() {
+        Ok(number) => {
+            if number < least || number > most {
+                return other;
+            }
+            number
+        }
+        Err(_) => other,
+    }
+}

@@ -1,0 +1,288 @@
+//! What a run tells of its jobs on standard error while it goes on.
+ghost use Rattle.std.specs.Prelude.{◌≡◌, ◌≢◌, List, ℕ, ◌++◌, codes, IfOk, OnOk, string_bytes};
+ghost use Rattle.std.specs.Io.KnownBytes.{Appends};
+ghost use Rattle.program_words.specs.JobLines as spec;
+
+use crate::reuse::Why;
+use crate::shell_words::line_of;
+use command_line::Launch;
+use plain_data::Text;
+use proc_host::ChildEnd;
+use std::alloc::{AllocError, Global};
+use std::io;
+use std::io::Write;
+
+/// How a run tells of its jobs.
+#[derive(Clone, Copy, Debug, PartialEq, Eq)]
+pub enum Telling {
+    Nothing,
+    /// Lines as each job starts, ends or is loaded.
+    Lines,
+    /// One line that is rewritten, for a terminal.
+    OneLine,
+}
+
+/// How many jobs are done, of how many that are known, and how many run.
+#[derive(Clone, Copy, Debug, PartialEq, Eq)]
+pub struct Counts {
+    pub done: usize,
+    pub known: usize,
+    pub running: usize,
+}
+
+/// Is told what becomes of the jobs of a run, each by its place as JSON text.
+pub trait Listen {
+    /// The job is about to be started, for this reason where it could have been loaded.
+    fn starts(&mut self, place: &Text, launch: &Launch, why: Option<Why>, counts: Counts);
+
+    /// A command has been started.
+    fn started(&mut self, counts: Counts);
+
+    fn ended(&mut self, place: &Text, end: &ChildEnd, counts: Counts);
+
+    /// The files of the job were fetched and are used.
+    fn loaded(&mut self, place: &Text, counts: Counts);
+
+    /// The run has succeeded without the job.
+    fn omitted(&mut self, place: &Text);
+}
+
+/// Tells nothing.
+#[derive(Clone, Copy, Debug)]
+pub struct Silent;
+
+impl Listen for Silent {
+    fn starts(&mut self, _place: &Text, _launch: &Launch, _why: Option<Why>, _counts: Counts) {}
+
+    fn started(&mut self, _counts: Counts) {}
+
+    fn ended(&mut self, _place: &Text, _end: &ChildEnd, _counts: Counts) {}
+
+    fn loaded(&mut self, _place: &Text, _counts: Counts) {}
+
+    fn omitted(&mut self, _place: &Text) {}
+}
+
+/// Takes a terminal back to the beginning of its line, and empties it.
+const ERASE: &str = "\r\u{1b}[K";
+
+/// Tells of the jobs of a run. What can't be written is left out.
+#[derive(Drop)]
+pub struct Teller<'a, E: Write> {
+    alloc: Global,
+    err: &'a mut E,
+    telling: Telling,
+}
+
+impl<'a, E: Write> Teller<'a, E> {
+    /// Makes one that tells so, on this writer.
+    pub fn new(alloc: Global, err: &'a mut E, telling: Telling) -> Teller<'a, E>
+        ensures told { result.telling ≡ telling }
+        ensures err { E.contents result.err.now ≡ E.contents err.old }
+    {
+        Teller {
+            alloc,
+            err,
+            telling,
+        }
+    }
+
+    /// Erases the line that was rewritten.
+    pub fn finish(&mut self)
+        ensures { self.old.telling ≢ Telling.OneLine → E.contents self.new.err.now
+            ≡ E.contents self.old.err.now }
+    {
+        if matches!(self.telling, Telling::OneLine) {
+            let _told = write!(self.err, "{ERASE}");
+        }
+    }
+
+    fn tell_why(&mut self, place: &Text, why: Why) -> io::Result<()>
+        ensures silent { self.old.telling ≢ Telling.Lines → E.contents self.new.err.now
+            ≡ E.contents self.old.err.now }
+        ensures told { OnOk result (self.old.telling ≡ Telling.Lines
+            → Appends (E.contents self.old.err.now) (E.contents self.new.err.now)
+            (spec.why_line place.now why ++ codes "\n")) }
+    {
+        if !matches!(self.telling, Telling::Lines) {
+            return Ok(());
+        }
+        let line = why_line(self.alloc, place, why)?;
+        writeln!(self.err, "{line}")
+    }
+
+    fn tell_start(&mut self, place: &Text, launch: &Launch, counts: Counts) -> io::Result<()>
+        ensures silent { self.old.telling ≢ Telling.Lines → E.contents self.new.err.now
+            ≡ E.contents self.old.err.now }
+        ensures told { OnOk result (self.old.telling ≡ Telling.Lines → (line : List ℕ)
+            × spec.IsStartLine place.now launch.now counts line
+            × Appends (E.contents self.old.err.now) (E.contents self.new.err.now) (line
+            ++ codes "\n")) }
+    {
+        if !matches!(self.telling, Telling::Lines) {
+            return Ok(());
+        }
+        let line = start_line(self.alloc, place, launch, counts)?;
+        writeln!(self.err, "{line}")
+    }
+
+    fn tell_end(&mut self, place: &Text, end: &ChildEnd, counts: Counts) -> io::Result<()>
+        ensures silent { self.old.telling ≢ Telling.Lines → E.contents self.new.err.now
+            ≡ E.contents self.old.err.now }
+        ensures told { OnOk result (self.old.telling ≡ Telling.Lines
+            → Appends (E.contents self.old.err.now) (E.contents self.new.err.now)
+            (spec.end_line place.now counts end.now ++ codes "\n")) }
+    {
+        if !matches!(self.telling, Telling::Lines) {
+            return Ok(());
+        }
+        let line = end_line(self.alloc, place, end, counts)?;
+        writeln!(self.err, "{line}")
+    }
+
+    fn tell_load(&mut self, place: &Text, counts: Counts) -> io::Result<()>
+        ensures silent { self.old.telling ≢ Telling.Lines → E.contents self.new.err.now
+            ≡ E.contents self.old.err.now }
+        ensures told { OnOk result (self.old.telling ≡ Telling.Lines
+            → Appends (E.contents self.old.err.now) (E.contents self.new.err.now)
+            (spec.load_line place.now counts ++ codes "\n")) }
+    {
+        if !matches!(self.telling, Telling::Lines) {
+            return Ok(());
+        }
+        let line = load_line(self.alloc, place, counts)?;
+        writeln!(self.err, "{line}")
+    }
+
+    fn tell_omitted(&mut self, place: &Text) -> io::Result<()>
+        ensures silent { self.old.telling ≢ Telling.Lines → E.contents self.new.err.now
+            ≡ E.contents self.old.err.now }
+        ensures told { OnOk result (self.old.telling ≡ Telling.Lines
+            → Appends (E.contents self.old.err.now) (E.contents self.new.err.now)
+            (spec.omit_line place.now ++ codes "\n")) }
+    {
+        if !matches!(self.telling, Telling::Lines) {
+            return Ok(());
+        }
+        writeln!(self.err, "omit {place}: not needed")
+    }
+
+    fn rewrite(&mut self, counts: Counts) -> io::Result<()>
+        ensures silent { self.old.telling ≢ Telling.OneLine → E.contents self.new.err.now
+            ≡ E.contents self.old.err.now }
+        ensures told { OnOk result (self.old.telling ≡ Telling.OneLine
+            → Appends (E.contents self.old.err.now) (E.contents self.new.err.now) (spec.erase
+            ++ spec.progress_line counts)) }
+    {
+        if !matches!(self.telling, Telling::OneLine) {
+            return Ok(());
+        }
+        self.write_progress(counts)?;
+        self.err.flush()
+    }
+
+    fn write_progress(&mut self, counts: Counts) -> io::Result<()>
+        ensures { OnOk result (Appends (E.contents self.old.err.now) (E.contents self.new.err.now)
+            (spec.erase ++ spec.progress_line counts)) }
+    {
+        let line = progress_line(self.alloc, counts)?;
+        write!(self.err, "{ERASE}{line}")
+    }
+}
+
+impl<E: Write> Listen for Teller<'_, E> {
+    fn starts(&mut self, place: &Text, launch: &Launch, why: Option<Why>, counts: Counts) {
+        if let Some(why) = why {
+            let _told = self.tell_why(place, why);
+        }
+        let _told = self.tell_start(place, launch, counts);
+    }
+
+    fn started(&mut self, counts: Counts) {
+        let _told = self.rewrite(counts);
+    }
+
+    fn ended(&mut self, place: &Text, end: &ChildEnd, counts: Counts) {
+        let _told = self.tell_end(place, end, counts);
+        let _rewritten = self.rewrite(counts);
+    }
+
+    fn loaded(&mut self, place: &Text, counts: Counts) {
+        let _told = self.tell_load(place, counts);
+        let _rewritten = self.rewrite(counts);
+    }
+
+    fn omitted(&mut self, place: &Text) {
+        let _told = self.tell_omitted(place);
+    }
+}
+
+fn counts_words(alloc: Global, counts: Counts) -> Result<String, AllocError>
+    ensures { IfOk result (λ words. string_bytes words ≡ spec.counts_words counts) }
+{
+    let (done, known) = (counts.done, counts.known);
+    format!(in alloc; " [{done}/{known}]")
+}
+
+fn start_line(
+    alloc: Global,
+    place: &Text,
+    launch: &Launch,
+    counts: Counts,
+) -> Result<String, AllocError>
+    ensures { IfOk result (λ line. spec.IsStartLine place.now launch.now counts
+        (string_bytes line)) }
+{
+    let words = line_of(alloc, launch)?;
+    let counts = counts_words(alloc, counts)?;
+    format!(in alloc; "start {place}{counts} {words}")
+}
+
+fn why_line(alloc: Global, place: &Text, why: Why) -> Result<String, AllocError>
+    ensures { IfOk result (λ line. string_bytes line ≡ spec.why_line place.now why) }
+{
+    let why = why.words();
+    format!(in alloc; "compute {place}: {why}")
+}
+
+fn end_line(
+    alloc: Global,
+    place: &Text,
+    end: &ChildEnd,
+    counts: Counts,
+) -> Result<String, AllocError>
+    ensures { IfOk result (λ line. string_bytes line ≡ spec.end_line place.now counts end.now) }
+{
+    let how = ending(alloc, end.code)?;
+    let counts = counts_words(alloc, counts)?;
+    let millis = end.millis;
+    format!(in alloc; "end {place}{counts} {how}, {millis} ms")
+}
+
+fn load_line(alloc: Global, place: &Text, counts: Counts) -> Result<String, AllocError>
+    ensures { IfOk result (λ line. string_bytes line ≡ spec.load_line place.now counts) }
+{
+    let counts = counts_words(alloc, counts)?;
+    format!(in alloc; "load {place}{counts}")
+}
+
+/// How a command ended: by a code, or by a signal.
+pub fn ending(alloc: Global, code: Option<i32>) -> Result<String, AllocError>
+    ensures { IfOk result (λ text. string_bytes text ≡ spec.ending code) }
+{
+    match code {
+        Some(code) => format!(in alloc; "exit {code}"),
+        None => String::from_str(alloc, "signal"),
+    }
+}
+
+fn progress_line(alloc: Global, counts: Counts) -> Result<String, AllocError>
+    ensures { IfOk result (λ line. string_bytes line ≡ spec.progress_line counts) }
+{
+    let Counts {
+        done,
+        known,
+        running,
+    } = counts;
+    format!(in alloc; "{done} of {known} jobs done, {running} running")
+}
