@@ -21,6 +21,7 @@ mod failed_call;
 mod flags;
 mod folders;
 mod given;
+mod hearing;
 mod input_notes;
 mod inputs;
 mod jobs;
