@@ -208,7 +208,9 @@ impl<'a, L: Listen> Jobs<'a, L> {
             .insert(place.copied(self.alloc)?, ticket)?;
         self.running.push(Running { ticket, place })?;
         let counts = self.counts();
-        self.listener.started(counts);
+        if let Some(child) = self.running.last() {
+            self.listener.started(&child.place, child.ticket, counts);
+        }
         Ok(())
     }
 

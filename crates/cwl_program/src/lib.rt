@@ -14,6 +14,7 @@ mod demo;
 mod documents;
 mod entry;
 mod folders;
+mod hearing;
 mod inputs;
 mod jobs;
 mod looks;

@@ -6,14 +6,16 @@ ghost use Rattle.cwl_program.specs.Runs.{IsRanOver};
 ghost use Rattle.cwl_program.specs.Tells.{IsRunTold};
 
 use crate::caches::{keeps_archive, remembers};
+use crate::hearing::{Speaker, Voice};
 use crate::jobs::{Jobs, Memory, Traces};
 use crate::notes::notes_on;
 use end_words::{Exit, Given, Places, RunEnd, exit_of_run};
 use job_rows::Record;
-use process_machine::{Machine, World};
+use process_machine::{Deaf, Hear, Heard, Machine, World};
 use program_words::{Listen, RunWords, Savings, Silent, Teller, Telling};
 use run_core::Options;
 use std::alloc::AllocError;
+use std::cell::RefCell;
 use std::io::Write;
 use std::mem;
 use std::process::Stdio;
@@ -83,7 +85,7 @@ fn machine_at<R: World>(rt: R, places: Places, keep: bool) -> Machine<R>
     host
 }
 
-/// Runs, and tells of the jobs as they start and end. Where each has lines, the messages of the children are shown too.
+/// Runs, and tells of the jobs as they start and end. Where each has lines, what the children write to standard error is told too.
 fn told_of<R: World, K: Record, E: Write>(
     rt: &R,
     mut host: Machine<R>,
@@ -105,11 +107,14 @@ where
         (K.log rows.new) end.exit) }
 {
     match telling {
-        Telling::Nothing => ended(rt, host, given, options, &mut Silent, memory, rows),
+        Telling::Nothing => {
+            let host = Heard::new(host, Deaf);
+            ended(rt, host, given, options, &mut Silent, memory, rows)
+        }
         Telling::Lines => {
             host.show_messages();
             let teller = Teller::new(rt.alloc(), err, telling);
-            told_by(rt, host, given, options, teller, memory, rows)
+            told_aloud(rt, host, given, options, teller, memory, rows)
         }
         Telling::OneLine => {
             let teller = Teller::new(rt.alloc(), err, telling);
@@ -136,15 +141,44 @@ where
     ensures { IfOk result (λ end. IsRanOver given.now.process given.now.inputs options
         (K.log rows.new) end.exit) }
 {
+    let host = Heard::new(host, Deaf);
     let end = ended(rt, host, given, options, &mut teller, memory, rows);
     teller.finish();
     mem::drop(teller);
     end
 }
 
-fn ended<R: World, K: Record, L: Listen>(
+// The lines on the jobs and those of their commands are told in one voice.
+fn told_aloud<R: World, K: Record, E: Write>(
     rt: &R,
-    mut host: Machine<R>,
+    host: Machine<R>,
+    given: &Given,
+    options: Options,
+    teller: Teller<'_, E>,
+    memory: Memory<'_>,
+    rows: &mut K,
+) -> Result<RunEnd, AllocError>
+where
+    R::File: Into<Stdio>,
+    requires idle { host.running ≡ [] }
+    requires accepted { fault_in given.now.process ≡ None }
+    requires limits { IsWithinLimits options }
+    requires fresh { K.log rows.old ≡ [] }
+    ensures { IfOk result (λ end. IsRanOver given.now.process given.now.inputs options
+        (K.log rows.new) end.exit) }
+{
+    let voice = RefCell::new(Voice::new(rt.alloc(), teller));
+    let host = Heard::new(host, Speaker::new(&voice));
+    let mut listener = Speaker::new(&voice);
+    let end = ended(rt, host, given, options, &mut listener, memory, rows);
+    mem::drop(listener);
+    mem::drop(voice);
+    end
+}
+
+fn ended<R: World, H: Hear + Drop, K: Record, L: Listen>(
+    rt: &R,
+    mut host: Heard<R, H>,
     given: &Given,
     options: Options,
     listener: &mut L,
@@ -171,9 +205,9 @@ where
         options,
         &mut jobs,
     );
-    let exit = exit_of_run(rt.alloc(), host.log(), report);
+    let exit = exit_of_run(rt.alloc(), host.machine().log(), report);
     let savings = savings_of(rt, &exit, &mut jobs, start);
-    let end = noted(rt, &host, given, jobs.traces(), exit, savings);
+    let end = noted(rt, host.machine(), given, jobs.traces(), exit, savings);
     mem::drop(jobs);
     mem::drop(host);
     end

@@ -8,6 +8,7 @@ use crate::collecting::next_end;
 use crate::delivering::{Undelivered, deliver_all, missed_result};
 use crate::fetching::fetch_all;
 use crate::heads::head_of;
+use crate::hearing::Hear;
 use crate::layout::lay_out;
 use crate::listing::listing_of;
 use crate::measuring::measure_of;
@@ -66,12 +67,12 @@ pub(crate) fn stage<R: World>(
     told(log, request, HostFault::Stage, outcome)
 }
 
-/// Starts the child of a launch under this ticket, whose messages are shown or kept where no file takes them.
+/// Starts the child of a launch under this ticket, whose messages are to be handed on or not where no file takes them.
 pub(crate) fn start<R: World>(
     rt: &R,
     log: &mut Vec<Entry>,
     running: &mut Vec<u64>,
-    flying: &mut Vec<Flying<R::Started>>,
+    flying: &mut Vec<Flying<R::Started, R::File>>,
     launch: &Launch,
     ticket: u64,
     shows: bool,
@@ -99,7 +100,7 @@ fn begin<R: World>(
     launch: &Launch,
     ticket: u64,
     shows: bool,
-) -> Result<Flying<R::Started>, HostError>
+) -> Result<Flying<R::Started, R::File>, HostError>
 where
     R::File: Into<Stdio>,
     ensures logged { log.new.items ≡ log.old.items
@@ -118,11 +119,12 @@ where
     }
 }
 
-pub(crate) fn collect<R: World>(
+pub(crate) fn collect<R: World, H: Hear>(
     rt: &R,
     log: &mut Vec<Entry>,
-    flying: &mut Vec<Flying<R::Started>>,
+    flying: &mut Vec<Flying<R::Started, R::File>>,
     running: &[u64],
+    hearer: &mut H,
 ) -> Result<ChildEnd, HostError>
     ensures logged { log.new.items ≡ log.old.items
         ++ entries_of HostRequest.Collect (answer_behind (λ ending. HostAnswer.Ended ending)
@@ -131,7 +133,7 @@ pub(crate) fn collect<R: World>(
     ensures child { IfOk result (λ ending. Contains running.now ending.ticket) }
 {
     make_room(log)?;
-    match ended_of(rt, flying, running) {
+    match ended_of(rt, flying, running, hearer) {
         Ok(ending) => {
             note(log, HostRequest::Collect, HostAnswer::Ended(ending));
             Ok(ending)
@@ -257,14 +259,15 @@ pub(crate) fn deliver<R: World>(
 }
 
 // The next end of a child whose ticket was not closed.
-fn ended_of<R: World>(
+fn ended_of<R: World, H: Hear>(
     rt: &R,
-    flying: &mut Vec<Flying<R::Started>>,
+    flying: &mut Vec<Flying<R::Started, R::File>>,
     running: &[u64],
+    hearer: &mut H,
 ) -> Result<ChildEnd, Trouble>
     ensures { IfOk result (λ ending. Contains running.now ending.ticket) }
 {
-    let ending = next_end(rt, flying)?;
+    let ending = next_end(rt, flying, hearer)?;
     if running.contains(&ending.ticket) {
         Ok(ending)
     } else {

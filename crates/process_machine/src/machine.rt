@@ -1,15 +1,17 @@
 //! The host itself.
-ghost use Rattle.std.specs.Prelude.{◌≡◌, []};
+ghost use Rattle.std.specs.Prelude.{◌≡◌, ◌++◌, [], IfOk, Contains};
+ghost use Rattle.proc_host.specs.Log.{answer_behind, entries_of, FailsOnlyBy};
 ghost use Rattle.proc_host.specs.Tickets.{without};
 
 use crate::calls;
 use crate::delivering::Undelivered;
+use crate::hearing::{Deaf, Hear};
 use crate::spawning::Flying;
 use crate::unlisted::Unlisted;
 use crate::world::World;
 use command_line::Launch;
 use plain_data::{Items, Text};
-use proc_host::{ChildEnd, Entry, Host, HostError, Ticket};
+use proc_host::{ChildEnd, Entry, Host, HostAnswer, HostError, HostFault, HostRequest, Ticket};
 use staging::{Found, Measure, StagePlan};
 use std::marker::Model;
 use std::process::Stdio;
@@ -28,9 +30,9 @@ pub struct Machine<R: World> {
     log: Vec<Entry>,
     running: Vec<u64>,
     // the children that were not collected yet, oldest first
-    flying: Vec<Flying<R::Started>>,
+    flying: Vec<Flying<R::Started, R::File>>,
     started: u64,
-    // whether messages that no file takes go to the program's own standard error
+    // whether messages that no file takes are handed on as they come
     shows: bool,
     // whether the folders `in` and `tmp` of jobs stay
     keeps: bool,
@@ -78,8 +80,8 @@ impl<R: World> Machine<R> {
         }
     }
 
-    /// From now on the messages of a child that no file takes go to the program's own standard error, and not to the file `stderr` in
-    /// the folder of its job.
+    /// From now on what a child writes to the file `stderr` in the folder of its job is handed on to the hearer of the machine as it
+    /// comes.
     pub fn show_messages(&mut self)
         ensures { self.new ≡ self.old }
     {
@@ -116,6 +118,24 @@ impl<R: World> Machine<R> {
     {
         self.running.as_slice()
     }
+
+    /// Collects, as `Host::collect` says, and hands on what the children write meanwhile.
+    pub(crate) fn collect_heard<H: Hear>(&mut self, hearer: &mut H) -> Result<ChildEnd, HostError>
+        ensures logged { self.new.log ≡ self.old.log
+            ++ entries_of HostRequest.Collect (answer_behind (λ ending. HostAnswer.Ended ending)
+            result) }
+        ensures own { FailsOnlyBy HostFault.Collect result }
+        ensures child { IfOk result (λ ending. Contains self.old.running ending.ticket) }
+        ensures running { self.new.running ≡ self.old.running }
+    {
+        calls::collect(
+            &self.rt,
+            &mut self.log,
+            &mut self.flying,
+            &self.running,
+            hearer,
+        )
+    }
 }
 
 impl<R: World> Host for Machine<R>
@@ -150,7 +170,7 @@ where
     }
 
     fn collect(&mut self) -> Result<ChildEnd, HostError> {
-        calls::collect(&self.rt, &mut self.log, &mut self.flying, &self.running)
+        self.collect_heard(&mut Deaf)
     }
 
     fn scan(&mut self, folder: &Text) -> Result<Items<Found>, HostError> {

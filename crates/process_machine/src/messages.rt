@@ -104,6 +104,17 @@ fn is_line_end(byte: &u8) -> bool {
 
 fn add_line(alloc: Global, text: &mut String, line: &[u8]) -> Result<(), AllocError> {
     text.push_str("\n  ")?;
+    add_shown(alloc, text, line)
+}
+
+/// A line as it is shown: a control character as `\t` or by its code, as `\x1b`, and so each byte that is no UTF-8.
+pub fn shown_line(alloc: Global, line: &[u8]) -> Result<String, AllocError> {
+    let mut text = String::new(alloc);
+    add_shown(alloc, &mut text, line)?;
+    Ok(text)
+}
+
+fn add_shown(alloc: Global, text: &mut String, line: &[u8]) -> Result<(), AllocError> {
     for chunk in line.utf8_chunks() {
         add_chars(alloc, text, chunk.valid())?;
         add_bytes(alloc, text, chunk.invalid())?;

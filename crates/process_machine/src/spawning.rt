@@ -3,6 +3,7 @@ ghost use Rattle.std.specs.Prelude.{◌≡◌, [], List, ℕ, Some, IfOk, OnOk, 
 ghost use Rattle.std.specs.Process.{SameEnv, SameOtherVars, SameProgramAndArgs, clears_env, command_args, command_dir, command_program, command_var};
 ghost use Rattle.process_machine.specs.Launched.{IsOf, Keeps, text_under};
 
+use crate::hearing::Messages;
 use crate::layout::joined;
 use crate::messages::messages_file;
 use crate::trouble::Trouble;
@@ -17,19 +18,21 @@ use std::{fs, mem};
 
 /// A child that was not collected yet.
 #[derive(Drop)]
-pub(crate) struct Flying<P: OpenProcess> {
+pub(crate) struct Flying<P: OpenProcess, F: OpenFile> {
     pub ticket: u64,
     pub child: Child<P>,
     pub started: Instant,
+    // where they are to be handed on
+    pub messages: Option<Messages<F>>,
 }
 
-/// Starts the child of a launch. Its messages are shown or kept where no file takes them.
+/// Starts the child of a launch. Its messages are to be handed on or not where no file takes them.
 pub(crate) fn spawned<R: World>(
     rt: &R,
     launch: &Launch,
     ticket: u64,
     shows: bool,
-) -> Result<Flying<R::Started>, Trouble>
+) -> Result<Flying<R::Started, R::File>, Trouble>
 where
     R::File: Into<Stdio>,
 {
@@ -46,19 +49,21 @@ fn begun_with_streams<R: World>(
     launch: &Launch,
     ticket: u64,
     shows: bool,
-) -> Result<Flying<R::Started>, Trouble>
+) -> Result<Flying<R::Started, R::File>, Trouble>
 where
     R::File: Into<Stdio>,
     requires { IsOf launch.now command.old }
 {
     set_input(rt, &launch.stdin, command)?;
-    set_outputs(rt, launch, shows, command)?;
+    set_outputs(rt, launch, command)?;
+    let messages = if shows { messages_of(rt, launch) } else { None };
     let started = Instant::now(rt)?;
     let child = begun(rt, command, launch)?;
     Ok(Flying {
         ticket,
         child,
         started,
+        messages,
     })
 }
 
@@ -162,13 +167,8 @@ where
 }
 
 // The child's output and messages go to the files of these names in its folder. Where both have one name, they share one file. Without
-// a name its output goes nowhere, and its messages to the program's own, or to the file `stderr` of its job.
-fn set_outputs<R: World>(
-    rt: &R,
-    launch: &Launch,
-    shows: bool,
-    command: &mut Command,
-) -> Result<(), Trouble>
+// a name its output goes nowhere, and its messages to the file `stderr` of its job.
+fn set_outputs<R: World>(rt: &R, launch: &Launch, command: &mut Command) -> Result<(), Trouble>
 where
     R::File: Into<Stdio>,
     ensures { Keeps command.old command.new }
@@ -179,7 +179,7 @@ where
         }
         (output, _) => {
             command.stdout(output_to(rt, &launch.dir, output)?);
-            command.stderr(messages_to(rt, launch, shows)?);
+            command.stderr(messages_to(rt, launch)?);
             Ok(())
         }
     }
@@ -212,14 +212,13 @@ where
     }
 }
 
-// The file that the launch names; without one what the program has itself, or a file of the job's own.
-fn messages_to<R: World>(rt: &R, launch: &Launch, shows: bool) -> Result<Stdio, Trouble>
+// The file that the launch names; without one a file of the job's own.
+fn messages_to<R: World>(rt: &R, launch: &Launch) -> Result<Stdio, Trouble>
 where
     R::File: Into<Stdio>,
 {
     match &launch.stderr {
         Some(name) => Ok(created(rt, &launch.dir, name)?.into()),
-        None if shows => Ok(Stdio::inherit()),
         None => kept_messages(rt, launch),
     }
 }
@@ -243,6 +242,15 @@ where
         Ok(file) => file.into(),
         Err(_) => Stdio::null(),
     }
+}
+
+// What a child writes to the job's own file, where that was made and can be read.
+fn messages_of<R: World>(rt: &R, launch: &Launch) -> Option<Messages<R::File>> {
+    if launch.stderr.is_some() {
+        return None;
+    }
+    let path = messages_file(rt.alloc(), launch).ok()??;
+    Some(Messages::new(File::open(rt, path.as_str()).ok()?))
 }
 
 fn created<R: World>(rt: &R, folder: &Text, name: &Text) -> Result<R::File, Trouble> {

@@ -1,10 +1,11 @@
--- What a run tells of its jobs: the lines of `--verbose`, and the line of `--progress`. Of a job its place is told as JSON text.
+-- What a run tells of its jobs: the lines of `--verbose`, with those of their commands, and the line of `--progress`. Of a job its place is told as JSON text.
 use Rattle.std.specs.Prelude.{◌≡◌, ℕ, ℤ, List, ◌∷◌, ◌++◌, Option, Some, None, codes, decimal}
 use Rattle.std.specs.Fmt.{signed_decimal}
 use Rattle.command_line.specs.declared.launch.Launch.{Launch}
 use Rattle.proc_host.specs.declared.child.ChildEnd.{ChildEnd}
 use Rattle.program_words.specs.Reuse.{why_words}
 use Rattle.program_words.specs.ShellWords.{IsLineOf}
+use Rattle.program_words.specs.Visible.{visible}
 use Rattle.program_words.specs.declared.reuse.Why.{Why}
 use Rattle.program_words.specs.declared.telling.Counts.{Counts}
 
@@ -16,6 +17,10 @@ counts_words counts = codes " [" ++ decimal counts.done ++ codes "/" ++ decimal 
 abbrev pub IsStartLine : (place : List ℕ) → Launch → Counts → List ℕ → Type 0
 IsStartLine place launch counts line =
     (command : List ℕ) × IsLineOf launch command × (line ≡ codes "start " ++ place ++ counts_words counts ++ codes " " ++ command)
+
+-- `PLACE: WORDS`: the command of a job has written a line
+abbrev pub said_line : (place words : List ℕ) → List ℕ
+said_line place words = place ++ codes ": " ++ visible words
 
 -- `compute PLACE: WHY`, before the start of a job that could have been loaded
 abbrev pub why_line : (place : List ℕ) → Why → List ℕ

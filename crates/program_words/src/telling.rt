@@ -5,6 +5,7 @@ ghost use Rattle.program_words.specs.JobLines as spec;
 
 use crate::reuse::Why;
 use crate::shell_words::line_of;
+use crate::shown::visible;
 use command_line::Launch;
 use plain_data::Text;
 use proc_host::ChildEnd;
@@ -35,8 +36,8 @@ pub trait Listen {
     /// The job is about to be started, for this reason where it could have been loaded.
     fn starts(&mut self, place: &Text, launch: &Launch, why: Option<Why>, counts: Counts);
 
-    /// A command has been started.
-    fn started(&mut self, counts: Counts);
+    /// The command of a job has been started, under this ticket.
+    fn started(&mut self, place: &Text, ticket: u64, counts: Counts);
 
     fn ended(&mut self, place: &Text, end: &ChildEnd, counts: Counts);
 
@@ -54,7 +55,7 @@ pub struct Silent;
 impl Listen for Silent {
     fn starts(&mut self, _place: &Text, _launch: &Launch, _why: Option<Why>, _counts: Counts) {}
 
-    fn started(&mut self, _counts: Counts) {}
+    fn started(&mut self, _place: &Text, _ticket: u64, _counts: Counts) {}
 
     fn ended(&mut self, _place: &Text, _end: &ChildEnd, _counts: Counts) {}
 
@@ -95,6 +96,25 @@ impl<'a, E: Write> Teller<'a, E> {
         if matches!(self.telling, Telling::OneLine) {
             let _told = write!(self.err, "{ERASE}");
         }
+    }
+
+    /// Tells of a line that the command of the job at a place has written, as it is shown.
+    pub fn say(&mut self, place: &Text, words: &str) {
+        let _told = self.tell_line(place, words);
+    }
+
+    fn tell_line(&mut self, place: &Text, words: &str) -> io::Result<()>
+        ensures silent { self.old.telling ≢ Telling.Lines → E.contents self.new.err.now
+            ≡ E.contents self.old.err.now }
+        ensures told { OnOk result (self.old.telling ≡ Telling.Lines
+            → Appends (E.contents self.old.err.now) (E.contents self.new.err.now)
+            (spec.said_line place.now words.now ++ codes "\n")) }
+    {
+        if !matches!(self.telling, Telling::Lines) {
+            return Ok(());
+        }
+        let line = said_line(self.alloc, place, words)?;
+        writeln!(self.err, "{line}")
     }
 
     fn tell_why(&mut self, place: &Text, why: Why) -> io::Result<()>
@@ -198,7 +218,7 @@ impl<E: Write> Listen for Teller<'_, E> {
         let _told = self.tell_start(place, launch, counts);
     }
 
-    fn started(&mut self, counts: Counts) {
+    fn started(&mut self, _place: &Text, _ticket: u64, counts: Counts) {
         let _told = self.rewrite(counts);
     }
 
@@ -243,6 +263,13 @@ fn why_line(alloc: Global, place: &Text, why: Why) -> Result<String, AllocError>
 {
     let why = why.words();
     format!(in alloc; "compute {place}: {why}")
+}
+
+fn said_line(alloc: Global, place: &Text, words: &str) -> Result<String, AllocError>
+    ensures { IfOk result (λ line. string_bytes line ≡ spec.said_line place.now words.now) }
+{
+    let words = visible(alloc, words)?;
+    format!(in alloc; "{place}: {words}")
 }
 
 fn end_line(

@@ -1,6 +1,6 @@
 use Rattle.std.proofs.Common.{◌∙◌, refl, sym}
 use Rattle.process_machine.proofs.Steps.{starts_kept}
-use Rattle.process_machine.proofs.machine.MachineHost.collect.Goals as goal
+use Rattle.process_machine.proofs.machine.Machine.collect_heard.Goals as goal
 
 pub invariant_of-self : goal.invariant_of-self
 invariant_of-self g c = record {
