@@ -15,6 +15,8 @@ pub mod RunWords
 pub mod Runs
 pub mod Savings
 pub mod ShellWords
+pub mod Showings
+pub mod Shows
 pub mod Sources
 pub mod Status
 pub mod Stops

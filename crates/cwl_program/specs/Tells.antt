@@ -11,9 +11,10 @@ use Rattle.cwl_program.specs.Certificates.{IsCheck}
 use Rattle.cwl_program.specs.CommandLine.{Asks, command_line, wish_of}
 use Rattle.cwl_program.specs.Demo.{IsDemoExit}
 use Rattle.cwl_program.specs.Plans.{IsEndOfPlan}
-use Rattle.cwl_program.specs.RunWords.{wish_of_run}
+use Rattle.cwl_program.specs.RunWords.{RunWish, wish_of_run}
 use Rattle.cwl_program.specs.Runs.{IsEndOfRun}
 use Rattle.cwl_program.specs.Savings.{savings_line}
+use Rattle.cwl_program.specs.Showings.{IsEndOfShowing}
 use Rattle.cwl_program.specs.Status.{status_of}
 use Rattle.cwl_program.specs.Visible.{visible}
 use Rattle.cwl_program.specs.Words.{name_of, word_of, refusal_code}
@@ -23,6 +24,8 @@ use Rattle.cwl_program.specs.declared.exit.Exit.{Exit}
 use Rattle.cwl_program.specs.declared.exit.Exit.TheVariants.{Output, Plan as Planned, Broken, Record as Shows, Permanent, Temporary, Mismatch, Refused, Fault}
 use Rattle.cwl_program.specs.declared.exit.Fault.TheVariants as faults
 use Rattle.cwl_program.specs.declared.savings.Savings.{Savings}
+use Rattle.cwl_program.specs.declared.shows.Shows.{Shows}
+use Rattle.cwl_program.specs.declared.shows.Shows.TheVariants.{Outputs}
 use Rattle.cwl_program.specs.declared.telling.Telling.{Telling}
 use Rattle.cwl_program.specs.declared.telling.Telling.TheVariants.{Nothing, Lines, OneLine}
 
@@ -50,11 +53,16 @@ Prints (Fault fault) out out_new err err_new = IsGiven (codes "fault: " ++ word_
 pub data IsRecordExit : Exit → Type 0 where
   shows : (ending : Ending) → record_program.IsEnding ending → IsRecordExit (Shows ending)
 
+-- a run, or what is shown in place of one, which leaves nothing
+abbrev pub IsEndOfWords : Shows → RunWish → (path : Text) → Exit → (left : Option Text) → Type 0
+IsEndOfWords Outputs words path exit left = IsEndOfRun words path exit left
+IsEndOfWords shows words path exit left = IsEndOfShowing words path exit × (left ≡ None)
+
 -- what the choice comes to, with this `PATH`, and the work folder, where it stays
 abbrev pub IsEndOf : (path : Text) → Choice → Exit → (left : Option Text) → Type 0
 IsEndOf path (Demo explains) exit left = IsDemoExit path exit × (left ≡ None)
 IsEndOf path (Check file explains) exit left = IsCheck file.now exit × (left ≡ None)
-IsEndOf path (Run words) exit left = IsEndOfRun (wish_of_run words) path exit left
+IsEndOf path (Run words) exit left = IsEndOfWords words.shows (wish_of_run words) path exit left
 IsEndOf path (Plan words) exit left = IsEndOfPlan (wish_of_run words.run) words.dot path exit × (left ≡ None)
 IsEndOf path (Record words) exit left = IsRecordExit exit × (left ≡ None)
 
