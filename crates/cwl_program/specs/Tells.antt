@@ -6,30 +6,38 @@ use Rattle.clap.specs.declared.error.ErrorKind.TheVariants.{DisplayHelp, Display
 use Rattle.record_program.specs.Endings as record_program
 use Rattle.record_program.specs.declared.ending.Ending.{Ending}
 use Rattle.program_words.specs.CommandLine.{Asks, command_line, wish_of}
-use Rattle.program_words.specs.RunWords.{wish_of_run}
+use Rattle.program_words.specs.RunWords.{RunWish, wish_of_run}
 use Rattle.program_words.specs.declared.command.Choice.{Choice}
 use Rattle.program_words.specs.declared.command.Choice.TheVariants.{Demo, Check, Run, Plan, Record}
 use Rattle.program_words.specs.declared.savings.Savings.{Savings}
+use Rattle.program_words.specs.declared.shows.Shows.{Shows}
+use Rattle.program_words.specs.declared.shows.Shows.TheVariants.{Outputs}
 use Rattle.program_words.specs.declared.telling.Telling.{Telling}
 use Rattle.program_words.specs.declared.telling.Telling.TheVariants.{Nothing, Lines, OneLine}
 use Rattle.end_words.specs.Told.{Held, Says}
 use Rattle.end_words.specs.declared.exit.Exit.{Exit}
-use Rattle.end_words.specs.declared.exit.Exit.TheVariants.{Record as Shows, Fault}
+use Rattle.end_words.specs.declared.exit.Exit.TheVariants.{Record as Listed, Fault}
 use Rattle.end_words.specs.declared.exit.Fault.TheVariants as faults
 use Rattle.cwl_program.specs.Certificates.{IsCheck}
 use Rattle.cwl_program.specs.Demo.{IsDemoExit}
 use Rattle.cwl_program.specs.Plans.{IsEndOfPlan}
 use Rattle.cwl_program.specs.Runs.{IsEndOfRun}
+use Rattle.cwl_program.specs.Showings.{IsEndOfShowing}
 
 -- a record's command ends the program in its own way
 pub data IsRecordExit : Exit → Type 0 where
-  shows : (ending : Ending) → record_program.IsEnding ending → IsRecordExit (Shows ending)
+  shows : (ending : Ending) → record_program.IsEnding ending → IsRecordExit (Listed ending)
+
+-- a run, or what is shown in place of one, which leaves nothing
+abbrev pub IsEndOfWords : Shows → RunWish → (path : Text) → Exit → (left : Option Text) → Type 0
+IsEndOfWords Outputs words path exit left = IsEndOfRun words path exit left
+IsEndOfWords shows words path exit left = IsEndOfShowing words path exit × (left ≡ None)
 
 -- what the choice comes to, with this `PATH`, and the work folder, where it stays
 abbrev pub IsEndOf : (path : Text) → Choice → Exit → (left : Option Text) → Type 0
 IsEndOf path (Demo explains) exit left = IsDemoExit path exit × (left ≡ None)
 IsEndOf path (Check file explains) exit left = IsCheck file.now exit × (left ≡ None)
-IsEndOf path (Run words) exit left = IsEndOfRun (wish_of_run words) path exit left
+IsEndOf path (Run words) exit left = IsEndOfWords words.shows (wish_of_run words) path exit left
 IsEndOf path (Plan words) exit left = IsEndOfPlan (wish_of_run words.run) words.dot path exit × (left ≡ None)
 IsEndOf path (Record words) exit left = IsRecordExit exit × (left ≡ None)
 

@@ -1,15 +1,12 @@
-ghost use Rattle.std.specs.Prelude.{◌≡◌, ◌≤◌, length, IfOk, IfErr, decimal};
-ghost use Rattle.end_words.specs.Stops.{IsTrouble, most_bytes};
+ghost use Rattle.std.specs.Prelude.{◌≡◌, IfOk};
 ghost use Rattle.cwl_program.specs.Certificates.{IsCheck, IsJudgement, IsVerdict, ok_line};
 
-use end_words::{Exit, NoBytes, Refusal, bytes_of_file, bytes_of_input, stopped, unread};
+use crate::standard_input::bytes_of;
+use end_words::{Exit, Refusal, stopped, unread};
 use plain_data::Text;
 use plan_checker::{CertificateError, Charges, Graph, Plan, check, read_certificate};
 use std::alloc::{AllocError, Global};
 use std::rt::Files;
-
-/// The name that stands for standard input.
-const INPUT: &str = "-";
 
 /// Says what the certificate in a file shows, or that on standard input.
 #[tactic(auto, using(crate::proofs::Stops::check_stops))]
@@ -20,16 +17,6 @@ pub fn exit_of_check<R: AllocGlobal + Files + Input>(rt: &R, file: &str) -> Resu
         Ok(bytes) => verdict(rt.alloc(), bytes.as_slice()),
         Err(trouble) => stopped(unread(rt.alloc(), trouble, file)),
     }
-}
-
-fn bytes_of<R: AllocGlobal + Files + Input>(rt: &R, file: &str) -> Result<Vec<u8>, NoBytes>
-    ensures ok { IfOk result (λ bytes. length bytes.items ≤ most_bytes) }
-    ensures err { IfErr result IsTrouble }
-{
-    if file == INPUT {
-        return bytes_of_input(rt);
-    }
-    bytes_of_file(rt, file)
 }
 
 /// Says whether these bytes are a certificate, which shows its plan to be a cheapest one: `ok` with its cost, the first

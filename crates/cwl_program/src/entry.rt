@@ -1,24 +1,29 @@
 ghost use Rattle.std.specs.Prelude.{◌≡◌, ◌≢◌, None, Ok, IfOk, IfErr, OnOk, OnErr, map, string_bytes};
 ghost use Rattle.clap.specs.Words.{HasKind, fault_of, kind_of};
 ghost use Rattle.program_words.specs.CommandLine.{Asks, command_line};
+ghost use Rattle.program_words.specs.RunWords.{wish_of_run};
 ghost use Rattle.end_words.specs.Told.{IsTold, Says};
-ghost use Rattle.cwl_program.specs.Tells.{Explains, IsEndOf, IsRecordExit, IsRunTold, LeadsTo, Tells, asks_why, telling_of};
+ghost use Rattle.cwl_program.specs.Tells.{Explains, IsEndOf, IsEndOfWords, IsRecordExit, IsRunTold, LeadsTo, Tells, asks_why, telling_of};
 
 use crate::caches::{RECORD, within};
 use crate::certificate::exit_of_check;
 use crate::demo::exit_of_demo;
 use crate::plan::end_of_plan;
 use crate::run::end_of_process;
+use crate::showing::end_of_showing;
+use crate::usual_words::{answer_words, processors_of};
 use clap::Error;
 use clap::error::ErrorKind;
 use end_words::{Exit, Fault, RunEnd, explain_exit, put_left, put_notes, put_savings};
+use given_words::with_slots;
 use plain_data::Text;
 use process_machine::World;
 use program_words::{
-    Choice, RecordWords, Telling, add_explain_word, add_terminal_words, choice_of,
+    Choice, RecordWords, RunWords, Shows, Telling, add_explain_word, add_terminal_words, choice_of,
 };
 use record_program::{Ending, Records};
 use std::alloc::{AllocError, Global};
+use std::env::VarError;
 use std::io::{IsTerminal, Write};
 use std::process::{ExitCode, Stdio};
 use std::rt::Env;
@@ -33,28 +38,42 @@ const FAULT: u8 = 3;
 ///
 /// A word that is no UTF-8 ends with status 3.
 pub fn program(rt: HostRuntime) -> ExitCode {
-    let alloc = rt.alloc();
-    let status = match words(&rt) {
-        Ok(words) => {
-            let path = env::var(&rt, "PATH").unwrap_or(String::new(alloc));
-            main_run(
-                &rt,
-                words.as_slice(),
-                path.as_str(),
-                &mut rt.stdout(),
-                &mut rt.stderr(),
-            )
-        }
-        Err(error) => {
-            let _told = writeln!(rt.stderr(), "error: the command line: {error}");
-            FAULT
-        }
+    let status = match given_to(&rt) {
+        Ok((words, path)) => main_run(
+            &rt,
+            words.as_slice(),
+            path.as_str(),
+            &mut rt.stdout(),
+            &mut rt.stderr(),
+        ),
+        Err(error) => unstarted(&error, &mut rt.stderr()),
     };
     ExitCode::from(status)
 }
 
+// The words and `PATH`, which is empty where it is absent or no UTF-8.
+fn given_to(rt: &HostRuntime) -> io::Result<(Vec<String>, String)> {
+    let words = words(rt)?;
+    match env::var(rt, "PATH") {
+        Ok(path) => Ok((words, path)),
+        Err(VarError::OutOfMemory) => Err(io::Error::from(AllocError)),
+        Err(_) => Ok((words, String::new(rt.alloc()))),
+    }
+}
+
+// Says why the words can't be read.
+fn unstarted<E: Write>(error: &io::Error, err: &mut E) -> u8 {
+    let _told = match error.kind() {
+        io::ErrorKind::OutOfMemory => writeln!(err, "fault: OutOfMemory"),
+        _ => writeln!(err, "error: the command line: {error}"),
+    };
+    FAULT
+}
+
 fn words(rt: &HostRuntime) -> io::Result<Vec<String>> {
-    let mut words = env::args(rt)?.collect(rt.alloc())?;
+    let given = env::args(rt)?.collect(rt.alloc())?;
+    let mut words = with_slots(rt.alloc(), given.as_slice(), processors_of(rt))?;
+    mem::drop(given);
     let is_terminal = rt.stderr().is_terminal();
     if is_terminal && !is_set(rt, "TERM", "dumb") {
         add_terminal_words(rt.alloc(), &mut words)?;
@@ -95,7 +114,7 @@ where
             mem::drop(end);
             status
         }
-        Err(error) => explain(&error, out, err),
+        Err(error) => explain(&error, words, out, err),
     }
 }
 
@@ -205,9 +224,28 @@ where
     match choice {
         Choice::Demo(_) => bare(rt.alloc(), exit_of_demo(rt.alloc(), path)),
         Choice::Check(file, _) => bare(rt.alloc(), exit_of_check(rt, file)),
-        Choice::Run(words) => end_of_process(rt, words, path, err),
+        Choice::Run(words) => end_of_words(rt, words, path, err),
         Choice::Plan(words) => end_of_plan(rt, words, path),
         Choice::Record(words) => bare(rt.alloc(), exit_of_record(rt, words)),
+    }
+}
+
+// A run, or what is shown in place of one.
+fn end_of_words<R: World + Env + Input + Records, E: Write>(
+    rt: &R,
+    words: &RunWords,
+    path: &str,
+    err: &mut E,
+) -> Result<RunEnd, AllocError>
+where
+    R::File: Into<Stdio>,
+    ensures end { IfOk result (λ end. IsEndOfWords words.now.shows (wish_of_run words.now) path.now
+        end.exit end.left) }
+    ensures told { IsRunTold words.now.telling (E.contents err.old) (E.contents err.new) }
+{
+    match words.shows {
+        Shows::Outputs => end_of_process(rt, words, path, err),
+        Shows::Lines | Shows::Template | Shows::Command => end_of_showing(rt, words, path),
     }
 }
 
@@ -272,13 +310,14 @@ fn end_or_fault(alloc: Global, ended: Result<RunEnd, AllocError>) -> RunEnd
     }
 }
 
-/// Help goes to the output, with status 0; what is wrong with the words to the errors.
-fn explain<O: Write, E: Write>(error: &Error, out: &mut O, err: &mut E) -> u8
+/// Help goes to the output, with status 0; what is wrong with the words to the errors, and behind it what other words do here.
+fn explain<O: Write, E: Write>(error: &Error, words: &[String], out: &mut O, err: &mut E) -> u8
     ensures { Explains (kind_of error.now) (O.contents out.old) (O.contents out.new)
         (E.contents err.old) (E.contents err.new) result }
 {
     if error.use_stderr() {
         let _told = write!(err, "{error}");
+        answer_words(words, err);
         return FAULT;
     }
     match write!(out, "{error}") {

@@ -24,8 +24,13 @@ mod outdir;
 mod paths;
 mod plan;
 mod plan_texts;
+mod process_forms;
 mod run;
 mod run_record;
+mod showing;
+mod standard_input;
+mod tool_command;
+mod usual_words;
 mod work_folder;
 
 pub use entry::{main_run, program};

@@ -14,6 +14,7 @@ use crate::on_machine::{machine_of, noted};
 use crate::plan_texts::exit_of_plan;
 use crate::run::{here_of, inputs_of, places_of, process_of, without_folder};
 use crate::run_record::without_record;
+use crate::standard_input::file_of;
 use document_links::Process;
 use end_words::{Call, Exit, Fault, Given, Places, RunEnd, stopped_run};
 use job_rows::{MemoryRecord, Record};
@@ -29,7 +30,7 @@ use workflow_engine::{Unwatched, plan_only};
 
 /// Plans a run of the process of a document on an input object, by the record that the words name. Nothing is made, started, fetched or
 /// kept.
-pub fn end_of_plan<R: World + Env + Records>(
+pub fn end_of_plan<R: World + Env + Input + Records>(
     rt: &R,
     words: &PlanWords,
     path: &str,
@@ -55,7 +56,11 @@ where
     }
 }
 
-fn end_of_call<R: World + Records>(rt: &R, call: &Call<'_>, dot: bool) -> Result<RunEnd, AllocError>
+fn end_of_call<R: World + Input + Records>(
+    rt: &R,
+    call: &Call<'_>,
+    dot: bool,
+) -> Result<RunEnd, AllocError>
 where
     R::File: Into<Stdio>,
     ensures end { IfOk result (λ end. IsEndOfPlan (wish_of_run call.now.words.now) dot
@@ -67,11 +72,11 @@ where
     }
     match process_of(rt, call) {
         Ok(process) => on_process(rt, process, call, dot),
-        Err(stop) => stopped_run(rt, stop, call.words.inputs),
+        Err(stop) => stopped_run(rt, stop, file_of(call.words.inputs)),
     }
 }
 
-fn on_process<R: World + Records>(
+fn on_process<R: World + Input + Records>(
     rt: &R,
     process: Process,
     call: &Call<'_>,
@@ -93,7 +98,7 @@ where
         }
         Err(stop) => {
             mem::drop(process);
-            stopped_run(rt, stop, call.words.inputs)
+            stopped_run(rt, stop, file_of(call.words.inputs))
         }
     }
 }

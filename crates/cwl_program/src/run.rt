@@ -14,6 +14,7 @@ use crate::documents::accepted_of;
 use crate::inputs::inputs_at;
 use crate::paths::{base_of, from_root};
 use crate::run_record::with_record;
+use crate::standard_input::{bytes_of, file_of};
 use cwl_value::Value;
 use document_links::{Document, Process};
 use end_words::{
@@ -36,7 +37,7 @@ const NO_INPUTS: &[u8] = b"{}";
 
 /// Runs the process of a document on an input object, in a work folder that is made for it and removed again, and with the record that
 /// the words name.
-pub fn end_of_process<R: World + Env + Records, E: Write>(
+pub fn end_of_process<R: World + Env + Input + Records, E: Write>(
     rt: &R,
     words: &RunWords,
     path: &str,
@@ -80,7 +81,7 @@ pub fn without_folder(alloc: Global, error: &io::Error) -> Result<RunEnd, AllocE
     }
 }
 
-fn end_of_call<R: World + Records, E: Write>(
+fn end_of_call<R: World + Input + Records, E: Write>(
     rt: &R,
     call: &Call<'_>,
     err: &mut E,
@@ -97,7 +98,7 @@ where
     end_of_document(rt, call, err)
 }
 
-fn end_of_document<R: World + Records, E: Write>(
+fn end_of_document<R: World + Input + Records, E: Write>(
     rt: &R,
     call: &Call<'_>,
     err: &mut E,
@@ -110,7 +111,7 @@ where
 {
     match process_of(rt, call) {
         Ok(process) => on_process(rt, process, call, err),
-        Err(stop) => stopped_run(rt, stop, call.words.inputs),
+        Err(stop) => stopped_run(rt, stop, file_of(call.words.inputs)),
     }
 }
 
@@ -164,7 +165,7 @@ fn file_bytes<R: World>(rt: &R, file: &str) -> Result<Vec<u8>, Stop>
     }
 }
 
-fn on_process<R: World + Records, E: Write>(
+fn on_process<R: World + Input + Records, E: Write>(
     rt: &R,
     process: Process,
     call: &Call<'_>,
@@ -186,13 +187,13 @@ where
         }
         Err(stop) => {
             mem::drop(process);
-            stopped_run(rt, stop, call.words.inputs)
+            stopped_run(rt, stop, file_of(call.words.inputs))
         }
     }
 }
 
-/// Reads the input object. Its locations are on the URL of its own file.
-pub fn inputs_of<R: World>(rt: &R, call: &Call<'_>) -> Result<Keyed<Value>, Stop>
+/// Reads the input object. Its locations are on the URL of its own file; of standard input they are in the folder that the program is called in.
+pub fn inputs_of<R: World + Input>(rt: &R, call: &Call<'_>) -> Result<Keyed<Value>, Stop>
     ensures ok { IfOk result (IsNamedInputs call.now.here.now (wish_of_run call.now.words.now)) }
     ensures err { IfErr result
         (IsStop (IsNoInputs call.now.here.now (wish_of_run call.now.words.now))) }
@@ -203,15 +204,25 @@ pub fn inputs_of<R: World>(rt: &R, call: &Call<'_>) -> Result<Keyed<Value>, Stop
     inputs_at(rt.alloc(), bytes.as_slice(), &base)
 }
 
-fn inputs_bytes<R: World>(rt: &R, call: &Call<'_>) -> Result<Vec<u8>, Stop>
+fn inputs_bytes<R: World + Input>(rt: &R, call: &Call<'_>) -> Result<Vec<u8>, Stop>
     ensures ok { IfOk result (λ bytes. IsInputsText (wish_of_run call.now.words.now).inputs
         bytes.items) }
     ensures err { IfErr result
         (IsStop (IsNoInputs call.now.here.now (wish_of_run call.now.words.now))) }
 {
     match call.words.inputs {
-        Some(file) => file_bytes(rt, file),
+        Some(name) => named_bytes(rt, name),
         None => Ok(NO_INPUTS.to_vec(rt.alloc())?),
+    }
+}
+
+fn named_bytes<R: World + Input>(rt: &R, name: &str) -> Result<Vec<u8>, Stop>
+    ensures ok { IfOk result (λ bytes. IsRead bytes.items) }
+    ensures err { IfErr result (IsStop (IsUnread name.now)) }
+{
+    match bytes_of(rt, name) {
+        Ok(bytes) => Ok(bytes),
+        Err(trouble) => Err(unread(rt.alloc(), trouble, name)),
     }
 }
 

@@ -7,5 +7,6 @@ pub mod Reuse
 pub mod RunWords
 pub mod Savings
 pub mod ShellWords
+pub mod Shows
 pub mod Terminal
 pub mod Visible

@@ -5,7 +5,9 @@ use Rattle.clap.specs.Words.{App, Row, Rule, Text, first_of, new_app, new_rule, 
 use Rattle.clap.specs.declared.builder.ArgAction.TheVariants.{Set}
 use Rattle.clap.specs.declared.builder.value_parser.ValueParser.TheVariants.{Unsigned}
 use Rattle.program_words.specs.Flags.{flag_rule, is_given, is_wanted, with_flags}
+use Rattle.program_words.specs.Shows.{shows_in}
 use Rattle.program_words.specs.declared.run_words.RunWords.{RunWords}
+use Rattle.program_words.specs.declared.shows.Shows.{Shows}
 use Rattle.program_words.specs.declared.telling.Telling.{Telling}
 use Rattle.program_words.specs.declared.telling.Telling.TheVariants.{Nothing, Lines, OneLine}
 
@@ -65,8 +67,18 @@ with_keep = with_rule with_progress (flag_rule (codes "keep"))
 abbrev pub with_keep_failed : App
 with_keep_failed = with_rule with_keep (flag_rule (codes "keep-failed"))
 
+-- and with what it shows in place of a run's outputs
+abbrev pub with_validate : App
+with_validate = with_rule with_keep_failed (flag_rule (codes "validate"))
+
+abbrev pub with_template : App
+with_template = with_rule with_validate (flag_rule (codes "template"))
+
+abbrev pub with_print : App
+with_print = with_rule with_template (flag_rule (codes "print-command"))
+
 abbrev pub run_command : App
-run_command = with_inputs (with_flags with_keep_failed)
+run_command = with_inputs (with_flags with_print)
 
 -- how it tells of its jobs: `--verbose` comes before `--progress`, and `--quiet` before both
 abbrev pub telling_in : List Row → Telling
@@ -77,7 +89,7 @@ telling_in rows =
 
 -- the document, the input object's file where one is named, the two folders, the texts of the two numbers that are given, the record's file, the
 -- archive's folder and a cache's where they are named, the texts of what a load costs that are given, whether the work folder is to stay, and whether
--- it is to stay after a failure, how to tell of the jobs, and whether to say in words what went wrong
+-- it is to stay after a failure, how to tell of the jobs, what to show, and whether to say in words what went wrong
 pub record RunWish : Type 0 where
   pub document : Text
   pub inputs : Option Text
@@ -93,6 +105,7 @@ pub record RunWish : Type 0 where
   pub keep : Bool
   pub keep_failed : Bool
   pub telling : Telling
+  pub shows : Shows
   pub explain : Bool
 
 -- what the words of `run` name
@@ -112,6 +125,7 @@ run_wish rows = record {
   keep = is_given (codes "keep") rows;
   keep_failed = is_given (codes "keep-failed") rows;
   telling = telling_in rows;
+  shows = shows_in rows;
   explain = is_wanted (codes "explain") rows;
 }
 
@@ -131,6 +145,7 @@ wish_of_run words = record {
   keep = words.keep;
   keep_failed = words.keep_failed;
   telling = words.telling;
+  shows = words.shows;
   explain = words.explain;
 }
 

@@ -19,6 +19,7 @@ mod run_words;
 mod savings;
 mod shell_words;
 mod shown;
+mod shows;
 mod telling;
 mod terminal;
 
@@ -31,5 +32,6 @@ pub use run_words::{RunWords, load_base_of, load_rate_of, retries_of, slots_of};
 pub use savings::{Savings, savings_line};
 pub use shell_words::{add_word, line_of};
 pub use shown::{cut, visible, visible_text};
+pub use shows::Shows;
 pub use telling::{Counts, Listen, Silent, Teller, Telling, ending};
 pub use terminal::{add_explain_word, add_terminal_words};

@@ -1,9 +1,10 @@
 ghost use Rattle.std.specs.Prelude.{◌≡◌, ◌≤◌, ◌^◌, IfOk, IfErr, Some, false, option_map};
 ghost use Rattle.clap.specs.Words.{app_of, found_of, kind_of, rows_of, rule_of};
 ghost use Rattle.program_words.specs.Flags.{IsLocal};
-ghost use Rattle.program_words.specs.RunWords.{IsChosen, named_rule, numbered_rule, placed_rule, run_command, run_wish, telling_in, wish_of_run, with_archive, with_base, with_cache, with_costs, with_document, with_folders, with_inputs, with_keep, with_keep_failed, with_numbers, with_progress, with_record, with_slots, with_verbose};
+ghost use Rattle.program_words.specs.RunWords.{IsChosen, named_rule, numbered_rule, placed_rule, run_command, run_wish, telling_in, wish_of_run, with_archive, with_base, with_cache, with_costs, with_document, with_folders, with_inputs, with_keep, with_keep_failed, with_numbers, with_print, with_progress, with_record, with_slots, with_template, with_validate, with_verbose};
 
 use crate::flags::{RUN_END, flag, is_given, is_wanted, with_flags};
+use crate::shows::{Shows, shows_of};
 use crate::telling::Telling;
 use clap::builder::ValueParser;
 use clap::error::ErrorKind;
@@ -27,7 +28,8 @@ const WORK_HELP: &str = "The folder for the jobs, made and removed by the run [c
 
 const OUTDIR_HELP: &str = "The folder for the output files, made where it is absent [.]";
 
-const SLOTS_HELP: &str = "How many jobs may run side by side, from 1 to 64 [1]";
+const SLOTS_HELP: &str =
+    "How many jobs may run side by side, from 1 to 64 [1]; `all` are the processors of the machine, as by `--parallel`";
 
 const RETRIES_HELP: &str =
     "How often a job that fails temporarily is started again, from 0 to 10 [0]";
@@ -55,7 +57,17 @@ const KEEP_HELP: &str = "Leave the work folder as it is at the end, and say wher
 
 const KEEP_FAILED_HELP: &str = "Leave it after a failure";
 
-const INPUTS_HELP: &str = "The input object's file, in JSON; without it the object is empty";
+const VALIDATE_HELP: &str =
+    "Read and check the document, and INPUTS where it is given, say what the inputs are, and run nothing";
+
+const TEMPLATE_HELP: &str =
+    "Print an input object for the document, to be filled in, and run nothing";
+
+const PRINT_HELP: &str =
+    "Print the command of a tool for INPUTS, as a shell takes it, and run nothing";
+
+const INPUTS_HELP: &str =
+    "The input object's file, in JSON, or `-` for standard input; without it the object is empty";
 
 /// The files and folders that the words of a run name, and the texts of its numbers.
 #[derive(Drop)]
@@ -80,6 +92,8 @@ pub struct RunWords<'a> {
     pub keep_failed: bool,
     /// How to tell of the jobs.
     pub telling: Telling,
+    /// What to show of the process: what comes of its run, or what can be said without one.
+    pub shows: Shows,
     /// Whether to say in words what went wrong.
     pub explain: bool,
 }
@@ -294,13 +308,46 @@ fn keep_failed_command<'a>(alloc: Global) -> Result<Command<'a>, Error>
     Ok(command)
 }
 
+// And with the option that checks alone.
+fn validate_command<'a>(alloc: Global) -> Result<Command<'a>, Error>
+    ensures ok { IfOk result (λ command. app_of command ≡ with_validate) }
+    ensures local { IfOk result IsLocal }
+    ensures err { IfErr result (λ e. kind_of e ≡ ErrorKind.OutOfMemory) }
+{
+    let validate = flag(alloc, "validate", VALIDATE_HELP);
+    let command = keep_failed_command(alloc)?.arg(validate)?;
+    Ok(command)
+}
+
+// And with the one that prints an input object.
+fn template_command<'a>(alloc: Global) -> Result<Command<'a>, Error>
+    ensures ok { IfOk result (λ command. app_of command ≡ with_template) }
+    ensures local { IfOk result IsLocal }
+    ensures err { IfErr result (λ e. kind_of e ≡ ErrorKind.OutOfMemory) }
+{
+    let template = flag(alloc, "template", TEMPLATE_HELP);
+    let command = validate_command(alloc)?.arg(template)?;
+    Ok(command)
+}
+
+// And with the one that prints a command.
+fn print_command<'a>(alloc: Global) -> Result<Command<'a>, Error>
+    ensures ok { IfOk result (λ command. app_of command ≡ with_print) }
+    ensures local { IfOk result IsLocal }
+    ensures err { IfErr result (λ e. kind_of e ≡ ErrorKind.OutOfMemory) }
+{
+    let print = flag(alloc, "print-command", PRINT_HELP);
+    let command = template_command(alloc)?.arg(print)?;
+    Ok(command)
+}
+
 /// The subcommand `run`.
 pub fn run_command<'a>(alloc: Global) -> Result<Command<'a>, Error>
     ensures ok { IfOk result (λ command. app_of command ≡ run_command) }
     ensures local { IfOk result IsLocal }
     ensures err { IfErr result (λ e. kind_of e ≡ ErrorKind.OutOfMemory) }
 {
-    let command = keep_failed_command(alloc)?;
+    let command = print_command(alloc)?;
     let command = with_flags(alloc, command)?;
     with_inputs(alloc, command)
 }
@@ -324,6 +371,7 @@ pub fn run_words<'a>(words: &ArgMatches<'a>) -> RunWords<'a>
         keep: is_given(words, "keep"),
         keep_failed: is_given(words, "keep-failed"),
         telling: telling_of(words),
+        shows: shows_of(words),
         explain: is_wanted(words, "explain"),
     }
 }

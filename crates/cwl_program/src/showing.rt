@@ -1,0 +1,154 @@
+//! What is said of a process, and of inputs for it, in place of a run.
+ghost use Rattle.std.specs.Prelude.{◌≡◌, [], None, true, IfOk};
+ghost use Rattle.program_words.specs.RunWords.{wish_of_run};
+ghost use Rattle.cwl_program.specs.Runs.{IsNamedProcess, place_json};
+ghost use Rattle.cwl_program.specs.Showings as spec;
+
+use crate::process_forms::{lines_of, template_of};
+use crate::run::{here_of, inputs_of, process_of, without_folder};
+use crate::standard_input::file_of;
+use crate::tool_command::exit_of_command;
+use document_links::Process;
+use end_words::{Call, Exit, Given, RunEnd, misfit_lines, of_failure, stopped_run};
+use job_graph::Cause as NoValue;
+use plain_data::{Items, Text};
+use process_machine::World;
+use program_words::{RunWords, Shows};
+use run_core::Cause;
+use run_facts::first_misfit;
+use std::alloc::{AllocError, Global};
+use std::mem;
+use std::rt::Env;
+
+/// Reads the process of a document, and its inputs, and ends the program with what is to be shown of them. Nothing is made or started.
+pub fn end_of_showing<R: World + Env + Input>(
+    rt: &R,
+    words: &RunWords,
+    path: &str,
+) -> Result<RunEnd, AllocError>
+    ensures end { IfOk result (λ end. spec.IsEndOfShowing (wish_of_run words.now) path.now
+        end.exit) }
+    ensures left { IfOk result (λ end. end.left ≡ None) }
+{
+    match here_of(rt) {
+        Ok(here) => {
+            let call = Call {
+                here: here.as_str(),
+                words,
+                path,
+            };
+            let end = end_of_call(rt, &call);
+            mem::drop(here);
+            end
+        }
+        Err(error) => without_folder(rt.alloc(), &error),
+    }
+}
+
+fn end_of_call<R: World + Input>(rt: &R, call: &Call<'_>) -> Result<RunEnd, AllocError>
+    ensures end { IfOk result (λ end. spec.IsEndOfShowing (wish_of_run call.now.words.now)
+        call.now.path.now end.exit) }
+    ensures left { IfOk result (λ end. end.left ≡ None) }
+{
+    match process_of(rt, call) {
+        Ok(process) => on_process(rt, process, call),
+        Err(stop) => stopped_run(rt, stop, None),
+    }
+}
+
+fn on_process<R: World + Input>(
+    rt: &R,
+    process: Process,
+    call: &Call<'_>,
+) -> Result<RunEnd, AllocError>
+    requires { IsNamedProcess call.now.here.now (wish_of_run call.now.words.now) process }
+    ensures end { IfOk result (λ end. spec.IsEndOfShowing (wish_of_run call.now.words.now)
+        call.now.path.now end.exit) }
+    ensures left { IfOk result (λ end. end.left ≡ None) }
+{
+    match inputs_of(rt, call) {
+        Ok(inputs) => {
+            let given = Given { process, inputs };
+            let end = of_given(rt.alloc(), &given, call);
+            mem::drop(given);
+            end
+        }
+        Err(stop) => {
+            mem::drop(process);
+            stopped_run(rt, stop, file_of(call.words.inputs))
+        }
+    }
+}
+
+fn of_given(alloc: Global, given: &Given, call: &Call<'_>) -> Result<RunEnd, AllocError>
+    ensures end { IfOk result (λ end. spec.IsShown call.now.here.now
+        (wish_of_run call.now.words.now) call.now.path.now given.now end.exit) }
+    ensures left { IfOk result (λ end. end.left ≡ None) }
+{
+    if is_checked(call.words) {
+        return of_checked(alloc, given, call);
+    }
+    Ok(RunEnd::bare(alloc, exit_of(alloc, given, call)?))
+}
+
+fn is_checked(words: &RunWords) -> bool
+    ensures { result ≡ spec.is_checked words.now.shows (wish_of_run words.now).inputs }
+{
+    match words.shows {
+        Shows::Command => true,
+        _ => words.inputs.is_some(),
+    }
+}
+
+fn of_checked(alloc: Global, given: &Given, call: &Call<'_>) -> Result<RunEnd, AllocError>
+    requires { spec.is_checked call.now.words.now.shows (wish_of_run call.now.words.now).inputs
+        ≡ true }
+    ensures end { IfOk result (λ end. spec.IsShown call.now.here.now
+        (wish_of_run call.now.words.now) call.now.path.now given.now end.exit) }
+    ensures left { IfOk result (λ end. end.left ≡ None) }
+{
+    match first_misfit(&given.process, &given.inputs) {
+        None => Ok(RunEnd::bare(alloc, exit_of(alloc, given, call)?)),
+        Some(input) => of_misfit(alloc, given, input),
+    }
+}
+
+// An input has no value that fits.
+fn of_misfit(alloc: Global, given: &Given, input: &Text) -> Result<RunEnd, AllocError>
+    ensures end { IfOk result (λ end. (cause : Cause) × (end.exit
+        ≡ Exit.Permanent (place_json []) cause)) }
+    ensures left { IfOk result (λ end. end.left ≡ None) }
+{
+    let notes = misfit_lines(alloc, given, input)?;
+    let cause = Cause::Equation(NoValue::Kind(input.copied(alloc)?));
+    let exit = of_failure(alloc, Items::new(alloc), cause)?;
+    Ok(RunEnd {
+        exit,
+        left: None,
+        notes,
+        savings: None,
+    })
+}
+
+// What is to be shown of a process and its inputs.
+fn exit_of(alloc: Global, given: &Given, call: &Call<'_>) -> Result<Exit, AllocError>
+    ensures { IfOk result (spec.IsShownOf call.now.here.now (wish_of_run call.now.words.now)
+        call.now.path.now given.now call.now.words.now.shows) }
+{
+    match call.words.shows {
+        Shows::Command => exit_of_tool(alloc, given, call),
+        Shows::Template => Ok(Exit::Output(template_of(alloc, &given.process)?)),
+        Shows::Lines | Shows::Outputs => Ok(Exit::Output(lines_of(alloc, &given.process)?)),
+    }
+}
+
+// The command of a tool; of a workflow its lines.
+fn exit_of_tool(alloc: Global, given: &Given, call: &Call<'_>) -> Result<Exit, AllocError>
+    ensures { IfOk result (spec.IsShownOf call.now.here.now (wish_of_run call.now.words.now)
+        call.now.path.now given.now Shows.Command) }
+{
+    match &given.process {
+        Process::Tool(tool) => exit_of_command(alloc, tool, &given.inputs, call),
+        Process::Workflow(_) => Ok(Exit::Output(lines_of(alloc, &given.process)?)),
+    }
+}

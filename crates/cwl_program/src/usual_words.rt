@@ -1,0 +1,39 @@
+//! What is answered to words of another runner, and how many processors the machine has.
+
+use given_words::{answer_to, option_in, processors_in};
+use std::io::Write;
+use std::rt::Files;
+use std::{fs, mem};
+
+/// The files in which the kernel lists processors: those of this process, and those that are online.
+const STATUS: &str = "/proc/self/status";
+
+const ONLINE: &str = "/sys/devices/system/cpu/online";
+
+/// Says on the errors, where words are to be explained, what does here what the options of another runner do.
+pub fn answer_words<E: Write>(words: &[String], err: &mut E) {
+    if !words.iter().any(|word| word.as_str() == "--explain") {
+        return;
+    }
+    for word in words {
+        answer_word(word.as_str(), err);
+    }
+}
+
+fn answer_word<E: Write>(word: &str, err: &mut E) {
+    let option = option_in(word);
+    if let Some(answer) = answer_to(option) {
+        let _told = writeln!(err, "`{option}`: {answer}");
+    }
+}
+
+/// How many jobs may run side by side on this machine: 1 where it can't be told.
+pub fn processors_of<R: AllocGlobal + Files>(rt: &R) -> u64 {
+    let (Ok(status), Ok(online)) = (text_of(rt, STATUS), text_of(rt, ONLINE)) else {
+        return 1;
+    };
+    let count = processors_in(status.as_str(), online.as_str());
+    mem::drop(status);
+    mem::drop(online);
+    count
+}

@@ -1,0 +1,93 @@
+//! Options that ask for as many jobs side by side as there are processors.
+ghost use Rattle.std.specs.Prelude.{◌≡◌, [], IfOk, bytes_eq, codes, if◌then◌else◌, map, slice_index_or, string_bytes};
+ghost use Rattle.std.specs.List.{list_any};
+ghost use Rattle.given_words.specs.Slots as spec;
+
+use std::alloc::{AllocError, Global};
+
+/// Returns the words with the number of processors where they ask for all of them.
+pub fn with_slots(alloc: Global, words: &[String], count: u64) -> Result<Vec<String>, AllocError>
+    ensures { IfOk result (λ found. map string_bytes found.items
+        ≡ spec.with_slots count (map string_bytes words.now)) }
+{
+    let mut found = Vec::new(alloc);
+    for word in words {
+        let word = next_word(alloc, found.as_slice(), word.as_str(), count)?;
+        found.push(word)?;
+    }
+    Ok(found)
+}
+
+// The word that comes behind these in place of this one.
+fn next_word(
+    alloc: Global,
+    before: &[String],
+    word: &str,
+    count: u64,
+) -> Result<String, AllocError>
+    ensures { IfOk result (λ next. string_bytes next
+        ≡ (if spec.has_options (map string_bytes before.now)
+            then spec.slot_word count (map string_bytes before.now) word.now
+            else word.now)) }
+{
+    if has_options(before) {
+        return slot_word(alloc, before, word, count);
+    }
+    String::from_str(alloc, word)
+}
+
+fn slot_word(
+    alloc: Global,
+    before: &[String],
+    word: &str,
+    count: u64,
+) -> Result<String, AllocError>
+    ensures { IfOk result (λ next. string_bytes next
+        ≡ spec.slot_word count (map string_bytes before.now) word.now) }
+{
+    if matches!(word, "--parallel" | "--slots=all") {
+        return format!(in alloc; "--slots={count}");
+    }
+    if wants_number(before) && word == "all" {
+        return format!(in alloc; "{count}");
+    }
+    String::from_str(alloc, word)
+}
+
+fn has_options(words: &[String]) -> bool
+    ensures { result ≡ spec.has_options (map string_bytes words.now) }
+{
+    takes_slots(words) && !has_end(words)
+}
+
+fn takes_slots(words: &[String]) -> bool
+    ensures { result ≡ spec.takes_slots (map string_bytes words.now) }
+{
+    matches!(command_of(words), "run" | "plan")
+}
+
+// The word behind the program's name; none is the empty one.
+fn command_of(words: &[String]) -> &str
+    ensures { result.now ≡ slice_index_or (map string_bytes words.now) 1 [] }
+{
+    match words.get(1) {
+        None => "",
+        Some(word) => word.as_str(),
+    }
+}
+
+// Whether the words have one behind which no options come.
+fn has_end(words: &[String]) -> bool
+    ensures { result ≡ list_any (λ word. bytes_eq word (codes "--")) (map string_bytes words.now) }
+{
+    words.iter().any(|word| word.as_str() == "--")
+}
+
+fn wants_number(words: &[String]) -> bool
+    ensures { result ≡ spec.wants_number (map string_bytes words.now) }
+{
+    match words.last() {
+        None => false,
+        Some(word) => word.as_str() == "--slots",
+    }
+}
