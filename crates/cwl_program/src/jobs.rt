@@ -11,11 +11,13 @@ use run_core::{RecordAnswer, RecordRequest};
 use std::alloc::{AllocError, Global};
 use workflow_engine::Watch;
 
-/// What of an earlier run is asked for, and which document is run.
+/// What of an earlier run is asked for, and which document is run on which inputs.
 #[derive(Clone, Copy, Debug, Drop)]
 pub struct Memory<'a> {
     /// The document's name.
     pub document: &'a str,
+    /// The name of the input object's file, where it can be read again.
+    pub inputs: Option<&'a str>,
     /// Whether a record or an archive is named, so that a job could be loaded.
     pub remembers: bool,
     /// Whether an archive is kept.
@@ -34,6 +36,8 @@ struct Running {
 pub struct Traces<'a> {
     /// The name of the document, where its hints are to be told of.
     pub document: Option<&'a str>,
+    /// The name of the input object's file, where its keys are to be told of.
+    pub inputs: Option<&'a str>,
     // the last child of each job
     tickets: Keyed<u64>,
     // for the code of each fault of the host the first job that met it
@@ -41,9 +45,10 @@ pub struct Traces<'a> {
 }
 
 impl<'a> Traces<'a> {
-    pub fn new(alloc: Global, document: Option<&'a str>) -> Traces<'a> {
+    pub fn new(alloc: Global, document: Option<&'a str>, inputs: Option<&'a str>) -> Traces<'a> {
         Traces {
             document,
+            inputs,
             tickets: Keyed::new(alloc),
             failures: Keyed::new(alloc),
         }
@@ -96,7 +101,7 @@ impl<'a, L: Listen> Jobs<'a, L> {
             altered: Keyed::new(alloc),
             fetched: None,
             running: Vec::new(alloc),
-            traces: Traces::new(alloc, Some(memory.document)),
+            traces: Traces::new(alloc, Some(memory.document), memory.inputs),
             done: Keyed::new(alloc),
             loaded: 0,
             gained: 0,

@@ -46,7 +46,7 @@ fn all_lines<R: World>(
 ) -> Result<Vec<String>, AllocError> {
     let mut lines = lines_on(rt, host, given, traces, exit)?;
     if let Some(document) = traces.document {
-        add_remarks(rt, given, document, &mut lines)?;
+        add_remarks(rt, given, document, traces.inputs, &mut lines)?;
     }
     Ok(lines)
 }

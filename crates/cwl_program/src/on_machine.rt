@@ -9,6 +9,7 @@ use crate::caches::{keeps_archive, remembers};
 use crate::hearing::{Speaker, Voice};
 use crate::jobs::{Jobs, Memory, Traces};
 use crate::notes::notes_on;
+use crate::standard_input::file_of;
 use end_words::{Exit, Given, Places, RunEnd, exit_of_run};
 use job_rows::Record;
 use process_machine::{Deaf, Hear, Heard, Machine, World};
@@ -57,6 +58,7 @@ where
 fn memory_of<'a>(words: &RunWords<'a>) -> Memory<'a> {
     Memory {
         document: words.document,
+        inputs: file_of(words.inputs),
         remembers: remembers(words),
         keeps: keeps_archive(words),
     }

@@ -279,7 +279,7 @@ where
         looks.answers(),
         dot,
     );
-    let traces = Traces::new(rt.alloc(), None);
+    let traces = Traces::new(rt.alloc(), None, None);
     let end = noted(rt, &host, given, &traces, exit, None);
     mem::drop(traces);
     mem::drop(looks);

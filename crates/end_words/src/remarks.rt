@@ -5,10 +5,10 @@ use crate::reading::bytes_of_file;
 use document_links::Process;
 use plain_data::Text;
 use process_machine::World;
-use run_facts::find_in;
+use run_facts::{find_in, repeated_keys};
 use serde_json::{Map, Value};
 use std::alloc::{AllocError, Global};
-use std::mem;
+use std::{mem, str};
 
 /// The most documents that are looked at.
 const MOST_DOCUMENTS: usize = 64;
@@ -45,16 +45,17 @@ struct Findings {
     files: Vec<String>,
 }
 
-/// Adds lines on the names of the input object that are no input of the process, and on what is ignored in its document, and in those that
-/// its steps name.
+/// Adds lines on the names of the input object that are no input of the process, on what is ignored in its document, and in those that
+/// its steps name, and on the keys that are twice in an object there or in the file of the inputs.
 pub fn add_remarks<R: World>(
     rt: &R,
     given: &Given,
     document: &str,
+    inputs: Option<&str>,
     lines: &mut Vec<String>,
 ) -> Result<(), AllocError> {
     add_names(rt.alloc(), given, lines)?;
-    let Findings { lines: more, files } = findings_in(rt, document)?;
+    let Findings { lines: more, files } = findings_in(rt, document, inputs)?;
     mem::drop(files);
     for line in more {
         lines.push(line)?;
@@ -63,7 +64,11 @@ pub fn add_remarks<R: World>(
 }
 
 // What is found in a document, and in those that lead on from it.
-fn findings_in<R: World>(rt: &R, document: &str) -> Result<Findings, AllocError> {
+fn findings_in<R: World>(
+    rt: &R,
+    document: &str,
+    inputs: Option<&str>,
+) -> Result<Findings, AllocError> {
     let mut found = Findings {
         lines: Vec::new(rt.alloc()),
         files: Vec::new(rt.alloc()),
@@ -72,7 +77,49 @@ fn findings_in<R: World>(rt: &R, document: &str) -> Result<Findings, AllocError>
     for at in 0..MOST_DOCUMENTS {
         look_into(rt, at, &mut found)?;
     }
+    if let Some(file) = inputs {
+        look_for_repeats(rt, file, &mut found)?;
+    }
     Ok(found)
+}
+
+// ---- keys that are twice in one object, of which the last one counts
+
+fn look_for_repeats<R: World>(rt: &R, file: &str, found: &mut Findings) -> Result<(), AllocError> {
+    match bytes_of_file(rt, file) {
+        Ok(bytes) => note_repeats(rt.alloc(), file, bytes.as_slice(), found),
+        Err(_) => Ok(()),
+    }
+}
+
+fn note_repeats(
+    alloc: Global,
+    file: &str,
+    text: &[u8],
+    found: &mut Findings,
+) -> Result<(), AllocError> {
+    let keys = repeated_keys(alloc, text)?;
+    for key in keys.iter().take(MOST_NAMES) {
+        note_repeat(alloc, file, key, found)?;
+    }
+    Ok(())
+}
+
+fn note_repeat(
+    alloc: Global,
+    file: &str,
+    key: &[u8],
+    found: &mut Findings,
+) -> Result<(), AllocError> {
+    match str::from_utf8(key) {
+        Ok(key) => {
+            let line = format!(in alloc;
+                "the key `{key}` is twice in one object of {file}: the last one counts"
+            )?;
+            note(alloc, line.as_str(), found)
+        }
+        Err(_) => Ok(()),
+    }
 }
 
 // ---- the input object
@@ -115,7 +162,8 @@ fn look_into<R: World>(rt: &R, at: usize, found: &mut Findings) -> Result<(), Al
         Ok(document) => {
             let looked = look(alloc, file.as_str(), &document, found);
             mem::drop(document);
-            looked
+            looked?;
+            note_repeats(alloc, file.as_str(), bytes.as_slice(), found)
         }
         Err(_) => Ok(()),
     }
