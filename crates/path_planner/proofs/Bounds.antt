@@ -76,7 +76,7 @@ out-le graph charges missing_in missing_out good fair v h =
     omega arith
 
 -- so it is far from the bound on numbers
-pub out_small : (graph : List Vertex) (charges : Charges) (missing_in missing_out : ℕ → ℕ) → IsGraph graph → AreFairBut graph charges missing_in missing_out → (v : ℕ) → v < length graph → get_or charges.pay v 0 + sum (passes charges v) ≤ 4096000000000000
+pub out_small : (graph : List Vertex) (charges : Charges) (missing_in missing_out : ℕ → ℕ) → IsGraph graph → AreFairBut graph charges missing_in missing_out → (v : ℕ) → v < length graph → get_or charges.pay v 0 + sum (passes charges v) ≤ 16384000000000000
 out_small graph charges missing_in missing_out good fair v h =
     let most = out-le graph charges missing_in missing_out good fair v h in
     let few = length-graph-le graph good in

@@ -88,7 +88,7 @@ in_within graph charges search v amount misses =
     omega arith
 
 -- sums with the amount that is missing are small
-pub out_room : (graph : List Vertex) (charges : Charges) (search : Search) (v amount : ℕ) → MissesOut graph charges search v amount → get_or charges.through v 0 + amount ≤ 4096000000000000
+pub out_room : (graph : List Vertex) (charges : Charges) (search : Search) (v amount : ℕ) → MissesOut graph charges search v amount → get_or charges.through v 0 + amount ≤ 16384000000000000
 out_room graph charges search v amount misses =
     let h = out_within graph charges search v amount misses in
     let go = (misses.fair.fair v h).going_out in
@@ -96,7 +96,7 @@ out_room graph charges search v amount misses =
     let small = out_small graph charges nothing (only_at v amount) misses.good misses.fair v h in
     omega arith
 
-pub in_room : (graph : List Vertex) (charges : Charges) (search : Search) (v amount : ℕ) → MissesIn graph charges search v amount → get_or charges.enter v 0 + amount ≤ 4096000000000000
+pub in_room : (graph : List Vertex) (charges : Charges) (search : Search) (v amount : ℕ) → MissesIn graph charges search v amount → get_or charges.enter v 0 + amount ≤ 16384000000000000
 in_room graph charges search v amount misses =
     let h = in_within graph charges search v amount misses in
     let come = (misses.fair.fair v h).coming_in in
@@ -105,7 +105,7 @@ in_room graph charges search v amount misses =
     let small = out_small graph charges (only_at v amount) nothing misses.good misses.fair v h in
     omega arith
 
-pub pass_room : (graph : List Vertex) (charges : Charges) (a b : ℕ → ℕ) → IsGraph graph → AreFairBut graph charges a b → (i slot : ℕ) → i < length graph → slot < length (vertex graph i).parents → passed charges i slot ≤ 4096000000000000
+pub pass_room : (graph : List Vertex) (charges : Charges) (a b : ℕ → ℕ) → IsGraph graph → AreFairBut graph charges a b → (i slot : ℕ) → i < length graph → slot < length (vertex graph i).parents → passed charges i slot ≤ 16384000000000000
 pass_room graph charges a b good fair i slot h hs =
     let row = fair.counted.each_pass i h in
     let part = passed-le charges i slot (omega arith) in
