@@ -7,5 +7,6 @@ pub mod Plans
 pub mod ReadOnce
 pub mod SavingsLine
 pub mod ShellWords
+pub mod Shown
 pub mod Stops
 pub mod Verdicts
