@@ -14,7 +14,11 @@ _deparohi() {
         mapfile -t COMPREPLY < <(compgen -f -- "$word")
         return
         ;;
-    --slots | --retries | --base | --rate | --forget)
+    --slots)
+        COMPREPLY=($(compgen -W "all" -- "$word"))
+        return
+        ;;
+    --retries | --base | --rate | --forget)
         COMPREPLY=()
         return
         ;;
@@ -24,8 +28,8 @@ _deparohi() {
         return
     fi
     case $command in
-    run) every="--work --outdir --slots --retries --record --archive --cache --base --rate --verbose --progress --keep --keep-failed $every" ;;
-    plan) every="--dot --work --outdir --slots --retries --record --archive --cache --base --rate $every" ;;
+    run) every="--work --outdir --slots --retries --record --archive --cache --base --rate --verbose --progress --keep --keep-failed --parallel --validate --template --print-command $every" ;;
+    plan) every="--dot --work --outdir --parallel --slots --retries --record --archive --cache --base --rate $every" ;;
     record) every="--forget $every" ;;
     help) every="" ;;
     esac

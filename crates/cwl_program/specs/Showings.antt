@@ -13,7 +13,7 @@ use Rattle.document_links.specs.declared.process.Step.{Step}
 use Rattle.document_links.specs.declared.process.Workflow.{Workflow, out-Workflow}
 use Rattle.input_files.specs.Given.{named_inputs}
 use Rattle.input_forms.specs.Lines.{tool_line, workflow_line}
-use Rattle.input_forms.specs.Templates.{template, tool_entry, workflow_entry}
+use Rattle.input_forms.specs.Templates.{template as template_text, tool_entry, workflow_entry}
 use Rattle.job_graph.specs.Words.{Fields}
 use Rattle.run_facts.specs.Misfits.{first_misfit}
 use Rattle.run_rules.specs.declared.outcome.Cause.{Cause}
@@ -55,7 +55,7 @@ entries_of (Process-F.Tool tool) = map tool_entry tool.inputs
 entries_of (Process-F.Workflow workflow) = map workflow_entry (out-Workflow workflow).inputs
 
 abbrev pub template_of : Process → List ℕ
-template_of process = template (entries_of (out-Process process))
+template_of process = template_text (entries_of (out-Process process))
 
 -- ---- of a tool and its inputs
 
@@ -85,7 +85,7 @@ pub data IsShownOf (here : Text) (words : RunWish) (path : Text) (given : Given)
   -- of a workflow there is no command
   no_tool : (workflow : Workflow) → out-Process given.process ≡ Process-F.Workflow workflow →
       IsShownOf here words path given Command (exits.Output (lines_of given.process))
-  tool : {exit : Exit} (tool : Tool) → out-Process given.process ≡ Process-F.Tool tool →
+  of_tool : {exit : Exit} (tool : Tool) → out-Process given.process ≡ Process-F.Tool tool →
       IsCommandOf tool (named_inputs tool.inputs given.inputs) (runtime_in (from_root here words.work) path) exit →
       IsShownOf here words path given Command exit
 

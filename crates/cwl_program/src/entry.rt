@@ -71,7 +71,7 @@ fn unstarted<E: Write>(error: &io::Error, err: &mut E) -> u8 {
 }
 
 fn words(rt: &HostRuntime) -> io::Result<Vec<String>> {
-    let given = env::args(rt)?.collect(rt.alloc())?;
+    let given: Vec<String> = env::args(rt)?.collect(rt.alloc())?;
     let mut words = with_slots(rt.alloc(), given.as_slice(), processors_of(rt))?;
     mem::drop(given);
     let is_terminal = rt.stderr().is_terminal();

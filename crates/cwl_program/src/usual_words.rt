@@ -29,11 +29,23 @@ fn answer_word<E: Write>(word: &str, err: &mut E) {
 
 /// How many jobs may run side by side on this machine: 1 where it can't be told.
 pub fn processors_of<R: AllocGlobal + Files>(rt: &R) -> u64 {
-    let (Ok(status), Ok(online)) = (text_of(rt, STATUS), text_of(rt, ONLINE)) else {
-        return 1;
-    };
-    let count = processors_in(status.as_str(), online.as_str());
-    mem::drop(status);
-    mem::drop(online);
-    count
+    match fs::read_to_string(rt, STATUS) {
+        Ok(status) => {
+            let count = online_of(rt, status.as_str());
+            mem::drop(status);
+            count
+        }
+        Err(_) => 1,
+    }
+}
+
+fn online_of<R: AllocGlobal + Files>(rt: &R, status: &str) -> u64 {
+    match fs::read_to_string(rt, ONLINE) {
+        Ok(online) => {
+            let count = processors_in(status, online.as_str());
+            mem::drop(online);
+            count
+        }
+        Err(_) => 1,
+    }
 }

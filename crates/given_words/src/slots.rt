@@ -1,5 +1,5 @@
 //! Options that ask for as many jobs side by side as there are processors.
-ghost use Rattle.std.specs.Prelude.{◌≡◌, [], IfOk, bytes_eq, codes, if◌then◌else◌, map, slice_index_or, string_bytes};
+ghost use Rattle.std.specs.Prelude.{◌≡◌, [], IfOk, bytes_eq, if◌then◌else◌, map, slice_index_or, string_bytes};
 ghost use Rattle.std.specs.List.{list_any};
 ghost use Rattle.given_words.specs.Slots as spec;
 
@@ -57,7 +57,7 @@ fn slot_word(
 fn has_options(words: &[String]) -> bool
     ensures { result ≡ spec.has_options (map string_bytes words.now) }
 {
-    takes_slots(words) && !has_end(words)
+    takes_slots(words) && !has_word(words, "--")
 }
 
 fn takes_slots(words: &[String]) -> bool
@@ -76,11 +76,10 @@ fn command_of(words: &[String]) -> &str
     }
 }
 
-// Whether the words have one behind which no options come.
-fn has_end(words: &[String]) -> bool
-    ensures { result ≡ list_any (λ word. bytes_eq word (codes "--")) (map string_bytes words.now) }
+fn has_word(words: &[String], word: &str) -> bool
+    ensures { result ≡ list_any (λ other. bytes_eq other word.now) (map string_bytes words.now) }
 {
-    words.iter().any(|word| word.as_str() == "--")
+    words.iter().any(|other| other.as_str() == word)
 }
 
 fn wants_number(words: &[String]) -> bool

@@ -1,5 +1,5 @@
 -- A value that shows the form of a type.
-use Rattle.std.specs.Prelude.{ℕ, pos, List, [], ◌∷◌, Option, Some, None, Bool, false, map, codes, if◌then◌else◌, slice_index_or}
+use Rattle.std.specs.Prelude.{ℕ, pos, List, [], ◌∷◌, Option, Some, None, Bool, true, false, map, codes, if◌then◌else◌, slice_index_or}
 use Rattle.cwl_types.specs.declared.types.MemberType.{MemberType, fold-MemberType}
 use Rattle.cwl_types.specs.declared.types.MemberType.TheOpen.{MemberType-F, ArrayType-F}
 use Rattle.cwl_types.specs.declared.types.PlainType.{PlainType}
@@ -11,6 +11,13 @@ use Rattle.cwl_value.specs.declared.value.Value.TheOpen.{Value-F}
 use Rattle.cwl_value.specs.declared.value.FileVal.{FileVal, roll-FileVal}
 use Rattle.cwl_value.specs.declared.value.DirVal.{DirVal, roll-DirVal}
 use Rattle.input_forms.specs.Wanted.{admits_null, may_be_null}
+
+abbrev pub null_at : Value-F Value DirVal FileVal → Bool
+null_at Value-F.Null = true
+null_at _ = false
+
+abbrev pub is_null : Value → Bool
+is_null value = null_at (out-Value value)
 
 abbrev pub a_file : Value
 a_file = values.FileVal (roll-FileVal (record {
