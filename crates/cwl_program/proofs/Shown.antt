@@ -8,7 +8,8 @@ use Rattle.document_links.specs.declared.process.Process.{Process}
 use Rattle.run_facts.specs.Misfits.{first_misfit}
 use Rattle.run_rules.specs.declared.outcome.Cause.{Cause}
 use Rattle.program_words.specs.RunWords.{RunWish}
-use Rattle.cwl_program.specs.Runs.{IsNamedProcess, IsNoInputs, IsNoProcess, IsReady, place_json}
+use Rattle.end_words.specs.RunEnds.{place_json}
+use Rattle.cwl_program.specs.Runs.{IsNamedProcess, IsNoInputs, IsNoProcess, IsReady}
 use Rattle.cwl_program.specs.Showings.{IsEndOfShowing, IsShown, IsShownOf, is_checked, lost, misfit, no_inputs, no_process, shown, shows}
 use Rattle.end_words.specs.Stops.{IsStop}
 use Rattle.cwl_program.specs.Tells.{Held, IsRunTold}

@@ -19,7 +19,8 @@ use Rattle.run_facts.specs.Misfits.{first_misfit}
 use Rattle.run_rules.specs.declared.outcome.Cause.{Cause}
 use Rattle.cwl_program.specs.Paths.{from_root}
 use Rattle.program_words.specs.RunWords.{RunWish}
-use Rattle.cwl_program.specs.Runs.{IsNamedProcess, IsNoInputs, IsNoProcess, IsReady, place_json}
+use Rattle.end_words.specs.RunEnds.{place_json}
+use Rattle.cwl_program.specs.Runs.{IsNamedProcess, IsNoInputs, IsNoProcess, IsReady}
 use Rattle.program_words.specs.ShellWords.{IsLineOf}
 use Rattle.program_words.specs.Visible.{visible}
 use Rattle.end_words.specs.declared.exit.Exit.{Exit}

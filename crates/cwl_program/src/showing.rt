@@ -1,7 +1,8 @@
 //! What is said of a process, and of inputs for it, in place of a run.
 ghost use Rattle.std.specs.Prelude.{◌≡◌, [], None, true, IfOk};
 ghost use Rattle.program_words.specs.RunWords.{wish_of_run};
-ghost use Rattle.cwl_program.specs.Runs.{IsNamedProcess, place_json};
+ghost use Rattle.cwl_program.specs.Runs.{IsNamedProcess};
+ghost use Rattle.end_words.specs.RunEnds.{place_json};
 ghost use Rattle.cwl_program.specs.Showings as spec;
 
 use crate::process_forms::{lines_of, template_of};

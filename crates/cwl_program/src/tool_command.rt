@@ -3,7 +3,7 @@ ghost use Rattle.std.specs.Prelude.{◌≡◌, ℕ, List, [], IfOk};
 ghost use Rattle.input_files.specs.Given.{named_inputs, or_default, value_under};
 ghost use Rattle.cwl_program.specs.Paths.{from_root as path_from_root};
 ghost use Rattle.program_words.specs.RunWords.{wish_of_run};
-ghost use Rattle.cwl_program.specs.Runs.{place_json};
+ghost use Rattle.end_words.specs.RunEnds.{place_json};
 ghost use Rattle.program_words.specs.ShellWords.{IsLineOf};
 ghost use Rattle.cwl_program.specs.Showings as spec;
 
