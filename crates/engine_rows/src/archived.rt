@@ -100,7 +100,8 @@ pub fn notes_json(alloc: Global, notes: &[Note]) -> Result<String, RowFault> {
     Ok(list.close()?)
 }
 
-fn failure_of(kind: &NoteKind) -> (&'static str, &'static str) {
+/// The call that failed, and the code of its fault.
+pub fn failure_of(kind: &NoteKind) -> (&'static str, &'static str) {
     match kind {
         NoteKind::Put(refusal) => ("Put", refusal.code()),
         NoteKind::Drop(refusal) => ("Drop", refusal.code()),

@@ -12,9 +12,11 @@ mod alone;
 mod archived;
 mod copies;
 mod end;
+mod failing;
 mod giving_up;
 mod hosts;
 mod list;
+mod lost;
 pub mod machine;
 mod orders;
 mod requests;
@@ -32,7 +34,7 @@ pub fn answer(rt: &HostRuntime, row: &Row) -> Result<String, RowFault> {
     match row.call() {
         "timed" => timed::answer(rt, row),
         "child" | "children" | "stage" | "deliver" => machine::told_of(rt, row),
-        "archive" => machine::told_of(rt, row),
+        "archive" | "fails_after" => machine::told_of(rt, row),
         "measure" | "scan" | "head" | "remove" => machine::told_of(rt, row),
         _ => scripted(rt.alloc(), row),
     }
