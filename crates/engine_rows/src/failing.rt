@@ -24,7 +24,7 @@ pub struct Failing<'a> {
 }
 
 impl<'a> Model for Failing<'a> {
-    ghost use Rattle.engine_rows.specs.Failing.{told, IsWithin};
+    ghost use Rattle.engine_rows.specs.Told.{told, IsWithin};
     ghost use Rattle.process_machine.specs.Machine.{MachineState};
     ghost use Rattle.cwl_value.specs.contracts.value.Value as value;
     ghost use Rattle.std.specs.Coded.{codes};

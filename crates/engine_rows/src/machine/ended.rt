@@ -55,11 +55,7 @@ pub struct Ended {
 }
 
 /// Runs a trial's process over this record.
-pub fn ended(
-    trial: &Trial<'_>,
-    rows: &mut MemoryRecord,
-    leg: &Leg<'_>,
-) -> Result<Ended, RowFault> {
+pub fn ended(trial: &Trial<'_>, rows: &mut MemoryRecord, leg: &Leg<'_>) -> Result<Ended, RowFault> {
     let alloc = trial.rt.alloc();
     let work = below(alloc, trial.folder, leg.work)?;
     done(fs::create_dir(trial.rt, work.as_str()))?;
@@ -162,7 +158,11 @@ fn report_text(alloc: Global, end: &Result<Report, RunFault>) -> Result<String, 
 /// The code of a run's fault, with the tickets that nobody waits for any more; or the name of its outcome, with what was noted.
 fn end_text(alloc: Global, end: &Result<Report, RunFault>) -> Result<String, RowFault> {
     match end {
-        Ok(report) => noted_text(alloc, outcome_name(&report.outcome), report.notes.as_slice()),
+        Ok(report) => noted_text(
+            alloc,
+            outcome_name(&report.outcome),
+            report.notes.as_slice(),
+        ),
         Err(RunFault::Host(fault, running)) if running.is_empty() => {
             Ok(String::from_str(alloc, fault.code())?)
         }
