@@ -49,7 +49,7 @@ impl<'a> Failing<'a> {
         left: Option<u64>,
         loss: Loss,
     ) -> Failing<'a>
-        ensures { result ≡ inner }
+        ensures { result ≡ inner.entry }
     {
         Failing {
             alloc,
