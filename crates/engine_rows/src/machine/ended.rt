@@ -55,7 +55,11 @@ pub struct Ended {
 }
 
 /// Runs a trial's process over this record.
-pub fn ended(trial: &Trial<'_>, rows: &mut MemoryRecord, leg: &Leg<'_>) -> Result<Ended, RowFault> {
+pub fn end_of_run(
+    trial: &Trial<'_>,
+    rows: &mut MemoryRecord,
+    leg: &Leg<'_>,
+) -> Result<Ended, RowFault> {
     let alloc = trial.rt.alloc();
     let work = below(alloc, trial.folder, leg.work)?;
     done(fs::create_dir(trial.rt, work.as_str()))?;

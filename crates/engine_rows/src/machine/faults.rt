@@ -1,6 +1,6 @@
 //! Runs over real children and real files in which each call of the host fails in turn.
 
-use crate::machine::ended::{Ended, Leg, Trial, ended};
+use crate::machine::ended::{Ended, Leg, Trial, end_of_run};
 use crate::machine::place::{done, prepared};
 use crate::run::case_at;
 use job_rows::MemoryRecord;
@@ -42,7 +42,7 @@ pub fn told_of(rt: &HostRuntime, row: &Row, place: &str) -> Result<String, RowFa
 }
 
 fn told_by(trial: &Trial<'_>) -> Result<String, RowFault> {
-    let whole = tried(trial, None)?;
+    let whole = both_runs(trial, None)?;
     let mut kept = Kept {
         whole: true,
         rows: true,
@@ -51,7 +51,7 @@ fn told_by(trial: &Trial<'_>) -> Result<String, RowFault> {
     let mut out = AnswerText::new(trial.rt.alloc());
     out.put("{\"ends\":[");
     for left in 0..whole.first.calls {
-        let tried = tried(trial, Some(left))?;
+        let tried = both_runs(trial, Some(left))?;
         put_end(&mut out, &tried.first);
         kept = kept_with(kept, &tried, &whole.first);
     }
@@ -97,7 +97,7 @@ fn is_as(again: &Ended, whole: &Ended) -> bool {
 }
 
 /// A run over a new record and archive whose host fails the call after so many, or none, and the run after it.
-fn tried(trial: &Trial<'_>, left: Option<u64>) -> Result<Tried, RowFault> {
+fn both_runs(trial: &Trial<'_>, left: Option<u64>) -> Result<Tried, RowFault> {
     let archive = format!(in trial.rt.alloc(); "{}/archive", trial.folder)?;
     done(fs::create_dir_all(trial.rt, archive.as_str()))?;
     let mut rows = MemoryRecord::new(trial.rt.alloc());
@@ -113,11 +113,11 @@ fn tried_over(
     rows: &mut MemoryRecord,
 ) -> Result<Tried, RowFault> {
     if trial.row.find("warm").is_some() {
-        let before = ended(trial, rows, &leg("before", "results-before", None))?;
+        let before = end_of_run(trial, rows, &leg("before", "results-before", None))?;
         mem::drop(before);
     }
-    let first = ended(trial, rows, &leg("work", "results", left))?;
-    let again = ended(trial, rows, &leg("again", "results", None))?;
+    let first = end_of_run(trial, rows, &leg("work", "results", left))?;
+    let again = end_of_run(trial, rows, &leg("again", "results", None))?;
     Ok(Tried { first, again })
 }
 
