@@ -17,7 +17,7 @@ use process_machine::Machine;
 use row_io::{AnswerText, Row, RowFault};
 use run_core::{Note, Options, Outcome, Report, RunFault};
 use std::alloc::Global;
-use std::fs;
+use std::{fs, mem};
 use workflow_engine::{Unwatched, run};
 
 /// What a row's runs are of, and the folder that they have below the row's.
@@ -40,18 +40,30 @@ pub struct Leg<'a> {
 /// How a run ended, and what it left.
 #[derive(Drop)]
 pub struct Ended {
+    pub counts: Counts,
+    pub texts: EndTexts,
+    /// What is at its OUTDIR, as JSON.
+    pub found: String,
+}
+
+/// What happened in a run, counted.
+#[derive(Clone, Copy)]
+pub struct Counts {
     /// How many calls its host answered or failed, but for the one that was failed for the row.
     pub calls: u64,
     /// How many children ended.
     pub children: u64,
     /// How many rows it put.
     pub rows: u64,
+}
+
+/// What a run reported at its end.
+#[derive(Drop)]
+pub struct EndTexts {
     /// The code of its fault, or the name of its outcome with its notes.
     pub end: String,
     /// Its report, as JSON; of a fault nothing.
     pub report: String,
-    /// What is at its OUTDIR, as JSON.
-    pub found: String,
 }
 
 /// Runs a trial's process over this record.
@@ -60,12 +72,42 @@ pub fn end_of_run(
     rows: &mut MemoryRecord,
     leg: &Leg<'_>,
 ) -> Result<Ended, RowFault> {
-    let alloc = trial.rt.alloc();
-    let work = below(alloc, trial.folder, leg.work)?;
-    done(fs::create_dir(trial.rt, work.as_str()))?;
-    let options = options_of(trial, leg)?;
+    work_made(trial, leg)?;
     let mut host = host_of(trial, leg)?;
-    ended_on(trial, rows, leg, &mut host, options)
+    let before = puts(rows.log());
+    let texts = texts_on(trial, rows, leg, &mut host);
+    let counts = counts_of(host.passed(), rows.log(), before);
+    mem::drop(host);
+    with_found(trial, leg, counts, texts?)
+}
+
+fn work_made(trial: &Trial<'_>, leg: &Leg<'_>) -> Result<(), RowFault> {
+    let work = below(trial.rt.alloc(), trial.folder, leg.work)?;
+    done(fs::create_dir(trial.rt, work.as_str()))
+}
+
+/// The counts of a run from these logs, where so many rows were put before it.
+fn counts_of(passed: &[Entry], asked: &[Asked], before: u64) -> Counts {
+    Counts {
+        calls: passed.len() as u64,
+        children: ends(passed),
+        rows: puts(asked).saturating_sub(before),
+    }
+}
+
+/// How a run ended, with what is at its OUTDIR.
+fn with_found(
+    trial: &Trial<'_>,
+    leg: &Leg<'_>,
+    counts: Counts,
+    texts: EndTexts,
+) -> Result<Ended, RowFault> {
+    let found = found_at(trial, leg)?;
+    Ok(Ended {
+        counts,
+        texts,
+        found,
+    })
 }
 
 fn options_of(trial: &Trial<'_>, leg: &Leg<'_>) -> Result<Options, RowFault>
@@ -99,35 +141,46 @@ fn loss_of(row: &Row) -> Loss {
     }
 }
 
-fn ended_on(
+fn texts_on(
     trial: &Trial<'_>,
     rows: &mut MemoryRecord,
     leg: &Leg<'_>,
     host: &mut Failing<'_>,
+) -> Result<EndTexts, RowFault>
+    requires { host.old.running ≡ [] }
+{
+    let options = options_of(trial, leg)?;
+    texts_over(trial.rt.alloc(), trial.case, rows, host, options)
+}
+
+fn texts_over(
+    alloc: Global,
+    case: &Case,
+    rows: &mut MemoryRecord,
+    host: &mut Failing<'_>,
     options: Options,
-) -> Result<Ended, RowFault>
+) -> Result<EndTexts, RowFault>
     requires idle { host.old.running ≡ [] }
     requires limits { IsWithinLimits options }
 {
-    let alloc = trial.rt.alloc();
-    let before = puts(rows.log());
     let end = run(
         alloc,
         host,
         rows,
-        trial.case.process.as_process(),
-        &trial.case.inputs,
+        case.process.as_process(),
+        &case.inputs,
         options,
         &mut Unwatched,
     );
-    Ok(Ended {
-        calls: host.passed().len() as u64,
-        children: ends(host.passed()),
-        rows: puts(rows.log()).saturating_sub(before),
-        end: end_text(alloc, &end)?,
-        report: report_text(alloc, &end)?,
-        found: found_at(trial, leg)?,
-    })
+    let texts = texts_of(alloc, &end);
+    mem::drop(end);
+    texts
+}
+
+fn texts_of(alloc: Global, end: &Result<Report, RunFault>) -> Result<EndTexts, RowFault> {
+    let report = report_text(alloc, end)?;
+    let end = end_text(alloc, end)?;
+    Ok(EndTexts { end, report })
 }
 
 /// How many rows were put.

@@ -50,7 +50,7 @@ fn told_by(trial: &Trial<'_>) -> Result<String, RowFault> {
     };
     let mut out = AnswerText::new(trial.rt.alloc());
     out.put("{\"ends\":[");
-    for left in 0..whole.first.calls {
+    for left in 0..whole.first.counts.calls {
         let tried = both_runs(trial, Some(left))?;
         put_end(&mut out, &tried.first);
         kept = kept_with(kept, &tried, &whole.first);
@@ -64,9 +64,9 @@ fn told_by(trial: &Trial<'_>) -> Result<String, RowFault> {
 fn put_end(out: &mut AnswerText, ended: &Ended) {
     out.put_comma();
     out.put("[");
-    out.put_quoted(ended.end.as_str());
+    out.put_quoted(ended.texts.end.as_str());
     out.put(",");
-    out.put_natural(ended.rows);
+    out.put_natural(ended.counts.rows);
     out.put("]");
 }
 
@@ -81,9 +81,10 @@ fn put_kept(out: &mut AnswerText, kept: Kept) {
 
 fn kept_with(kept: Kept, tried: &Tried, whole: &Ended) -> Kept {
     let found = tried.first.found.as_str();
+    let counts = tried.first.counts;
     Kept {
         whole: kept.whole && (is_nothing(found) || found == whole.found.as_str()),
-        rows: kept.rows && tried.first.rows <= tried.first.children,
+        rows: kept.rows && counts.rows <= counts.children,
         again: kept.again && is_as(&tried.again, whole),
     }
 }
@@ -93,7 +94,8 @@ fn is_nothing(found: &str) -> bool {
 }
 
 fn is_as(again: &Ended, whole: &Ended) -> bool {
-    again.report.as_str() == whole.report.as_str() && again.found.as_str() == whole.found.as_str()
+    again.texts.report.as_str() == whole.texts.report.as_str()
+        && again.found.as_str() == whole.found.as_str()
 }
 
 /// A run over a new record and archive whose host fails the call after so many, or none, and the run after it.
