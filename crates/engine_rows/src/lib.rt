@@ -10,6 +10,7 @@
 mod again;
 mod alone;
 mod archived;
+mod came;
 mod copies;
 mod end;
 mod failing;
@@ -23,6 +24,7 @@ mod requests;
 mod run;
 mod runs;
 mod script;
+mod stopped;
 mod timed;
 mod words;
 
@@ -52,6 +54,7 @@ fn scripted(alloc: Global, row: &Row) -> Result<String, RowFault> {
         "run_again" => again::answer(alloc, row),
         "run_archiving" => archived::answer(alloc, row),
         "runs" => runs::answer(alloc, row),
+        "run_stops" => stopped::answer(alloc, row),
         "gives_up" => giving_up::answer(alloc, row),
         "orders" => orders::answer(alloc, row),
         _ => Err(RowFault::UnknownCall),
