@@ -11,9 +11,12 @@ mod again;
 mod alone;
 mod archived;
 mod came;
+mod cheapest;
 mod copies;
 mod end;
 mod failing;
+mod generated;
+mod generator;
 mod giving_up;
 mod hosts;
 mod list;
@@ -56,6 +59,7 @@ fn scripted(alloc: Global, row: &Row) -> Result<String, RowFault> {
         "runs" => runs::answer(alloc, row),
         "run_stops" => stopped::answer(alloc, row),
         "gives_up" => giving_up::answer(alloc, row),
+        "generated_runs" => generated::answer(alloc, row),
         "orders" => orders::answer(alloc, row),
         _ => Err(RowFault::UnknownCall),
     }
