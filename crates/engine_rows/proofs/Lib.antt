@@ -1,1 +1,2 @@
+mod Fetched
 mod Fresh

@@ -46,7 +46,8 @@ fn end_by(
     end
 }
 
-fn host_by(alloc: Global, row: &Row, name: &str) -> Result<Scripted, RowFault>
+/// A host that answers from the row's script of this name.
+pub fn host_by(alloc: Global, row: &Row, name: &str) -> Result<Scripted, RowFault>
     ensures { IfOk result (λ host. host.running ≡ []) }
 {
     Ok(Scripted::new(alloc, script_of(alloc, row, name)?, 0))

@@ -2,7 +2,7 @@
 //!
 //! Each input file is there and has one byte. No job has a row. Each job leaves one file `o` behind, whose size and sum its
 //! place decides alone.
-ghost use Rattle.std.specs.Prelude.{◌≡◌, ◌≢◌, true, IfOk, OnOk};
+ghost use Rattle.std.specs.Prelude.{◌≡◌, ◌≢◌, ◌≤◌, true, IfOk, OnOk};
 ghost use Rattle.proc_host.specs.Answers.{CanAnswer};
 ghost use Rattle.proc_host.specs.declared.call.HostRequest.{HostRequest as Call};
 ghost use Rattle.proc_host.specs.Tickets.{IsFresh};
@@ -34,10 +34,20 @@ impl Chance {
         }
     }
 
-    // The next number of a linear congruential generator (Knuth's MMIX), by its upper half.
-    fn next(&mut self) -> u64 {
+    /// The next number of a linear congruential generator (Knuth's MMIX), by its upper half.
+    pub fn next(&mut self) -> u64 {
         self.state = self.state.wrapping_mul(MULTIPLIER).wrapping_add(INCREMENT);
         self.state >> 32
+    }
+
+    /// A number below this one; 0 where it is 0.
+    pub fn below(&mut self, limit: u64) -> u64
+        ensures { result ≤ limit }
+    {
+        if limit == 0 {
+            return 0;
+        }
+        self.next() % limit
     }
 }
 
@@ -82,7 +92,7 @@ pub fn drive_for(
 }
 
 /// An answer to what a machine asks next.
-fn answer_next(
+pub fn answer_next(
     alloc: Global,
     asks: &Request,
     flying: &[u64],

@@ -6,7 +6,7 @@ use crate::list::List;
 use crate::requests::requests;
 use crate::run::{Case, case_of, options_with};
 use crate::script::script_of;
-use job_rows::{Command, MemoryRecord, Record, RecordError};
+use job_rows::{Command, Entry, MemoryRecord, Record, RecordError};
 use plain_data::{Items, Text};
 use proc_host::Scripted;
 use row_io::{Row, RowFault, quoted};
@@ -100,7 +100,8 @@ pub fn notes_json(alloc: Global, notes: &[Note]) -> Result<String, RowFault> {
     Ok(list.close()?)
 }
 
-fn failure_of(kind: &NoteKind) -> (&'static str, &'static str) {
+/// The call that failed, and the code of its fault.
+pub fn failure_of(kind: &NoteKind) -> (&'static str, &'static str) {
     match kind {
         NoteKind::Put(refusal) => ("Put", refusal.code()),
         NoteKind::Drop(refusal) => ("Drop", refusal.code()),
@@ -111,7 +112,7 @@ fn failure_of(kind: &NoteKind) -> (&'static str, &'static str) {
 
 /// The key of each row that was put, and whether it says that the files were archived.
 fn kept(alloc: Global, rows: &mut MemoryRecord) -> Result<String, RowFault> {
-    let keys = keys_put(alloc, rows)?;
+    let keys = keys_put(alloc, rows.log())?;
     let mut list = List::new(alloc)?;
     for key in keys.as_slice() {
         let archived = is_archived(rows, key)?;
@@ -122,9 +123,10 @@ fn kept(alloc: Global, rows: &mut MemoryRecord) -> Result<String, RowFault> {
     Ok(list.close()?)
 }
 
-fn keys_put(alloc: Global, rows: &MemoryRecord) -> Result<Items<Text>, AllocError> {
+/// The keys that were put, by this log.
+pub fn keys_put(alloc: Global, log: &[Entry]) -> Result<Items<Text>, AllocError> {
     let mut keys = Items::new(alloc);
-    for entry in rows.log() {
+    for entry in log {
         if entry.command == Command::Put {
             keys.push(entry.key.copied(alloc)?)?;
         }

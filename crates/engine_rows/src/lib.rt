@@ -10,17 +10,24 @@
 mod again;
 mod alone;
 mod archived;
+mod came;
+mod cheapest;
 mod copies;
 mod end;
+mod failing;
+mod generated;
+mod generator;
 mod giving_up;
 mod hosts;
 mod list;
+mod lost;
 pub mod machine;
 mod orders;
 mod requests;
 mod run;
 mod runs;
 mod script;
+mod stopped;
 mod timed;
 mod words;
 
@@ -32,7 +39,7 @@ pub fn answer(rt: &HostRuntime, row: &Row) -> Result<String, RowFault> {
     match row.call() {
         "timed" => timed::answer(rt, row),
         "child" | "children" | "stage" | "deliver" => machine::told_of(rt, row),
-        "archive" => machine::told_of(rt, row),
+        "archive" | "fails_after" => machine::told_of(rt, row),
         "measure" | "scan" | "head" | "remove" => machine::told_of(rt, row),
         _ => scripted(rt.alloc(), row),
     }
@@ -50,7 +57,9 @@ fn scripted(alloc: Global, row: &Row) -> Result<String, RowFault> {
         "run_again" => again::answer(alloc, row),
         "run_archiving" => archived::answer(alloc, row),
         "runs" => runs::answer(alloc, row),
+        "run_stops" => stopped::answer(alloc, row),
         "gives_up" => giving_up::answer(alloc, row),
+        "generated_runs" => generated::answer(alloc, row),
         "orders" => orders::answer(alloc, row),
         _ => Err(RowFault::UnknownCall),
     }

@@ -2,6 +2,8 @@ mod archives;
 pub mod child;
 mod children;
 mod copies;
+mod ended;
+mod faults;
 mod listing;
 mod paths;
 pub mod place;
@@ -26,6 +28,7 @@ fn told_in(rt: &HostRuntime, row: &Row, place: &str) -> Result<String, RowFault>
         "children" => children::told_of(rt, row, place),
         "stage" | "deliver" => copies::told_of(rt, row, place),
         "measure" | "scan" | "head" => paths::told_of(rt, row, place),
+        "fails_after" => faults::told_of(rt, row, place),
         "remove" => paths::removed_of(rt, row, place),
         _ => Err(RowFault::UnknownCall),
     }

@@ -13,7 +13,7 @@ use plain_data::{Items, Keyed, Text};
 use proc_host::Scripted;
 use row_io::{Row, RowFault, json_text};
 use run_core::Options;
-use std::alloc::{AllocError, Global};
+use std::alloc::Global;
 use std::mem;
 use url::Url;
 use workflow_check::{Accepted, accept};
@@ -88,7 +88,12 @@ pub struct Case {
 
 /// The row's process, where it is accepted, and its inputs.
 pub fn case_of(alloc: Global, row: &Row) -> Result<Case, RowFault> {
-    let inputs = inputs_of(alloc, row)?;
+    case_at(alloc, row, "file:///d/inputs.json")
+}
+
+/// The same, where the inputs stand in the file at this location.
+pub fn case_at(alloc: Global, row: &Row, location: &str) -> Result<Case, RowFault> {
+    let inputs = inputs_at(alloc, row, location)?;
     match accepted(alloc, row) {
         Ok(process) => Ok(Case { process, inputs }),
         Err(fault) => {
@@ -121,9 +126,9 @@ fn process_of(alloc: Global, row: &Row) -> Result<Process, RowFault> {
     done(read_process(alloc, &document, &base, &docs))
 }
 
-/// The inputs of a row, in a file of the folder `/d`.
-fn inputs_of(alloc: Global, row: &Row) -> Result<Keyed<Value>, RowFault> {
-    let base = done(Url::parse(alloc, "file:///d/inputs.json"))?;
+/// The inputs of a row, in the file at this location.
+fn inputs_at(alloc: Global, row: &Row, location: &str) -> Result<Keyed<Value>, RowFault> {
+    let base = done(Url::parse(alloc, location))?;
     let value = done(from_json(alloc, row.json("inputs")?))?;
     let located = resolve(alloc, value, &base);
     mem::drop(base);
@@ -155,42 +160,62 @@ pub fn options_of(alloc: Global, row: &Row) -> Result<Options, RowFault>
     options_with(alloc, row, false)
 }
 
-const MOST_BASE: u64 = 1_000_000_000_000;
-
 /// The same, where it keeps an archive or not; a fetch costs the row's `base`, or 1 where it has none, and 1 for each 100,000 bytes.
 pub fn options_with(alloc: Global, row: &Row, keep: bool) -> Result<Options, RowFault>
+    ensures { IfOk result IsWithinLimits }
+{
+    let paths = Paths {
+        work: Text::from_text(alloc, "w")?,
+        outdir: Text::from_text(alloc, "/out")?,
+        path_env: Text::from_text(alloc, "/bin")?,
+    };
+    options_at(row, keep, paths)
+}
+
+/// The folders of a run, and where its children seek programs.
+#[derive(Drop)]
+pub struct Paths {
+    pub work: Text,
+    pub outdir: Text,
+    pub path_env: Text,
+}
+
+const MOST_BASE: u64 = 1_000_000_000_000;
+
+/// The same, with these folders.
+pub fn options_at(row: &Row, keep: bool, paths: Paths) -> Result<Options, RowFault>
     ensures { IfOk result IsWithinLimits }
 {
     let slots = natural_or(row, "slots", 1)?;
     let retries = natural_or(row, "retries", 0)?;
     let base = natural_or(row, "base", 1)?;
     if slots == 0 || slots > 64 || retries > 10 || base > MOST_BASE {
+        mem::drop(paths);
         return Err(RowFault::BadArgument);
     }
-    Ok(options(alloc, slots, retries, base, keep)?)
+    Ok(options(paths, slots, retries, base, keep))
 }
 
-fn options(
-    alloc: Global,
-    slots: u64,
-    retries: u64,
-    base: u64,
-    keep: bool,
-) -> Result<Options, AllocError>
+fn options(paths: Paths, slots: u64, retries: u64, base: u64, keep: bool) -> Options
     requires least_slots { 1 ≤ slots }
     requires slots { slots ≤ 64 }
     requires retries { retries ≤ 10 }
     requires base { base ≤ 10 ^ 12 }
-    ensures { IfOk result IsWithinLimits }
+    ensures { IsWithinLimits result }
 {
-    Ok(Options {
-        work: Text::from_text(alloc, "w")?,
-        outdir: Text::from_text(alloc, "/out")?,
-        path_env: Text::from_text(alloc, "/bin")?,
+    let Paths {
+        work,
+        outdir,
+        path_env,
+    } = paths;
+    Options {
+        work,
+        outdir,
+        path_env,
         slots,
         retries,
         base,
         rate: 100_000,
         keep,
-    })
+    }
 }

@@ -1,9 +1,12 @@
 //! Commands over any store, and what they are answered.
+ghost use Rattle.std.specs.Prelude.{◌≡◌, ◌++◌};
+ghost use Rattle.job_rows.specs.declared.log.Command.TheVariants as command;
+ghost use Rattle.job_rows.specs.Log.{entries_of, told_of};
 
 use crate::rows::{put_comma, put_row, put_rows};
 use job_record::{JobRecord, RecordFault};
-use job_rows::{Command, Entry, Row as RecordRow};
-use plain_data::Items;
+use job_rows::{Command, Entry, Record, RecordError, Row as RecordRow};
+use plain_data::{Items, Text};
 use row_io::AnswerText;
 use sqlite::{Alter, Connection, Error, Row as Columns};
 use std::alloc::Global;
@@ -96,6 +99,38 @@ fn command_name(command: Command) -> &'static str {
         Command::DropArchive => "drop_archive",
         Command::Forget => "forget",
     }
+}
+
+/// Finds a row, as a run asks it.
+pub(crate) fn found<S: Alter>(
+    record: &mut JobRecord<S>,
+    key: &Text,
+) -> Result<Option<RecordRow>, RecordError>
+    ensures { record.new.log.items ≡ record.old.log.items
+        ++ entries_of command.Find key.now (told_of result) }
+{
+    Record::find(record, key)
+}
+
+/// Puts a row, as a run asks it.
+pub(crate) fn put<S: Alter>(record: &mut JobRecord<S>, row: &RecordRow) -> Result<(), RecordError>
+    ensures { record.new.log.items ≡ record.old.log.items
+        ++ entries_of command.Put row.now.key (told_of result) }
+{
+    Record::put(record, row)
+}
+
+/// Notes that an archive is gone, as a run asks it.
+pub(crate) fn dropped<S: Alter>(record: &mut JobRecord<S>, key: &Text) -> Result<(), RecordError>
+    ensures { record.new.log.items ≡ record.old.log.items
+        ++ entries_of command.DropArchive key.now (told_of result) }
+{
+    Record::drop_archive(record, key)
+}
+
+/// All rows, where they can be listed.
+pub(crate) fn listed<S: Alter>(record: &mut JobRecord<S>) -> Option<Items<RecordRow>> {
+    record.list().ok()
 }
 
 /// The record of a connection, or the connection again.

@@ -11,9 +11,9 @@ mod fill;
 mod keys;
 mod memory;
 mod opening;
-mod rows;
+pub mod rows;
 mod stops;
-mod store;
+pub mod store;
 
 use row_io::{Row, RowFault};
 

@@ -101,6 +101,13 @@ pub(crate) fn put_comma(out: &mut AnswerText, at: usize) {
     }
 }
 
+/// The object that tells of a row.
+pub fn row_text(alloc: Global, row: &Row) -> Result<String, RowFault> {
+    let mut out = AnswerText::new(alloc);
+    put_row(alloc, &mut out, row);
+    out.finish()
+}
+
 /// Writes the object that tells of a row.
 pub(crate) fn put_row(alloc: Global, out: &mut AnswerText, row: &Row) {
     out.put("{\"archived\":");

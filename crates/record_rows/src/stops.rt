@@ -137,27 +137,13 @@ fn seen_by(trial: &Trial<'_>) -> Seen {
 fn seen_on(trial: &Trial<'_>, seen: Seen, stops_log: bool) -> Seen {
     let mut seen = seen;
     for calls in 0..MOST_CALLS {
-        match held_then(trial, stop_at(stops_log, calls)) {
+        match held_then(trial, Stop::after(calls, stops_log)) {
             Some(text) => count(&mut seen, text.as_str(), trial),
             None => return seen,
         }
     }
     seen.other = seen.other.saturating_add(MOST_CALLS);
     seen
-}
-
-fn stop_at(stops_log: bool, calls: u64) -> Stop {
-    if stops_log {
-        Stop {
-            log: calls,
-            db: NEVER.db,
-        }
-    } else {
-        Stop {
-            log: NEVER.log,
-            db: calls,
-        }
-    }
 }
 
 // What the record holds once it is opened again after a stop; none where the command did not meet it.

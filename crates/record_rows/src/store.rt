@@ -1,8 +1,10 @@
 //! Records over two files in memory, each behind a fuse that stops it at a call. Only here, and where `bench.rt` opens a
 //! file, are `sqlite` and `job_record` called at a store that is named, since each such call takes the check long.
 
-use crate::asks::{Ask, asked, opened, ran};
+use crate::asks::{Ask, asked, dropped, found, listed, opened, put, ran};
 use job_record::{JobRecord, RecordFault};
+use job_rows::{Entry, Record, RecordError, Row as RecordRow};
+use plain_data::{Items, Text};
 use row_io::AnswerText;
 use sqlite::{Connection, Error, ErrorCode, FileStore, Files, Options};
 use sqlite_disk::{Crash, Disk, Fuse, Memory};
@@ -13,12 +15,12 @@ type File = Fuse<Memory>;
 type Conn = Connection<FileStore<File>>;
 
 /// The two files.
-pub(crate) struct Disks {
+pub struct Disks {
     files: Files<File>,
 }
 
 /// A record.
-pub(crate) struct Store {
+pub struct Store {
     record: JobRecord<FileStore<File>>,
 }
 
@@ -37,20 +39,37 @@ impl Drop for Store {
 
 /// How many calls each file still answers.
 #[derive(Clone, Copy)]
-pub(crate) struct Stop {
-    pub(crate) log: u64,
-    pub(crate) db: u64,
+pub struct Stop {
+    log: u64,
+    db: u64,
 }
 
 /// Neither file stops.
-pub(crate) const NEVER: Stop = Stop {
+pub const NEVER: Stop = Stop {
     log: u64::MAX,
     db: u64::MAX,
 };
 
+impl Stop {
+    /// The log, or else the database, stops after so many calls.
+    pub fn after(calls: u64, stops_log: bool) -> Stop {
+        if stops_log {
+            Stop {
+                log: calls,
+                db: NEVER.db,
+            }
+        } else {
+            Stop {
+                log: NEVER.log,
+                db: calls,
+            }
+        }
+    }
+}
+
 impl Disks {
     /// Two empty files.
-    pub(crate) fn fresh(alloc: Global) -> Disks {
+    pub fn fresh(alloc: Global) -> Disks {
         Disks {
             files: Files {
                 log: Fuse::new(Memory::new(alloc), NEVER.log),
@@ -71,7 +90,7 @@ impl Disks {
     }
 
     /// A copy of both, all of it on the disk, which stops after so many calls.
-    pub(crate) fn copied(&self, alloc: Global, stop: Stop) -> Option<Disks> {
+    pub fn copied(&self, alloc: Global, stop: Stop) -> Option<Disks> {
         let log = written(alloc, self.files.log.inner().bytes())?;
         let db = written(alloc, self.files.db.inner().bytes())?;
         Some(Disks {
@@ -88,18 +107,18 @@ impl Disks {
     }
 
     /// Whether a file has stopped, or is about to.
-    pub(crate) fn is_blown(&mut self) -> bool {
+    pub fn is_blown(&mut self) -> bool {
         has_stopped(&mut self.files.log) || has_stopped(&mut self.files.db)
     }
 
     /// The machine goes down and comes back.
-    pub(crate) fn restart(&mut self) {
+    pub fn restart(&mut self) {
         self.files.log.crash();
         self.files.db.crash();
     }
 
     /// The record in the files, or the refusal with the files again.
-    pub(crate) fn open(self, alloc: Global) -> Result<Store, (RecordFault, Disks)> {
+    pub fn open(self, alloc: Global) -> Result<Store, (RecordFault, Disks)> {
         let Disks { files } = self;
         match connected(alloc, files) {
             Ok(conn) => recorded(alloc, conn),
@@ -126,16 +145,47 @@ impl Store {
         asked(alloc, &mut self.record, ask, out)
     }
 
+    /// What the record was asked since it was opened, oldest first.
+    pub fn log(&self) -> &[Entry] {
+        self.record.log()
+    }
+
+    /// All rows, where they can be listed.
+    pub fn rows(&mut self) -> Option<Items<RecordRow>> {
+        listed(&mut self.record)
+    }
+
     /// The files of a record that is closed in good order.
-    pub(crate) fn close(self) -> Disks {
+    pub fn close(self) -> Disks {
         let Store { record } = self;
         closed(record.into_connection())
     }
 
     /// The files of a record that is let go.
-    pub(crate) fn stop(self) -> Disks {
+    pub fn stop(self) -> Disks {
         let Store { record } = self;
         stopped(record.into_connection())
+    }
+}
+
+// A run asks it as any record. Of its map these clauses say nothing: `job_record` says it, of any store.
+impl Record for Store {
+    ghost log = { λ store. store.record.log.items };
+
+    ghost is_sound = { λ store. ⊥ };
+
+    ghost holds = { λ store map. ⊥ };
+
+    fn find(&mut self, key: &Text) -> Result<Option<RecordRow>, RecordError> {
+        found(&mut self.record, key)
+    }
+
+    fn put(&mut self, row: &RecordRow) -> Result<(), RecordError> {
+        put(&mut self.record, row)
+    }
+
+    fn drop_archive(&mut self, key: &Text) -> Result<(), RecordError> {
+        dropped(&mut self.record, key)
     }
 }
 

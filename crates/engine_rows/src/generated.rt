@@ -1,0 +1,280 @@
+//! Runs of generated workflows, in which each plan is compared with the best of all plans.
+ghost use Rattle.std.specs.Prelude.{◌≡◌, ◌≢◌, IfOk, OnOk};
+ghost use Rattle.proc_host.specs.Answers.{CanAnswer};
+ghost use Rattle.proc_host.specs.declared.call.HostRequest.{HostRequest as Call};
+ghost use Rattle.run_core.specs.Limits.{IsWithinLimits};
+ghost use Rattle.run_rules.specs.Answers.{CanTell, MayAnswer};
+ghost use Rattle.run_rules.specs.declared.request.Request.{Request as Asks};
+
+use crate::alone::{Chance, answer_next, take_answer};
+use crate::cheapest::least_cost;
+use crate::generator::row_of;
+use crate::run::{Case, case_of, options_with};
+use job_rows::{MemoryRecord, Record, Row as Kept};
+use plain_data::Items;
+use plan_checker::{Charges, Graph, Plan, check, read_certificate, write_certificate};
+use proc_host::{HostAnswer, HostRequest};
+use row_io::{Row, RowFault};
+use run_core::{
+    Answer, Options, Outcome, RecordAnswer, RecordRequest, Report, Request, RunCore, RunFault,
+};
+use staging::{Found, listing_in};
+use std::alloc::{AllocError, Global};
+use std::mem;
+
+/// How many plans were compared, and how many of them differ.
+#[derive(Clone, Copy)]
+struct Seen {
+    compared: u64,
+    differ: u64,
+}
+
+const NOTHING: Seen = Seen {
+    compared: 0,
+    differ: 0,
+};
+
+/// Compares the plan of each planning point in the runs of so many generated workflows (`workflows`). Returns whether there were at least so
+/// many plans (`at_least`), each of which has another certificate than the one before it, and how many differ: those whose certificate `check`
+/// does not take, once it was written and read, and those that cost more or less than the best of all plans of their graph. Each workflow is
+/// run twice over one record, which forgets some rows and archives, and gives each row a cost of its own.
+pub fn answer(alloc: Global, row: &Row) -> Result<String, RowFault> {
+    let workflows = row.natural("workflows")?;
+    let at_least = row.natural("at_least")?;
+    let mut seen = NOTHING;
+    for number in 0..workflows {
+        seen = seen_with(seen, seen_at(alloc, number)?);
+    }
+    let enough = at_least <= seen.compared;
+    let differ = seen.differ;
+    Ok(format!(in alloc; "{{\"enough\":{enough},\"differ\":{differ}}}")?)
+}
+
+fn seen_with(seen: Seen, other: Seen) -> Seen {
+    Seen {
+        compared: seen.compared.saturating_add(other.compared),
+        differ: seen.differ.saturating_add(other.differ),
+    }
+}
+
+/// What is seen of the two runs of the workflow of a number.
+fn seen_at(alloc: Global, number: u64) -> Result<Seen, RowFault> {
+    let mut chance = Chance::new(number);
+    let row = row_of(alloc, &mut chance)?;
+    let seen = seen_of(alloc, &row, &mut chance);
+    mem::drop(row);
+    seen
+}
+
+fn seen_of(alloc: Global, row: &Row, chance: &mut Chance) -> Result<Seen, RowFault> {
+    let case = case_of(alloc, row)?;
+    let mut rows = MemoryRecord::new(alloc);
+    let seen = seen_twice(alloc, row, &case, chance, &mut rows);
+    mem::drop(case);
+    mem::drop(rows);
+    seen
+}
+
+fn seen_twice(
+    alloc: Global,
+    row: &Row,
+    case: &Case,
+    chance: &mut Chance,
+    rows: &mut MemoryRecord,
+) -> Result<Seen, RowFault> {
+    let first = seen_once(alloc, row, case, chance, rows)?;
+    let second = seen_once(alloc, row, case, chance, rows)?;
+    Ok(seen_with(first, second))
+}
+
+fn seen_once(
+    alloc: Global,
+    row: &Row,
+    case: &Case,
+    chance: &mut Chance,
+    rows: &mut MemoryRecord,
+) -> Result<Seen, RowFault> {
+    let options = options_with(alloc, row, true)?;
+    seen_by(alloc, case, options, chance, rows)
+}
+
+fn seen_by(
+    alloc: Global,
+    case: &Case,
+    options: Options,
+    chance: &mut Chance,
+    rows: &mut MemoryRecord,
+) -> Result<Seen, RowFault>
+    requires { IsWithinLimits options }
+{
+    let Ok(mut core) = RunCore::new(alloc, case.process.as_process(), &case.inputs, options) else {
+        return Err(RowFault::OutOfMemory);
+    };
+    match followed(alloc, &mut core, chance, rows) {
+        Ok(seen) => {
+            ended(core)?;
+            Ok(seen)
+        }
+        Err(fault) => {
+            mem::drop(core);
+            Err(fault)
+        }
+    }
+}
+
+/// Each generated run succeeds.
+fn ended(core: RunCore<'_>) -> Result<(), RowFault>
+    requires { core.asks ≡ Asks.Finished }
+{
+    let end = core.finish();
+    let succeeds = succeeds(&end);
+    mem::drop(end);
+    if succeeds {
+        Ok(())
+    } else {
+        Err(RowFault::BadArgument)
+    }
+}
+
+fn succeeds(end: &Result<Report, RunFault>) -> bool {
+    match end {
+        Ok(report) => matches!(report.outcome, Outcome::Success(_)),
+        Err(_) => false,
+    }
+}
+
+/// Answers what a machine asks until it asks nothing more, and compares each plan.
+fn followed(
+    alloc: Global,
+    core: &mut RunCore<'_>,
+    chance: &mut Chance,
+    rows: &mut MemoryRecord,
+) -> Result<Seen, RowFault>
+    ensures { OnOk result (core.new.asks ≡ Asks.Finished) }
+{
+    let mut seen = NOTHING;
+    let mut last = String::new(alloc);
+    while !matches!(core.next(), Request::Finished) {
+        let answer = answer_with(alloc, core.next(), core.in_flight(), chance, rows)?;
+        if take_answer(core, answer).is_err() {
+            return Err(RowFault::OutOfMemory);
+        }
+        seen = seen_with(seen, seen_now(alloc, core, &mut last)?);
+    }
+    Ok(seen)
+}
+
+/// Compares the plan in force, where its certificate is not this last one.
+fn seen_now(alloc: Global, core: &RunCore<'_>, last: &mut String) -> Result<Seen, RowFault> {
+    match core.plan_now() {
+        None => Ok(NOTHING),
+        Some((graph, plan, charges)) => compared(alloc, graph, plan, charges, last),
+    }
+}
+
+fn compared(
+    alloc: Global,
+    graph: &Graph,
+    plan: &Plan,
+    charges: &Charges,
+    last: &mut String,
+) -> Result<Seen, RowFault> {
+    match check(graph, plan, charges) {
+        Ok(_) => {
+            let text = write_certificate(alloc, graph, plan, charges)?;
+            Ok(seen_in(alloc, graph, text, last))
+        }
+        Err(_) => Ok(Seen {
+            compared: 1,
+            differ: 1,
+        }),
+    }
+}
+
+fn seen_in(alloc: Global, graph: &Graph, text: String, last: &mut String) -> Seen {
+    if text.as_str() == last.as_str() {
+        mem::drop(text);
+        return NOTHING;
+    }
+    let cost = cost_in(alloc, text.as_bytes());
+    *last = text;
+    Seen {
+        compared: 1,
+        differ: u64::from(cost.is_none() || cost != least_cost(graph.vertices())),
+    }
+}
+
+/// The cost of the plan of a certificate, where it is one.
+fn cost_in(alloc: Global, text: &[u8]) -> Option<u64> {
+    match read_certificate(alloc, text) {
+        Ok((graph, plan, charges)) => check(&graph, &plan, &charges).ok(),
+        Err(_) => None,
+    }
+}
+
+/// An answer to what a machine asks next, where the record answers for itself and each file that was archived is there.
+fn answer_with(
+    alloc: Global,
+    asks: &Request,
+    flying: &[u64],
+    chance: &mut Chance,
+    rows: &mut MemoryRecord,
+) -> Result<Answer, AllocError>
+    requires { asks.now ≢ Asks.Finished }
+    ensures { IfOk result (MayAnswer flying.now asks.now) }
+{
+    match asks {
+        Request::Record(_, request) => Ok(Answer::Record(told(alloc, request, chance, rows)?)),
+        Request::Host(_, HostRequest::Fetch(_, _, files)) => {
+            Ok(Answer::Host(fetched(alloc, files)?))
+        }
+        _ => answer_next(alloc, asks, flying, chance),
+    }
+}
+
+/// Files that are fetched as they were.
+fn fetched(alloc: Global, files: &Items<Found>) -> Result<HostAnswer, AllocError>
+    ensures { IfOk result (λ answer. (flying : _) (key : _) (number : _)
+        → CanAnswer flying (Call.Fetch key number files.now) answer) }
+{
+    Ok(HostAnswer::Fetched(listing_in(alloc, files)?))
+}
+
+/// What the record tells. It keeps some of the rows that are put.
+fn told(
+    alloc: Global,
+    request: &RecordRequest,
+    chance: &mut Chance,
+    rows: &mut MemoryRecord,
+) -> Result<RecordAnswer, AllocError>
+    ensures { IfOk result (CanTell request.now) }
+{
+    match request {
+        RecordRequest::Find(key) => Ok(RecordAnswer::Found(rows.find(key).unwrap_or(None))),
+        RecordRequest::Put(row) => {
+            keep(alloc, row, chance, rows)?;
+            Ok(RecordAnswer::Done)
+        }
+        RecordRequest::DropArchive(key) => {
+            let _dropped = rows.drop_archive(key);
+            Ok(RecordAnswer::Done)
+        }
+    }
+}
+
+/// Keeps four rows of five, with another cost, and the archives of most of these.
+fn keep(
+    alloc: Global,
+    row: &Kept,
+    chance: &mut Chance,
+    rows: &mut MemoryRecord,
+) -> Result<(), AllocError> {
+    if chance.below(5) == 0 {
+        return Ok(());
+    }
+    let mut kept = row.clone_in(alloc)?;
+    kept.cost = 1 + chance.below(12);
+    kept.archived = chance.below(4) > 0;
+    let _put = rows.put(&kept);
+    Ok(())
+}

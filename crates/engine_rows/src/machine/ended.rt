@@ -1,0 +1,264 @@
+//! One run over real children and real files, where a call of the host may fail: how it ended, and what it left.
+ghost use Rattle.std.specs.Prelude.{◌≡◌, [], IfOk};
+ghost use Rattle.run_core.specs.Limits.{IsWithinLimits};
+
+use crate::archived::failure_of;
+use crate::end::end_json;
+use crate::failing::Failing;
+use crate::list::numbers;
+use crate::lost::Loss;
+use crate::machine::listing::{put_fault, put_measure};
+use crate::machine::place::{below, done, machine};
+use crate::run::{Case, Paths, options_at};
+use job_rows::{Command, Entry as Asked, MemoryRecord};
+use plain_data::Text;
+use proc_host::{Entry, Host, HostAnswer};
+use process_machine::Machine;
+use row_io::{AnswerText, Row, RowFault};
+use run_core::{Note, Options, Outcome, Report, RunFault};
+use std::alloc::Global;
+use std::{fs, mem};
+use workflow_engine::{Unwatched, run};
+
+/// What a row's runs are of, and the folder that they have below the row's.
+#[derive(Drop)]
+pub struct Trial<'a> {
+    pub rt: &'a HostRuntime,
+    pub row: &'a Row,
+    pub case: &'a Case,
+    pub folder: &'a str,
+}
+
+/// A run's own folders in that of its trial, and how many calls of its host are answered before one fails, where one does.
+#[derive(Drop)]
+pub struct Leg<'a> {
+    pub work: &'a str,
+    pub outdir: &'a str,
+    pub left: Option<u64>,
+}
+
+/// How a run ended, and what it left.
+#[derive(Drop)]
+pub struct Ended {
+    pub counts: Counts,
+    pub texts: EndTexts,
+    /// What is at its OUTDIR, as JSON.
+    pub found: String,
+}
+
+/// What happened in a run, counted.
+#[derive(Clone, Copy)]
+pub struct Counts {
+    /// How many calls its host answered or failed, but for the one that was failed for the row.
+    pub calls: u64,
+    /// How many children ended.
+    pub children: u64,
+    /// How many rows it put.
+    pub rows: u64,
+}
+
+/// What a run reported at its end.
+#[derive(Drop)]
+pub struct EndTexts {
+    /// The code of its fault, or the name of its outcome with its notes.
+    pub end: String,
+    /// Its report, as JSON; of a fault nothing.
+    pub report: String,
+}
+
+/// Runs a trial's process over this record.
+pub fn end_of_run(
+    trial: &Trial<'_>,
+    rows: &mut MemoryRecord,
+    leg: &Leg<'_>,
+) -> Result<Ended, RowFault> {
+    work_made(trial, leg)?;
+    let mut host = host_of(trial, leg)?;
+    let before = puts(rows.log());
+    let texts = texts_on(trial, rows, leg, &mut host);
+    let counts = counts_of(host.passed(), rows.log(), before);
+    mem::drop(host);
+    with_found(trial, leg, counts, texts?)
+}
+
+fn work_made(trial: &Trial<'_>, leg: &Leg<'_>) -> Result<(), RowFault> {
+    let work = below(trial.rt.alloc(), trial.folder, leg.work)?;
+    done(fs::create_dir(trial.rt, work.as_str()))
+}
+
+/// The counts of a run from these logs, where so many rows were put before it.
+fn counts_of(passed: &[Entry], asked: &[Asked], before: u64) -> Counts {
+    Counts {
+        calls: passed.len() as u64,
+        children: ends(passed),
+        rows: puts(asked).saturating_sub(before),
+    }
+}
+
+/// How a run ended, with what is at its OUTDIR.
+fn with_found(
+    trial: &Trial<'_>,
+    leg: &Leg<'_>,
+    counts: Counts,
+    texts: EndTexts,
+) -> Result<Ended, RowFault> {
+    let found = found_at(trial, leg)?;
+    Ok(Ended {
+        counts,
+        texts,
+        found,
+    })
+}
+
+fn options_of(trial: &Trial<'_>, leg: &Leg<'_>) -> Result<Options, RowFault>
+    ensures { IfOk result IsWithinLimits }
+{
+    let alloc = trial.rt.alloc();
+    let paths = Paths {
+        work: below(alloc, trial.folder, leg.work)?,
+        outdir: below(alloc, trial.folder, leg.outdir)?,
+        path_env: Text::from_text(alloc, "/usr/bin:/bin")?,
+    };
+    options_at(trial.row, true, paths)
+}
+
+fn host_of<'a>(trial: &Trial<'a>, leg: &Leg<'_>) -> Result<Failing<'a>, RowFault>
+    ensures { IfOk result (λ host. host.running ≡ []) }
+{
+    let alloc = trial.rt.alloc();
+    let work = below(alloc, trial.folder, leg.work)?;
+    let archive = below(alloc, trial.folder, "archive")?;
+    let outdir = below(alloc, trial.folder, leg.outdir)?;
+    let inner = Machine::new(trial.rt, work, Some(archive), outdir);
+    Ok(Failing::new(alloc, inner, leg.left, loss_of(trial.row)))
+}
+
+/// How the row's calls fail: out of memory where it says so.
+fn loss_of(row: &Row) -> Loss {
+    match row.find("memory") {
+        Some(_) => Loss::Memory,
+        None => Loss::Fault,
+    }
+}
+
+fn texts_on(
+    trial: &Trial<'_>,
+    rows: &mut MemoryRecord,
+    leg: &Leg<'_>,
+    host: &mut Failing<'_>,
+) -> Result<EndTexts, RowFault>
+    requires { host.old.running ≡ [] }
+{
+    let options = options_of(trial, leg)?;
+    texts_over(trial.rt.alloc(), trial.case, rows, host, options)
+}
+
+fn texts_over(
+    alloc: Global,
+    case: &Case,
+    rows: &mut MemoryRecord,
+    host: &mut Failing<'_>,
+    options: Options,
+) -> Result<EndTexts, RowFault>
+    requires idle { host.old.running ≡ [] }
+    requires limits { IsWithinLimits options }
+{
+    let end = run(
+        alloc,
+        host,
+        rows,
+        case.process.as_process(),
+        &case.inputs,
+        options,
+        &mut Unwatched,
+    );
+    let texts = texts_of(alloc, &end);
+    mem::drop(end);
+    texts
+}
+
+fn texts_of(alloc: Global, end: &Result<Report, RunFault>) -> Result<EndTexts, RowFault> {
+    let report = report_text(alloc, end)?;
+    let end = end_text(alloc, end)?;
+    Ok(EndTexts { end, report })
+}
+
+/// How many rows were put.
+fn puts(log: &[Asked]) -> u64 {
+    let mut count: u64 = 0;
+    for asked in log {
+        if asked.command == Command::Put && asked.answer.is_ok() {
+            count = count.saturating_add(1);
+        }
+    }
+    count
+}
+
+/// How many children ended by themselves.
+fn ends(log: &[Entry]) -> u64 {
+    let mut count: u64 = 0;
+    for entry in log {
+        if matches!(entry.answer, HostAnswer::Ended(_)) {
+            count = count.saturating_add(1);
+        }
+    }
+    count
+}
+
+fn report_text(alloc: Global, end: &Result<Report, RunFault>) -> Result<String, RowFault> {
+    match end {
+        Ok(_) => end_json(alloc, end),
+        Err(_) => Ok(String::new(alloc)),
+    }
+}
+
+/// The code of a run's fault, with the tickets that nobody waits for any more; or the name of its outcome, with what was noted.
+fn end_text(alloc: Global, end: &Result<Report, RunFault>) -> Result<String, RowFault> {
+    match end {
+        Ok(report) => noted_text(
+            alloc,
+            outcome_name(&report.outcome),
+            report.notes.as_slice(),
+        ),
+        Err(RunFault::Host(fault, running)) if running.is_empty() => {
+            Ok(String::from_str(alloc, fault.code())?)
+        }
+        Err(RunFault::Host(fault, running)) => {
+            let running = numbers(alloc, running.as_slice())?;
+            Ok(format!(in alloc; "{} {running}", fault.code())?)
+        }
+        Err(RunFault::Record(refusal)) => Ok(String::from_str(alloc, refusal.code())?),
+        Err(RunFault::Mismatch(_)) => Ok(String::from_str(alloc, "Mismatch")?),
+        Err(RunFault::TooManyJobs) => Ok(String::from_str(alloc, "TooManyJobs")?),
+        Err(RunFault::OutOfMemory) => Ok(String::from_str(alloc, "OutOfMemory")?),
+    }
+}
+
+fn outcome_name(outcome: &Outcome) -> &'static str {
+    match outcome {
+        Outcome::Success(_) => "success",
+        Outcome::PermanentFail(_, _) => "permanentFail",
+        Outcome::TemporaryFail(_) => "temporaryFail",
+    }
+}
+
+fn noted_text(alloc: Global, name: &str, notes: &[Note]) -> Result<String, RowFault> {
+    let mut text = String::from_str(alloc, name)?;
+    for note in notes {
+        let (call, code) = failure_of(&note.kind);
+        let noted = format!(in alloc; ", {call} {code}")?;
+        text.push_str(noted.as_str())?;
+    }
+    Ok(text)
+}
+
+fn found_at(trial: &Trial<'_>, leg: &Leg<'_>) -> Result<String, RowFault> {
+    let outdir = below(trial.rt.alloc(), trial.folder, leg.outdir)?;
+    let mut host = machine(trial.rt, trial.folder)?;
+    let mut out = AnswerText::new(trial.rt.alloc());
+    match host.measure(&outdir) {
+        Ok(measure) => put_measure(&mut out, &measure),
+        Err(error) => put_fault(&mut out, error),
+    }
+    out.finish()
+}

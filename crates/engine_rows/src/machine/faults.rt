@@ -1,0 +1,128 @@
+//! Runs over real children and real files in which each call of the host fails in turn.
+
+use crate::machine::ended::{Ended, Leg, Trial, end_of_run};
+use crate::machine::place::{done, prepared};
+use crate::run::case_at;
+use job_rows::MemoryRecord;
+use row_io::{AnswerText, Row, RowFault};
+use std::{fs, mem};
+
+/// A run in which a call of the host fails, where one does, and after it one over the same record and archive in which none does.
+#[derive(Drop)]
+struct Tried {
+    first: Ended,
+    again: Ended,
+}
+
+/// What all runs of a row came to.
+#[derive(Clone, Copy)]
+struct Kept {
+    whole: bool,
+    rows: bool,
+    again: bool,
+}
+
+/// How a row's run ends where its first, its second, .. its last call of the host fails, with how many rows it put. `whole` says that its OUTDIR
+/// has nothing then, or all; `rows` that it put no more rows than children ended; `again` that the run after it ends as one
+/// that nothing failed, with the same in OUTDIR. Where the row is `warm`, a run that nothing fails comes before each.
+pub fn told_of(rt: &HostRuntime, row: &Row, place: &str) -> Result<String, RowFault> {
+    prepared(rt, row, place)?;
+    let alloc = rt.alloc();
+    let location = format!(in alloc; "file://{place}/inputs.json")?;
+    let folder = format!(in alloc; "{place}/run")?;
+    let case = case_at(alloc, row, location.as_str())?;
+    let told = told_by(&Trial {
+        rt,
+        row,
+        case: &case,
+        folder: folder.as_str(),
+    });
+    mem::drop(case);
+    told
+}
+
+fn told_by(trial: &Trial<'_>) -> Result<String, RowFault> {
+    let whole = both_runs(trial, None)?;
+    let mut kept = Kept {
+        whole: true,
+        rows: true,
+        again: is_as(&whole.again, &whole.first),
+    };
+    let mut out = AnswerText::new(trial.rt.alloc());
+    out.put("{\"ends\":[");
+    for left in 0..whole.first.counts.calls {
+        let tried = both_runs(trial, Some(left))?;
+        put_end(&mut out, &tried.first);
+        kept = kept_with(kept, &tried, &whole.first);
+    }
+    out.put("]");
+    put_kept(&mut out, kept);
+    out.put("}");
+    out.finish()
+}
+
+fn put_end(out: &mut AnswerText, ended: &Ended) {
+    out.put_comma();
+    out.put("[");
+    out.put_quoted(ended.texts.end.as_str());
+    out.put(",");
+    out.put_natural(ended.counts.rows);
+    out.put("]");
+}
+
+fn put_kept(out: &mut AnswerText, kept: Kept) {
+    out.put(",\"whole\":");
+    out.put_flag(kept.whole);
+    out.put(",\"rows\":");
+    out.put_flag(kept.rows);
+    out.put(",\"again\":");
+    out.put_flag(kept.again);
+}
+
+fn kept_with(kept: Kept, tried: &Tried, whole: &Ended) -> Kept {
+    let found = tried.first.found.as_str();
+    let counts = tried.first.counts;
+    Kept {
+        whole: kept.whole && (is_nothing(found) || found == whole.found.as_str()),
+        rows: kept.rows && counts.rows <= counts.children,
+        again: kept.again && is_as(&tried.again, whole),
+    }
+}
+
+fn is_nothing(found: &str) -> bool {
+    found == "null" || found == "[]"
+}
+
+fn is_as(again: &Ended, whole: &Ended) -> bool {
+    again.texts.report.as_str() == whole.texts.report.as_str()
+        && again.found.as_str() == whole.found.as_str()
+}
+
+/// A run over a new record and archive whose host fails the call after so many, or none, and the run after it.
+fn both_runs(trial: &Trial<'_>, left: Option<u64>) -> Result<Tried, RowFault> {
+    let archive = format!(in trial.rt.alloc(); "{}/archive", trial.folder)?;
+    done(fs::create_dir_all(trial.rt, archive.as_str()))?;
+    let mut rows = MemoryRecord::new(trial.rt.alloc());
+    let tried = tried_over(trial, left, &mut rows);
+    mem::drop(rows);
+    done(fs::remove_dir_all(trial.rt, trial.folder))?;
+    tried
+}
+
+fn tried_over(
+    trial: &Trial<'_>,
+    left: Option<u64>,
+    rows: &mut MemoryRecord,
+) -> Result<Tried, RowFault> {
+    if trial.row.find("warm").is_some() {
+        let before = end_of_run(trial, rows, &leg("before", "results-before", None))?;
+        mem::drop(before);
+    }
+    let first = end_of_run(trial, rows, &leg("work", "results", left))?;
+    let again = end_of_run(trial, rows, &leg("again", "results", None))?;
+    Ok(Tried { first, again })
+}
+
+fn leg<'a>(work: &'a str, outdir: &'a str, left: Option<u64>) -> Leg<'a> {
+    Leg { work, outdir, left }
+}
