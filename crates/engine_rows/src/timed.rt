@@ -114,7 +114,7 @@ fn learn_at(alloc: Global, unfolding: &mut Unfolding<'_>, place: JobPlace) -> Re
     }
 }
 
-const MOST_JOBS: usize = 10_000;
+const MOST_JOBS: usize = 20_000;
 
 /// The one output `o` of a job: the file that it left behind.
 fn outputs_at(alloc: Global, place: &JobPlace) -> Result<Keyed<Value>, AllocError> {
