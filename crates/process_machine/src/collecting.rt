@@ -1,5 +1,5 @@
 //! The ends of children.
-ghost use Rattle.std.specs.Prelude.{◌<◌, IfOk, IfSome, length, vec_len};
+ghost use Rattle.std.specs.Prelude.{◌≡◌, ◌<◌, IfOk, IfSome, length, vec_len};
 
 use crate::hearing::Hear;
 use crate::spawning::Flying;
@@ -85,9 +85,11 @@ fn hand_on_all<P: OpenProcess + Drop, F: OpenFile + Read + Seek + Drop, H: Hear>
     alloc: Global,
     flying: &mut [Flying<P, F>],
     hearer: &mut H,
-) {
-    for child in flying {
-        hand_on(alloc, child, false, hearer);
+)
+    ensures { length flying.new ≡ length flying.old }
+{
+    for index in 0..flying.len() {
+        hand_on(alloc, &mut flying[index], false, hearer);
     }
 }
 
