@@ -1,6 +1,6 @@
 //! The command of a tool for its inputs, without a run.
-ghost use Rattle.std.specs.Prelude.{◌≡◌, ℕ, List, [], IfOk};
-ghost use Rattle.input_files.specs.Given.{named_inputs, or_default, value_under};
+ghost use Rattle.std.specs.Prelude.{◌≡◌, ℕ, List, [], IfOk, unwrap_or, option_copied};
+ghost use Rattle.input_files.specs.Given.{named_inputs, null, or_default, value_under};
 ghost use Rattle.cwl_program.specs.Paths.{from_root as path_from_root};
 ghost use Rattle.program_words.specs.RunWords.{wish_of_run};
 ghost use Rattle.end_words.specs.RunEnds.{place_json};
@@ -100,12 +100,23 @@ fn value_of(
     ensures { IfOk result (λ value. value
         ≡ or_default default.now (value_under name.now given.now)) }
 {
-    let value = match given.get(name.as_str()) {
-        None | Some(Value::Null) => default.as_ref(),
-        value => value,
-    };
-    match value {
+    match found_of(given, name, default) {
         None => Ok(Value::Null),
         Some(value) => value.clone_in(alloc),
+    }
+}
+
+// The value of an input; none where there is neither one nor a default.
+fn found_of<'a>(
+    given: &'a Keyed<Value>,
+    name: &Text,
+    default: &'a Option<Value>,
+) -> Option<&'a Value>
+    ensures { unwrap_or (option_copied result) null
+        ≡ or_default default.now (value_under name.now given.now) }
+{
+    match given.get(name.as_str()) {
+        None | Some(Value::Null) => default.as_ref(),
+        value => value,
     }
 }
