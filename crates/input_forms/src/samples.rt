@@ -16,7 +16,7 @@ pub fn filled(
 ) -> Result<Value, AllocError>
     ensures { IfOk result (λ value. value
         ≡ spec.filled (option_map (λ types. types.now) types.entry)
-            (option_map (λ default. default.now) default.entry)) }
+        (option_map (λ default. default.now) default.entry)) }
 {
     match default {
         Some(default) => shown(alloc, default),

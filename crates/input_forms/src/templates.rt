@@ -51,7 +51,7 @@ fn entry_of(
 ) -> Result<String, AllocError>
     ensures { IfOk result (λ entry. string_bytes entry
         ≡ spec.input_entry name.now (option_map (λ types. types.now) types.entry)
-            (option_map (λ default. default.now) default.entry)) }
+        (option_map (λ default. default.now) default.entry)) }
 {
     let name = name_text(alloc, name)?;
     let value = value_text(alloc, types, default)?;
@@ -71,7 +71,7 @@ fn value_text(
 ) -> Result<Text, AllocError>
     ensures { IfOk result (λ text. text
         ≡ compact_text (json_of (filled_of (option_map (λ types. types.now) types.entry)
-            (option_map (λ default. default.now) default.entry)))) }
+        (option_map (λ default. default.now) default.entry)))) }
 {
     let value = filled(alloc, types, default)?;
     canonical_text(alloc, &value)

@@ -7,10 +7,7 @@ use plain_data::{Items, Text};
 use std::alloc::{AllocError, Global};
 
 /// The types of an input in words; without types it is a File at standard input.
-pub fn kind_words(
-    alloc: Global,
-    types: Option<&Items<MemberType>>,
-) -> Result<String, AllocError>
+pub fn kind_words(alloc: Global, types: Option<&Items<MemberType>>) -> Result<String, AllocError>
     ensures { IfOk result (λ words. string_bytes words
         ≡ spec.kind_words (option_map (λ types. types.now) types.entry)) }
 {
