@@ -1,5 +1,5 @@
 //! Lines on the inputs of a process.
-ghost use Rattle.std.specs.Prelude.{◌≡◌, IfOk, map, option_map, string_bytes};
+ghost use Rattle.std.specs.Prelude.{◌≡◌, ◌++◌, IfOk, map, option_map, string_bytes};
 ghost use Rattle.input_forms.specs.Lines as spec;
 
 use crate::types::kind_words;
@@ -46,9 +46,23 @@ fn line_of(
         ≡ spec.input_line name.now (option_map (λ types. types.now) types.entry)
         (option_map (λ default. default.now) default.entry)) }
 {
+    let words = type_and_need(alloc, types, default)?;
+    format!(in alloc; "input {name}: {words}")
+}
+
+fn type_and_need(
+    alloc: Global,
+    types: Option<&Items<MemberType>>,
+    default: Option<&Value>,
+) -> Result<String, AllocError>
+    ensures { IfOk result (λ words. string_bytes words
+        ≡ spec.kind_words (option_map (λ types. types.now) types.entry)
+        ++ spec.need_words (option_map (λ types. types.now) types.entry)
+        (option_map (λ default. default.now) default.entry)) }
+{
     let kind = kind_words(alloc, types)?;
     let need = need_words(alloc, types, default)?;
-    format!(in alloc; "input {name}: {kind}{need}")
+    format!(in alloc; "{kind}{need}")
 }
 
 fn need_words(

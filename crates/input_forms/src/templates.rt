@@ -14,6 +14,7 @@ use cwl_value::{Value, canonical_text};
 use plain_data::{Items, Text};
 use std::alloc::{AllocError, Global};
 
+#[tactic(auto, using(crate::proofs::Folds::fold_map_more))]
 /// Returns JSON text of an input object for a tool.
 pub fn tool_template(alloc: Global, inputs: &[(Text, ToolInput)]) -> Result<Text, AllocError>
     ensures { IfOk result (λ text. text ≡ spec.template (map spec.tool_entry inputs.now)) }
@@ -27,6 +28,7 @@ pub fn tool_template(alloc: Global, inputs: &[(Text, ToolInput)]) -> Result<Text
     Ok(Text::from_string(text))
 }
 
+#[tactic(auto, using(crate::proofs::Folds::fold_map_more))]
 /// Returns JSON text of an input object for a workflow.
 pub fn workflow_template(
     alloc: Global,
@@ -81,6 +83,13 @@ fn push_entry(text: &mut String, entry: &str) -> Result<(), AllocError>
     ensures { OnOk result (string_bytes text.new
         ≡ spec.with_entry (string_bytes text.old) entry.now) }
 {
-    text.push_str(if text.len() == 1 { "\n  " } else { ",\n  " })?;
+    let before = separator(text.len());
+    text.push_str(before)?;
     text.push_str(entry)
+}
+
+fn separator(size: usize) -> &'static str
+    ensures { result.now ≡ spec.separator size }
+{
+    if size == 1 { "\n  " } else { ",\n  " }
 }

@@ -2,7 +2,7 @@
 ghost use Rattle.std.specs.Prelude.{◌≡◌, ◌++◌, IfOk, codes, flat_map, option_map, string_bytes};
 ghost use Rattle.input_forms.specs.Lines as spec;
 
-use cwl_types::{MemberType, PlainType};
+use cwl_types::{ArrayType, MemberType, PlainType};
 use plain_data::{Items, Text};
 use std::alloc::{AllocError, Global};
 
@@ -38,12 +38,18 @@ fn member_words(alloc: Global, member: &MemberType) -> Result<String, AllocError
 {
     match member {
         MemberType::Plain(kind) => String::from_str(alloc, plain_word(*kind)),
-        MemberType::Array(array) => {
-            let items = type_words(alloc, &array.items)?;
-            format!(in alloc; "a list of {items}")
-        }
+        MemberType::Array(array) => array_words(alloc, array),
         MemberType::Enum(symbols) => enum_words(alloc, symbols.as_slice()),
     }
+}
+
+#[tactic(auto, using(crate::proofs::Arrays::words_of_array))]
+#[cycle(words)]
+fn array_words(alloc: Global, array: &ArrayType) -> Result<String, AllocError>
+    ensures { IfOk result (λ words. string_bytes words ≡ spec.array_words array.now) }
+{
+    let items = type_words(alloc, &array.items)?;
+    format!(in alloc; "a list of {items}")
 }
 
 fn plain_word(kind: PlainType) -> &'static str
