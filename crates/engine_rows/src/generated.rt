@@ -6,10 +6,11 @@ ghost use Rattle.run_core.specs.Limits.{IsWithinLimits};
 ghost use Rattle.run_rules.specs.Answers.{CanTell, MayAnswer};
 ghost use Rattle.run_rules.specs.declared.request.Request.{Request as Asks};
 
-use crate::alone::{Chance, answer_next, take_answer};
+use crate::alone::{Chance, answer_to, take_answer};
 use crate::cheapest::least_cost;
 use crate::generator::row_of;
 use crate::run::{Case, case_of, options_with};
+use cwl_value::JobPlace;
 use job_rows::{MemoryRecord, Record, Row as Kept};
 use plain_data::Items;
 use plan_checker::{Charges, Graph, Plan, check, read_certificate, write_certificate};
@@ -224,11 +225,26 @@ fn answer_with(
     ensures { IfOk result (MayAnswer flying.now asks.now) }
 {
     match asks {
-        Request::Record(_, request) => Ok(Answer::Record(told(alloc, request, chance, rows)?)),
-        Request::Host(_, HostRequest::Fetch(_, _, files)) => {
-            Ok(Answer::Host(fetched(alloc, files)?))
+        Request::Host(place, request) => {
+            Ok(Answer::Host(answer_of_host(alloc, place, request, flying, chance)?))
         }
-        _ => answer_next(alloc, asks, flying, chance),
+        Request::Record(_, request) => Ok(Answer::Record(told(alloc, request, chance, rows)?)),
+        Request::Finished => unreachable!(),
+    }
+}
+
+fn answer_of_host(
+    alloc: Global,
+    place: &JobPlace,
+    request: &HostRequest,
+    flying: &[u64],
+    chance: &mut Chance,
+) -> Result<HostAnswer, AllocError>
+    ensures { IfOk result (CanAnswer flying.now request.now) }
+{
+    match request {
+        HostRequest::Fetch(_, _, files) => fetched(alloc, files),
+        _ => answer_to(alloc, place, request, flying, chance),
     }
 }
 
