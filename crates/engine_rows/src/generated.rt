@@ -1,7 +1,6 @@
 //! Runs of generated workflows, in which each plan is compared with the best of all plans.
 ghost use Rattle.std.specs.Prelude.{◌≡◌, ◌≢◌, IfOk, OnOk};
 ghost use Rattle.proc_host.specs.Answers.{CanAnswer};
-ghost use Rattle.proc_host.specs.declared.call.HostRequest.{HostRequest as Call};
 ghost use Rattle.run_core.specs.Limits.{IsWithinLimits};
 ghost use Rattle.run_rules.specs.Answers.{CanTell, MayAnswer};
 ghost use Rattle.run_rules.specs.declared.request.Request.{Request as Asks};
@@ -12,14 +11,13 @@ use crate::generator::row_of;
 use crate::run::{Case, case_of, options_with};
 use cwl_value::JobPlace;
 use job_rows::{MemoryRecord, Record, Row as Kept};
-use plain_data::Items;
 use plan_checker::{Charges, Graph, Plan, check, read_certificate, write_certificate};
 use proc_host::{HostAnswer, HostRequest};
 use row_io::{Row, RowFault};
 use run_core::{
     Answer, Options, Outcome, RecordAnswer, RecordRequest, Report, Request, RunCore, RunFault,
 };
-use staging::{Found, listing_in};
+use staging::listing_in;
 use std::alloc::{AllocError, Global};
 use std::mem;
 
@@ -233,6 +231,7 @@ fn answer_with(
     }
 }
 
+/// The same of what it asks its host: files are fetched as they were.
 fn answer_of_host(
     alloc: Global,
     place: &JobPlace,
@@ -243,17 +242,9 @@ fn answer_of_host(
     ensures { IfOk result (CanAnswer flying.now request.now) }
 {
     match request {
-        HostRequest::Fetch(_, _, files) => fetched(alloc, files),
+        HostRequest::Fetch(_, _, files) => Ok(HostAnswer::Fetched(listing_in(alloc, files)?)),
         _ => answer_to(alloc, place, request, flying, chance),
     }
-}
-
-/// Files that are fetched as they were.
-fn fetched(alloc: Global, files: &Items<Found>) -> Result<HostAnswer, AllocError>
-    ensures { IfOk result (λ answer. (flying : _) (key : _) (number : _)
-        → CanAnswer flying (Call.Fetch key number files.now) answer) }
-{
-    Ok(HostAnswer::Fetched(listing_in(alloc, files)?))
 }
 
 /// What the record tells. It keeps some of the rows that are put.
