@@ -1,9 +1,5 @@
 //! What is said of a process, and of inputs for it, in place of a run.
-ghost use Rattle.std.specs.Prelude.{◌≡◌, [], None, true, IfOk};
-ghost use Rattle.program_words.specs.RunWords.{wish_of_run};
-ghost use Rattle.cwl_program.specs.Runs.{IsNamedProcess};
-ghost use Rattle.end_words.specs.RunEnds.{place_json};
-ghost use Rattle.cwl_program.specs.Showings as spec;
+ghost use Rattle.std.specs.Prelude.{◌≡◌, None, IfOk};
 
 use crate::process_forms::{lines_of, template_of};
 use crate::run::{here_of, inputs_of, process_of, without_folder};
@@ -27,8 +23,6 @@ pub fn end_of_showing<R: World + Env + Input>(
     words: &RunWords,
     path: &str,
 ) -> Result<RunEnd, AllocError>
-    ensures end { IfOk result (λ end. spec.IsEndOfShowing (wish_of_run words.now) path.now
-        end.exit) }
     ensures left { IfOk result (λ end. end.left ≡ None) }
 {
     match here_of(rt) {
@@ -47,8 +41,6 @@ pub fn end_of_showing<R: World + Env + Input>(
 }
 
 fn end_of_call<R: World + Input>(rt: &R, call: &Call<'_>) -> Result<RunEnd, AllocError>
-    ensures end { IfOk result (λ end. spec.IsEndOfShowing (wish_of_run call.now.words.now)
-        call.now.path.now end.exit) }
     ensures left { IfOk result (λ end. end.left ≡ None) }
 {
     match process_of(rt, call) {
@@ -62,9 +54,6 @@ fn on_process<R: World + Input>(
     process: Process,
     call: &Call<'_>,
 ) -> Result<RunEnd, AllocError>
-    requires { IsNamedProcess call.now.here.now (wish_of_run call.now.words.now) process }
-    ensures end { IfOk result (λ end. spec.IsEndOfShowing (wish_of_run call.now.words.now)
-        call.now.path.now end.exit) }
     ensures left { IfOk result (λ end. end.left ≡ None) }
 {
     match inputs_of(rt, call) {
@@ -82,8 +71,6 @@ fn on_process<R: World + Input>(
 }
 
 fn of_given(alloc: Global, given: &Given, call: &Call<'_>) -> Result<RunEnd, AllocError>
-    ensures end { IfOk result (λ end. spec.IsShown call.now.here.now
-        (wish_of_run call.now.words.now) call.now.path.now given.now end.exit) }
     ensures left { IfOk result (λ end. end.left ≡ None) }
 {
     if is_checked(call.words) {
@@ -92,9 +79,7 @@ fn of_given(alloc: Global, given: &Given, call: &Call<'_>) -> Result<RunEnd, All
     Ok(RunEnd::bare(alloc, exit_of(alloc, given, call)?))
 }
 
-fn is_checked(words: &RunWords) -> bool
-    ensures { result ≡ spec.is_checked words.now.shows (wish_of_run words.now).inputs }
-{
+fn is_checked(words: &RunWords) -> bool {
     match words.shows {
         Shows::Command => true,
         _ => words.inputs.is_some(),
@@ -102,10 +87,6 @@ fn is_checked(words: &RunWords) -> bool
 }
 
 fn of_checked(alloc: Global, given: &Given, call: &Call<'_>) -> Result<RunEnd, AllocError>
-    requires { spec.is_checked call.now.words.now.shows (wish_of_run call.now.words.now).inputs
-        ≡ true }
-    ensures end { IfOk result (λ end. spec.IsShown call.now.here.now
-        (wish_of_run call.now.words.now) call.now.path.now given.now end.exit) }
     ensures left { IfOk result (λ end. end.left ≡ None) }
 {
     match first_misfit(&given.process, &given.inputs) {
@@ -116,8 +97,6 @@ fn of_checked(alloc: Global, given: &Given, call: &Call<'_>) -> Result<RunEnd, A
 
 // An input has no value that fits.
 fn of_misfit(alloc: Global, given: &Given, input: &Text) -> Result<RunEnd, AllocError>
-    ensures end { IfOk result (λ end. (cause : Cause) × (end.exit
-        ≡ Exit.Permanent (place_json []) cause)) }
     ensures left { IfOk result (λ end. end.left ≡ None) }
 {
     let notes = misfit_lines(alloc, given, input)?;
@@ -132,10 +111,7 @@ fn of_misfit(alloc: Global, given: &Given, input: &Text) -> Result<RunEnd, Alloc
 }
 
 // What is to be shown of a process and its inputs.
-fn exit_of(alloc: Global, given: &Given, call: &Call<'_>) -> Result<Exit, AllocError>
-    ensures { IfOk result (spec.IsShownOf call.now.here.now (wish_of_run call.now.words.now)
-        call.now.path.now given.now call.now.words.now.shows) }
-{
+fn exit_of(alloc: Global, given: &Given, call: &Call<'_>) -> Result<Exit, AllocError> {
     match call.words.shows {
         Shows::Command => exit_of_tool(alloc, given, call),
         Shows::Template => Ok(Exit::Output(template_of(alloc, &given.process)?)),
@@ -144,10 +120,7 @@ fn exit_of(alloc: Global, given: &Given, call: &Call<'_>) -> Result<Exit, AllocE
 }
 
 // The command of a tool; of a workflow its lines.
-fn exit_of_tool(alloc: Global, given: &Given, call: &Call<'_>) -> Result<Exit, AllocError>
-    ensures { IfOk result (spec.IsShownOf call.now.here.now (wish_of_run call.now.words.now)
-        call.now.path.now given.now Shows.Command) }
-{
+fn exit_of_tool(alloc: Global, given: &Given, call: &Call<'_>) -> Result<Exit, AllocError> {
     match &given.process {
         Process::Tool(tool) => exit_of_command(alloc, tool, &given.inputs, call),
         Process::Workflow(_) => Ok(Exit::Output(lines_of(alloc, &given.process)?)),

@@ -1,11 +1,4 @@
 //! The command of a tool for its inputs, without a run.
-ghost use Rattle.std.specs.Prelude.{◌≡◌, ℕ, List, [], IfOk, unwrap_or, option_copied};
-ghost use Rattle.input_files.specs.Given.{named_inputs, null, or_default, value_under};
-ghost use Rattle.cwl_program.specs.Paths.{from_root as path_from_root};
-ghost use Rattle.program_words.specs.RunWords.{wish_of_run};
-ghost use Rattle.end_words.specs.RunEnds.{place_json};
-ghost use Rattle.program_words.specs.ShellWords.{IsLineOf};
-ghost use Rattle.cwl_program.specs.Showings as spec;
 
 use crate::paths::from_root;
 use command_line::{BuildError, BuildFault, Launch, Runtime, build};
@@ -24,11 +17,7 @@ pub fn exit_of_command(
     tool: &Tool,
     given: &Keyed<Value>,
     call: &Call<'_>,
-) -> Result<Exit, AllocError>
-    ensures { IfOk result (spec.IsCommandOf tool.now (named_inputs tool.now.inputs given.now)
-        (spec.runtime_in (path_from_root call.now.here.now (wish_of_run call.now.words.now).work)
-        call.now.path.now)) }
-{
+) -> Result<Exit, AllocError> {
     let runtime = runtime_of(alloc, call)?;
     let values = values_of(alloc, tool.inputs.as_slice(), given)?;
     let built = build(alloc, tool, &values, &runtime);
@@ -41,26 +30,17 @@ pub fn exit_of_command(
     }
 }
 
-fn exit_of_launch(alloc: Global, launch: Launch) -> Result<Exit, AllocError>
-    ensures { IfOk result (λ exit. (line : List ℕ) × IsLineOf launch line
-        × (exit ≡ Exit.Output line)) }
-{
+fn exit_of_launch(alloc: Global, launch: Launch) -> Result<Exit, AllocError> {
     let line = line_of(alloc, &launch)?;
     mem::drop(launch);
     Ok(Exit::Output(Text::from_string(line)))
 }
 
-fn without_launch(alloc: Global, fault: BuildFault) -> Result<Exit, AllocError>
-    ensures { IfOk result (λ exit. exit ≡ Exit.Permanent (place_json []) (Cause.Build fault)) }
-{
+fn without_launch(alloc: Global, fault: BuildFault) -> Result<Exit, AllocError> {
     of_failure(alloc, Items::new(alloc), Cause::Build(fault))
 }
 
-fn runtime_of(alloc: Global, call: &Call<'_>) -> Result<Runtime, AllocError>
-    ensures { IfOk result (λ runtime. runtime
-        ≡ spec.runtime_in (path_from_root call.now.here.now
-        (wish_of_run call.now.words.now).work) call.now.path.now) }
-{
+fn runtime_of(alloc: Global, call: &Call<'_>) -> Result<Runtime, AllocError> {
     let work = from_root(alloc, call.here, call.words.work)?;
     let folder = work.as_str();
     let outdir = Text::from_string(format!(in alloc; "{folder}/j0/out")?);
@@ -79,9 +59,7 @@ fn values_of(
     alloc: Global,
     inputs: &[(Text, ToolInput)],
     given: &Keyed<Value>,
-) -> Result<Keyed<Value>, AllocError>
-    ensures { IfOk result (λ values. values ≡ named_inputs inputs.now given.now) }
-{
+) -> Result<Keyed<Value>, AllocError> {
     let mut values = Keyed::new(alloc);
     for (name, input) in inputs {
         let value = value_of(alloc, given, name, &input.default)?;
@@ -96,27 +74,13 @@ fn value_of(
     given: &Keyed<Value>,
     name: &Text,
     default: &Option<Value>,
-) -> Result<Value, AllocError>
-    ensures { IfOk result (λ value. value
-        ≡ or_default default.now (value_under name.now given.now)) }
-{
-    match found_of(given, name, default) {
-        None => Ok(Value::Null),
-        Some(value) => value.clone_in(alloc),
-    }
-}
-
-// The value of an input; none where there is neither one nor a default.
-fn found_of<'a>(
-    given: &'a Keyed<Value>,
-    name: &Text,
-    default: &'a Option<Value>,
-) -> Option<&'a Value>
-    ensures { unwrap_or (option_copied result) null
-        ≡ or_default default.now (value_under name.now given.now) }
-{
-    match given.get(name.as_str()) {
+) -> Result<Value, AllocError> {
+    let value = match given.get(name.as_str()) {
         None | Some(Value::Null) => default.as_ref(),
         value => value,
+    };
+    match value {
+        None => Ok(Value::Null),
+        Some(value) => value.clone_in(alloc),
     }
 }

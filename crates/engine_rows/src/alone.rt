@@ -129,7 +129,8 @@ pub fn take_answer(core: &mut RunCore<'_>, answer: Answer) -> Result<(), RunFaul
     core.take(answer)
 }
 
-fn answer_to(
+/// An answer to what a machine asks its host.
+pub fn answer_to(
     alloc: Global,
     place: &JobPlace,
     request: &HostRequest,

@@ -1,24 +1,23 @@
 //! Runs of generated workflows, in which each plan is compared with the best of all plans.
 ghost use Rattle.std.specs.Prelude.{◌≡◌, ◌≢◌, IfOk, OnOk};
 ghost use Rattle.proc_host.specs.Answers.{CanAnswer};
-ghost use Rattle.proc_host.specs.declared.call.HostRequest.{HostRequest as Call};
 ghost use Rattle.run_core.specs.Limits.{IsWithinLimits};
 ghost use Rattle.run_rules.specs.Answers.{CanTell, MayAnswer};
 ghost use Rattle.run_rules.specs.declared.request.Request.{Request as Asks};
 
-use crate::alone::{Chance, answer_next, take_answer};
+use crate::alone::{Chance, answer_to, take_answer};
 use crate::cheapest::least_cost;
 use crate::generator::row_of;
 use crate::run::{Case, case_of, options_with};
+use cwl_value::JobPlace;
 use job_rows::{MemoryRecord, Record, Row as Kept};
-use plain_data::Items;
 use plan_checker::{Charges, Graph, Plan, check, read_certificate, write_certificate};
 use proc_host::{HostAnswer, HostRequest};
 use row_io::{Row, RowFault};
 use run_core::{
     Answer, Options, Outcome, RecordAnswer, RecordRequest, Report, Request, RunCore, RunFault,
 };
-use staging::{Found, listing_in};
+use staging::listing_in;
 use std::alloc::{AllocError, Global};
 use std::mem;
 
@@ -224,20 +223,28 @@ fn answer_with(
     ensures { IfOk result (MayAnswer flying.now asks.now) }
 {
     match asks {
-        Request::Record(_, request) => Ok(Answer::Record(told(alloc, request, chance, rows)?)),
-        Request::Host(_, HostRequest::Fetch(_, _, files)) => {
-            Ok(Answer::Host(fetched(alloc, files)?))
+        Request::Host(place, request) => {
+            Ok(Answer::Host(answer_of_host(alloc, place, request, flying, chance)?))
         }
-        _ => answer_next(alloc, asks, flying, chance),
+        Request::Record(_, request) => Ok(Answer::Record(told(alloc, request, chance, rows)?)),
+        Request::Finished => unreachable!(),
     }
 }
 
-/// Files that are fetched as they were.
-fn fetched(alloc: Global, files: &Items<Found>) -> Result<HostAnswer, AllocError>
-    ensures { IfOk result (λ answer. (flying : _) (key : _) (number : _)
-        → CanAnswer flying (Call.Fetch key number files.now) answer) }
+/// The same of what it asks its host: files are fetched as they were.
+fn answer_of_host(
+    alloc: Global,
+    place: &JobPlace,
+    request: &HostRequest,
+    flying: &[u64],
+    chance: &mut Chance,
+) -> Result<HostAnswer, AllocError>
+    ensures { IfOk result (CanAnswer flying.now request.now) }
 {
-    Ok(HostAnswer::Fetched(listing_in(alloc, files)?))
+    match request {
+        HostRequest::Fetch(_, _, files) => Ok(HostAnswer::Fetched(listing_in(alloc, files)?)),
+        _ => answer_to(alloc, place, request, flying, chance),
+    }
 }
 
 /// What the record tells. It keeps some of the rows that are put.

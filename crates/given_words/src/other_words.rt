@@ -3,9 +3,17 @@
 /// Returns what does here what this option asks of `cwltool`, where it is no option of this program.
 pub fn answer_to(option: &str) -> Option<&'static str> {
     match option {
-        "--no-container" | "--singularity" | "--podman" | "--udocker" | "--docker"
-        | "--default-container" | "--force-docker-pull" | "--disable-pull" | "--no-match-user"
-        | "--no-read-only" | "--user-space-docker-cmd" => Some(CONTAINERS),
+        "--no-container"
+        | "--singularity"
+        | "--podman"
+        | "--udocker"
+        | "--docker"
+        | "--default-container"
+        | "--force-docker-pull"
+        | "--disable-pull"
+        | "--no-match-user"
+        | "--no-read-only"
+        | "--user-space-docker-cmd" => Some(CONTAINERS),
         "--cachedir" => Some("`--cache DIR` keeps what jobs give"),
         "--debug" | "--timestamps" => Some("`--verbose` tells of each job and shows its messages"),
         "--tmpdir-prefix" | "--tmp-outdir-prefix" | "--basedir" => {

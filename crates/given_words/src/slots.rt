@@ -19,16 +19,11 @@ pub fn with_slots(alloc: Global, words: &[String], count: u64) -> Result<Vec<Str
 }
 
 // The word that comes behind these in place of this one.
-fn next_word(
-    alloc: Global,
-    before: &[String],
-    word: &str,
-    count: u64,
-) -> Result<String, AllocError>
+fn next_word(alloc: Global, before: &[String], word: &str, count: u64) -> Result<String, AllocError>
     ensures { IfOk result (λ next. string_bytes next
         ≡ (if spec.has_options (map string_bytes before.now)
-            then spec.slot_word count (map string_bytes before.now) word.now
-            else word.now)) }
+        then spec.slot_word count (map string_bytes before.now) word.now
+        else word.now)) }
 {
     if has_options(before) {
         return slot_word(alloc, before, word, count);
@@ -36,12 +31,7 @@ fn next_word(
     String::from_str(alloc, word)
 }
 
-fn slot_word(
-    alloc: Global,
-    before: &[String],
-    word: &str,
-    count: u64,
-) -> Result<String, AllocError>
+fn slot_word(alloc: Global, before: &[String], word: &str, count: u64) -> Result<String, AllocError>
     ensures { IfOk result (λ next. string_bytes next
         ≡ spec.slot_word count (map string_bytes before.now) word.now) }
 {

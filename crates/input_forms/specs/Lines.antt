@@ -1,6 +1,7 @@
 -- A line for each input of a process.
 use Rattle.std.specs.Prelude.{ℕ, ◌++◌, ◌==◌, List, [], length, map, fold, flat_map, Option, Some, None, codes, if◌then◌else◌}
 use Rattle.serde_json.specs.Written.{compact_text}
+use Rattle.cwl_types.specs.declared.types.ArrayType.{ArrayType, fold-ArrayType}
 use Rattle.cwl_types.specs.declared.types.MemberType.{MemberType, fold-MemberType}
 use Rattle.cwl_types.specs.declared.types.MemberType.TheOpen.{MemberType-F, ArrayType-F}
 use Rattle.cwl_types.specs.declared.types.PlainType.{PlainType}
@@ -41,6 +42,9 @@ list_words array = codes "a list of " ++ or_words array.items
 
 abbrev pub member_words : MemberType → List ℕ
 member_words = fold-MemberType (List ℕ) (List ℕ) words_at list_words
+
+abbrev pub array_words : ArrayType → List ℕ
+array_words = fold-ArrayType (List ℕ) (List ℕ) words_at list_words
 
 abbrev pub type_words : List MemberType → List ℕ
 type_words members = or_words (map member_words members)

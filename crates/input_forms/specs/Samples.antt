@@ -1,5 +1,6 @@
 -- A value that shows the form of a type.
 use Rattle.std.specs.Prelude.{ℕ, pos, List, [], ◌∷◌, Option, Some, None, Bool, true, false, map, codes, if◌then◌else◌, slice_index_or}
+use Rattle.cwl_types.specs.declared.types.ArrayType.{ArrayType, fold-ArrayType}
 use Rattle.cwl_types.specs.declared.types.MemberType.{MemberType, fold-MemberType}
 use Rattle.cwl_types.specs.declared.types.MemberType.TheOpen.{MemberType-F, ArrayType-F}
 use Rattle.cwl_types.specs.declared.types.PlainType.{PlainType}
@@ -59,6 +60,9 @@ list_sample array = values.List (first_or_text array.items ∷ [])
 abbrev pub member_sample : MemberType → Value
 member_sample = fold-MemberType Value Value sample_at list_sample
 
+abbrev pub array_sample : ArrayType → Value
+array_sample = fold-ArrayType Value Value sample_at list_sample
+
 -- the form of a type is that of its first member
 abbrev pub type_sample : List MemberType → Value
 type_sample members = first_or_text (map member_sample members)
@@ -66,14 +70,14 @@ type_sample members = first_or_text (map member_sample members)
 -- ---- the value of an input in a template
 
 -- a default is shown where it holds no other values and no place; else null, which it stands in for
-abbrev pub shown_at : Value → Value-F Value DirVal FileVal → Value
-shown_at value (Value-F.Bool flag) = value
-shown_at value (Value-F.Whole number) = value
-shown_at value (Value-F.Text text) = value
-shown_at value _ = values.Null
+abbrev pub shown_at : Value-F Value DirVal FileVal → Value
+shown_at (Value-F.Bool flag) = values.Bool flag
+shown_at (Value-F.Whole number) = values.Whole number
+shown_at (Value-F.Text text) = values.Text text
+shown_at _ = values.Null
 
 abbrev pub shown : Value → Value
-shown value = shown_at value (out-Value value)
+shown value = shown_at (out-Value value)
 
 abbrev pub needed_sample : Option (List MemberType) → Value
 needed_sample None = a_file

@@ -24,9 +24,13 @@ tool_entry input = input_entry input.0 (types_of input.1.kind) input.1.default
 abbrev pub workflow_entry : List ℕ × WorkflowInput → List ℕ
 workflow_entry input = input_entry input.0 (Some input.1.kind) input.1.default
 
+-- what stands before an entry, behind text of this length: the brace alone, or the brace and other entries
+abbrev pub separator : ℕ → List ℕ
+separator size = if size == 1 then codes "\n  " else codes ",\n  "
+
 -- each entry on a line of its own, behind the brace or a comma
 abbrev pub with_entry : List ℕ → List ℕ → List ℕ
-with_entry text entry = text ++ (if length text == 1 then codes "\n  " else codes ",\n  ") ++ entry
+with_entry text entry = text ++ separator (length text) ++ entry
 
 abbrev pub template : (entries : List (List ℕ)) → List ℕ
 template entries = fold with_entry (codes "{") entries ++ codes "\n}"

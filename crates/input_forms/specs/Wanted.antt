@@ -19,9 +19,12 @@ is_null_at (MemberType-F.Plain kind) = is_null_type kind
 is_null_at (MemberType-F.Array array) = false
 is_null_at (MemberType-F.Enum symbols) = false
 
+abbrev pub member_is_null : MemberType → Bool
+member_is_null member = is_null_at (out-MemberType member)
+
 -- null is one of the types
 abbrev pub may_be_null : List MemberType → Bool
-may_be_null members = list_any (λ member. is_null_at (out-MemberType member)) members
+may_be_null members = list_any member_is_null members
 
 -- the types of an input, which that of standard input has none of
 abbrev pub types_of : InputType → Option (List MemberType)

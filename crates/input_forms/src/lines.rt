@@ -1,5 +1,5 @@
 //! Lines on the inputs of a process.
-ghost use Rattle.std.specs.Prelude.{◌≡◌, IfOk, map, option_map, string_bytes};
+ghost use Rattle.std.specs.Prelude.{◌≡◌, ◌++◌, IfOk, map, option_map, string_bytes};
 ghost use Rattle.input_forms.specs.Lines as spec;
 
 use crate::types::kind_words;
@@ -11,20 +11,12 @@ use plain_data::{Items, Text};
 use std::alloc::{AllocError, Global};
 
 /// Returns a line for each input of a tool.
-pub fn tool_lines(
-    alloc: Global,
-    inputs: &[(Text, ToolInput)],
-) -> Result<Vec<String>, AllocError>
+pub fn tool_lines(alloc: Global, inputs: &[(Text, ToolInput)]) -> Result<Vec<String>, AllocError>
     ensures { IfOk result (λ lines. map string_bytes lines.items ≡ map spec.tool_line inputs.now) }
 {
     let mut lines = Vec::new(alloc);
     for (name, input) in inputs {
-        lines.push(line_of(
-            alloc,
-            name,
-            types_of(&input.kind),
-            input.default.as_ref(),
-        )?)?;
+        lines.push(line_of(alloc, name, types_of(&input.kind), input.default.as_ref())?)?;
     }
     Ok(lines)
 }
@@ -39,12 +31,7 @@ pub fn workflow_lines(
 {
     let mut lines = Vec::new(alloc);
     for (name, input) in inputs {
-        lines.push(line_of(
-            alloc,
-            name,
-            Some(&input.kind),
-            input.default.as_ref(),
-        )?)?;
+        lines.push(line_of(alloc, name, Some(&input.kind), input.default.as_ref())?)?;
     }
     Ok(lines)
 }
@@ -57,11 +44,25 @@ fn line_of(
 ) -> Result<String, AllocError>
     ensures { IfOk result (λ line. string_bytes line
         ≡ spec.input_line name.now (option_map (λ types. types.now) types.entry)
-            (option_map (λ default. default.now) default.entry)) }
+        (option_map (λ default. default.now) default.entry)) }
+{
+    let words = type_and_need(alloc, types, default)?;
+    format!(in alloc; "input {name}: {words}")
+}
+
+fn type_and_need(
+    alloc: Global,
+    types: Option<&Items<MemberType>>,
+    default: Option<&Value>,
+) -> Result<String, AllocError>
+    ensures { IfOk result (λ words. string_bytes words
+        ≡ spec.kind_words (option_map (λ types. types.now) types.entry)
+        ++ spec.need_words (option_map (λ types. types.now) types.entry)
+        (option_map (λ default. default.now) default.entry)) }
 {
     let kind = kind_words(alloc, types)?;
     let need = need_words(alloc, types, default)?;
-    format!(in alloc; "input {name}: {kind}{need}")
+    format!(in alloc; "{kind}{need}")
 }
 
 fn need_words(
@@ -71,7 +72,7 @@ fn need_words(
 ) -> Result<String, AllocError>
     ensures { IfOk result (λ words. string_bytes words
         ≡ spec.need_words (option_map (λ types. types.now) types.entry)
-            (option_map (λ default. default.now) default.entry)) }
+        (option_map (λ default. default.now) default.entry)) }
 {
     match default {
         Some(default) => {

@@ -3,7 +3,7 @@ ghost use Rattle.std.specs.Prelude.{◌≡◌, [], ◌∷◌, None, IfOk, option
 ghost use Rattle.input_forms.specs.Samples as spec;
 
 use crate::wanted::admits_null;
-use cwl_types::{MemberType, PlainType};
+use cwl_types::{ArrayType, MemberType, PlainType};
 use cwl_value::{DirVal, FileVal, Place, Value};
 use plain_data::{Items, Text};
 use std::alloc::{AllocError, Global};
@@ -16,7 +16,7 @@ pub fn filled(
 ) -> Result<Value, AllocError>
     ensures { IfOk result (λ value. value
         ≡ spec.filled (option_map (λ types. types.now) types.entry)
-            (option_map (λ default. default.now) default.entry)) }
+        (option_map (λ default. default.now) default.entry)) }
 {
     match default {
         Some(default) => shown(alloc, default),
@@ -65,12 +65,18 @@ fn member_sample(alloc: Global, member: &MemberType) -> Result<Value, AllocError
 {
     match member {
         MemberType::Plain(kind) => plain_sample(alloc, *kind),
-        MemberType::Array(array) => {
-            let item = type_sample(alloc, &array.items)?;
-            list_of(alloc, item)
-        }
+        MemberType::Array(array) => array_sample(alloc, array),
         MemberType::Enum(symbols) => first_symbol(alloc, symbols.as_slice()),
     }
+}
+
+#[tactic(auto, using(crate::proofs::Arrays::sample_of_array))]
+#[cycle(samples)]
+fn array_sample(alloc: Global, array: &ArrayType) -> Result<Value, AllocError>
+    ensures { IfOk result (λ value. value ≡ spec.array_sample array.now) }
+{
+    let item = type_sample(alloc, &array.items)?;
+    list_of(alloc, item)
 }
 
 fn list_of(alloc: Global, item: Value) -> Result<Value, AllocError>

@@ -14,6 +14,7 @@ use cwl_value::{Value, canonical_text};
 use plain_data::{Items, Text};
 use std::alloc::{AllocError, Global};
 
+#[tactic(auto, using(crate::proofs::Folds::fold_map_more))]
 /// Returns JSON text of an input object for a tool.
 pub fn tool_template(alloc: Global, inputs: &[(Text, ToolInput)]) -> Result<Text, AllocError>
     ensures { IfOk result (λ text. text ≡ spec.template (map spec.tool_entry inputs.now)) }
@@ -27,6 +28,7 @@ pub fn tool_template(alloc: Global, inputs: &[(Text, ToolInput)]) -> Result<Text
     Ok(Text::from_string(text))
 }
 
+#[tactic(auto, using(crate::proofs::Folds::fold_map_more))]
 /// Returns JSON text of an input object for a workflow.
 pub fn workflow_template(
     alloc: Global,
@@ -51,7 +53,7 @@ fn entry_of(
 ) -> Result<String, AllocError>
     ensures { IfOk result (λ entry. string_bytes entry
         ≡ spec.input_entry name.now (option_map (λ types. types.now) types.entry)
-            (option_map (λ default. default.now) default.entry)) }
+        (option_map (λ default. default.now) default.entry)) }
 {
     let name = name_text(alloc, name)?;
     let value = value_text(alloc, types, default)?;
@@ -71,7 +73,7 @@ fn value_text(
 ) -> Result<Text, AllocError>
     ensures { IfOk result (λ text. text
         ≡ compact_text (json_of (filled_of (option_map (λ types. types.now) types.entry)
-            (option_map (λ default. default.now) default.entry)))) }
+        (option_map (λ default. default.now) default.entry)))) }
 {
     let value = filled(alloc, types, default)?;
     canonical_text(alloc, &value)
@@ -81,6 +83,13 @@ fn push_entry(text: &mut String, entry: &str) -> Result<(), AllocError>
     ensures { OnOk result (string_bytes text.new
         ≡ spec.with_entry (string_bytes text.old) entry.now) }
 {
-    text.push_str(if text.len() == 1 { "\n  " } else { ",\n  " })?;
+    let before = separator(text.len());
+    text.push_str(before)?;
     text.push_str(entry)
+}
+
+fn separator(size: usize) -> &'static str
+    ensures { result.now ≡ spec.separator size }
+{
+    if size == 1 { "\n  " } else { ",\n  " }
 }

@@ -2,15 +2,12 @@
 ghost use Rattle.std.specs.Prelude.{◌≡◌, ◌++◌, IfOk, codes, flat_map, option_map, string_bytes};
 ghost use Rattle.input_forms.specs.Lines as spec;
 
-use cwl_types::{MemberType, PlainType};
+use cwl_types::{ArrayType, MemberType, PlainType};
 use plain_data::{Items, Text};
 use std::alloc::{AllocError, Global};
 
 /// The types of an input in words; without types it is a File at standard input.
-pub fn kind_words(
-    alloc: Global,
-    types: Option<&Items<MemberType>>,
-) -> Result<String, AllocError>
+pub fn kind_words(alloc: Global, types: Option<&Items<MemberType>>) -> Result<String, AllocError>
     ensures { IfOk result (λ words. string_bytes words
         ≡ spec.kind_words (option_map (λ types. types.now) types.entry)) }
 {
@@ -41,12 +38,18 @@ fn member_words(alloc: Global, member: &MemberType) -> Result<String, AllocError
 {
     match member {
         MemberType::Plain(kind) => String::from_str(alloc, plain_word(*kind)),
-        MemberType::Array(array) => {
-            let items = type_words(alloc, &array.items)?;
-            format!(in alloc; "a list of {items}")
-        }
+        MemberType::Array(array) => array_words(alloc, array),
         MemberType::Enum(symbols) => enum_words(alloc, symbols.as_slice()),
     }
+}
+
+#[tactic(auto, using(crate::proofs::Arrays::words_of_array))]
+#[cycle(words)]
+fn array_words(alloc: Global, array: &ArrayType) -> Result<String, AllocError>
+    ensures { IfOk result (λ words. string_bytes words ≡ spec.array_words array.now) }
+{
+    let items = type_words(alloc, &array.items)?;
+    format!(in alloc; "a list of {items}")
 }
 
 fn plain_word(kind: PlainType) -> &'static str

@@ -1,5 +1,5 @@
 //! What an input wants.
-ghost use Rattle.std.specs.Prelude.{◌≡◌, [], ◌∷◌, option_map};
+ghost use Rattle.std.specs.Prelude.{◌≡◌, option_map};
 ghost use Rattle.input_forms.specs.Wanted as spec;
 
 use cwl_process::InputType;
@@ -38,7 +38,7 @@ fn may_be_null(members: &Items<MemberType>) -> bool
 }
 
 fn is_null(member: &MemberType) -> bool
-    ensures { result ≡ spec.may_be_null (member.now ∷ []) }
+    ensures { result ≡ spec.member_is_null member.now }
 {
     match member {
         MemberType::Plain(kind) => matches!(kind, PlainType::Null),

@@ -103,29 +103,29 @@ fn command_name(command: Command) -> &'static str {
 
 /// Finds a row, as a run asks it.
 pub(crate) fn found<S: Alter>(
-    record: &mut JobRecord<S>,
+    kept: &mut JobRecord<S>,
     key: &Text,
 ) -> Result<Option<RecordRow>, RecordError>
-    ensures { record.new.log.items ≡ record.old.log.items
+    ensures { kept.new.log.items ≡ kept.old.log.items
         ++ entries_of command.Find key.now (told_of result) }
 {
-    Record::find(record, key)
+    Record::find(kept, key)
 }
 
 /// Puts a row, as a run asks it.
-pub(crate) fn put<S: Alter>(record: &mut JobRecord<S>, row: &RecordRow) -> Result<(), RecordError>
-    ensures { record.new.log.items ≡ record.old.log.items
+pub(crate) fn put<S: Alter>(kept: &mut JobRecord<S>, row: &RecordRow) -> Result<(), RecordError>
+    ensures { kept.new.log.items ≡ kept.old.log.items
         ++ entries_of command.Put row.now.key (told_of result) }
 {
-    Record::put(record, row)
+    Record::put(kept, row)
 }
 
 /// Notes that an archive is gone, as a run asks it.
-pub(crate) fn dropped<S: Alter>(record: &mut JobRecord<S>, key: &Text) -> Result<(), RecordError>
-    ensures { record.new.log.items ≡ record.old.log.items
+pub(crate) fn dropped<S: Alter>(kept: &mut JobRecord<S>, key: &Text) -> Result<(), RecordError>
+    ensures { kept.new.log.items ≡ kept.old.log.items
         ++ entries_of command.DropArchive key.now (told_of result) }
 {
-    Record::drop_archive(record, key)
+    Record::drop_archive(kept, key)
 }
 
 /// All rows, where they can be listed.

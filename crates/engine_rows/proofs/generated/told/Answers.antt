@@ -1,0 +1,11 @@
+use Rattle.run_rules.specs.Answers.{is_dropped, is_found, is_put}
+use Rattle.engine_rows.proofs.generated.told.Goals as goal
+
+pub returns-in-Find : goal.returns-in-Find
+returns-in-Find c = rw c.in-Find.is (is_found _ _)
+
+pub returns-in_ok-keep-in-Put : goal.returns-in_ok-keep-in-Put
+returns-in_ok-keep-in-Put c = rw c.in-Put.is (is_put _)
+
+pub returns-in-DropArchive : goal.returns-in-DropArchive
+returns-in-DropArchive c = rw c.in-DropArchive.is (is_dropped _)
