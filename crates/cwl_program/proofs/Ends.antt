@@ -1,12 +1,15 @@
 -- From what a function answers to the end of the program.
-use Rattle.std.proofs.Common.{◌≡◌, ◌≢◌, ℕ, List, Bool, true, false, Option, None, Result, Ok, Err, IfOk, OnErr, inl, inr, subst, sym}
+use Rattle.std.proofs.Common.{◌≡◌, ◌≢◌, refl, ℕ, List, Bool, true, false, Option, None, Result, Ok, Err, IfOk, OnErr, inl, inr, subst, sym}
 use Rattle.std.specs.declared.alloc.AllocError.{AllocError}
 use Rattle.clap.specs.Words.{HasKind, Text, fault_of, kind_of}
 use Rattle.clap.specs.declared.error.Error.{Error}
 use Rattle.clap.specs.declared.error.ErrorKind.TheVariants.{OutOfMemory}
 use Rattle.program_words.specs.CommandLine.{Asks, command_line, wish_of}
 use Rattle.end_words.specs.Told.{AreNotes, Held, IsExplained, IsLeftTold, IsSavingsTold, IsTold, Prints, alone, explained as and_words}
-use Rattle.cwl_program.specs.Tells.{Explains, IsEndOf, LeadsTo, Tells, asks_why, chooses, explains, out_of_memory, telling_of}
+use Rattle.program_words.specs.RunWords.{RunWish}
+use Rattle.program_words.specs.declared.shows.Shows.{Shows}
+use Rattle.program_words.specs.declared.shows.Shows.TheVariants.{Outputs, Lines as Described, Template, Command}
+use Rattle.cwl_program.specs.Tells.{Explains, IsEndOf, IsEndOfWords, IsRunTold, LeadsTo, Tells, asks_why, chooses, explains, out_of_memory, telling_of}
 use Rattle.program_words.specs.declared.command.Choice.{Choice}
 use Rattle.end_words.specs.declared.exit.Exit.{Exit}
 use Rattle.end_words.specs.declared.exit.Exit.TheVariants.{Fault}
@@ -14,6 +17,7 @@ use Rattle.end_words.specs.declared.exit.Fault.TheVariants as faults
 use Rattle.end_words.specs.declared.run_end.RunEnd.{RunEnd}
 use Rattle.program_words.specs.declared.savings.Savings.{Savings}
 use Rattle.program_words.specs.declared.telling.Telling.{Telling}
+use Rattle.program_words.specs.declared.telling.Telling.TheVariants.{Nothing, Lines, OneLine}
 
 -- what a choice comes to, or the fault where memory was short
 pub chosen_or_fault : (words : List Text) (path : Text) (choice : Choice) (answer : Result RunEnd AllocError) (end : RunEnd) (why : Bool) (telling : Telling)
@@ -51,3 +55,17 @@ pub explained : (words : List Text) (path : Text) (out out_new err err_told err_
 explained words path out out_new err err_told err_new error status other (inl memory) untold explaining = absurd (other memory)
 explained words path out out_new err err_told err_new error status other (inr among) untold explaining =
     explains (kind_of error) among (subst (λ (e : Held). Explains (kind_of error) out out_new e err_new status) untold explaining)
+
+-- nothing was told
+pub untold : (telling : Telling) (err : Held) → IsRunTold telling err err
+untold Nothing err = refl
+untold Lines err = tt
+untold OneLine err = tt
+
+-- what is shown in place of a run leaves nothing
+pub shows_so : (shows : Shows) (words : RunWish) (path : Text) (answer : Result RunEnd AllocError)
+    → shows ≢ Outputs → IfOk answer (λ end. end.left ≡ None) → IfOk answer (λ end. IsEndOfWords shows words path end.exit end.left)
+shows_so Outputs words path answer other gone = absurd (other refl)
+shows_so Described words path answer other gone = gone
+shows_so Template words path answer other gone = gone
+shows_so Command words path answer other gone = gone

@@ -245,7 +245,7 @@ where
 {
     match words.shows {
         Shows::Outputs => end_of_process(rt, words, path, err),
-        Shows::Lines | Shows::Template | Shows::Command => end_of_showing(rt, words, path),
+        _ => end_of_showing(rt, words, path),
     }
 }
 
