@@ -2,6 +2,7 @@
 
 import argparse
 import os
+import re
 import sys
 from typing import List, Optional
 
@@ -14,6 +15,8 @@ from .requirements import FORCED
 from .versions import UnknownVersion
 
 UNSUPPORTED, FAILED, USAGE = 33, 1, 3
+# Refusals of documents that are wrong by the standard, as cwl-runner takes them, and not only of what this runner leaves out.
+WRONG_DOCUMENT = re.compile(r"refused: (C1|C4|C8|K\d)\b")
 
 
 def words_of(arguments: List[str]) -> argparse.Namespace:
@@ -85,7 +88,9 @@ def asked(document: str, inputs: Optional[str]) -> int:
     said = runner.verdict(deparohi, document, inputs)
     if not said.accepted:
         print(f"deparohi run --validate: {said.words}", file=sys.stderr)
-    return 0 if said.accepted else UNSUPPORTED
+    if said.accepted:
+        return 0
+    return FAILED if WRONG_DOCUMENT.match(said.words) else UNSUPPORTED
 
 
 def report_of(findings: Findings, file: str) -> str:
