@@ -30,7 +30,7 @@ pub data IsRecordExit : Exit → Type 0 where
 -- a run, or what is shown in place of one: of that it is said that no folder is left, and nothing of what is shown
 abbrev pub IsEndOfWords : Shows → RunWish → (path : Text) → Exit → (left : Option Text) → Type 0
 IsEndOfWords Outputs words path exit left = IsEndOfRun words path exit left
-IsEndOfWords shows words path exit left = left ≡ None
+IsEndOfWords other words path exit left = left ≡ None
 
 -- what the choice comes to, with this `PATH`, and the work folder, where it stays
 abbrev pub IsEndOf : (path : Text) → Choice → Exit → (left : Option Text) → Type 0
