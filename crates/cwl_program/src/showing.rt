@@ -23,7 +23,7 @@ pub fn end_of_showing<R: World + Env + Input>(
     words: &RunWords,
     path: &str,
 ) -> Result<RunEnd, AllocError>
-    ensures left { IfOk result (λ end. end.left ≡ None) }
+    ensures { IfOk result (λ end. end.left ≡ None) }
 {
     match here_of(rt) {
         Ok(here) => {
