@@ -28,8 +28,8 @@ _deparohi() {
         return
     fi
     case $command in
-    run) every="--work --outdir --slots --retries --record --archive --cache --base --rate --verbose --progress --keep --keep-failed --parallel --validate --template --print-command $every" ;;
-    plan) every="--dot --work --outdir --parallel --slots --retries --record --archive --cache --base --rate $every" ;;
+    run) every="--work --outdir --slots --retries --record --archive --cache --base --rate --verbose --progress --keep --keep-failed --validate --template --print-command $every" ;;
+    plan) every="--dot --work --outdir --slots --retries --record --archive --cache --base --rate $every" ;;
     record) every="--forget $every" ;;
     help) every="" ;;
     esac
