@@ -1,10 +1,14 @@
-"""Asks the program of run_rows how long the machine takes over runs of many jobs, and prints a table.
+"""Asks the program of run_rows how long the machine takes over runs of many jobs, and prints two tables.
 
-usage: machine.py PROGRAM
+usage: machine.py PROGRAM [jobs|growth]      one of the tables
 
-Each run is measured in a process of its own, three times where that takes under half a minute; the table has the medians. 'run' and 'unfolding' are microseconds for each job,
+The first: each run is measured in a process of its own, three times where that takes under half a minute; the table has the medians. 'run' and 'unfolding' are microseconds for each job,
 'share' says which part of the run the unfolding is, 'memory' the peak of the process in MB, 'json' how long Python's json takes to read
-the row, in microseconds for each job. Needs Python 3.8 or later.
+the row, in microseconds for each job.
+
+The second: workflows of six shapes of about 256, 1,024, 4,096 and 16,384 jobs, with four slots. It has the microseconds of the run for each job, how many
+times as long the run takes as that with a fourth of the jobs, and the peak of the memory in kB for each job. A run that would take over ten minutes, if it
+took sixteen times as long as the one before, is left out. Needs Python 3.8 or later.
 """
 
 import json
@@ -66,6 +70,69 @@ RUNS = [
 ]
 
 
+def long_chain(count):
+    """Returns a chain whose steps all run one process, since a document has at most 4,096 of them."""
+    steps = [{"id": "s0", "in": {}, "out": ["o"], "run": "#first"}]
+    for number in range(1, count):
+        steps.append({"id": f"s{number}", "in": {"f": f"s{number - 1}/o"}, "out": ["o"], "run": "#next"})
+    root = {"id": "main", **workflow({}, {"o": {"type": "File", "outputSource": f"s{count - 1}/o"}}, steps)}
+    version = root.pop("cwlVersion")
+    return {"cwlVersion": version, "$graph": [root, {"id": "first", **tool({})}, {"id": "next", **tool({"f": "File"})}]}, {}
+
+
+def of_three_steps(count):
+    """Returns a scatter over a workflow of three steps."""
+    inner, _ = chain(3)
+    del inner["cwlVersion"]
+    step = {"in": {"n": "n"}, "out": ["o"], "scatter": "n", "run": {**inner, "inputs": {"n": "int"}}}
+    document = workflow({"n": "int[]"}, {"o": {"type": "File[]", "outputSource": "s/o"}}, {"s": step})
+    document["requirements"]["SubworkflowFeatureRequirement"] = {}
+    return document, {"n": list(range(count // 3))}
+
+
+def merges(count):
+    """Returns a tree of steps, each of which merges the files of the four below it."""
+    steps, level = [], []
+    for number in range(max(1, 3 * count // 4)):
+        steps.append({"id": f"l{number}", "in": {}, "out": ["o"], "run": "#leaf"})
+        level.append(f"l{number}/o")
+    depth = 0
+    while len(level) > 1:
+        groups = [level[at:at + 4] for at in range(0, len(level), 4)]
+        level, depth = [], depth + 1
+        for number, group in enumerate(groups):
+            steps.append({"id": f"m{depth}x{number}", "in": {"fs": {"source": group, "linkMerge": "merge_flattened"}}, "out": ["o"], "run": "#merge"})
+            level.append(f"m{depth}x{number}/o")
+    root = {"id": "main", **workflow({}, {"o": {"type": "File", "outputSource": level[0]}}, steps)}
+    root["requirements"]["MultipleInputFeatureRequirement"] = {}
+    version = root.pop("cwlVersion")
+    return {"cwlVersion": version, "$graph": [root, {"id": "leaf", **tool({})}, {"id": "merge", **tool({"fs": "File[]"})}]}, {}
+
+
+def half_when(count):
+    """Returns a scatter with `when`, of which every second job is left out: twice as many tuples as jobs."""
+    step = {
+        "in": {"n": "n", "wanted": "wanted"},
+        "out": ["o"],
+        "scatter": ["n", "wanted"],
+        "scatterMethod": "dotproduct",
+        "when": "$(inputs.wanted)",
+        "run": tool({"n": "int"}),
+    }
+    outputs = {"o": {"type": {"type": "array", "items": ["null", "File"]}, "outputSource": "s/o"}}
+    return workflow({"n": "int[]", "wanted": "boolean[]"}, outputs, {"s": step}), {"n": list(range(count)), "wanted": [at % 2 == 0 for at in range(count)]}
+
+
+SHAPES = [
+    ("chain", long_chain),
+    ("scatter", scatter),
+    ("scatter that feeds one", lambda count: two_scatters(count // 2)),
+    ("scatter of three steps", of_three_steps),
+    ("tree of merges", merges),
+    ("`when` over a scatter", half_when),
+]
+
+
 def asked(program, row):
     """Returns what the program answers to a row, and the peak of its memory in MB."""
     with tempfile.TemporaryFile() as given, tempfile.TemporaryFile() as answer:
@@ -94,16 +161,43 @@ def micros_of_json(row):
     return (time.perf_counter() - begun) * 1e6
 
 
-def main():
-    program = sys.argv[1]
+def row_of(document, inputs, slots):
+    return json.dumps({"row": "r", "call": "timed", "slots": slots, "document": document, "inputs": inputs}).encode()
+
+
+def growth(program):
+    """Prints how a run's time and memory grow with its jobs."""
+    print(f"{'shape':24}{'jobs':>7}{'run':>9}{'times':>8}{'memory':>8}")
+    for name, make in SHAPES:
+        last = None
+        for count in (256, 1024, 4096, 16384):
+            if last and last * 16 > 600e6:
+                print(f"{name:24}{count:7}{'too long':>9}", flush=True)
+                break
+            told = times_of(program, row_of(*make(count), 4))
+            jobs, run = told[0][0]["jobs"], statistics.median(it["run"] for it, _ in told)
+            times = f"{run / last:.1f}" if last else "-"
+            print(f"{name:24}{jobs:7}{run / jobs:9.1f}{times:>8}{max(it for _, it in told) * 1024 / jobs:8.1f}", flush=True)
+            last = run
+
+
+def by_jobs(program):
     print(f"{'run':24}{'slots':>6}{'jobs':>7}{'run':>9}{'unfolding':>11}{'share':>7}{'memory':>8}{'json':>7}")
     for name, (document, inputs), slots in RUNS:
-        row = json.dumps({"row": "r", "call": "timed", "slots": slots, "document": document, "inputs": inputs}).encode()
+        row = row_of(document, inputs, slots)
         told = times_of(program, row)
         jobs = told[0][0]["jobs"]
         run, unfolding = (statistics.median(it[key] for it, _ in told) / jobs for key in ("run", "unfolding"))
         memory, read = max(it for _, it in told), statistics.median(micros_of_json(row) for _ in range(3)) / jobs
         print(f"{name:24}{slots:6}{jobs:7}{run:9.1f}{unfolding:11.1f}{unfolding / run:7.0%}{memory:8.0f}{read:7.1f}", flush=True)
+
+
+def main():
+    program, tables = sys.argv[1], sys.argv[2:] or ["jobs", "growth"]
+    if "jobs" in tables:
+        by_jobs(program)
+    if "growth" in tables:
+        growth(program)
 
 
 if __name__ == "__main__":

@@ -9,4 +9,4 @@ if [ -z "${PROGRAM-}" ]; then
     PROGRAM=$("$top/scripts/build" run_rows)
     PROGRAM=$top/$PROGRAM
 fi
-python3 "$here/machine.py" "$PROGRAM"
+python3 "$here/machine.py" "$PROGRAM" "$@"
