@@ -65,7 +65,10 @@ fn fault_lines<R: World>(
             Ok(bytes) => form_lines(rt.alloc(), bytes.as_slice(), fault.outward.as_slice()),
             Err(_) => Ok(Vec::new(rt.alloc())),
         },
-        Cause::UnknownField => near_lines(rt.alloc(), fault.outward.as_slice()),
+        Cause::UnknownField => match bytes_of_file(rt, path) {
+            Ok(bytes) => near_lines(rt.alloc(), bytes.as_slice(), fault.outward.as_slice()),
+            Err(_) => Ok(Vec::new(rt.alloc())),
+        },
         Cause::UnknownRequirement => line(rt.alloc(), NOT_MET),
         _ => Ok(Vec::new(rt.alloc())),
     }

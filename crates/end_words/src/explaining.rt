@@ -268,7 +268,7 @@ fn cause_words(
         Cause::Equation(NoValue::Kind(input)) if place.as_str() == ROOT => {
             misfit_words(alloc, input, notes.first())
         }
-        Cause::Equation(cause) => equation_words(alloc, cause),
+        Cause::Equation(cause) => equation_words(alloc, place, cause),
         Cause::Build(BuildFault::Reference(fault)) => {
             let more = known_names(*fault);
             format!(in alloc; "no command: {fault}{more}")
@@ -299,23 +299,52 @@ fn known_names(fault: RefFault) -> &'static str {
     }
 }
 
-fn equation_words(alloc: Global, cause: &NoValue) -> Result<String, AllocError> {
+// What a reference of a step may begin with, where it begins with another name.
+fn names_of_steps(fault: RefFault) -> &'static str {
+    match fault {
+        RefFault::NoName => "; only `inputs` and `self` are known there",
+        _ => "",
+    }
+}
+
+// Of the inputs of a step the place is told.
+fn equation_words(alloc: Global, place: &Text, cause: &NoValue) -> Result<String, AllocError> {
     match cause {
         NoValue::Missing(input) => {
-            format!(in alloc;
-                "a File or Directory of input `{input}` is absent, or of the other kind"
-            )
+            let input = input_at(alloc, place, input)?;
+            format!(in alloc; "a File or Directory of {input} is absent, or of the other kind")
         }
-        NoValue::Kind(input) => misfit_words(alloc, input, None),
+        NoValue::Kind(input) => {
+            let input = input_at(alloc, place, input)?;
+            format!(in alloc; "{input} is null, or not of its type")
+        }
         NoValue::Secondary(input) => {
-            format!(in alloc; "a file of input `{input}` lacks a secondary file")
+            let input = input_at(alloc, place, input)?;
+            let more = hand_on_words(place);
+            format!(in alloc; "a file of {input} lacks a secondary file{more}")
         }
         NoValue::Link(fault) => format!(in alloc; "{fault}"),
         NoValue::Reference(fault) => {
-            let more = known_names(*fault);
+            let more = names_of_steps(*fault);
             format!(in alloc; "a reference of `valueFrom` or `when` has no value: {fault}{more}")
         }
         NoValue::Scatter(fault) => format!(in alloc; "{fault}"),
+    }
+}
+
+fn input_at(alloc: Global, place: &Text, input: &Text) -> Result<String, AllocError> {
+    if place.as_str() == ROOT {
+        return format!(in alloc; "input `{input}`");
+    }
+    format!(in alloc; "input `{input}` of {place}")
+}
+
+// How the files of a step come to have others beside them.
+fn hand_on_words(place: &Text) -> &'static str {
+    if place.as_str() == ROOT {
+        ""
+    } else {
+        "; a workflow hands on those that its own input asks for"
     }
 }
 

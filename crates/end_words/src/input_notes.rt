@@ -17,7 +17,7 @@ pub fn misfit_lines(alloc: Global, given: &Given, input: &Text) -> Result<Vec<St
     let Some(kind) = input_type(alloc, &given.process, input.as_str())? else {
         return Ok(Vec::new(alloc));
     };
-    let words = match given.inputs.get(input.as_str()) {
+    let words = match value_of(given, input.as_str()) {
         None | Some(Value::Null) => {
             format!(in alloc; "the input object has no `{input}`, which has to be {kind}")?
         }
@@ -29,6 +29,21 @@ pub fn misfit_lines(alloc: Global, given: &Given, input: &Text) -> Result<Vec<St
     line(alloc, words.as_str())
 }
 
+// The value of an input, or the default in place of null.
+fn value_of<'a>(given: &'a Given, input: &str) -> Option<&'a Value> {
+    match given.inputs.get(input) {
+        None | Some(Value::Null) => default_of(&given.process, input),
+        value => value,
+    }
+}
+
+fn default_of<'a>(process: &'a Process, input: &str) -> Option<&'a Value> {
+    match process {
+        Process::Tool(tool) => find_in(tool.inputs.as_slice(), input)?.default.as_ref(),
+        Process::Workflow(workflow) => find_in(workflow.inputs.as_slice(), input)?.default.as_ref(),
+    }
+}
+
 /// Returns a line on the first file of an input that is not there.
 pub fn missing_lines(
     alloc: Global,
@@ -36,7 +51,7 @@ pub fn missing_lines(
     given: &Given,
     input: &Text,
 ) -> Result<Vec<String>, AllocError> {
-    match given.inputs.get(input.as_str()) {
+    match value_of(given, input.as_str()) {
         Some(Value::List(values)) => first_lines(alloc, log, values.as_slice()),
         Some(value) => lines_of(alloc, log, value),
         None => Ok(Vec::new(alloc)),
@@ -53,7 +68,7 @@ pub fn secondary_lines(
     let Some(declared) = declared_for(&given.process, input.as_str()) else {
         return Ok(Vec::new(alloc));
     };
-    match given.inputs.get(input.as_str()) {
+    match value_of(given, input.as_str()) {
         Some(Value::List(values)) => first_beside(alloc, log, declared, values.as_slice()),
         Some(value) => beside_lines(alloc, log, declared, value),
         None => Ok(Vec::new(alloc)),

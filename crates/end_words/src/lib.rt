@@ -17,6 +17,7 @@ mod given;
 mod input_notes;
 mod near_names;
 mod reading;
+mod references;
 mod refused_inputs;
 mod remarks;
 mod report;

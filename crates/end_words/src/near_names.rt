@@ -1,64 +1,59 @@
 //! The field that is meant where one is not known.
 
 use crate::advice::line;
+use crate::wrong_form::value_at;
 use document_table::Way;
+use serde_json::Value;
 use std::alloc::{AllocError, Global};
+use std::mem;
 use strsim::levenshtein;
 
-/// The fields that objects of a document may have.
-static FIELDS: [&str; 51] = [
-    "$graph",
-    "arguments",
-    "baseCommand",
-    "class",
-    "cwlVersion",
-    "default",
-    "doc",
-    "enableReuse",
-    "envDef",
-    "envName",
-    "envValue",
-    "glob",
-    "hints",
-    "id",
-    "in",
-    "inputBinding",
-    "inputs",
-    "itemSeparator",
-    "items",
-    "label",
-    "linkMerge",
-    "loadContents",
-    "name",
-    "out",
-    "outputBinding",
-    "outputEval",
-    "outputSource",
-    "outputs",
-    "pattern",
-    "permanentFailCodes",
-    "pickValue",
-    "position",
-    "prefix",
-    "required",
-    "requirements",
-    "run",
-    "scatter",
-    "scatterMethod",
-    "secondaryFiles",
-    "separate",
-    "shellQuote",
-    "source",
-    "stderr",
-    "stdin",
-    "stdout",
-    "steps",
-    "successCodes",
-    "symbols",
-    "temporaryFailCodes",
-    "type",
-    "valueFrom",
-];
+// The fields of each object of a document, as `document_table` has them.
+
+const PACKED: &str = "cwlVersion $graph";
+
+const TOOL: &str =
+    "cwlVersion class id inputs outputs baseCommand arguments stdin stdout stderr requirements hints successCodes temporaryFailCodes permanentFailCodes";
+
+const WORKFLOW: &str = "cwlVersion class id inputs outputs steps requirements hints";
+
+const INPUT: &str = "id type default inputBinding loadContents secondaryFiles";
+
+const TOOL_OUTPUT: &str = "id type outputBinding secondaryFiles";
+
+const WORKFLOW_OUTPUT: &str = "id type outputSource linkMerge pickValue secondaryFiles";
+
+const STEP: &str = "id in out run scatter scatterMethod when requirements hints";
+
+const STEP_INPUT: &str = "id source linkMerge pickValue default valueFrom loadContents";
+
+const STEP_OUTPUT: &str = "id";
+
+const INPUT_BINDING: &str =
+    "position prefix separate itemSeparator valueFrom shellQuote loadContents";
+
+const ARGUMENT: &str = "position prefix separate itemSeparator valueFrom shellQuote";
+
+const OUTPUT_BINDING: &str = "glob loadContents outputEval";
+
+const ITEM_BINDING: &str = "prefix separate";
+
+const ARRAY_TYPE: &str = "type items inputBinding";
+
+const ENUM_TYPE: &str = "type symbols name";
+
+const SECONDARY_FILE: &str = "pattern required";
+
+const REQUIREMENT: &str = "class";
+
+const ENV_VAR: &str = "class envDef";
+
+const WORK_REUSE: &str = "class enableReuse";
+
+const VARIABLE: &str = "envName envValue";
+
+/// What each object may have beside its fields.
+const READ_OVER: &str = "doc label format streamable intent";
 
 /// How many letters a name may be off.
 const MOST_EDITS: usize = 2;
@@ -66,29 +61,72 @@ const MOST_EDITS: usize = 2;
 /// The longest name that is looked at.
 const MOST_BYTES: usize = 40;
 
-/// Returns a line on the field that is likely meant at a place whose steps are given, the last one first; none where no name is near.
-pub fn near_lines(alloc: Global, outward: &[Way]) -> Result<Vec<String>, AllocError> {
-    let [Way::Under(name), ..] = outward else {
+/// Returns a line on a field that is not known, at a place of a document whose steps are given, the last one first: which of the fields
+/// of its object is likely meant, or else which there are.
+pub fn near_lines(
+    alloc: Global,
+    document: &[u8],
+    outward: &[Way],
+) -> Result<Vec<String>, AllocError> {
+    let [Way::Under(name), object @ ..] = outward else {
         return Ok(Vec::new(alloc));
     };
-    match nearest(alloc, name.as_str())? {
-        Some(field) => line(alloc, format!(in alloc; "is `{field}` meant?")?.as_str()),
-        None => Ok(Vec::new(alloc)),
+    match Value::from_slice(alloc, document) {
+        Ok(document) => {
+            let fields = fields_at(&document, object);
+            mem::drop(document);
+            lines_on(alloc, name.as_str(), fields)
+        }
+        Err(_) => Ok(Vec::new(alloc)),
     }
 }
 
-// The nearest field, and of several the first.
-fn nearest(alloc: Global, name: &str) -> Result<Option<&'static str>, AllocError> {
+fn lines_on(alloc: Global, name: &str, fields: &'static str) -> Result<Vec<String>, AllocError> {
+    match meant(alloc, name, fields)? {
+        Some(field) => line(alloc, format!(in alloc; "is `{field}` meant?")?.as_str()),
+        None if fields.is_empty() => Ok(Vec::new(alloc)),
+        None => line(alloc, fields_words(alloc, fields)?.as_str()),
+    }
+}
+
+fn fields_words(alloc: Global, fields: &str) -> Result<String, AllocError> {
+    let mut words = String::from_str(alloc, "there are")?;
+    for field in fields.split(' ') {
+        words.push_str(" `")?;
+        words.push_str(field)?;
+        words.push('`')?;
+    }
+    Ok(words)
+}
+
+// The nearest field, and else the nearest name that is read over.
+fn meant(
+    alloc: Global,
+    name: &str,
+    fields: &'static str,
+) -> Result<Option<&'static str>, AllocError> {
+    match nearest(alloc, name, fields)? {
+        Some(field) => Ok(Some(field)),
+        None => nearest(alloc, name, READ_OVER),
+    }
+}
+
+// The nearest of these names, and of several the first.
+fn nearest(
+    alloc: Global,
+    name: &str,
+    fields: &'static str,
+) -> Result<Option<&'static str>, AllocError> {
     let mut found = None;
     if name.len() > MOST_BYTES {
         return Ok(found);
     }
     let mut best = allowed_for(name);
-    for field in FIELDS.iter() {
-        let edits = levenshtein(alloc, name, *field)?;
+    for field in fields.split(' ') {
+        let edits = levenshtein(alloc, name, field)?;
         if edits < best {
             best = edits;
-            found = Some(*field);
+            found = Some(field);
         }
     }
     Ok(found)
@@ -97,4 +135,116 @@ fn nearest(alloc: Global, name: &str) -> Result<Option<&'static str>, AllocError
 // One more than the edits that a name may need: of a short one each letter counts.
 fn allowed_for(name: &str) -> usize {
     if name.len() > 3 { MOST_EDITS + 1 } else { 2 }
+}
+
+// ---- objects
+
+// The fields of the object at a place whose steps are given, the last one first; none where it is not known.
+fn fields_at(document: &Value, object: &[Way]) -> &'static str {
+    match object {
+        [] => fields_of_root(document),
+        [way, Way::Under(above), ..] if is_asking(above.as_str()) => {
+            requirement_fields(document, way, object)
+        }
+        [way, Way::Under(above), rest @ ..] => match entry_fields(document, above.as_str(), rest) {
+            "" => fields_within(document, way, object),
+            fields => fields,
+        },
+        [way, ..] => fields_within(document, way, object),
+    }
+}
+
+fn fields_of_root(document: &Value) -> &'static str {
+    match document.get("$graph") {
+        Some(_) => PACKED,
+        None => process_fields(Some(document)),
+    }
+}
+
+fn process_fields(process: Option<&Value>) -> &'static str {
+    match class_of(process) {
+        Some("Workflow") => WORKFLOW,
+        _ => TOOL,
+    }
+}
+
+fn class_of(object: Option<&Value>) -> Option<&str> {
+    object?.get("class")?.as_str()
+}
+
+// The fields of each object that stands in a field of this name.
+fn entry_fields(document: &Value, above: &str, rest: &[Way]) -> &'static str {
+    match above {
+        "inputs" => INPUT,
+        "outputs" => match class_of(value_at(document, rest)) {
+            Some("Workflow") => WORKFLOW_OUTPUT,
+            _ => TOOL_OUTPUT,
+        },
+        "steps" => STEP,
+        "in" => STEP_INPUT,
+        "out" => STEP_OUTPUT,
+        "envDef" => VARIABLE,
+        "arguments" => ARGUMENT,
+        "secondaryFiles" => SECONDARY_FILE,
+        _ => "",
+    }
+}
+
+fn is_asking(name: &str) -> bool {
+    name == "requirements" || name == "hints"
+}
+
+// A requirement has its class in it, or is under it.
+fn requirement_fields(document: &Value, way: &Way, object: &[Way]) -> &'static str {
+    let class = match way {
+        Way::Under(class) => Some(class.as_str()),
+        Way::At(_) => class_of(value_at(document, object)),
+    };
+    match class {
+        Some("EnvVarRequirement") => ENV_VAR,
+        Some("WorkReuse") => WORK_REUSE,
+        _ => REQUIREMENT,
+    }
+}
+
+// The fields of an object by the last step to it that has a name.
+fn fields_within(document: &Value, way: &Way, object: &[Way]) -> &'static str {
+    let name = match (way, object) {
+        (Way::Under(name), _) => name.as_str(),
+        (Way::At(_), [_, Way::Under(name), ..]) => name.as_str(),
+        _ => "",
+    };
+    match name {
+        "$graph" | "run" => process_fields(value_at(document, object)),
+        "inputBinding" if is_in_type(object) => ITEM_BINDING,
+        "inputBinding" => INPUT_BINDING,
+        "outputBinding" => OUTPUT_BINDING,
+        "secondaryFiles" => SECONDARY_FILE,
+        "type" | "items" => type_fields(value_at(document, object)),
+        _ => "",
+    }
+}
+
+// Whether what a place is in is a type.
+fn is_in_type(object: &[Way]) -> bool {
+    match object {
+        [_, Way::Under(above), ..] => is_type(above.as_str()),
+        [_, Way::At(_), Way::Under(above), ..] => is_type(above.as_str()),
+        _ => false,
+    }
+}
+
+fn is_type(name: &str) -> bool {
+    name == "type" || name == "items"
+}
+
+fn type_fields(kind: Option<&Value>) -> &'static str {
+    match named_type(kind) {
+        Some("enum") => ENUM_TYPE,
+        _ => ARRAY_TYPE,
+    }
+}
+
+fn named_type(kind: Option<&Value>) -> Option<&str> {
+    kind?.get("type")?.as_str()
 }

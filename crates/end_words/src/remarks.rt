@@ -2,6 +2,7 @@
 
 use crate::given::Given;
 use crate::reading::bytes_of_file;
+use crate::search::path_at;
 use document_links::Process;
 use plain_data::Text;
 use process_machine::World;
@@ -35,6 +36,12 @@ static IGNORED: [(&str, &str); 10] = [
     ("LoadListingRequirement", "listings are whole"),
     ("InlineJavascriptRequirement", "no JavaScript is evaluated"),
 ];
+
+const FORMAT: &str = "`format` is ignored: a file is taken whatever its format is";
+
+const SCRIPT_CLASS: &str = "InlineJavascriptRequirement";
+
+const SCRIPTS: &str = "`InlineJavascriptRequirement` changes nothing: no JavaScript is evaluated";
 
 const UNQUOTED: &str = "`shellQuote: false` is ignored: no shell reads the words";
 
@@ -200,7 +207,9 @@ fn look_at_members(
 ) -> Result<(), AllocError> {
     for (name, value) in members.iter() {
         note_member(alloc, file, name.as_str(), value, found)?;
-        look(alloc, file, value, found)?;
+        if name.as_str() != "default" {
+            look(alloc, file, value, found)?;
+        }
     }
     Ok(())
 }
@@ -215,10 +224,31 @@ fn note_member(
     match (name, value) {
         ("hints", Value::Object(hints)) => note_classes(alloc, hints, found),
         ("hints", Value::Array(hints)) => note_hints(alloc, hints, found),
+        ("requirements", Value::Object(required)) if required.get(SCRIPT_CLASS).is_some() => {
+            note(alloc, SCRIPTS, found)
+        }
+        ("requirements", Value::Array(required)) => note_scripts(alloc, required, found),
+        ("format", Value::String(_) | Value::Array(_)) => note(alloc, FORMAT, found),
         ("shellQuote", Value::Bool(false)) => note(alloc, UNQUOTED, found),
         ("run", Value::String(run)) => note_document(alloc, file, run.as_str(), found),
         _ => Ok(()),
     }
+}
+
+// A list of requirements, each with its class.
+fn note_scripts(
+    alloc: Global,
+    required: &Vec<Value>,
+    found: &mut Findings,
+) -> Result<(), AllocError> {
+    for requirement in required {
+        if let Some(Value::String(class)) = requirement.get("class") {
+            if class.as_str() == SCRIPT_CLASS {
+                note(alloc, SCRIPTS, found)?;
+            }
+        }
+    }
+    Ok(())
 }
 
 // Hints by their class.
@@ -279,11 +309,36 @@ fn note_document(
     if name.is_empty() || found.files.len() >= MOST_DOCUMENTS {
         return Ok(());
     }
-    let path = path_from(alloc, file, name)?;
+    let path = path_of_run(alloc, file, name)?;
     if !has(found.files.as_slice(), path.as_str()) {
         found.files.push(path)?;
     }
     Ok(())
+}
+
+// The path of a document that a file names: by a URL of its own, or by a relative one, which may have percent signs.
+fn path_of_run(alloc: Global, file: &str, name: &str) -> Result<String, AllocError> {
+    if name.starts_with("file:") {
+        return Ok(path_at_url(alloc, name)?.into_string());
+    }
+    if !name.contains('%') || name.contains("..") {
+        return path_from(alloc, file, name);
+    }
+    let url = format!(in alloc; "file:///{name}")?;
+    let path = path_at_url(alloc, url.as_str())?;
+    match path.as_str().strip_prefix('/') {
+        Some(decoded) if !name.starts_with('/') => path_from(alloc, file, decoded),
+        _ => path_from(alloc, file, path.as_str()),
+    }
+}
+
+// The path that a URL names; the URL itself where it names none.
+fn path_at_url(alloc: Global, url: &str) -> Result<Text, AllocError> {
+    let url = Text::from_text(alloc, url)?;
+    match path_at(alloc, &url)? {
+        Some(path) => Ok(path),
+        None => Ok(url),
+    }
 }
 
 // The path of a name in the folder of a file.

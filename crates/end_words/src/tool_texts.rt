@@ -1,23 +1,13 @@
 //! The texts of tools and steps that have patterns and references, and what is told of them.
 
-use crate::advice::line;
+use crate::references::{Runtime, Scope, Spoken, add_references, written};
 use collected_outputs::{CollectFault, OutputFault};
-use cwl_process::{Tool, ToolOutput};
+use cwl_process::{InputType, OutputType, Tool, ToolInput, ToolOutput};
 use document_links::{Process, Step};
-use param_refs::{Part, Reference, Segment, Template};
+use param_refs::Template;
 use plain_data::Text;
-use run_facts::find_in;
+use run_facts::{Known, find_in, type_words};
 use std::alloc::{AllocError, Global};
-
-/// How many names are told.
-const MOST_NAMES: usize = 10;
-
-/// A reference to something that is not there, and the text that it stands in.
-#[derive(Clone, Copy, Drop)]
-struct Stray<'a> {
-    template: &'a Template,
-    reference: &'a Reference,
-}
 
 // ---- places
 
@@ -62,155 +52,127 @@ fn step_name(part: &str) -> &str {
 
 // ---- references
 
-/// Returns a line on the first reference of a tool, of what makes its command, that begins with a name that is not known, or speaks of an
-/// input that the tool has not.
+/// Returns lines on the references of what makes a tool's command: on the first that begins with a name that is not known, speaks of an
+/// input that the tool has not, or of what no value of its type has; where there is none, on those that need not have a value.
 pub fn tool_lines(
     alloc: Global,
     process: &Process,
     place: &str,
 ) -> Result<Vec<String>, AllocError> {
+    let mut lines = Vec::new(alloc);
     let Some(tool) = tool_of(process, place) else {
-        return Ok(Vec::new(alloc));
+        return Ok(lines);
     };
-    match stray_of_tool(tool) {
-        Some(stray) => line(
-            alloc,
-            stray_words(alloc, stray, tool.inputs.as_slice())?.as_str(),
-        ),
-        None => Ok(Vec::new(alloc)),
-    }
+    let scope = scope_of_tool(alloc, tool, Runtime::CoresAndFolders)?;
+    let mut texts = Vec::new(alloc);
+    add_arguments(tool, &mut texts)?;
+    add_bindings(tool, &mut texts)?;
+    add_variables(tool, &mut texts)?;
+    add_streams(tool, &mut texts)?;
+    add_references(alloc, &scope, texts.as_slice(), &mut lines)?;
+    Ok(lines)
 }
 
-/// Returns such a line on a step's `valueFrom` and `when`.
+/// Returns such lines on a step's `valueFrom` and `when`.
 pub fn step_lines(
     alloc: Global,
     process: &Process,
     place: &str,
 ) -> Result<Vec<String>, AllocError> {
+    let mut lines = Vec::new(alloc);
     let Some(step) = step_of(process, place) else {
-        return Ok(Vec::new(alloc));
+        return Ok(lines);
     };
-    match stray_of_step(step) {
-        Some(stray) => line(
-            alloc,
-            stray_words(alloc, stray, step.inputs.as_slice())?.as_str(),
-        ),
-        None => Ok(Vec::new(alloc)),
+    let scope = scope_of_step(alloc, step)?;
+    let mut texts = Vec::new(alloc);
+    add_step_texts(step, &mut texts)?;
+    add_references(alloc, &scope, texts.as_slice(), &mut lines)?;
+    Ok(lines)
+}
+
+fn scope_of_tool(alloc: Global, tool: &Tool, runtime: Runtime) -> Result<Scope<'_>, AllocError> {
+    let mut inputs = Vec::new(alloc);
+    for (name, input) in tool.inputs.as_slice() {
+        inputs.push((name, known_of(input)))?;
+    }
+    Ok(Scope { inputs, runtime })
+}
+
+// Of a step's inputs nothing is known.
+fn scope_of_step(alloc: Global, step: &Step) -> Result<Scope<'_>, AllocError> {
+    let mut inputs = Vec::new(alloc);
+    for (name, _) in step.inputs.as_slice() {
+        inputs.push((name, Known::Nothing))?;
+    }
+    Ok(Scope {
+        inputs,
+        runtime: Runtime::None,
+    })
+}
+
+fn known_of(input: &ToolInput) -> Known<'_> {
+    match &input.kind {
+        InputType::Stdin => Known::File,
+        InputType::Members(types) => Known::Types(types),
     }
 }
 
-fn stray_of_step(step: &Step) -> Option<Stray<'_>> {
-    let inputs = step.inputs.as_slice();
-    for (_, input) in inputs {
-        if let Some(stray) = stray_in(inputs, input.value_from.as_ref()) {
-            return Some(stray);
-        }
-    }
-    stray_in(inputs, step.when.as_ref())
-}
-
-fn stray_of_tool(tool: &Tool) -> Option<Stray<'_>> {
-    if let Some(stray) = stray_of_arguments(tool) {
-        return Some(stray);
-    }
-    if let Some(stray) = stray_of_bindings(tool) {
-        return Some(stray);
-    }
-    let (inputs, streams) = (tool.inputs.as_slice(), &tool.streams);
-    if let Some(stray) = stray_in(inputs, streams.stdin.as_ref()) {
-        return Some(stray);
-    }
-    if let Some(stray) = stray_in(inputs, streams.stdout.as_ref()) {
-        return Some(stray);
-    }
-    stray_in(inputs, streams.stderr.as_ref())
-}
-
-fn stray_of_arguments(tool: &Tool) -> Option<Stray<'_>> {
+fn add_arguments<'a>(tool: &'a Tool, texts: &mut Vec<Spoken<'a>>) -> Result<(), AllocError> {
     for argument in tool.arguments.as_slice() {
-        if let Some(stray) = stray_in(tool.inputs.as_slice(), argument.value_from.as_ref()) {
-            return Some(stray);
-        }
+        add_text(argument.value_from.as_ref(), Known::Null, texts)?;
     }
-    None
+    Ok(())
 }
 
-fn stray_of_bindings(tool: &Tool) -> Option<Stray<'_>> {
-    let inputs = tool.inputs.as_slice();
-    for (_, input) in inputs {
+fn add_bindings<'a>(tool: &'a Tool, texts: &mut Vec<Spoken<'a>>) -> Result<(), AllocError> {
+    for (_, input) in tool.inputs.as_slice() {
         if let Some(binding) = &input.binding {
-            if let Some(stray) = stray_in(inputs, binding.value_from.as_ref()) {
-                return Some(stray);
-            }
+            add_text(binding.value_from.as_ref(), known_of(input), texts)?;
         }
     }
-    None
+    Ok(())
 }
 
-fn stray_in<'a, T>(inputs: &[(Text, T)], template: Option<&'a Template>) -> Option<Stray<'a>> {
-    let template = template?;
-    for part in template.parts() {
-        if let Part::Referred(reference) = part {
-            if is_stray(inputs, reference) {
-                return Some(Stray {
-                    template,
-                    reference,
-                });
-            }
+fn add_variables<'a>(tool: &'a Tool, texts: &mut Vec<Spoken<'a>>) -> Result<(), AllocError> {
+    let Some(variables) = tool.asked.environment() else {
+        return Ok(());
+    };
+    for (_, variable) in variables.as_slice() {
+        add_text(Some(&variable.value), Known::Null, texts)?;
+    }
+    Ok(())
+}
+
+fn add_streams<'a>(tool: &'a Tool, texts: &mut Vec<Spoken<'a>>) -> Result<(), AllocError> {
+    add_text(tool.streams.stdin.as_ref(), Known::Null, texts)?;
+    add_text(tool.streams.stdout.as_ref(), Known::Null, texts)?;
+    add_text(tool.streams.stderr.as_ref(), Known::Null, texts)
+}
+
+fn add_step_texts<'a>(step: &'a Step, texts: &mut Vec<Spoken<'a>>) -> Result<(), AllocError> {
+    for (_, input) in step.inputs.as_slice() {
+        add_text(input.value_from.as_ref(), Known::Nothing, texts)?;
+    }
+    add_text(step.when.as_ref(), Known::Nothing, texts)
+}
+
+fn add_text<'a>(
+    template: Option<&'a Template>,
+    own: Known<'a>,
+    texts: &mut Vec<Spoken<'a>>,
+) -> Result<(), AllocError> {
+    match template {
+        Some(template) => {
+            texts.push(Spoken { template, own })?;
+            Ok(())
         }
+        None => Ok(()),
     }
-    None
-}
-
-fn is_stray<T>(inputs: &[(Text, T)], reference: &Reference) -> bool {
-    match reference.symbol.as_str() {
-        "inputs" => match reference.segments.get(0) {
-            Some(Segment::Key(name)) => find_in(inputs, name.as_str()).is_none(),
-            _ => false,
-        },
-        "self" | "runtime" | "null" => false,
-        _ => true,
-    }
-}
-
-fn stray_words<T>(
-    alloc: Global,
-    stray: Stray<'_>,
-    inputs: &[(Text, T)],
-) -> Result<String, AllocError> {
-    let text = written(alloc, stray.template)?;
-    match (
-        stray.reference.symbol.as_str(),
-        stray.reference.segments.get(0),
-    ) {
-        ("inputs", Some(Segment::Key(name))) => {
-            let names = names_of(alloc, inputs)?;
-            format!(in alloc; "in `{text}`: there is no input `{name}`; {names}")
-        }
-        (symbol, _) => format!(in alloc; "in `{text}`: `{symbol}` is not known"),
-    }
-}
-
-// The first names of inputs.
-fn names_of<T>(alloc: Global, inputs: &[(Text, T)]) -> Result<String, AllocError> {
-    if inputs.is_empty() {
-        return String::from_str(alloc, "there are none");
-    }
-    let mut words = String::from_str(alloc, "there are")?;
-    for (name, _) in inputs.iter().take(MOST_NAMES) {
-        words.push_str(" `")?;
-        words.push_str(name.as_str())?;
-        words.push('`')?;
-    }
-    if inputs.len() > MOST_NAMES {
-        words.push_str(" ..")?;
-    }
-    Ok(words)
 }
 
 // ---- outputs
 
-/// Adds a line on the output that is at fault: its pattern, or the first reference of it that speaks of something that is not there.
+/// Adds lines on the output that is at fault: its pattern, its type, its secondary files, or its references that have no value.
 pub fn add_output(
     alloc: Global,
     tool: &Tool,
@@ -224,11 +186,13 @@ pub fn add_output(
         return Ok(());
     };
     match fault.fault {
-        CollectFault::Reference(_) => add_stray(alloc, tool, output, lines),
+        CollectFault::Reference(_) => add_output_references(alloc, tool, output, lines),
         CollectFault::NoMatch
         | CollectFault::TooMany
         | CollectFault::Pattern(_)
         | CollectFault::PatternNotText => add_patterns(alloc, output, lines),
+        CollectFault::SecondaryAbsent => add_secondary_files(alloc, output, lines),
+        CollectFault::NotTyped => add_type(alloc, output, lines),
         _ => Ok(()),
     }
 }
@@ -255,81 +219,43 @@ fn patterns_of(output: &ToolOutput) -> &[Template] {
     }
 }
 
-fn add_stray(
+// The patterns of the files that have to be beside each of its own.
+fn add_secondary_files(
+    alloc: Global,
+    output: &ToolOutput,
+    lines: &mut Vec<String>,
+) -> Result<(), AllocError> {
+    for file in output.secondary_files.as_slice() {
+        if file.required {
+            let pattern = &file.pattern;
+            lines.push(format!(in alloc; "a secondary file of it: {pattern}")?)?;
+        }
+    }
+    Ok(())
+}
+
+fn add_type(alloc: Global, output: &ToolOutput, lines: &mut Vec<String>) -> Result<(), AllocError> {
+    let OutputType::Members(types) = &output.kind else {
+        return Ok(());
+    };
+    let kind = type_words(alloc, types)?;
+    lines.push(format!(in alloc; "its type: {kind}")?)?;
+    Ok(())
+}
+
+fn add_output_references(
     alloc: Global,
     tool: &Tool,
     output: &ToolOutput,
     lines: &mut Vec<String>,
 ) -> Result<(), AllocError> {
-    match stray_of_output(tool, output) {
-        Some(stray) => {
-            lines.push(stray_words(alloc, stray, tool.inputs.as_slice())?)?;
-            Ok(())
-        }
-        None => Ok(()),
-    }
-}
-
-fn stray_of_output<'a>(tool: &Tool, output: &'a ToolOutput) -> Option<Stray<'a>> {
-    let inputs = tool.inputs.as_slice();
+    let scope = scope_of_tool(alloc, tool, Runtime::Cores)?;
+    let mut texts = Vec::new(alloc);
     for template in patterns_of(output) {
-        if let Some(stray) = stray_in(inputs, Some(template)) {
-            return Some(stray);
-        }
+        add_text(Some(template), Known::Null, &mut texts)?;
     }
-    match &output.binding {
-        Some(binding) => stray_in(inputs, binding.output_eval.as_ref()),
-        None => None,
+    if let Some(binding) = &output.binding {
+        add_text(binding.output_eval.as_ref(), Known::Nothing, &mut texts)?;
     }
-}
-
-// ---- texts
-
-// A text as it is written, but for how the keys of its references are.
-fn written(alloc: Global, template: &Template) -> Result<String, AllocError> {
-    let mut text = String::new(alloc);
-    for part in template.parts() {
-        match part {
-            Part::Plain(plain) => text.push_str(plain.as_str())?,
-            Part::Referred(reference) => add_reference(reference, &mut text)?,
-        }
-    }
-    Ok(text)
-}
-
-fn add_reference(reference: &Reference, text: &mut String) -> Result<(), AllocError> {
-    text.push_str("$(")?;
-    text.push_str(reference.symbol.as_str())?;
-    for segment in reference.segments.as_slice() {
-        add_segment(segment, text)?;
-    }
-    text.push(')')
-}
-
-fn add_segment(segment: &Segment, text: &mut String) -> Result<(), AllocError> {
-    match segment {
-        Segment::Key(key) if is_symbol(key.as_str()) => {
-            text.push('.')?;
-            text.push_str(key.as_str())
-        }
-        Segment::Key(key) => {
-            text.push_str("['")?;
-            text.push_str(key.as_str())?;
-            text.push_str("']")
-        }
-        Segment::Index(digits) => {
-            text.push('[')?;
-            text.push_str(digits.as_str())?;
-            text.push(']')
-        }
-    }
-}
-
-// Whether a key can stand behind a dot.
-fn is_symbol(key: &str) -> bool {
-    !key.is_empty()
-        && key
-            .as_bytes()
-            .iter()
-            .all(|byte| byte.is_ascii_alphanumeric() || *byte == b'_')
+    add_references(alloc, &scope, texts.as_slice(), lines)
 }

@@ -1,7 +1,7 @@
 //! What stands where a document has to have another form.
 
 use crate::advice::line;
-use document_table::Way;
+use document_table::{Way, plain_id};
 use program_words::cut;
 use serde_json::Value;
 use std::alloc::{AllocError, Global};
@@ -15,8 +15,10 @@ pub fn form_lines(
 ) -> Result<Vec<String>, AllocError> {
     match Value::from_slice(alloc, document) {
         Ok(document) => {
-            let wanted = wanted_at(outward);
-            let lines = value_lines(alloc, value_at(&document, outward), wanted);
+            let lines = match value_at(&document, outward) {
+                Some(value) => value_lines(alloc, value, outward),
+                None => Ok(Vec::new(alloc)),
+            };
             mem::drop(document);
             lines
         }
@@ -24,7 +26,8 @@ pub fn form_lines(
     }
 }
 
-fn value_at<'a>(document: &'a Value, outward: &[Way]) -> Option<&'a Value> {
+/// The value at a place of a document, whose steps are given, the last one first.
+pub fn value_at<'a>(document: &'a Value, outward: &[Way]) -> Option<&'a Value> {
     let mut value = document;
     for way in outward.iter().rev() {
         value = step(value, way)?;
@@ -39,14 +42,56 @@ fn step<'a>(value: &'a Value, way: &Way) -> Option<&'a Value> {
     }
 }
 
-fn value_lines(
-    alloc: Global,
-    value: Option<&Value>,
-    wanted: &str,
-) -> Result<Vec<String>, AllocError> {
-    match value {
-        Some(value) => line(alloc, words_of(alloc, value, wanted)?.as_str()),
-        None => Ok(Vec::new(alloc)),
+fn value_lines(alloc: Global, value: &Value, outward: &[Way]) -> Result<Vec<String>, AllocError> {
+    match outward {
+        [Way::Under(name), Way::Under(above), ..] if is_bad_id(name.as_str(), above.as_str()) => {
+            line(
+                alloc,
+                format!(in alloc; "the name is `{name}`{ID}")?.as_str(),
+            )
+        }
+        _ => {
+            let wanted = wanted_of(value, outward);
+            line(alloc, words_of(alloc, value, wanted)?.as_str())
+        }
+    }
+}
+
+// Whether a name can't be an id, where ids have to be.
+fn is_bad_id(name: &str, above: &str) -> bool {
+    let id = plain_id(name);
+    match above {
+        "inputs" | "outputs" | "in" => is_bad(id),
+        "steps" => is_bad(id) || id.contains('['),
+        _ => false,
+    }
+}
+
+fn is_bad(id: &str) -> bool {
+    id.is_empty() || id.contains('/') || id.contains('#')
+}
+
+// What a value has to be: of some values it is told by what is wrong with them.
+fn wanted_of(value: &Value, outward: &[Way]) -> &'static str {
+    match (value, outward) {
+        (Value::Number(_), [_, inside @ ..]) if is_in_default(inside) => WHOLE,
+        (Value::Bool(true), [Way::Under(name), ..]) if name.as_str() == "loadContents" => {
+            ", and has to be `false`: only the inputs and outputs of tools have contents"
+        }
+        (Value::String(_), [Way::Under(name), ..]) if name.as_str() == "id" => ID,
+        (Value::String(_), [Way::At(_), Way::Under(name), ..]) if name.as_str() == "out" => ID,
+        _ => wanted_at(outward),
+    }
+}
+
+fn is_in_default(outward: &[Way]) -> bool {
+    outward.iter().any(|way| is_default(way))
+}
+
+fn is_default(way: &Way) -> bool {
+    match way {
+        Way::Under(name) => name.as_str() == "default",
+        Way::At(_) => false,
     }
 }
 
@@ -135,7 +180,7 @@ fn wanted_field(name: &str) -> &'static str {
         "successCodes" | "temporaryFailCodes" | "permanentFailCodes" => {
             ", and has to be a list of whole numbers of 32 bits"
         }
-        "default" => ", and has to be JSON whose numbers are whole and have at most 64 bits",
+        "default" => WHOLE,
         "secondaryFiles" => {
             ", and has to be a text as `.bai` or `^.bai`, an object with `pattern`, or a list of them"
         }
@@ -175,6 +220,11 @@ const TYPE: &str =
     ", and has to be a type: `string`, `int`, `long`, `boolean`, `File`, `Directory`, `Any` or `null`, one with `[]` or `?` behind it, a list of types, or an object of `type` `array` or `enum`";
 
 const SOURCE: &str = ", and has to be the name of an input, STEP/OUTPUT, or a list of those";
+
+const ID: &str =
+    ", and has to be a name that is not empty and has neither `/` nor `#` (that of a step no `[` either)";
+
+const WHOLE: &str = ", and has to be JSON whose numbers are whole and have at most 64 bits";
 
 const INT: &str = ", and has to be a whole number of 32 bits";
 
