@@ -10,9 +10,12 @@ use std::alloc::Global;
 mod accepted;
 mod arguments;
 mod documents;
+mod ends;
 mod launches;
 mod linked;
+mod orders;
 mod process;
+mod short;
 mod step_inputs;
 mod template;
 mod tool;
@@ -47,6 +50,7 @@ fn of_processes(alloc: Global, row: &Row) -> Result<String, RowFault> {
         "copied_launch" => launches::answer(alloc, row, true),
         "accept" => accepted::answer(alloc, row),
         "unfold" => unfold::answer(alloc, row),
+        "unfold_orders" => orders::answer(alloc, row),
         "step_input" | "value_froms" | "when_value" => step_inputs::answer(alloc, row),
         _ => Err(RowFault::UnknownCall),
     }

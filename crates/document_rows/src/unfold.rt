@@ -158,7 +158,7 @@ fn put_result(
     Ok(())
 }
 
-fn put_error(alloc: Global, out: &mut AnswerText, error: &UnfoldError) {
+pub(crate) fn put_error(alloc: Global, out: &mut AnswerText, error: &UnfoldError) {
     out.put_comma();
     match error {
         UnfoldError::Refused(UnfoldFault::TooManyJobs) => out.put("\"U1\""),

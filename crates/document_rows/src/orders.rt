@@ -1,0 +1,221 @@
+//! Unfolds a process as its jobs end, in one order after another.
+ghost use Rattle.std.specs.Prelude.{◌≡◌, All, IfOk, length};
+ghost use Rattle.job_graph.specs.PresentJobGraph.{AreWithin};
+
+use crate::arguments::fields_of;
+use crate::ends::{number_of, outputs_of, place_of};
+use crate::linked::process_of;
+use crate::short::{put_entries, put_short_place};
+use crate::unfold::put_error;
+use cwl_value::Value;
+use document_links::Process;
+use job_graph::{Costs, KnownJob, UnfoldError, Unfolding};
+use plain_data::Keyed;
+use plan_checker::{Graph, MOST_COST, Vertex};
+use row_io::{AnswerText, Row, RowFault};
+use serde_json::Value as Json;
+use std::alloc::{AllocError, Global};
+
+/// Of each of the row's `orders` what is known at once, and what each end adds.
+pub(crate) fn answer(alloc: Global, row: &Row) -> Result<String, RowFault> {
+    let process = process_of(alloc, row)?;
+    let mut out = AnswerText::new(alloc);
+    out.put("[");
+    put_orders(alloc, row, &mut out, &process)?;
+    out.put("]");
+    out.finish()
+}
+
+fn put_orders(
+    alloc: Global,
+    row: &Row,
+    out: &mut AnswerText,
+    process: &Process,
+) -> Result<(), RowFault> {
+    let inputs = fields_of(alloc, row.json("inputs")?)?;
+    for order in row.list("orders")? {
+        let ends = order.as_array().ok_or(RowFault::BadArgument)?;
+        out.put_comma();
+        out.put("[[");
+        put_order(alloc, out, process, &inputs, ends.as_slice())?;
+        out.put("]]");
+    }
+    Ok(())
+}
+
+fn put_order(
+    alloc: Global,
+    out: &mut AnswerText,
+    process: &Process,
+    inputs: &Keyed<Value>,
+    ends: &[Json],
+) -> Result<(), RowFault> {
+    match Unfolding::new(alloc, process, inputs, Keyed::new(alloc)) {
+        Ok(unfolding) => learn_all(alloc, out, unfolding, ends),
+        Err(error) => {
+            put_error(alloc, out, &error);
+            Ok(())
+        }
+    }
+}
+
+fn learn_all(
+    alloc: Global,
+    out: &mut AnswerText,
+    mut unfolding: Unfolding<'_>,
+    ends: &[Json],
+) -> Result<(), RowFault> {
+    let mut needed = put_more(alloc, out, &unfolding, Vec::new(alloc))?;
+    for end in ends {
+        out.put("],[");
+        learn(alloc, out, &mut unfolding, end)?;
+        needed = put_more(alloc, out, &unfolding, needed)?;
+    }
+    Ok(())
+}
+
+/// Learns one end, and puts what is wrong with it.
+fn learn(
+    alloc: Global,
+    out: &mut AnswerText,
+    unfolding: &mut Unfolding<'_>,
+    end: &Json,
+) -> Result<(), RowFault> {
+    let number = number_of(end)?;
+    let outputs = outputs_of(alloc, end, number)?;
+    let place = place_of(alloc, unfolding, number)?;
+    if let Err(error) = unfolding.learn(place, outputs) {
+        put_error(alloc, out, &error);
+    }
+    Ok(())
+}
+
+/// Puts the jobs that have become known, the jobs of the graph that have become needed or not, where a new job is, and the
+/// result where there is one. Takes and returns which jobs are needed.
+fn put_more(
+    alloc: Global,
+    out: &mut AnswerText,
+    unfolding: &Unfolding<'_>,
+    needed: Vec<bool>,
+) -> Result<Vec<bool>, RowFault> {
+    put_jobs(alloc, out, unfolding.known(), needed.len());
+    let needed = put_graph(alloc, out, unfolding, needed)?;
+    if let Some(outputs) = unfolding.result() {
+        out.put_comma();
+        put_entries(alloc, out, outputs);
+    }
+    Ok(needed)
+}
+
+/// Puts the jobs from this number on.
+fn put_jobs(alloc: Global, out: &mut AnswerText, known: &[KnownJob<'_>], told: usize) {
+    for number in told..known.len() {
+        out.put_comma();
+        put_job(alloc, out, &known[number]);
+    }
+}
+
+fn put_job(alloc: Global, out: &mut AnswerText, known: &KnownJob<'_>) {
+    put_short_place(alloc, out, &known.job.place);
+    put_entries(alloc, out, known.job.inputs.as_slice());
+    for parent in known.parents.as_slice() {
+        out.put("<");
+        out.put_natural(*parent as u64);
+    }
+}
+
+fn put_graph(
+    alloc: Global,
+    out: &mut AnswerText,
+    unfolding: &Unfolding<'_>,
+    needed: Vec<bool>,
+) -> Result<Vec<bool>, RowFault> {
+    match graph_of(alloc, unfolding)? {
+        Ok(graph) => Ok(put_vertices(
+            alloc,
+            out,
+            graph.vertices(),
+            unfolding.known(),
+            needed.as_slice(),
+        )?),
+        Err(error) => {
+            put_error(alloc, out, &error);
+            Ok(needed)
+        }
+    }
+}
+
+fn graph_of(
+    alloc: Global,
+    unfolding: &Unfolding<'_>,
+) -> Result<Result<Graph, UnfoldError>, AllocError> {
+    let costs = costs_of(alloc, unfolding.known().len())?;
+    Ok(unfolding.graph(costs.as_slice()))
+}
+
+/// Costs for so many jobs, other ones for each.
+fn costs_of(alloc: Global, count: usize) -> Result<Vec<Costs>, AllocError>
+    ensures length { IfOk result (λ costs. length costs.items ≡ count) }
+    ensures within { IfOk result (λ costs. All AreWithin costs.items) }
+{
+    let mut costs = Vec::with_capacity(alloc, count)?;
+    for number in 0..count {
+        costs.push(cost_of(number as u64))?;
+    }
+    Ok(costs)
+}
+
+/// What the job of a number costs: every other one can be loaded.
+fn cost_of(number: u64) -> Costs
+    ensures { AreWithin result }
+{
+    let cost = number.saturating_add(1).min(MOST_COST);
+    let load = if number % 2 == 0 { Some(cost) } else { None };
+    Costs {
+        load,
+        compute: cost,
+    }
+}
+
+/// Puts which jobs have become needed or not, and which are not the known job with its costs. Returns which are needed.
+fn put_vertices(
+    alloc: Global,
+    out: &mut AnswerText,
+    vertices: &[Vertex],
+    known: &[KnownJob<'_>],
+    needed: &[bool],
+) -> Result<Vec<bool>, AllocError> {
+    let mut flags = Vec::with_capacity(alloc, vertices.len())?;
+    for number in 0..vertices.len() {
+        let vertex = &vertices[number];
+        if !is_of(vertex, number, known) {
+            put_mark(out, "!", number);
+        }
+        match needed.get(number) {
+            Some(true) | None if !vertex.needed => put_mark(out, "-", number),
+            Some(false) if vertex.needed => put_mark(out, "+", number),
+            _ => {}
+        }
+        flags.push(vertex.needed)?;
+    }
+    Ok(flags)
+}
+
+/// Whether the vertex has the parents and the costs of the known job of this number.
+fn is_of(vertex: &Vertex, number: usize, known: &[KnownJob<'_>]) -> bool {
+    let costs = cost_of(number as u64);
+    match known.get(number) {
+        None => false,
+        Some(job) => {
+            vertex.parents.as_slice() == job.parents.as_slice()
+                && vertex.load == costs.load
+                && vertex.compute == costs.compute
+        }
+    }
+}
+
+fn put_mark(out: &mut AnswerText, mark: &str, number: usize) {
+    out.put_comma();
+    out.put(mark);
+    out.put_natural(number as u64);
+}
