@@ -1,5 +1,6 @@
 //! Unfolds a process as its jobs end, in one order after another.
-ghost use Rattle.std.specs.Prelude.{◌≡◌, All, IfOk, length};
+ghost use Rattle.std.specs.Prelude.{◌≡◌, ◌≤◌, All, IfOk, length};
+ghost use Rattle.std.specs.Option.{ForSome};
 ghost use Rattle.job_graph.specs.PresentJobGraph.{AreWithin};
 
 use crate::arguments::fields_of;
@@ -169,12 +170,26 @@ fn costs_of(alloc: Global, count: usize) -> Result<Vec<Costs>, AllocError>
 fn cost_of(number: u64) -> Costs
     ensures { AreWithin result }
 {
-    let cost = number.saturating_add(1).min(MOST_COST);
-    let load = if number % 2 == 0 { Some(cost) } else { None };
     Costs {
-        load,
-        compute: cost,
+        load: load_of(number),
+        compute: within(number),
     }
+}
+
+fn load_of(number: u64) -> Option<u64>
+    ensures { ForSome result (λ cost. cost ≤ MOST_COST) }
+{
+    if number % 2 == 0 {
+        Some(within(number))
+    } else {
+        None
+    }
+}
+
+fn within(number: u64) -> u64
+    ensures { (1 ≤ result) × (result ≤ MOST_COST) }
+{
+    number.clamp(1, MOST_COST)
 }
 
 /// Puts which jobs have become needed or not, and which are not the known job with its costs. Returns which are needed.
