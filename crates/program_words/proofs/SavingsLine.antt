@@ -1,6 +1,7 @@
 -- The lines on what became of the jobs, of their pieces.
 use Rattle.std.proofs.Common.{◌≡◌, ◌∙◌, ◌++◌, ℕ, List, ap, append_assoc, codes}
 use Rattle.program_words.specs.Savings.{line}
+use Rattle.program_words.proofs.JobLines.{seven}
 
 thirteen : (a b c d e f g h i j k l m : List ℕ)
     → a ++ (b ++ (c ++ (d ++ (e ++ (f ++ (g ++ (h ++ (i ++ (j ++ (k ++ (l ++ m)))))))))))
@@ -16,9 +17,6 @@ line_so jobs loaded computed rest time gain files a b c d e f g is_a is_b is_c i
     ∙ ap (λ x. line x b c d e f g) is_a ∙ ap (λ x. line jobs x c d e f g) is_b ∙ ap (λ x. line jobs loaded x d e f g) is_c
     ∙ ap (λ x. line jobs loaded computed x e f g) is_d ∙ ap (λ x. line jobs loaded computed rest x f g) is_e
     ∙ ap (λ x. line jobs loaded computed rest time x g) is_f ∙ ap (λ x. line jobs loaded computed rest time gain x) is_g
-
-seven : (a b c d e f g : List ℕ) → a ++ (b ++ (c ++ (d ++ (e ++ (f ++ g))))) ≡ a ++ b ++ c ++ d ++ e ++ f ++ g
-seven a b c d e f g = simp append_assoc
 
 abbrev pub plain : (jobs computed time files : List ℕ) → List ℕ
 plain jobs computed time files = jobs ++ codes ": " ++ computed ++ codes " computed; " ++ time ++ codes "; " ++ files

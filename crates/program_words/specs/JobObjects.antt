@@ -12,14 +12,10 @@ use Rattle.program_words.specs.Visible.{visible}
 abbrev pub command_json : Launch → List ℕ
 command_json launch = visible (compact_text (json_of (values.List (map values.Text launch.words))))
 
--- `{"event":"EVENT","place":PLACE`
-abbrev pub head : (event place : List ℕ) → List ℕ
-head event place = codes "{\"event\":\"" ++ event ++ codes "\",\"place\":" ++ place
-
 -- `{"event":"start","place":PLACE,"number":N,"command":[..]}`
 abbrev pub start_object : (place : List ℕ) (number : ℕ) (command : List ℕ) → List ℕ
 start_object place number command =
-    head (codes "start") place ++ codes ",\"number\":" ++ decimal number ++ codes ",\"command\":" ++ command ++ codes "}"
+    codes "{\"event\":\"start\",\"place\":" ++ place ++ codes ",\"number\":" ++ decimal number ++ codes ",\"command\":" ++ command ++ codes "}"
 
 -- no code where a signal ended it
 abbrev pub code_json : Option ℤ → List ℕ
@@ -29,13 +25,13 @@ code_json None = codes "null"
 -- `{"event":"end","place":PLACE,"number":N,"code":CODE,"milliseconds":MILLIS}`
 abbrev pub end_object : (place : List ℕ) → ChildEnd → List ℕ
 end_object place end =
-    head (codes "end") place ++ codes ",\"number\":" ++ decimal end.ticket ++ codes ",\"code\":" ++ code_json end.code
+    codes "{\"event\":\"end\",\"place\":" ++ place ++ codes ",\"number\":" ++ decimal end.ticket ++ codes ",\"code\":" ++ code_json end.code
     ++ codes ",\"milliseconds\":" ++ decimal end.millis ++ codes "}"
 
 -- `{"event":"load","place":PLACE}`
 abbrev pub load_object : (place : List ℕ) → List ℕ
-load_object place = head (codes "load") place ++ codes "}"
+load_object place = codes "{\"event\":\"load\",\"place\":" ++ place ++ codes "}"
 
 -- `{"event":"omit","place":PLACE}`
 abbrev pub omit_object : (place : List ℕ) → List ℕ
-omit_object place = head (codes "omit") place ++ codes "}"
+omit_object place = codes "{\"event\":\"omit\",\"place\":" ++ place ++ codes "}"

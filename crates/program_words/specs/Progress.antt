@@ -25,11 +25,11 @@ ends_of cs = text_of (take 9 cs) ++ codes "..." ++ text_of (drop (length cs - 9)
 abbrev pub in_short : List ℕ → List ℕ
 in_short text = if nat_le (length (chars text)) 21 then text else ends_of (chars text)
 
--- `PLACE SECONDS s`
-abbrev pub ages : Longest → List ℕ
-ages longest = in_short longest.place.now ++ codes " " ++ decimal longest.seconds ++ codes " s"
+-- and `; PLACE SECONDS s`
+abbrev pub with_longest : Counts → Longest → List ℕ
+with_longest counts longest = counted counts ++ codes "; " ++ in_short longest.place.now ++ codes " " ++ decimal longest.seconds ++ codes " s"
 
 -- how many jobs there are of each kind, and where one runs the one that runs longest
 abbrev pub progress_line : Counts → Option Longest → List ℕ
 progress_line counts None = counted counts
-progress_line counts (Some longest) = counted counts ++ codes "; " ++ ages longest
+progress_line counts (Some longest) = with_longest counts longest

@@ -33,14 +33,19 @@ pub(crate) fn progress_line(
 ) -> Result<String, AllocError>
     ensures { IfOk result (λ line. string_bytes line ≡ spec.progress_line counts longest.entry) }
 {
-    let front = counted(alloc, counts)?;
     match longest {
-        None => Ok(front),
-        Some(longest) => {
-            let behind = ages(alloc, longest)?;
-            format!(in alloc; "{front}; {behind}")
-        }
+        None => counted(alloc, counts),
+        Some(longest) => with_longest(alloc, counts, longest),
     }
+}
+
+fn with_longest(alloc: Global, counts: Counts, longest: Longest<'_>) -> Result<String, AllocError>
+    ensures { IfOk result (λ line. string_bytes line ≡ spec.with_longest counts longest.entry) }
+{
+    let counted = counted(alloc, counts)?;
+    let place = in_short(alloc, longest.place)?;
+    let seconds = longest.seconds;
+    format!(in alloc; "{counted}; {place} {seconds} s")
 }
 
 fn counted(alloc: Global, counts: Counts) -> Result<String, AllocError>
@@ -53,14 +58,6 @@ fn counted(alloc: Global, counts: Counts) -> Result<String, AllocError>
     } = counts;
     let left = known.saturating_sub(done).saturating_sub(running);
     format!(in alloc; "{done} of {known} jobs done, {running} running, {left} left")
-}
-
-fn ages(alloc: Global, longest: Longest<'_>) -> Result<String, AllocError>
-    ensures { IfOk result (λ words. string_bytes words ≡ spec.ages longest.entry) }
-{
-    let place = in_short(alloc, longest.place)?;
-    let seconds = longest.seconds;
-    format!(in alloc; "{place} {seconds} s")
 }
 
 // A text of at most 21 characters: its ends, where it has more.

@@ -249,6 +249,7 @@ impl<'a, E: Write> Teller<'a, E> {
         Ok(())
     }
 
+    // The line has the words that were kept, so there is none without them.
     fn put_start(&mut self, place: &Text, number: u64) -> io::Result<()>
         ensures silent { self.old.telling ≢ Telling.Objects → E.contents self.new.err.now
             ≡ E.contents self.old.err.now }
@@ -257,13 +258,14 @@ impl<'a, E: Write> Teller<'a, E> {
             → Appends (E.contents self.old.err.now) (E.contents self.new.err.now)
             (objects.start_object place.now number command ++ codes "\n")) }
     {
-        match (self.telling, &self.command) {
-            (Telling::Objects, Some(command)) => {
-                let line = start_object(self.alloc, place, number, command)?;
-                writeln!(self.err, "{line}")
-            }
-            _ => Ok(()),
+        if !matches!(self.telling, Telling::Objects) {
+            return Ok(());
         }
+        let Some(command) = &self.command else {
+            return Ok(());
+        };
+        let line = start_object(self.alloc, place, number, command)?;
+        writeln!(self.err, "{line}")
     }
 
     fn put_end(&mut self, place: &Text, end: &ChildEnd) -> io::Result<()>
