@@ -12,6 +12,11 @@ use Rattle.program_words.specs.Visible.{visible}
 abbrev pub command_json : Launch → List ℕ
 command_json launch = visible (compact_text (json_of (values.List (map values.Text launch.words))))
 
+-- the words that were kept, or that there was no room for them
+abbrev pub words_json : Option (List ℕ) → List ℕ
+words_json None = codes "null"
+words_json (Some words) = words
+
 -- `{"event":"start","place":PLACE,"number":N,"command":[..]}`
 abbrev pub start_object : (place : List ℕ) (number : ℕ) (command : List ℕ) → List ℕ
 start_object place number command =

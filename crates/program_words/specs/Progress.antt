@@ -7,11 +7,15 @@ use Rattle.program_words.specs.declared.progress.Longest.{Longest}
 abbrev pub erase : List ℕ
 erase = 13 ∷ 27 ∷ codes "[K"
 
+-- those that are neither done nor running; none where a job that is started again counts as both
+abbrev pub left_of : Counts → ℕ
+left_of counts = counts.known - (counts.done + counts.running)
+
 -- `DONE of KNOWN jobs done, RUNNING running, LEFT left`
 abbrev pub counted : Counts → List ℕ
 counted counts =
     decimal counts.done ++ codes " of " ++ decimal counts.known ++ codes " jobs done, " ++ decimal counts.running ++ codes " running, "
-    ++ decimal (counts.known - counts.done - counts.running) ++ codes " left"
+    ++ decimal (left_of counts) ++ codes " left"
 
 -- these characters as text
 abbrev pub text_of : List ℕ → List ℕ

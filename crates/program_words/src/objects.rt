@@ -30,12 +30,22 @@ fn words_of(alloc: Global, words: &[Text]) -> Result<Vec<Value>, AllocError>
     Ok(values)
 }
 
+/// The words that were kept of a command, or that there was no room for them.
+pub(crate) fn words_json(kept: &Option<Text>) -> &str
+    ensures { result.now ≡ spec.words_json kept.now }
+{
+    match kept {
+        None => "null",
+        Some(words) => words.as_str(),
+    }
+}
+
 /// A job's command has been started.
 pub(crate) fn start_object(
     alloc: Global,
     place: &Text,
     number: u64,
-    command: &Text,
+    command: &str,
 ) -> Result<String, AllocError>
     ensures { IfOk result (λ line. string_bytes line
         ≡ spec.start_object place.now number command.now) }

@@ -39,6 +39,16 @@ pub(crate) fn progress_line(
     }
 }
 
+// Those that are neither done nor running.
+fn left_of(counts: Counts) -> usize
+    ensures { result ≡ spec.left_of counts }
+{
+    counts
+        .known
+        .saturating_sub(counts.done)
+        .saturating_sub(counts.running)
+}
+
 fn with_longest(alloc: Global, counts: Counts, longest: Longest<'_>) -> Result<String, AllocError>
     ensures { IfOk result (λ line. string_bytes line ≡ spec.with_longest counts longest.entry) }
 {
@@ -56,7 +66,7 @@ fn counted(alloc: Global, counts: Counts) -> Result<String, AllocError>
         known,
         running,
     } = counts;
-    let left = known.saturating_sub(done).saturating_sub(running);
+    let left = left_of(counts);
     format!(in alloc; "{done} of {known} jobs done, {running} running, {left} left")
 }
 

@@ -6,7 +6,9 @@ ghost use Rattle.program_words.specs.JobObjects as objects;
 ghost use Rattle.program_words.specs.Progress as progress;
 ghost use Rattle.program_words.specs.Savings.{savings_line};
 
-use crate::objects::{command_json, end_object, load_object, omit_object, start_object};
+use crate::objects::{
+    command_json, end_object, load_object, omit_object, start_object, words_json,
+};
 use crate::progress::{Counts, Longest, progress_line};
 use crate::reuse::Why;
 use crate::savings::{Savings, savings_line};
@@ -249,21 +251,18 @@ impl<'a, E: Write> Teller<'a, E> {
         Ok(())
     }
 
-    // The line has the words that were kept, so there is none without them.
     fn put_start(&mut self, place: &Text, number: u64) -> io::Result<()>
         ensures silent { self.old.telling ≢ Telling.Objects → E.contents self.new.err.now
             ≡ E.contents self.old.err.now }
-        ensures told { OnOk result ((command : List ℕ) → self.old.telling ≡ Telling.Objects
-            → self.old.command ≡ Some command
+        ensures told { OnOk result (self.old.telling ≡ Telling.Objects
             → Appends (E.contents self.old.err.now) (E.contents self.new.err.now)
-            (objects.start_object place.now number command ++ codes "\n")) }
+            (objects.start_object place.now number (objects.words_json self.old.command)
+            ++ codes "\n")) }
     {
         if !matches!(self.telling, Telling::Objects) {
             return Ok(());
         }
-        let Some(command) = &self.command else {
-            return Ok(());
-        };
+        let command = words_json(&self.command);
         let line = start_object(self.alloc, place, number, command)?;
         writeln!(self.err, "{line}")
     }

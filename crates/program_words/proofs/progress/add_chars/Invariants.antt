@@ -3,4 +3,4 @@ use Rattle.program_words.specs.Progress.{text_of}
 use Rattle.program_words.proofs.progress.add_chars.Given as goal
 
 abbrev pub invariant-loop-c : goal.invariant-loop-c
-invariant-loop-c l = string_bytes l.text.now ≡ string_bytes l.text.old ++ text_of (take l.c-index l.chars)
+invariant-loop-c l = string_bytes l.text ≡ string_bytes l.fn.text ++ text_of (take l.c-index l.chars)
