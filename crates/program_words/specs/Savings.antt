@@ -37,8 +37,11 @@ jobs_words n = if n == 1 then codes "1 job" else grouped n ++ codes " jobs"
 abbrev pub not_needed : Savings → ℕ
 not_needed savings = savings.jobs - (savings.loaded + savings.computed)
 
+abbrev pub many_files : ℕ → List ℕ
+many_files n = grouped n ++ codes " files delivered"
+
 abbrev pub files_words : ℕ → List ℕ
-files_words n = if n == 1 then codes "1 file delivered" else grouped n ++ codes " files delivered"
+files_words n = if n == 1 then codes "1 file delivered" else many_files n
 
 abbrev pub line : (jobs loaded computed rest time gain files : List ℕ) → List ℕ
 line jobs loaded computed rest time gain files =

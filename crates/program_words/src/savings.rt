@@ -80,8 +80,14 @@ fn files_words(alloc: Global, files: u64) -> Result<String, AllocError>
     if files == 1 {
         return String::from_str(alloc, "1 file delivered");
     }
-    let files = grouped(alloc, files)?;
-    format!(in alloc; "{files} files delivered")
+    many_files(alloc, files)
+}
+
+fn many_files(alloc: Global, files: u64) -> Result<String, AllocError>
+    ensures { IfOk result (λ words. string_bytes words ≡ spec.many_files files) }
+{
+    let number = grouped(alloc, files)?;
+    format!(in alloc; "{number} files delivered")
 }
 
 // A number with a comma before its last three digits.

@@ -6,7 +6,7 @@ use Rattle.program_words.proofs.progress.with_longest.Goals as goal
 
 pub returns : goal.returns
 returns c =
-    let longest = c.args.longest.entry in
+    let longest = c.args.longest in
     let front = string_bytes c.in_ok-counted.counted in
     let place = string_bytes c.in_ok-place.place in
     let seconds = decimal longest.seconds in
