@@ -1,22 +1,22 @@
 -- The lines on what became of the jobs, of their pieces.
-use Rattle.std.proofs.Common.{◌≡◌, ◌∙◌, ◌++◌, ℕ, List, ap, append_assoc, codes}
-use Rattle.program_words.specs.Savings.{line}
-use Rattle.program_words.proofs.JobLines.{seven}
+use Rattle.std.proofs.Common.{◌≡◌, ◌∙◌, ◌++◌, ℕ, List, ap, codes}
+use Rattle.program_words.specs.Savings.{effect, line}
+use Rattle.program_words.proofs.JobLines.{five, nine, seven}
 
-thirteen : (a b c d e f g h i j k l m : List ℕ)
-    → a ++ (b ++ (c ++ (d ++ (e ++ (f ++ (g ++ (h ++ (i ++ (j ++ (k ++ (l ++ m)))))))))))
-    ≡ a ++ b ++ c ++ d ++ e ++ f ++ g ++ h ++ i ++ j ++ k ++ l ++ m
-thirteen a b c d e f g h i j k l m = simp append_assoc
+pub line_so : (jobs loaded computed rest effect a b c d e : List ℕ)
+    → a ≡ jobs → b ≡ loaded → c ≡ computed → d ≡ rest → e ≡ effect
+    → a ++ (codes ": " ++ (b ++ (codes " loaded, " ++ (c ++ (codes " computed, " ++ (d ++ (codes " not needed; " ++ e)))))))
+    ≡ line jobs loaded computed rest effect
+line_so jobs loaded computed rest effect a b c d e is_a is_b is_c is_d is_e =
+    nine a (codes ": ") b (codes " loaded, ") c (codes " computed, ") d (codes " not needed; ") e
+    ∙ ap (λ x. line x b c d e) is_a ∙ ap (λ x. line jobs x c d e) is_b ∙ ap (λ x. line jobs loaded x d e) is_c
+    ∙ ap (λ x. line jobs loaded computed x e) is_d ∙ ap (λ x. line jobs loaded computed rest x) is_e
 
-pub line_so : (jobs loaded computed rest time gain files a b c d e f g : List ℕ)
-    → a ≡ jobs → b ≡ loaded → c ≡ computed → d ≡ rest → e ≡ time → f ≡ gain → g ≡ files
-    → a ++ (codes ": " ++ (b ++ (codes " loaded, " ++ (c ++ (codes " computed, " ++ (d ++ (codes " not needed; " ++ (e ++ (codes ", " ++ (f ++ (codes "; " ++ g)))))))))))
-    ≡ line jobs loaded computed rest time gain files
-line_so jobs loaded computed rest time gain files a b c d e f g is_a is_b is_c is_d is_e is_f is_g =
-    thirteen a (codes ": ") b (codes " loaded, ") c (codes " computed, ") d (codes " not needed; ") e (codes ", ") f (codes "; ") g
-    ∙ ap (λ x. line x b c d e f g) is_a ∙ ap (λ x. line jobs x c d e f g) is_b ∙ ap (λ x. line jobs loaded x d e f g) is_c
-    ∙ ap (λ x. line jobs loaded computed x e f g) is_d ∙ ap (λ x. line jobs loaded computed rest x f g) is_e
-    ∙ ap (λ x. line jobs loaded computed rest time x g) is_f ∙ ap (λ x. line jobs loaded computed rest time gain x) is_g
+pub effect_so : (time gain files a b c : List ℕ) → a ≡ time → b ≡ gain → c ≡ files
+    → a ++ (codes ", " ++ (b ++ (codes "; " ++ c))) ≡ effect time gain files
+effect_so time gain files a b c is_a is_b is_c =
+    five a (codes ", ") b (codes "; ") c
+    ∙ ap (λ x. effect x b c) is_a ∙ ap (λ x. effect time x c) is_b ∙ ap (λ x. effect time gain x) is_c
 
 abbrev pub plain : (jobs computed time files : List ℕ) → List ℕ
 plain jobs computed time files = jobs ++ codes ": " ++ computed ++ codes " computed; " ++ time ++ codes "; " ++ files

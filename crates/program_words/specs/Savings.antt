@@ -43,16 +43,21 @@ many_files n = grouped n ++ codes " files delivered"
 abbrev pub files_words : ℕ → List ℕ
 files_words n = if n == 1 then codes "1 file delivered" else many_files n
 
-abbrev pub line : (jobs loaded computed rest time gain files : List ℕ) → List ℕ
-line jobs loaded computed rest time gain files =
-    jobs ++ codes ": " ++ loaded ++ codes " loaded, " ++ computed ++ codes " computed, " ++ rest ++ codes " not needed; " ++ time
-    ++ codes ", " ++ gain ++ codes "; " ++ files
+-- `TIME, about TIME saved; FILES files delivered`
+abbrev pub effect : (time gain files : List ℕ) → List ℕ
+effect time gain files = time ++ codes ", " ++ gain ++ codes "; " ++ files
 
--- `JOBS jobs: LOADED loaded, COMPUTED computed, REST not needed; TIME, about TIME saved; FILES files delivered`
+abbrev pub effect_words : Savings → List ℕ
+effect_words savings = effect (time_words savings.millis) (gain_words savings.gained) (files_words savings.delivered)
+
+abbrev pub line : (jobs loaded computed rest effect : List ℕ) → List ℕ
+line jobs loaded computed rest effect =
+    jobs ++ codes ": " ++ loaded ++ codes " loaded, " ++ computed ++ codes " computed, " ++ rest ++ codes " not needed; " ++ effect
+
+-- `JOBS jobs: LOADED loaded, COMPUTED computed, REST not needed; EFFECT`
 abbrev pub reuse_line : Savings → List ℕ
 reuse_line savings =
-    line (jobs_words savings.jobs) (grouped savings.loaded) (grouped savings.computed) (grouped (not_needed savings))
-    (time_words savings.millis) (gain_words savings.gained) (files_words savings.delivered)
+    line (jobs_words savings.jobs) (grouped savings.loaded) (grouped savings.computed) (grouped (not_needed savings)) (effect_words savings)
 
 -- `JOBS jobs: COMPUTED computed; TIME; FILES files delivered`
 abbrev pub plain_line : Savings → List ℕ

@@ -37,12 +37,17 @@ fn reuse_line(alloc: Global, savings: &Savings) -> Result<String, AllocError>
     let loaded = grouped(alloc, savings.loaded)?;
     let computed = grouped(alloc, savings.computed)?;
     let rest = grouped(alloc, not_needed(savings))?;
+    let effect = effect_words(alloc, savings)?;
+    format!(in alloc; "{jobs}: {loaded} loaded, {computed} computed, {rest} not needed; {effect}")
+}
+
+fn effect_words(alloc: Global, savings: &Savings) -> Result<String, AllocError>
+    ensures { IfOk result (λ words. string_bytes words ≡ spec.effect_words savings.now) }
+{
     let time = time_words(alloc, savings.millis)?;
     let gain = gain_words(alloc, savings.gained)?;
     let files = files_words(alloc, savings.delivered)?;
-    format!(in alloc;
-        "{jobs}: {loaded} loaded, {computed} computed, {rest} not needed; {time}, {gain}; {files}"
-    )
+    format!(in alloc; "{time}, {gain}; {files}")
 }
 
 fn plain_line(alloc: Global, savings: &Savings) -> Result<String, AllocError>

@@ -14,4 +14,5 @@ returns c =
     let millis = decimal end.millis in
     told string_bytes c.format.result _ (end_object place end) c.format.ensures.ok
     (nine front place (codes ",\"number\":") number (codes ",\"code\":") code (codes ",\"milliseconds\":") millis (codes "}")
-    ∙ ap (λ x. front ++ place ++ codes ",\"number\":" ++ number ++ codes ",\"code\":" ++ x ++ codes ",\"milliseconds\":" ++ millis ++ codes "}") c.in_ok-code.ensures)
+    ∙ ap (λ x. front ++ place ++ codes ",\"number\":" ++ number ++ codes ",\"code\":" ++ x ++ codes ",\"milliseconds\":" ++ millis ++ codes "}")
+    c.in_ok-code.ensures)
