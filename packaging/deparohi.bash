@@ -28,7 +28,7 @@ _deparohi() {
         return
     fi
     case $command in
-    run) every="--work --outdir --slots --retries --record --archive --cache --base --rate --verbose --progress --keep --keep-failed --validate --template --print-command $every" ;;
+    run) every="--work --outdir --slots --retries --record --archive --cache --base --rate --verbose --progress --progress-json --keep --keep-failed --validate --template --print-command $every" ;;
     plan) every="--dot --work --outdir --slots --retries --record --archive --cache --base --rate $every" ;;
     record) every="--forget $every" ;;
     help) every="" ;;

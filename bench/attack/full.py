@@ -70,7 +70,7 @@ class Scene:
         ran = subprocess.run(words, cwd=self.folder, stdin=subprocess.DEVNULL, stdout=subprocess.PIPE, stderr=subprocess.PIPE, text=True, timeout=SECONDS, check=False)
         started = f"{self.folder}/started"
         # (how many jobs were loaded and computed is said of each success)
-        told = [line for line in ran.stderr.splitlines() if not line.endswith(" saved")]
+        told = [line for line in ran.stderr.splitlines() if not line.endswith(" delivered")]
         return ran.returncode, ran.stdout, told, len(open(started).readlines()) if os.path.exists(started) else 0
 
     def is_right(self, path, letter):

@@ -17,7 +17,7 @@ use Rattle.end_words.specs.declared.exit.Fault.TheVariants as faults
 use Rattle.end_words.specs.declared.run_end.RunEnd.{RunEnd}
 use Rattle.program_words.specs.declared.savings.Savings.{Savings}
 use Rattle.program_words.specs.declared.telling.Telling.{Telling}
-use Rattle.program_words.specs.declared.telling.Telling.TheVariants.{Nothing, Lines, OneLine}
+use Rattle.program_words.specs.declared.telling.Telling.TheVariants.{Nothing, Lines, OneLine, Objects}
 
 -- what a choice comes to, or the fault where memory was short
 pub chosen_or_fault : (words : List Text) (path : Text) (choice : Choice) (answer : Result RunEnd AllocError) (end : RunEnd) (why : Bool) (telling : Telling)
@@ -61,6 +61,7 @@ pub untold : (telling : Telling) (err : Held) → IsRunTold telling err err
 untold Nothing err = refl
 untold Lines err = tt
 untold OneLine err = tt
+untold Objects err = tt
 
 -- what is shown in place of a run leaves nothing
 pub shows_so : (shows : Shows) (words : RunWish) (path : Text) (answer : Result RunEnd AllocError)

@@ -13,7 +13,7 @@ use Rattle.program_words.specs.declared.savings.Savings.{Savings}
 use Rattle.program_words.specs.declared.shows.Shows.{Shows}
 use Rattle.program_words.specs.declared.shows.Shows.TheVariants.{Outputs}
 use Rattle.program_words.specs.declared.telling.Telling.{Telling}
-use Rattle.program_words.specs.declared.telling.Telling.TheVariants.{Nothing, Lines, OneLine}
+use Rattle.program_words.specs.declared.telling.Telling.TheVariants.{Nothing, Lines, OneLine, Objects}
 use Rattle.end_words.specs.Told.{Held, Says}
 use Rattle.end_words.specs.declared.exit.Exit.{Exit}
 use Rattle.end_words.specs.declared.exit.Exit.TheVariants.{Record as Listed, Fault}
@@ -69,6 +69,7 @@ abbrev pub IsRunTold : Telling → (err err_run : Held) → Type 0
 IsRunTold Nothing err err_run = err_run ≡ err
 IsRunTold Lines err err_run = ⊤
 IsRunTold OneLine err err_run = ⊤
+IsRunTold Objects err err_run = ⊤
 
 -- `clap` answers with what is wrong, and not with the help that the words ask for
 abbrev pub IsWrong : ErrorKind → Type 0

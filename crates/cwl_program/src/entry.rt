@@ -20,6 +20,7 @@ use plain_data::Text;
 use process_machine::World;
 use program_words::{
     Choice, RecordWords, RunWords, Shows, Telling, add_explain_word, add_terminal_words, choice_of,
+    name_json_word,
 };
 use record_program::{Ending, Records};
 use std::alloc::{AllocError, Global};
@@ -72,8 +73,10 @@ fn unstarted<E: Write>(error: &io::Error, err: &mut E) -> u8 {
 
 fn words(rt: &HostRuntime) -> io::Result<Vec<String>> {
     let given: Vec<String> = env::args(rt)?.collect(rt.alloc())?;
-    let mut words = with_slots(rt.alloc(), given.as_slice(), processors_of(rt))?;
+    let settled = with_slots(rt.alloc(), given.as_slice(), processors_of(rt))?;
     mem::drop(given);
+    let mut words = name_json_word(rt.alloc(), settled.as_slice())?;
+    mem::drop(settled);
     let is_terminal = rt.stderr().is_terminal();
     if is_terminal && !is_set(rt, "TERM", "dumb") {
         add_terminal_words(rt.alloc(), &mut words)?;

@@ -4,7 +4,7 @@ use command_line::Launch;
 use plain_data::Text;
 use proc_host::ChildEnd;
 use process_machine::{Hear, shown_line};
-use program_words::{Counts, Listen, Teller, Why};
+use program_words::{Counts, Listen, Longest, Teller, Why};
 use std::alloc::{AllocError, Global};
 use std::cell::RefCell;
 use std::io::Write;
@@ -81,23 +81,29 @@ impl<E: Write> Listen for Speaker<'_, '_, E> {
         }
     }
 
-    fn started(&mut self, place: &Text, ticket: u64, counts: Counts) {
+    fn started(&mut self, place: &Text, ticket: u64, counts: Counts, longest: Option<Longest<'_>>) {
         if let Ok(mut voice) = self.voice.try_borrow_mut() {
             let _noted = voice.note_start(place, ticket);
-            voice.teller.started(place, ticket, counts);
+            voice.teller.started(place, ticket, counts, longest);
         }
     }
 
-    fn ended(&mut self, place: &Text, end: &ChildEnd, counts: Counts) {
+    fn ended(
+        &mut self,
+        place: &Text,
+        end: &ChildEnd,
+        counts: Counts,
+        longest: Option<Longest<'_>>,
+    ) {
         if let Ok(mut voice) = self.voice.try_borrow_mut() {
             voice.note_end(end.ticket);
-            voice.teller.ended(place, end, counts);
+            voice.teller.ended(place, end, counts, longest);
         }
     }
 
-    fn loaded(&mut self, place: &Text, counts: Counts) {
+    fn loaded(&mut self, place: &Text, counts: Counts, longest: Option<Longest<'_>>) {
         if let Ok(mut voice) = self.voice.try_borrow_mut() {
-            voice.teller.loaded(place, counts);
+            voice.teller.loaded(place, counts, longest);
         }
     }
 

@@ -6,9 +6,11 @@ use end_words::place_in;
 use job_rows::Row;
 use plain_data::{Keyed, Text};
 use proc_host::{ChildEnd, HostAnswer, HostFault, HostRequest};
-use program_words::{Counts, Listen, Recalled, Savings, Why, reason_for};
+use program_words::{Counts, Listen, Longest, Recalled, Savings, Why, reason_for};
 use run_core::{RecordAnswer, RecordRequest};
 use std::alloc::{AllocError, Global};
+use std::rt::Clock;
+use std::time::Instant;
 use workflow_engine::Watch;
 
 /// What of an earlier run is asked for, and which document is run on which inputs.
@@ -22,13 +24,16 @@ pub struct Memory<'a> {
     pub remembers: bool,
     /// Whether an archive is kept.
     pub keeps: bool,
+    /// Whether a line is to tell what became of the jobs.
+    pub counts: bool,
 }
 
-/// A child that runs, and its job's place.
+/// A child that runs, its job's place, and since how many milliseconds after the start of the run.
 #[derive(Drop)]
 struct Running {
     ticket: u64,
     place: Text,
+    since: u64,
 }
 
 /// What a run left that tells of its jobs, whose places are JSON text.
@@ -67,10 +72,13 @@ impl<'a> Traces<'a> {
 
 /// Keeps what becomes of each job, under its place as JSON text, and tells a listener. What there is no room for is left out.
 #[derive(Drop)]
-pub struct Jobs<'a, L: Listen> {
+pub struct Jobs<'a, R: AllocGlobal + Clock, L: Listen> {
+    rt: &'a R,
     alloc: Global,
     listener: &'a mut L,
     memory: Memory<'a>,
+    // when the run began, where the clock can be read
+    start: Option<Instant>,
     // how many jobs were known at the last question
     known: usize,
     // what the record said
@@ -79,6 +87,7 @@ pub struct Jobs<'a, L: Listen> {
     altered: Keyed<bool>,
     // the job whose files were fetched last, until the run goes on with them
     fetched: Option<Text>,
+    // the children that run, in the order of their starts
     running: Vec<Running>,
     traces: Traces<'a>,
     // the jobs whose command has ended, or whose files were loaded
@@ -86,16 +95,22 @@ pub struct Jobs<'a, L: Listen> {
     loaded: u64,
     // what it took to compute the jobs that this run did not compute
     gained: u64,
+    // how many files and folders go to the output folder
+    delivered: u64,
     // whether nothing was left out
     is_whole: bool,
 }
 
-impl<'a, L: Listen> Jobs<'a, L> {
-    pub fn new(alloc: Global, listener: &'a mut L, memory: Memory<'a>) -> Jobs<'a, L> {
+impl<'a, R: AllocGlobal + Clock, L: Listen> Jobs<'a, R, L> {
+    /// Begins, as the run does.
+    pub fn new(rt: &'a R, listener: &'a mut L, memory: Memory<'a>) -> Jobs<'a, R, L> {
+        let alloc = rt.alloc();
         Jobs {
+            rt,
             alloc,
             listener,
             memory,
+            start: Instant::now(rt).ok(),
             known: 0,
             recalled: Keyed::new(alloc),
             altered: Keyed::new(alloc),
@@ -105,6 +120,7 @@ impl<'a, L: Listen> Jobs<'a, L> {
             done: Keyed::new(alloc),
             loaded: 0,
             gained: 0,
+            delivered: 0,
             is_whole: true,
         }
     }
@@ -126,18 +142,26 @@ impl<'a, L: Listen> Jobs<'a, L> {
         }
     }
 
-    /// What became of the jobs of a run that took so long, where a job could have been loaded.
-    pub fn savings(&self, millis: u64) -> Option<Savings> {
-        if !self.memory.remembers || !self.is_whole {
+    /// What became of the jobs of a run that has just ended, where a line is to tell it.
+    pub fn savings(&self) -> Option<Savings> {
+        if !self.memory.counts || !self.is_whole {
             return None;
         }
         Some(Savings {
             jobs: self.known as u64,
             loaded: self.loaded,
             computed: self.traces.tickets.len() as u64,
-            millis,
+            millis: self.age()?,
             gained: self.gained,
+            delivered: self.delivered,
+            could_load: self.memory.remembers,
         })
+    }
+
+    // The milliseconds since the start of the run.
+    fn age(&self) -> Option<u64> {
+        let time = self.start?.elapsed(self.rt).ok()?;
+        Some(u64::try_from(time.as_millis()).unwrap_or(u64::MAX))
     }
 
     fn note(&mut self, noted: Result<(), AllocError>) {
@@ -158,6 +182,10 @@ impl<'a, L: Listen> Jobs<'a, L> {
         self.settle()?;
         match request {
             HostRequest::Start(launch) => self.note_launch(place, launch),
+            HostRequest::Deliver(plan) => {
+                self.delivered = plan.moves.len() as u64;
+                Ok(())
+            }
             _ => Ok(()),
         }
     }
@@ -211,10 +239,17 @@ impl<'a, L: Listen> Jobs<'a, L> {
         self.traces
             .tickets
             .insert(place.copied(self.alloc)?, ticket)?;
-        self.running.push(Running { ticket, place })?;
+        let age = self.age().unwrap_or(0);
+        self.running.push(Running {
+            ticket,
+            place,
+            since: age,
+        })?;
         let counts = self.counts();
+        let longest = longest_of(self.running.as_slice(), age);
         if let Some(child) = self.running.last() {
-            self.listener.started(&child.place, child.ticket, counts);
+            self.listener
+                .started(&child.place, child.ticket, counts, longest);
         }
         Ok(())
     }
@@ -225,7 +260,8 @@ impl<'a, L: Listen> Jobs<'a, L> {
         };
         self.done.insert(place.copied(self.alloc)?, true)?;
         let counts = self.counts();
-        self.listener.ended(&place, end, counts);
+        let longest = longest_of(self.running.as_slice(), self.age().unwrap_or(0));
+        self.listener.ended(&place, end, counts, longest);
         Ok(())
     }
 
@@ -235,7 +271,7 @@ impl<'a, L: Listen> Jobs<'a, L> {
             .running
             .iter()
             .position(|child| child.ticket == ticket)?;
-        let Running { ticket: _, place } = self.running.remove(index);
+        let Running { place, .. } = self.running.remove(index);
         Some(place)
     }
 
@@ -291,12 +327,13 @@ impl<'a, L: Listen> Jobs<'a, L> {
         self.gained = self.gained.saturating_add(cost);
         self.done.insert(place.copied(self.alloc)?, true)?;
         let counts = self.counts();
-        self.listener.loaded(place, counts);
+        let longest = longest_of(self.running.as_slice(), self.age().unwrap_or(0));
+        self.listener.loaded(place, counts, longest);
         Ok(())
     }
 }
 
-impl<L: Listen> Watch for Jobs<'_, L> {
+impl<R: AllocGlobal + Clock, L: Listen> Watch for Jobs<'_, R, L> {
     fn asks(&mut self, place: &JobPlace, request: &HostRequest, known: usize) {
         self.known = known;
         let noted = self.note_question(place, request);
@@ -319,6 +356,15 @@ impl<L: Listen> Watch for Jobs<'_, L> {
         let noted = self.note_record(place, request, answer);
         self.note(noted);
     }
+}
+
+// Of the children that run the one that was started first, so many milliseconds after the start of the run.
+fn longest_of(running: &[Running], age: u64) -> Option<Longest<'_>> {
+    let child = running.first()?;
+    Some(Longest {
+        place: child.place.as_str(),
+        seconds: age.saturating_sub(child.since) / 1_000,
+    })
 }
 
 fn recalled_of(key: Text, row: &Option<Row>) -> Recalled {

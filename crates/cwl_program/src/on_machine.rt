@@ -21,7 +21,6 @@ use std::io::Write;
 use std::mem;
 use std::process::Stdio;
 use std::rt::Clock;
-use std::time::Instant;
 use workflow_engine::run;
 
 /// Runs on a machine that works in these places, and asks a record of which nothing was asked.
@@ -44,10 +43,7 @@ where
         (K.log rows.new) end.exit) }
 {
     match machine_of(rt, places, words.keep) {
-        Ok(host) => {
-            let memory = memory_of(words);
-            told_of(rt, host, given, options, words.telling, memory, rows, err)
-        }
+        Ok(host) => { told_of(rt, host, given, options, words, rows, err) }
         Err(error) => {
             mem::drop(options);
             Err(error)
@@ -61,6 +57,7 @@ fn memory_of<'a>(words: &RunWords<'a>) -> Memory<'a> {
         inputs: file_of(words.inputs),
         remembers: remembers(words),
         keeps: keeps_archive(words),
+        counts: remembers(words) || !matches!(words.telling, Telling::Nothing),
     }
 }
 
@@ -93,8 +90,7 @@ fn told_of<R: World, K: Record, E: Write>(
     mut host: Machine<R>,
     given: &Given,
     options: Options,
-    telling: Telling,
-    memory: Memory<'_>,
+    words: &RunWords,
     rows: &mut K,
     err: &mut E,
 ) -> Result<RunEnd, AllocError>
@@ -104,23 +100,23 @@ where
     requires accepted { fault_in given.now.process ≡ None }
     requires limits { IsWithinLimits options }
     requires fresh { K.log rows.old ≡ [] }
-    ensures told { IsRunTold telling (E.contents err.old) (E.contents err.new) }
+    ensures told { IsRunTold words.now.telling (E.contents err.old) (E.contents err.new) }
     ensures exit { IfOk result (λ end. IsRanOver given.now.process given.now.inputs options
         (K.log rows.new) end.exit) }
 {
-    match telling {
+    match words.telling {
         Telling::Nothing => {
-            let host = Heard::new(host, Deaf);
+            let (host, memory) = (Heard::new(host, Deaf), memory_of(words));
             ended(rt, host, given, options, &mut Silent, memory, rows)
         }
         Telling::Lines => {
             host.show_messages();
-            let teller = Teller::new(rt.alloc(), err, telling);
-            told_aloud(rt, host, given, options, teller, memory, rows)
+            let teller = Teller::new(rt.alloc(), err, words.telling);
+            told_aloud(rt, host, given, options, teller, memory_of(words), rows)
         }
-        Telling::OneLine => {
-            let teller = Teller::new(rt.alloc(), err, telling);
-            told_by(rt, host, given, options, teller, memory, rows)
+        Telling::OneLine | Telling::Objects => {
+            let teller = Teller::new(rt.alloc(), err, words.telling);
+            told_by(rt, host, given, options, teller, words, rows)
         }
     }
 }
@@ -131,7 +127,7 @@ fn told_by<R: World, K: Record, E: Write>(
     given: &Given,
     options: Options,
     mut teller: Teller<'_, E>,
-    memory: Memory<'_>,
+    words: &RunWords,
     rows: &mut K,
 ) -> Result<RunEnd, AllocError>
 where
@@ -143,11 +139,19 @@ where
     ensures { IfOk result (λ end. IsRanOver given.now.process given.now.inputs options
         (K.log rows.new) end.exit) }
 {
-    let host = Heard::new(host, Deaf);
+    let (host, memory) = (Heard::new(host, Deaf), memory_of(words));
     let end = ended(rt, host, given, options, &mut teller, memory, rows);
-    teller.finish();
+    teller.finish(counted_in(words, &end));
     mem::drop(teller);
     end
+}
+
+// What became of the jobs, where that is not told among the words at the end of the program.
+fn counted_in<'a>(words: &RunWords, end: &'a Result<RunEnd, AllocError>) -> Option<&'a Savings> {
+    match end {
+        Ok(end) if !words.explain => end.savings.as_ref(),
+        _ => None,
+    }
 }
 
 // The lines on the jobs and those of their commands are told in one voice.
@@ -196,8 +200,7 @@ where
     ensures { IfOk result (λ end. IsRanOver given.now.process given.now.inputs options
         (K.log rows.new) end.exit) }
 {
-    let start = Instant::now(rt).ok();
-    let mut jobs = Jobs::new(rt.alloc(), listener, memory);
+    let mut jobs = Jobs::new(rt, listener, memory);
     let report = run(
         rt.alloc(),
         &mut host,
@@ -208,32 +211,25 @@ where
         &mut jobs,
     );
     let exit = exit_of_run(rt.alloc(), host.machine().log(), report);
-    let savings = savings_of(rt, &exit, &mut jobs, start);
+    let savings = savings_of(&exit, &mut jobs);
     let end = noted(rt, host.machine(), given, jobs.traces(), exit, savings);
     mem::drop(jobs);
     mem::drop(host);
     end
 }
 
-/// What became of the jobs of a run that began then, where it succeeded.
-fn savings_of<R: Clock, L: Listen>(
-    rt: &R,
+/// What became of the jobs of a run, where it succeeded.
+fn savings_of<R: AllocGlobal + Clock, L: Listen>(
     exit: &Result<Exit, AllocError>,
-    jobs: &mut Jobs<'_, L>,
-    start: Option<Instant>,
+    jobs: &mut Jobs<'_, R, L>,
 ) -> Option<Savings> {
     match exit {
         Ok(Exit::Output(_)) => {
             jobs.succeed();
-            jobs.savings(millis_since(rt, start?)?)
+            jobs.savings()
         }
         _ => None,
     }
-}
-
-fn millis_since<R: Clock>(rt: &R, start: Instant) -> Option<u64> {
-    let time = start.elapsed(rt).ok()?;
-    Some(u64::try_from(time.as_millis()).unwrap_or(u64::MAX))
 }
 
 /// Adds what is told of a failure, and of a success.

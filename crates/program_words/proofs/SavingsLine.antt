@@ -1,17 +1,30 @@
--- The line on what was saved, of its pieces.
-use Rattle.std.proofs.Common.{◌≡◌, ◌∙◌, ◌++◌, ℕ, List, ap, append_assoc, codes}
-use Rattle.program_words.specs.Savings.{line}
+-- The lines on what became of the jobs, of their pieces.
+use Rattle.std.proofs.Common.{◌≡◌, ◌∙◌, ◌++◌, ℕ, List, ap, codes}
+use Rattle.program_words.specs.Savings.{effect, line}
+use Rattle.program_words.proofs.JobLines.{five, nine, seven}
 
-eleven : (a b c d e f g h i j k : List ℕ)
-    → a ++ (b ++ (c ++ (d ++ (e ++ (f ++ (g ++ (h ++ (i ++ (j ++ k))))))))) ≡ a ++ b ++ c ++ d ++ e ++ f ++ g ++ h ++ i ++ j ++ k
-eleven a b c d e f g h i j k = simp append_assoc
+pub line_so : (jobs loaded computed rest effect a b c d e : List ℕ)
+    → a ≡ jobs → b ≡ loaded → c ≡ computed → d ≡ rest → e ≡ effect
+    → a ++ (codes ": " ++ (b ++ (codes " loaded, " ++ (c ++ (codes " computed, " ++ (d ++ (codes " not needed; " ++ e)))))))
+    ≡ line jobs loaded computed rest effect
+line_so jobs loaded computed rest effect a b c d e is_a is_b is_c is_d is_e =
+    nine a (codes ": ") b (codes " loaded, ") c (codes " computed, ") d (codes " not needed; ") e
+    ∙ ap (λ x. line x b c d e) is_a ∙ ap (λ x. line jobs x c d e) is_b ∙ ap (λ x. line jobs loaded x d e) is_c
+    ∙ ap (λ x. line jobs loaded computed x e) is_d ∙ ap (λ x. line jobs loaded computed rest x) is_e
 
-pub line_so : (jobs loaded computed rest time gain a b c d e f : List ℕ)
-    → a ≡ jobs → b ≡ loaded → c ≡ computed → d ≡ rest → e ≡ time → f ≡ gain
-    → a ++ (codes ": " ++ (b ++ (codes " loaded, " ++ (c ++ (codes " computed, " ++ (d ++ (codes " not needed; " ++ (e ++ (codes ", " ++ f)))))))))
-    ≡ line jobs loaded computed rest time gain
-line_so jobs loaded computed rest time gain a b c d e f is_a is_b is_c is_d is_e is_f =
-    eleven a (codes ": ") b (codes " loaded, ") c (codes " computed, ") d (codes " not needed; ") e (codes ", ") f
-    ∙ ap (λ x. line x b c d e f) is_a ∙ ap (λ x. line jobs x c d e f) is_b ∙ ap (λ x. line jobs loaded x d e f) is_c
-    ∙ ap (λ x. line jobs loaded computed x e f) is_d ∙ ap (λ x. line jobs loaded computed rest x f) is_e
-    ∙ ap (λ x. line jobs loaded computed rest time x) is_f
+pub effect_so : (time gain files a b c : List ℕ) → a ≡ time → b ≡ gain → c ≡ files
+    → a ++ (codes ", " ++ (b ++ (codes "; " ++ c))) ≡ effect time gain files
+effect_so time gain files a b c is_a is_b is_c =
+    five a (codes ", ") b (codes "; ") c
+    ∙ ap (λ x. effect x b c) is_a ∙ ap (λ x. effect time x c) is_b ∙ ap (λ x. effect time gain x) is_c
+
+abbrev pub plain : (jobs computed time files : List ℕ) → List ℕ
+plain jobs computed time files = jobs ++ codes ": " ++ computed ++ codes " computed; " ++ time ++ codes "; " ++ files
+
+pub plain_so : (jobs computed time files a b c d : List ℕ)
+    → a ≡ jobs → b ≡ computed → c ≡ time → d ≡ files
+    → a ++ (codes ": " ++ (b ++ (codes " computed; " ++ (c ++ (codes "; " ++ d))))) ≡ plain jobs computed time files
+plain_so jobs computed time files a b c d is_a is_b is_c is_d =
+    seven a (codes ": ") b (codes " computed; ") c (codes "; ") d
+    ∙ ap (λ x. plain x b c d) is_a ∙ ap (λ x. plain jobs x c d) is_b ∙ ap (λ x. plain jobs computed x d) is_c
+    ∙ ap (λ x. plain jobs computed time x) is_d

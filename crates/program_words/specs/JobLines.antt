@@ -1,4 +1,4 @@
--- What a run tells of its jobs: the lines of `--verbose`, with those of their commands, and the line of `--progress`. Of a job its place is told as JSON text.
+-- What a run tells of its jobs: the lines of `--verbose`, with those of their commands. Of a job its place is told as JSON text.
 use Rattle.std.specs.Prelude.{◌≡◌, ℕ, ℤ, List, ◌∷◌, ◌++◌, Option, Some, None, codes, decimal}
 use Rattle.std.specs.Fmt.{signed_decimal}
 use Rattle.command_line.specs.declared.launch.Launch.{Launch}
@@ -7,7 +7,7 @@ use Rattle.program_words.specs.Reuse.{why_words}
 use Rattle.program_words.specs.ShellWords.{IsLineOf}
 use Rattle.program_words.specs.Visible.{visible}
 use Rattle.program_words.specs.declared.reuse.Why.{Why}
-use Rattle.program_words.specs.declared.telling.Counts.{Counts}
+use Rattle.program_words.specs.declared.progress.Counts.{Counts}
 
 -- ` [DONE/KNOWN]`: how many jobs are done, computed or loaded, of how many that are known
 abbrev pub counts_words : Counts → List ℕ
@@ -43,12 +43,3 @@ load_line place counts = codes "load " ++ place ++ counts_words counts
 -- `omit PLACE: not needed`
 abbrev pub omit_line : (place : List ℕ) → List ℕ
 omit_line place = codes "omit " ++ place ++ codes ": not needed"
-
--- takes a terminal back to the beginning of its line, and empties that: a carriage return, and `ESC [ K` (ECMA-48, EL)
-abbrev pub erase : List ℕ
-erase = 13 ∷ 27 ∷ codes "[K"
-
--- `DONE of KNOWN jobs done, RUNNING running`
-abbrev pub progress_line : Counts → List ℕ
-progress_line counts =
-    decimal counts.done ++ codes " of " ++ decimal counts.known ++ codes " jobs done, " ++ decimal counts.running ++ codes " running"

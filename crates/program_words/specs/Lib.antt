@@ -1,7 +1,10 @@
 pub mod CommandLine
 pub mod Flags
 pub mod JobLines
+pub mod JobObjects
+pub mod JsonWord
 pub mod PlanWords
+pub mod Progress
 pub mod RecordWords
 pub mod Reuse
 pub mod RunWords

@@ -9,7 +9,7 @@ use Rattle.program_words.specs.Shows.{shows_in}
 use Rattle.program_words.specs.declared.run_words.RunWords.{RunWords}
 use Rattle.program_words.specs.declared.shows.Shows.{Shows}
 use Rattle.program_words.specs.declared.telling.Telling.{Telling}
-use Rattle.program_words.specs.declared.telling.Telling.TheVariants.{Nothing, Lines, OneLine}
+use Rattle.program_words.specs.declared.telling.Telling.TheVariants.{Nothing, Lines, OneLine, Objects}
 
 -- an argument by its place, and one by its name, as `--work DIR`
 abbrev pub placed_rule : Text → Bool → Rule
@@ -61,8 +61,11 @@ with_verbose = with_rule (with_costs (new_app (codes "run"))) (flag_rule (codes 
 abbrev pub with_progress : App
 with_progress = with_rule with_verbose (flag_rule (codes "progress"))
 
+abbrev pub with_objects : App
+with_objects = with_rule with_progress (flag_rule (codes "progress-json"))
+
 abbrev pub with_keep : App
-with_keep = with_rule with_progress (flag_rule (codes "keep"))
+with_keep = with_rule with_objects (flag_rule (codes "keep"))
 
 abbrev pub with_keep_failed : App
 with_keep_failed = with_rule with_keep (flag_rule (codes "keep-failed"))
@@ -80,10 +83,11 @@ with_print = with_rule with_template (flag_rule (codes "print-command"))
 abbrev pub run_command : App
 run_command = with_inputs (with_flags with_print)
 
--- how it tells of its jobs: `--verbose` comes before `--progress`, and `--quiet` before both
+-- how it tells of its jobs: lines of JSON come first, `--verbose` comes before `--progress`, and `--quiet` before all of them
 abbrev pub telling_in : List Row → Telling
 telling_in rows =
-    if is_wanted (codes "verbose") rows then Lines
+    if is_wanted (codes "progress-json") rows then Objects
+    else if is_wanted (codes "verbose") rows then Lines
     else if is_wanted (codes "progress") rows then OneLine
     else Nothing
 

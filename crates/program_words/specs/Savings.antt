@@ -1,4 +1,4 @@
--- What a run says of its jobs at its end: how many it loaded, computed and did not need, how long it took, and what it saved.
+-- What a run says at its end: how many jobs it loaded, computed and did not need, how long it took, what it saved, and how many files it delivered.
 use Rattle.std.specs.Prelude.{ℕ, ◌+◌, ◌-◌, ◌/◌, ◌%◌, ◌==◌, nat_lt, List, ◌++◌, codes, decimal, if◌then◌else◌}
 use Rattle.program_words.specs.declared.savings.Savings.{Savings}
 
@@ -37,13 +37,34 @@ jobs_words n = if n == 1 then codes "1 job" else grouped n ++ codes " jobs"
 abbrev pub not_needed : Savings → ℕ
 not_needed savings = savings.jobs - (savings.loaded + savings.computed)
 
-abbrev pub line : (jobs loaded computed rest time gain : List ℕ) → List ℕ
-line jobs loaded computed rest time gain =
-    jobs ++ codes ": " ++ loaded ++ codes " loaded, " ++ computed ++ codes " computed, " ++ rest ++ codes " not needed; " ++ time
-    ++ codes ", " ++ gain
+abbrev pub many_files : ℕ → List ℕ
+many_files n = grouped n ++ codes " files delivered"
 
--- `JOBS jobs: LOADED loaded, COMPUTED computed, REST not needed; TIME, about TIME saved`
+abbrev pub files_words : ℕ → List ℕ
+files_words n = if n == 1 then codes "1 file delivered" else many_files n
+
+-- `TIME, about TIME saved; FILES files delivered`
+abbrev pub effect : (time gain files : List ℕ) → List ℕ
+effect time gain files = time ++ codes ", " ++ gain ++ codes "; " ++ files
+
+abbrev pub effect_words : Savings → List ℕ
+effect_words savings = effect (time_words savings.millis) (gain_words savings.gained) (files_words savings.delivered)
+
+abbrev pub line : (jobs loaded computed rest effect : List ℕ) → List ℕ
+line jobs loaded computed rest effect =
+    jobs ++ codes ": " ++ loaded ++ codes " loaded, " ++ computed ++ codes " computed, " ++ rest ++ codes " not needed; " ++ effect
+
+-- `JOBS jobs: LOADED loaded, COMPUTED computed, REST not needed; EFFECT`
+abbrev pub reuse_line : Savings → List ℕ
+reuse_line savings =
+    line (jobs_words savings.jobs) (grouped savings.loaded) (grouped savings.computed) (grouped (not_needed savings)) (effect_words savings)
+
+-- `JOBS jobs: COMPUTED computed; TIME; FILES files delivered`
+abbrev pub plain_line : Savings → List ℕ
+plain_line savings =
+    jobs_words savings.jobs ++ codes ": " ++ grouped savings.computed ++ codes " computed; " ++ time_words savings.millis ++ codes "; "
+    ++ files_words savings.delivered
+
+-- where no job could have been loaded nothing is said of loads, and of what they saved
 abbrev pub savings_line : Savings → List ℕ
-savings_line savings =
-    line (jobs_words savings.jobs) (grouped savings.loaded) (grouped savings.computed) (grouped (not_needed savings))
-    (time_words savings.millis) (gain_words savings.gained)
+savings_line savings = if savings.could_load then reuse_line savings else plain_line savings

@@ -2,17 +2,21 @@
 //!
 //! - `choice_of` gives what words ask for, exactly as `clap` reads them by the rules of `specs/CommandLine.antt`, or a kind by which they may
 //!   be refused.
-//! - `add_terminal_words` adds what a terminal asks for unasked.
+//! - `add_terminal_words` adds what a terminal asks for unasked, and `name_json_word` names the option that `--progress=json` stands for.
 //! - `line_of` writes a command as a shell takes it, each word once and as that word alone (`text_is_one_word`, `line_is_one_command`).
-//! - `Teller` writes the lines of `--verbose` and `--progress`, each where it is asked for alone; `reason_for` says why a job is computed.
-//! - `savings_line` says what a run saved.
+//! - `Teller` writes the lines of `--verbose`, `--progress` and `--progress=json`, each where it is asked for alone; `reason_for` says why a job
+//!   is computed.
+//! - `savings_line` says what became of the jobs of a run, how long it took, and what it saved.
 //! - `visible` shows foreign text with a code for what a terminal would hide.
 #![tactic(auto)]
 
 mod command;
 mod flags;
+mod json_word;
 mod laws;
+mod objects;
 mod planning;
+mod progress;
 mod record_words;
 mod reuse;
 mod run_words;
@@ -24,8 +28,10 @@ mod telling;
 mod terminal;
 
 pub use command::{Choice, choice_of};
+pub use json_word::name_json_word;
 pub use laws::{line_is_one_command, text_is_one_word};
 pub use planning::PlanWords;
+pub use progress::{Counts, Longest};
 pub use record_words::RecordWords;
 pub use reuse::{Recalled, Why, reason_for};
 pub use run_words::{RunWords, load_base_of, load_rate_of, retries_of, slots_of};
@@ -33,5 +39,5 @@ pub use savings::{Savings, savings_line};
 pub use shell_words::{add_word, line_of};
 pub use shown::{cut, visible, visible_text};
 pub use shows::Shows;
-pub use telling::{Counts, Listen, Silent, Teller, Telling, ending};
+pub use telling::{Listen, Silent, Teller, Telling, ending};
 pub use terminal::{add_explain_word, add_terminal_words};

@@ -1,7 +1,7 @@
 ghost use Rattle.std.specs.Prelude.{◌≡◌, ◌≤◌, ◌^◌, IfOk, IfErr, Some, false, option_map};
 ghost use Rattle.clap.specs.Words.{app_of, found_of, kind_of, rows_of, rule_of};
 ghost use Rattle.program_words.specs.Flags.{IsLocal};
-ghost use Rattle.program_words.specs.RunWords.{IsChosen, named_rule, numbered_rule, placed_rule, run_command, run_wish, telling_in, wish_of_run, with_archive, with_base, with_cache, with_costs, with_document, with_folders, with_inputs, with_keep, with_keep_failed, with_numbers, with_print, with_progress, with_record, with_slots, with_template, with_validate, with_verbose};
+ghost use Rattle.program_words.specs.RunWords.{IsChosen, named_rule, numbered_rule, placed_rule, run_command, run_wish, telling_in, wish_of_run, with_archive, with_base, with_cache, with_costs, with_document, with_folders, with_inputs, with_keep, with_keep_failed, with_numbers, with_objects, with_print, with_progress, with_record, with_slots, with_template, with_validate, with_verbose};
 
 use crate::flags::{RUN_END, flag, is_given, is_wanted, with_flags};
 use crate::shows::{Shows, shows_of};
@@ -51,7 +51,10 @@ const VERBOSE_HELP: &str =
     "Tell of each job as it starts and ends, and show what the commands say on standard error";
 
 const PROGRESS_HELP: &str =
-    "Show in one line how many jobs are done; on a terminal it is shown unasked";
+    "Show in one line how many jobs are done, run and are left; on a terminal it is shown unasked";
+
+const OBJECTS_HELP: &str =
+    "Tell of each job as it starts and ends in a line of JSON, as by `--progress=json`";
 
 const KEEP_HELP: &str = "Leave the work folder as it is at the end, and say where it is";
 
@@ -286,6 +289,17 @@ fn progress_command<'a>(alloc: Global) -> Result<Command<'a>, Error>
     Ok(command)
 }
 
+// And with the lines of JSON on its jobs.
+fn objects_command<'a>(alloc: Global) -> Result<Command<'a>, Error>
+    ensures ok { IfOk result (λ command. app_of command ≡ with_objects) }
+    ensures local { IfOk result IsLocal }
+    ensures err { IfErr result (λ e. kind_of e ≡ ErrorKind.OutOfMemory) }
+{
+    let objects = flag(alloc, "progress-json", OBJECTS_HELP);
+    let command = progress_command(alloc)?.arg(objects)?;
+    Ok(command)
+}
+
 // And with the option that leaves the work folder.
 fn keep_command<'a>(alloc: Global) -> Result<Command<'a>, Error>
     ensures ok { IfOk result (λ command. app_of command ≡ with_keep) }
@@ -293,7 +307,7 @@ fn keep_command<'a>(alloc: Global) -> Result<Command<'a>, Error>
     ensures err { IfErr result (λ e. kind_of e ≡ ErrorKind.OutOfMemory) }
 {
     let keep = flag(alloc, "keep", KEEP_HELP);
-    let command = progress_command(alloc)?.arg(keep)?;
+    let command = objects_command(alloc)?.arg(keep)?;
     Ok(command)
 }
 
@@ -380,6 +394,9 @@ pub fn run_words<'a>(words: &ArgMatches<'a>) -> RunWords<'a>
 fn telling_of(words: &ArgMatches) -> Telling
     ensures { result ≡ telling_in (rows_of (found_of words.now)) }
 {
+    if is_wanted(words, "progress-json") {
+        return Telling::Objects;
+    }
     if is_wanted(words, "verbose") {
         return Telling::Lines;
     }

@@ -1,10 +1,10 @@
-//! What a run says of its jobs at its end.
+//! What a run says at its end of its jobs, of its time and of its files.
 ghost use Rattle.std.specs.Prelude.{◌≡◌, ◌<◌, IfOk, string_bytes};
 ghost use Rattle.program_words.specs.Savings as spec;
 
 use std::alloc::{AllocError, Global};
 
-/// How many jobs a run had, what became of them, how long it took, and what it saved.
+/// How many jobs a run had, what became of them, how long it took, what it saved, and how many files it delivered.
 #[derive(Clone, Copy, Debug, PartialEq, Eq)]
 pub struct Savings {
     pub jobs: u64,
@@ -14,21 +14,50 @@ pub struct Savings {
     pub millis: u64,
     /// The milliseconds that it took to compute what was loaded or not needed, by the rows of the record.
     pub gained: u64,
+    /// How many files it delivered, a folder as one.
+    pub delivered: u64,
+    /// Whether a job could have been loaded.
+    pub could_load: bool,
 }
 
-/// The line that says it.
+/// The line that says it. Where no job could have been loaded nothing is said of loads, and of what they saved.
 pub fn savings_line(alloc: Global, savings: &Savings) -> Result<String, AllocError>
     ensures { IfOk result (λ line. string_bytes line ≡ spec.savings_line savings.now) }
+{
+    if savings.could_load {
+        return reuse_line(alloc, savings);
+    }
+    plain_line(alloc, savings)
+}
+
+fn reuse_line(alloc: Global, savings: &Savings) -> Result<String, AllocError>
+    ensures { IfOk result (λ line. string_bytes line ≡ spec.reuse_line savings.now) }
 {
     let jobs = jobs_words(alloc, savings.jobs)?;
     let loaded = grouped(alloc, savings.loaded)?;
     let computed = grouped(alloc, savings.computed)?;
     let rest = grouped(alloc, not_needed(savings))?;
+    let effect = effect_words(alloc, savings)?;
+    format!(in alloc; "{jobs}: {loaded} loaded, {computed} computed, {rest} not needed; {effect}")
+}
+
+fn effect_words(alloc: Global, savings: &Savings) -> Result<String, AllocError>
+    ensures { IfOk result (λ words. string_bytes words ≡ spec.effect_words savings.now) }
+{
     let time = time_words(alloc, savings.millis)?;
     let gain = gain_words(alloc, savings.gained)?;
-    format!(in alloc;
-        "{jobs}: {loaded} loaded, {computed} computed, {rest} not needed; {time}, {gain}"
-    )
+    let files = files_words(alloc, savings.delivered)?;
+    format!(in alloc; "{time}, {gain}; {files}")
+}
+
+fn plain_line(alloc: Global, savings: &Savings) -> Result<String, AllocError>
+    ensures { IfOk result (λ line. string_bytes line ≡ spec.plain_line savings.now) }
+{
+    let jobs = jobs_words(alloc, savings.jobs)?;
+    let computed = grouped(alloc, savings.computed)?;
+    let time = time_words(alloc, savings.millis)?;
+    let files = files_words(alloc, savings.delivered)?;
+    format!(in alloc; "{jobs}: {computed} computed; {time}; {files}")
 }
 
 fn not_needed(savings: &Savings) -> u64
@@ -48,6 +77,22 @@ fn jobs_words(alloc: Global, jobs: u64) -> Result<String, AllocError>
     }
     let jobs = grouped(alloc, jobs)?;
     format!(in alloc; "{jobs} jobs")
+}
+
+fn files_words(alloc: Global, files: u64) -> Result<String, AllocError>
+    ensures { IfOk result (λ words. string_bytes words ≡ spec.files_words files) }
+{
+    if files == 1 {
+        return String::from_str(alloc, "1 file delivered");
+    }
+    many_files(alloc, files)
+}
+
+fn many_files(alloc: Global, files: u64) -> Result<String, AllocError>
+    ensures { IfOk result (λ words. string_bytes words ≡ spec.many_files files) }
+{
+    let number = grouped(alloc, files)?;
+    format!(in alloc; "{number} files delivered")
 }
 
 // A number with a comma before its last three digits.

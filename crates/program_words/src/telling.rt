@@ -1,9 +1,17 @@
 //! What a run tells of its jobs on standard error while it goes on.
-ghost use Rattle.std.specs.Prelude.{◌≡◌, ◌≢◌, List, ℕ, ◌++◌, codes, IfOk, OnOk, string_bytes};
+ghost use Rattle.std.specs.Prelude.{◌≡◌, ◌≢◌, List, ℕ, ◌++◌, Some, codes, IfOk, OnOk, string_bytes};
 ghost use Rattle.std.specs.Io.KnownBytes.{Appends};
 ghost use Rattle.program_words.specs.JobLines as spec;
+ghost use Rattle.program_words.specs.JobObjects as objects;
+ghost use Rattle.program_words.specs.Progress as progress;
+ghost use Rattle.program_words.specs.Savings.{savings_line};
 
+use crate::objects::{
+    command_json, end_object, load_object, omit_object, start_object, words_json,
+};
+use crate::progress::{Counts, Longest, progress_line};
 use crate::reuse::Why;
+use crate::savings::{Savings, savings_line};
 use crate::shell_words::line_of;
 use crate::shown::visible;
 use command_line::Launch;
@@ -21,14 +29,8 @@ pub enum Telling {
     Lines,
     /// One line that is rewritten, for a terminal.
     OneLine,
-}
-
-/// How many jobs are done, of how many that are known, and how many run.
-#[derive(Clone, Copy, Debug, PartialEq, Eq)]
-pub struct Counts {
-    pub done: usize,
-    pub known: usize,
-    pub running: usize,
+    /// Lines of JSON, for programs.
+    Objects,
 }
 
 /// Is told what becomes of the jobs of a run, each by its place as JSON text.
@@ -36,13 +38,13 @@ pub trait Listen {
     /// The job is about to be started, for this reason where it could have been loaded.
     fn starts(&mut self, place: &Text, launch: &Launch, why: Option<Why>, counts: Counts);
 
-    /// The command of a job has been started, under this ticket.
-    fn started(&mut self, place: &Text, ticket: u64, counts: Counts);
+    /// The command of a job has been started, under this ticket, and this job runs longest.
+    fn started(&mut self, place: &Text, ticket: u64, counts: Counts, longest: Option<Longest<'_>>);
 
-    fn ended(&mut self, place: &Text, end: &ChildEnd, counts: Counts);
+    fn ended(&mut self, place: &Text, end: &ChildEnd, counts: Counts, longest: Option<Longest<'_>>);
 
     /// The files of the job were fetched and are used.
-    fn loaded(&mut self, place: &Text, counts: Counts);
+    fn loaded(&mut self, place: &Text, counts: Counts, longest: Option<Longest<'_>>);
 
     /// The run has succeeded without the job.
     fn omitted(&mut self, place: &Text);
@@ -55,11 +57,23 @@ pub struct Silent;
 impl Listen for Silent {
     fn starts(&mut self, _place: &Text, _launch: &Launch, _why: Option<Why>, _counts: Counts) {}
 
-    fn started(&mut self, _place: &Text, _ticket: u64, _counts: Counts) {}
+    fn started(
+        &mut self,
+        _place: &Text,
+        _ticket: u64,
+        _counts: Counts,
+        _longest: Option<Longest<'_>>,
+    ) {}
 
-    fn ended(&mut self, _place: &Text, _end: &ChildEnd, _counts: Counts) {}
+    fn ended(
+        &mut self,
+        _place: &Text,
+        _end: &ChildEnd,
+        _counts: Counts,
+        _longest: Option<Longest<'_>>,
+    ) {}
 
-    fn loaded(&mut self, _place: &Text, _counts: Counts) {}
+    fn loaded(&mut self, _place: &Text, _counts: Counts, _longest: Option<Longest<'_>>) {}
 
     fn omitted(&mut self, _place: &Text) {}
 }
@@ -73,6 +87,8 @@ pub struct Teller<'a, E: Write> {
     alloc: Global,
     err: &'a mut E,
     telling: Telling,
+    // the command that is about to be started, as JSON text, where its start is told in JSON
+    command: Option<Text>,
 }
 
 impl<'a, E: Write> Teller<'a, E> {
@@ -85,17 +101,30 @@ impl<'a, E: Write> Teller<'a, E> {
             alloc,
             err,
             telling,
+            command: None,
         }
     }
 
-    /// Erases the line that was rewritten.
-    pub fn finish(&mut self)
+    /// Erases the line that was rewritten, and puts in its place what became of the jobs.
+    pub fn finish(&mut self, savings: Option<&Savings>)
         ensures { self.old.telling ≢ Telling.OneLine → E.contents self.new.err.now
             ≡ E.contents self.old.err.now }
     {
-        if matches!(self.telling, Telling::OneLine) {
-            let _told = write!(self.err, "{ERASE}");
+        if !matches!(self.telling, Telling::OneLine) {
+            return;
         }
+        let _erased = write!(self.err, "{ERASE}");
+        if let Some(savings) = savings {
+            let _told = self.tell_savings(savings);
+        }
+    }
+
+    fn tell_savings(&mut self, savings: &Savings) -> io::Result<()>
+        ensures { OnOk result (Appends (E.contents self.old.err.now) (E.contents self.new.err.now)
+            (savings_line savings.now ++ codes "\n")) }
+    {
+        let line = savings_line(self.alloc, savings)?;
+        writeln!(self.err, "{line}")
     }
 
     /// Tells of a line that the command of the job at a place has written, as it is shown.
@@ -187,26 +216,97 @@ impl<'a, E: Write> Teller<'a, E> {
         writeln!(self.err, "omit {place}: not needed")
     }
 
-    fn rewrite(&mut self, counts: Counts) -> io::Result<()>
+    fn rewrite(&mut self, counts: Counts, longest: Option<Longest<'_>>) -> io::Result<()>
         ensures silent { self.old.telling ≢ Telling.OneLine → E.contents self.new.err.now
             ≡ E.contents self.old.err.now }
         ensures told { OnOk result (self.old.telling ≡ Telling.OneLine
-            → Appends (E.contents self.old.err.now) (E.contents self.new.err.now) (spec.erase
-            ++ spec.progress_line counts)) }
+            → Appends (E.contents self.old.err.now) (E.contents self.new.err.now) (progress.erase
+            ++ progress.progress_line counts longest.entry)) }
     {
         if !matches!(self.telling, Telling::OneLine) {
             return Ok(());
         }
-        self.write_progress(counts)?;
+        self.write_progress(counts, longest)?;
         self.err.flush()
     }
 
-    fn write_progress(&mut self, counts: Counts) -> io::Result<()>
+    fn write_progress(&mut self, counts: Counts, longest: Option<Longest<'_>>) -> io::Result<()>
         ensures { OnOk result (Appends (E.contents self.old.err.now) (E.contents self.new.err.now)
-            (spec.erase ++ spec.progress_line counts)) }
+            (progress.erase ++ progress.progress_line counts longest.entry)) }
     {
-        let line = progress_line(self.alloc, counts)?;
+        let line = progress_line(self.alloc, counts, longest)?;
         write!(self.err, "{ERASE}{line}")
+    }
+
+    // Keeps the words of the command that is about to be started.
+    fn keep_command(&mut self, launch: &Launch) -> Result<(), AllocError>
+        ensures err { E.contents self.new.err.now ≡ E.contents self.old.err.now }
+        ensures kept { OnOk result (self.old.telling ≡ Telling.Objects
+            → self.new.command ≡ Some (objects.command_json launch.now)) }
+    {
+        self.command = None;
+        if matches!(self.telling, Telling::Objects) {
+            self.command = Some(command_json(self.alloc, launch)?);
+        }
+        Ok(())
+    }
+
+    fn put_start(&mut self, place: &Text, number: u64) -> io::Result<()>
+        ensures silent { self.old.telling ≢ Telling.Objects → E.contents self.new.err.now
+            ≡ E.contents self.old.err.now }
+        ensures told { OnOk result (self.old.telling ≡ Telling.Objects
+            → Appends (E.contents self.old.err.now) (E.contents self.new.err.now)
+            (objects.start_object place.now number (objects.words_json self.old.command)
+            ++ codes "\n")) }
+    {
+        if !matches!(self.telling, Telling::Objects) {
+            return Ok(());
+        }
+        let command = words_json(&self.command);
+        let line = start_object(self.alloc, place, number, command)?;
+        writeln!(self.err, "{line}")
+    }
+
+    fn put_end(&mut self, place: &Text, end: &ChildEnd) -> io::Result<()>
+        ensures silent { self.old.telling ≢ Telling.Objects → E.contents self.new.err.now
+            ≡ E.contents self.old.err.now }
+        ensures told { OnOk result (self.old.telling ≡ Telling.Objects
+            → Appends (E.contents self.old.err.now) (E.contents self.new.err.now)
+            (objects.end_object place.now end.now ++ codes "\n")) }
+    {
+        if !matches!(self.telling, Telling::Objects) {
+            return Ok(());
+        }
+        let line = end_object(self.alloc, place, end)?;
+        writeln!(self.err, "{line}")
+    }
+
+    fn put_load(&mut self, place: &Text) -> io::Result<()>
+        ensures silent { self.old.telling ≢ Telling.Objects → E.contents self.new.err.now
+            ≡ E.contents self.old.err.now }
+        ensures told { OnOk result (self.old.telling ≡ Telling.Objects
+            → Appends (E.contents self.old.err.now) (E.contents self.new.err.now)
+            (objects.load_object place.now ++ codes "\n")) }
+    {
+        if !matches!(self.telling, Telling::Objects) {
+            return Ok(());
+        }
+        let line = load_object(self.alloc, place)?;
+        writeln!(self.err, "{line}")
+    }
+
+    fn put_omitted(&mut self, place: &Text) -> io::Result<()>
+        ensures silent { self.old.telling ≢ Telling.Objects → E.contents self.new.err.now
+            ≡ E.contents self.old.err.now }
+        ensures told { OnOk result (self.old.telling ≡ Telling.Objects
+            → Appends (E.contents self.old.err.now) (E.contents self.new.err.now)
+            (objects.omit_object place.now ++ codes "\n")) }
+    {
+        if !matches!(self.telling, Telling::Objects) {
+            return Ok(());
+        }
+        let line = omit_object(self.alloc, place)?;
+        writeln!(self.err, "{line}")
     }
 }
 
@@ -216,24 +316,35 @@ impl<E: Write> Listen for Teller<'_, E> {
             let _told = self.tell_why(place, why);
         }
         let _told = self.tell_start(place, launch, counts);
+        let _kept = self.keep_command(launch);
     }
 
-    fn started(&mut self, _place: &Text, _ticket: u64, counts: Counts) {
-        let _told = self.rewrite(counts);
+    fn started(&mut self, place: &Text, ticket: u64, counts: Counts, longest: Option<Longest<'_>>) {
+        let _put = self.put_start(place, ticket);
+        let _rewritten = self.rewrite(counts, longest);
     }
 
-    fn ended(&mut self, place: &Text, end: &ChildEnd, counts: Counts) {
+    fn ended(
+        &mut self,
+        place: &Text,
+        end: &ChildEnd,
+        counts: Counts,
+        longest: Option<Longest<'_>>,
+    ) {
         let _told = self.tell_end(place, end, counts);
-        let _rewritten = self.rewrite(counts);
+        let _put = self.put_end(place, end);
+        let _rewritten = self.rewrite(counts, longest);
     }
 
-    fn loaded(&mut self, place: &Text, counts: Counts) {
+    fn loaded(&mut self, place: &Text, counts: Counts, longest: Option<Longest<'_>>) {
         let _told = self.tell_load(place, counts);
-        let _rewritten = self.rewrite(counts);
+        let _put = self.put_load(place);
+        let _rewritten = self.rewrite(counts, longest);
     }
 
     fn omitted(&mut self, place: &Text) {
         let _told = self.tell_omitted(place);
+        let _put = self.put_omitted(place);
     }
 }
 
@@ -301,15 +412,4 @@ pub fn ending(alloc: Global, code: Option<i32>) -> Result<String, AllocError>
         Some(code) => format!(in alloc; "exit {code}"),
         None => String::from_str(alloc, "signal"),
     }
-}
-
-fn progress_line(alloc: Global, counts: Counts) -> Result<String, AllocError>
-    ensures { IfOk result (λ line. string_bytes line ≡ spec.progress_line counts) }
-{
-    let Counts {
-        done,
-        known,
-        running,
-    } = counts;
-    format!(in alloc; "{done} of {known} jobs done, {running} running")
 }

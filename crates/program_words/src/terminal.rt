@@ -31,7 +31,7 @@ pub fn add_explain_word(alloc: Global, words: &mut Vec<String>) -> Result<(), Al
     Ok(())
 }
 
-fn is_run(words: &[String]) -> bool
+pub(crate) fn is_run(words: &[String]) -> bool
     ensures { result ≡ spec.is_run (map string_bytes words.now) }
 {
     matches!(command_of(words), "run")
@@ -65,7 +65,7 @@ fn add_word(alloc: Global, words: &mut Vec<String>, word: &str) -> Result<(), Al
     Ok(())
 }
 
-fn has_word(words: &[String], word: &str) -> bool
+pub(crate) fn has_word(words: &[String], word: &str) -> bool
     ensures { result ≡ list_any (λ other. bytes_eq other word.now) (map string_bytes words.now) }
 {
     words.iter().any(|other| other.as_str() == word)

@@ -7,6 +7,10 @@ use serde_json::Value as Json;
 use std::alloc::{AllocError, Global};
 use std::{fs, str};
 
+/// What follows the times in what the program says: the milliseconds of a line and of an object, and the seconds of a run, of what it saved and
+/// of the job that runs longest.
+const BEHIND_TIMES: [&str; 6] = [" ms\n", "}\n", " s, ", " s; ", " s saved; ", " s\r"];
+
 /// What the program answers and writes for a document and its inputs, and what the row's folder holds then beside them.
 pub fn told_of(rt: &HostRuntime, row: &Row, place: &str) -> Result<String, RowFault> {
     put_files(rt, row, place)?;
@@ -169,11 +173,13 @@ fn put_told(
     }
 }
 
-// A text that has `_` for the milliseconds at the end of a line, and for the seconds in the line on what a run saved.
+// A text that has `_` for each of these times.
 fn without_times(alloc: Global, text: &str) -> Result<String, AllocError> {
-    let ended = masked(alloc, text, " ms\n")?;
-    let taken = masked(alloc, ended.as_str(), " s, ")?;
-    masked(alloc, taken.as_str(), " s saved\n")
+    let mut whole = String::from_str(alloc, text)?;
+    for unit in &BEHIND_TIMES {
+        whole = masked(alloc, whole.as_str(), unit)?;
+    }
+    Ok(whole)
 }
 
 // A text that has `_` for each number before this unit.

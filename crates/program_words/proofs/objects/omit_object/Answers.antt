@@ -1,6 +1,6 @@
 use Rattle.std.proofs.Common.{◌∙◌, append_assoc}
 use Rattle.std.proofs.lemmas.Result.{IfOk-weaker}
-use Rattle.program_words.proofs.telling.progress_line.Goals as goal
+use Rattle.program_words.proofs.objects.omit_object.Goals as goal
 
 pub returns : goal.returns
 returns c =
