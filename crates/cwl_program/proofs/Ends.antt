@@ -9,6 +9,7 @@ use Rattle.end_words.specs.Told.{AreNotes, Held, IsExplained, IsLeftTold, IsSavi
 use Rattle.program_words.specs.RunWords.{RunWish}
 use Rattle.program_words.specs.declared.shows.Shows.{Shows}
 use Rattle.program_words.specs.declared.shows.Shows.TheVariants.{Outputs, Lines as Described, Template, Command}
+use Rattle.cwl_program.specs.Showings.{IsEndOfShowing}
 use Rattle.cwl_program.specs.Tells.{Explains, IsEndOf, IsEndOfWords, IsRunTold, LeadsTo, Tells, asks_why, chooses, explains, out_of_memory, telling_of}
 use Rattle.program_words.specs.declared.command.Choice.{Choice}
 use Rattle.end_words.specs.declared.exit.Exit.{Exit}
@@ -64,9 +65,15 @@ untold OneLine err = tt
 untold Objects err = tt
 
 -- what is shown in place of a run leaves nothing
+shows_of : (shows : Shows) (words : RunWish) (path : Text) (exit : Exit) (left : Option Text)
+    → shows ≢ Outputs → IsEndOfShowing words path exit → left ≡ None → IsEndOfWords shows words path exit left
+shows_of Outputs words path exit left other is gone = absurd (other refl)
+shows_of Described words path exit left other is gone = (is, gone)
+shows_of Template words path exit left other is gone = (is, gone)
+shows_of Command words path exit left other is gone = (is, gone)
+
 pub shows_so : (shows : Shows) (words : RunWish) (path : Text) (answer : Result RunEnd AllocError)
-    → shows ≢ Outputs → IfOk answer (λ end. end.left ≡ None) → IfOk answer (λ end. IsEndOfWords shows words path end.exit end.left)
-shows_so Outputs words path answer other gone = absurd (other refl)
-shows_so Described words path answer other gone = gone
-shows_so Template words path answer other gone = gone
-shows_so Command words path answer other gone = gone
+    → shows ≢ Outputs → IfOk answer (λ end. IsEndOfShowing words path end.exit) → IfOk answer (λ end. end.left ≡ None)
+    → IfOk answer (λ end. IsEndOfWords shows words path end.exit end.left)
+shows_so shows words path (Err error) other is gone = tt
+shows_so shows words path (Ok end) other is gone = shows_of shows words path end.exit end.left other is gone

@@ -22,15 +22,16 @@ use Rattle.cwl_program.specs.Certificates.{IsCheck}
 use Rattle.cwl_program.specs.Demo.{IsDemoExit}
 use Rattle.cwl_program.specs.Plans.{IsEndOfPlan}
 use Rattle.cwl_program.specs.Runs.{IsEndOfRun}
+use Rattle.cwl_program.specs.Showings.{IsEndOfShowing}
 
 -- a record's command ends the program in its own way
 pub data IsRecordExit : Exit → Type 0 where
   shows : (ending : Ending) → record_program.IsEnding ending → IsRecordExit (Listed ending)
 
--- a run, or what is shown in place of one: of that it is said that no folder is left, and nothing of what is shown
+-- a run, or what is shown in place of one, which leaves nothing
 abbrev pub IsEndOfWords : Shows → RunWish → (path : Text) → Exit → (left : Option Text) → Type 0
 IsEndOfWords Outputs words path exit left = IsEndOfRun words path exit left
-IsEndOfWords other words path exit left = left ≡ None
+IsEndOfWords other words path exit left = IsEndOfShowing words path exit × (left ≡ None)
 
 -- what the choice comes to, with this `PATH`, and the work folder, where it stays
 abbrev pub IsEndOf : (path : Text) → Choice → Exit → (left : Option Text) → Type 0

@@ -1,5 +1,9 @@
 //! What is said of a process, and of inputs for it, in place of a run.
-ghost use Rattle.std.specs.Prelude.{◌≡◌, None, IfOk};
+ghost use Rattle.std.specs.Prelude.{◌≡◌, None, IfOk, option_map};
+ghost use Rattle.document_links.specs.declared.process.Process.{out-Process};
+ghost use Rattle.program_words.specs.RunWords.{wish_of_run};
+ghost use Rattle.cwl_program.specs.Runs.{IsNamedProcess};
+ghost use Rattle.cwl_program.specs.Showings as spec;
 
 use crate::process_forms::{lines_of, template_of};
 use crate::run::{here_of, inputs_of, process_of, without_folder};
@@ -23,7 +27,9 @@ pub fn end_of_showing<R: World + Env + Input>(
     words: &RunWords,
     path: &str,
 ) -> Result<RunEnd, AllocError>
-    ensures { IfOk result (λ end. end.left ≡ None) }
+    ensures end { IfOk result (λ end. spec.IsEndOfShowing (wish_of_run words.now) path.now
+        end.exit) }
+    ensures left { IfOk result (λ end. end.left ≡ None) }
 {
     match here_of(rt) {
         Ok(here) => {
@@ -41,6 +47,8 @@ pub fn end_of_showing<R: World + Env + Input>(
 }
 
 fn end_of_call<R: World + Input>(rt: &R, call: &Call<'_>) -> Result<RunEnd, AllocError>
+    ensures end { IfOk result (λ end. spec.IsEndOfShowing (wish_of_run call.now.words.now)
+        call.now.path.now end.exit) }
     ensures left { IfOk result (λ end. end.left ≡ None) }
 {
     match process_of(rt, call) {
@@ -54,6 +62,9 @@ fn on_process<R: World + Input>(
     process: Process,
     call: &Call<'_>,
 ) -> Result<RunEnd, AllocError>
+    requires { IsNamedProcess call.now.here.now (wish_of_run call.now.words.now) process }
+    ensures end { IfOk result (λ end. spec.IsEndOfShowing (wish_of_run call.now.words.now)
+        call.now.path.now end.exit) }
     ensures left { IfOk result (λ end. end.left ≡ None) }
 {
     match inputs_of(rt, call) {
@@ -71,32 +82,40 @@ fn on_process<R: World + Input>(
 }
 
 fn of_given(alloc: Global, given: &Given, call: &Call<'_>) -> Result<RunEnd, AllocError>
+    ensures end { IfOk result (λ end. spec.IsShown call.now.here.now
+        (wish_of_run call.now.words.now) call.now.path.now given.now end.exit) }
     ensures left { IfOk result (λ end. end.left ≡ None) }
 {
-    if is_checked(call.words) {
-        return of_checked(alloc, given, call);
+    match misfit_of(given, call.words) {
+        None => Ok(RunEnd::bare(alloc, exit_of(alloc, given, call)?)),
+        Some(input) => of_misfit(alloc, given, input),
     }
-    Ok(RunEnd::bare(alloc, exit_of(alloc, given, call)?))
 }
 
-fn is_checked(words: &RunWords) -> bool {
+// The first input whose value has to fit and does not.
+fn misfit_of<'a>(given: &'a Given, words: &RunWords) -> Option<&'a Text>
+    ensures { option_map (λ input. input.now) result
+        ≡ spec.misfit_of (wish_of_run words.now) given.now }
+{
+    if is_checked(words) {
+        return first_misfit(&given.process, &given.inputs);
+    }
+    None
+}
+
+fn is_checked(words: &RunWords) -> bool
+    ensures { result ≡ spec.is_checked words.now.shows (wish_of_run words.now).inputs }
+{
     match words.shows {
         Shows::Command => true,
         _ => words.inputs.is_some(),
     }
 }
 
-fn of_checked(alloc: Global, given: &Given, call: &Call<'_>) -> Result<RunEnd, AllocError>
-    ensures left { IfOk result (λ end. end.left ≡ None) }
-{
-    match first_misfit(&given.process, &given.inputs) {
-        None => Ok(RunEnd::bare(alloc, exit_of(alloc, given, call)?)),
-        Some(input) => of_misfit(alloc, given, input),
-    }
-}
-
 // An input has no value that fits.
 fn of_misfit(alloc: Global, given: &Given, input: &Text) -> Result<RunEnd, AllocError>
+    ensures end { IfOk result (λ end. end.exit
+        ≡ spec.failed (Cause.Equation (NoValue.Kind input.now))) }
     ensures left { IfOk result (λ end. end.left ≡ None) }
 {
     let notes = misfit_lines(alloc, given, input)?;
@@ -111,7 +130,10 @@ fn of_misfit(alloc: Global, given: &Given, input: &Text) -> Result<RunEnd, Alloc
 }
 
 // What is to be shown of a process and its inputs.
-fn exit_of(alloc: Global, given: &Given, call: &Call<'_>) -> Result<Exit, AllocError> {
+fn exit_of(alloc: Global, given: &Given, call: &Call<'_>) -> Result<Exit, AllocError>
+    ensures { IfOk result (spec.IsAskedShown call.now.words.now.shows given.now
+        (spec.first_runtime call.now.here.now (wish_of_run call.now.words.now) call.now.path.now)) }
+{
     match call.words.shows {
         Shows::Command => exit_of_tool(alloc, given, call),
         Shows::Template => Ok(Exit::Output(template_of(alloc, &given.process)?)),
@@ -120,7 +142,10 @@ fn exit_of(alloc: Global, given: &Given, call: &Call<'_>) -> Result<Exit, AllocE
 }
 
 // The command of a tool; of a workflow its lines.
-fn exit_of_tool(alloc: Global, given: &Given, call: &Call<'_>) -> Result<Exit, AllocError> {
+fn exit_of_tool(alloc: Global, given: &Given, call: &Call<'_>) -> Result<Exit, AllocError>
+    ensures { IfOk result (spec.IsCommandShown (out-Process given.now.process) given.now
+        (spec.first_runtime call.now.here.now (wish_of_run call.now.words.now) call.now.path.now)) }
+{
     match &given.process {
         Process::Tool(tool) => exit_of_command(alloc, tool, &given.inputs, call),
         Process::Workflow(_) => Ok(Exit::Output(lines_of(alloc, &given.process)?)),

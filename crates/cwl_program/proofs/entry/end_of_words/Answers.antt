@@ -12,7 +12,7 @@ returns-in-Outputs-clause-end g c =
 
 pub returns-in_default-clause-end : goal.returns-in_default-clause-end
 returns-in_default-clause-end g c =
-    shows_so c.args.words.now.shows (wish_of_run c.args.words.now) c.args.path.now _ c.in_default.not-Outputs c.end_of_showing.ensures
+    shows_so c.args.words.now.shows (wish_of_run c.args.words.now) c.args.path.now _ c.in_default.not-Outputs c.end_of_showing.ensures.end c.end_of_showing.ensures.left
 
 pub returns-in_default-clause-told : goal.returns-in_default-clause-told
 returns-in_default-clause-told g c = untold c.args.words.now.telling _
