@@ -259,8 +259,9 @@ impl<'a, R: AllocGlobal + Clock, L: Listen> Jobs<'a, R, L> {
             return Ok(());
         };
         self.done.insert(place.copied(self.alloc)?, true)?;
+        let age = self.age().unwrap_or(0);
         let counts = self.counts();
-        let longest = longest_of(self.running.as_slice(), self.age().unwrap_or(0));
+        let longest = longest_of(self.running.as_slice(), age);
         self.listener.ended(&place, end, counts, longest);
         Ok(())
     }
@@ -326,8 +327,9 @@ impl<'a, R: AllocGlobal + Clock, L: Listen> Jobs<'a, R, L> {
         self.loaded = self.loaded.saturating_add(1);
         self.gained = self.gained.saturating_add(cost);
         self.done.insert(place.copied(self.alloc)?, true)?;
+        let age = self.age().unwrap_or(0);
         let counts = self.counts();
-        let longest = longest_of(self.running.as_slice(), self.age().unwrap_or(0));
+        let longest = longest_of(self.running.as_slice(), age);
         self.listener.loaded(place, counts, longest);
         Ok(())
     }
