@@ -6,7 +6,7 @@ The first: each run is measured in a process of its own, three times where that 
 'share' says which part of the run the unfolding is, 'memory' the peak of the process in MB, 'json' how long Python's json takes to read
 the row, in microseconds for each job.
 
-The second: workflows of six shapes of about 256, 1,024, 4,096 and 16,384 jobs, with four slots. It has the microseconds of the run for each job, how many
+The second: workflows of six shapes of about 256, 1,024, 4,096 and 16,384 jobs, or 250, 1,000 and 4,000, with four slots. It has the microseconds of the run for each job, how many
 times as long the run takes as that with a fourth of the jobs, and the peak of the memory in kB for each job. A run that would take over ten minutes, if it
 took sixteen times as long as the one before, is left out. Needs Python 3.8 or later.
 """
@@ -70,16 +70,6 @@ RUNS = [
 ]
 
 
-def long_chain(count):
-    """Returns a chain whose steps all run one process, since a document has at most 4,096 of them."""
-    steps = [{"id": "s0", "in": {}, "out": ["o"], "run": "#first"}]
-    for number in range(1, count):
-        steps.append({"id": f"s{number}", "in": {"f": f"s{number - 1}/o"}, "out": ["o"], "run": "#next"})
-    root = {"id": "main", **workflow({}, {"o": {"type": "File", "outputSource": f"s{count - 1}/o"}}, steps)}
-    version = root.pop("cwlVersion")
-    return {"cwlVersion": version, "$graph": [root, {"id": "first", **tool({})}, {"id": "next", **tool({"f": "File"})}]}, {}
-
-
 def of_three_steps(count):
     """Returns a scatter over a workflow of three steps."""
     inner, _ = chain(3)
@@ -92,21 +82,19 @@ def of_three_steps(count):
 
 def merges(count):
     """Returns a tree of steps, each of which merges the files of the four below it."""
-    steps, level = [], []
-    for number in range(max(1, 3 * count // 4)):
-        steps.append({"id": f"l{number}", "in": {}, "out": ["o"], "run": "#leaf"})
+    steps, level, depth = {}, [], 0
+    for number in range(3 * count // 4):
+        steps[f"l{number}"] = {"in": {}, "out": ["o"], "run": tool({})}
         level.append(f"l{number}/o")
-    depth = 0
     while len(level) > 1:
         groups = [level[at:at + 4] for at in range(0, len(level), 4)]
         level, depth = [], depth + 1
         for number, group in enumerate(groups):
-            steps.append({"id": f"m{depth}x{number}", "in": {"fs": {"source": group, "linkMerge": "merge_flattened"}}, "out": ["o"], "run": "#merge"})
+            steps[f"m{depth}x{number}"] = {"in": {"fs": {"source": group, "linkMerge": "merge_flattened"}}, "out": ["o"], "run": tool({"fs": "File[]"})}
             level.append(f"m{depth}x{number}/o")
-    root = {"id": "main", **workflow({}, {"o": {"type": "File", "outputSource": level[0]}}, steps)}
-    root["requirements"]["MultipleInputFeatureRequirement"] = {}
-    version = root.pop("cwlVersion")
-    return {"cwlVersion": version, "$graph": [root, {"id": "leaf", **tool({})}, {"id": "merge", **tool({"fs": "File[]"})}]}, {}
+    document = workflow({}, {"o": {"type": "File", "outputSource": level[0]}}, steps)
+    document["requirements"]["MultipleInputFeatureRequirement"] = {}
+    return document, {}
 
 
 def half_when(count):
@@ -123,13 +111,15 @@ def half_when(count):
     return workflow({"n": "int[]", "wanted": "boolean[]"}, outputs, {"s": step}), {"n": list(range(count)), "wanted": [at % 2 == 0 for at in range(count)]}
 
 
+# The last two have a process for each step, and a document has at most 4,096 of them.
+SIZES = (256, 1024, 4096, 16384)
 SHAPES = [
-    ("chain", long_chain),
-    ("scatter", scatter),
-    ("scatter that feeds one", lambda count: two_scatters(count // 2)),
-    ("scatter of three steps", of_three_steps),
-    ("tree of merges", merges),
-    ("`when` over a scatter", half_when),
+    ("scatter", scatter, SIZES),
+    ("scatter that feeds one", lambda count: two_scatters(count // 2), SIZES),
+    ("scatter of three steps", of_three_steps, SIZES),
+    ("`when` over a scatter", half_when, SIZES),
+    ("chain", chain, (250, 1000, 4000)),
+    ("tree of merges", merges, (250, 1000, 4000)),
 ]
 
 
@@ -168,9 +158,9 @@ def row_of(document, inputs, slots):
 def growth(program):
     """Prints how a run's time and memory grow with its jobs."""
     print(f"{'shape':24}{'jobs':>7}{'run':>9}{'times':>8}{'memory':>8}")
-    for name, make in SHAPES:
+    for name, make, sizes in SHAPES:
         last = None
-        for count in (256, 1024, 4096, 16384):
+        for count in sizes:
             if last and last * 16 > 600e6:
                 print(f"{name:24}{count:7}{'too long':>9}", flush=True)
                 break
