@@ -1,6 +1,8 @@
 mod Alike
 mod Defaults
+pub mod Dollars
 pub mod EmptyText
+pub mod FilelessDefaults
 pub mod Forms
 mod Ignored
 mod KeptFields

@@ -1,6 +1,7 @@
 pub mod Acting
 pub mod Bindings
 pub mod Documents
+pub mod FilelessDefaults
 pub mod FirstFaults
 pub mod Laws
 pub mod Links

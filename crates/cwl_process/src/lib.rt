@@ -11,6 +11,7 @@ mod acting;
 mod bindings;
 mod document;
 mod entries;
+mod fileless_defaults;
 mod from_entry;
 mod laws;
 mod link_faults;
@@ -32,6 +33,7 @@ mod workflow;
 pub use acting::{nothing_asked, read_asked};
 pub use document::{item_fault, read_sound, read_unlinked};
 pub use entries::Entries;
+pub use fileless_defaults::have_fileless_defaults;
 pub use laws::{
     descriptions_are_not_read, fields_left_out_have_their_defaults, levels_never_decide,
     maps_are_read_as_lists, the_nearest_requirement_counts, written_tells_tools_apart,

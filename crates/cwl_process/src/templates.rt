@@ -1,5 +1,6 @@
 //! Reads texts with references.
-ghost use Rattle.std.specs.Prelude.{◌≡◌, [], Ok, Err, IfOk, map};
+ghost use Rattle.std.specs.Prelude.{◌≡◌, ◌==◌, [], Ok, Err, IfOk, map};
+ghost use Rattle.std.specs.List.{list_any};
 ghost use Rattle.serde_json.specs.View.{view};
 ghost use Rattle.cwl_process.specs.Simple.{value_seen};
 ghost use Rattle.cwl_process.specs.Templates.{template_at, template_in, template_of, templates_at, text_fault};
@@ -72,13 +73,24 @@ fn read_templates(alloc: Global, found: &[&Value]) -> Result<Items<Template>, Al
     Ok(templates)
 }
 
-/// What is wrong with a text as a template.
+/// What is wrong with a text as a template. One without `$` has no reference, so it need not be read.
+#[tactic(auto, using(crate::proofs::Dollars::no_fault))]
 pub(crate) fn text_fault(alloc: Global, value: &Value) -> Result<Option<DocumentFault>, AllocError>
     ensures { IfOk result (λ fault. fault ≡ text_fault (view value.now)) }
 {
-    match Template::read(alloc, value.as_str().unwrap_or("")) {
+    let text = value.as_str().unwrap_or("");
+    if !has_dollar(text) {
+        return Ok(None);
+    }
+    match Template::read(alloc, text) {
         Ok(_) => Ok(None),
         Err(RefError::Refused(_)) => Ok(Some(here(alloc, Cause::WrongForm))),
         Err(RefError::OutOfMemory) => Err(AllocError),
     }
+}
+
+fn has_dollar(text: &str) -> bool
+    ensures { result ≡ list_any (λ b. b == 36) text.now }
+{
+    text.as_bytes().iter().any(|byte| *byte == b'$')
 }

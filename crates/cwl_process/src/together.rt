@@ -10,10 +10,11 @@ ghost use Rattle.cwl_process.specs.Together.{default_fault, inputs_fault, is_of_
 ghost use Rattle.cwl_process.specs.Workflows.{own_id};
 ghost use Rattle.document_table.specs.Walk.{or_else};
 
+use crate::fileless_defaults::have_fileless_defaults;
 use crate::link_faults::{output_sources_fault, step_sources_fault};
 use crate::read_workflow::{is_workflow, own_id};
 use crate::template_faults::{asked_fault, at_field, step_text_fault, tool_text_fault};
-use cwl_value::{ValueRefusal, from_json};
+use cwl_value::{ValueRefusal, from_json, stands_fileless};
 use document_table::{Cause, DocumentFault, Kind, entries, here, main_field, under};
 use serde_json::Value;
 use std::alloc::{AllocError, Global};
@@ -254,6 +255,7 @@ fn is_stream(value: &Value) -> bool
 
 // ---- defaults
 
+#[tactic(auto, using(crate::proofs::FilelessDefaults::no_default_fault))]
 fn defaults_fault(
     alloc: Global,
     kind: Kind,
@@ -266,6 +268,9 @@ fn defaults_fault(
     let Some(found) = value.get(name) else {
         return Ok(None);
     };
+    if have_fileless_defaults(found) {
+        return Ok(None);
+    }
     let all = entries(alloc, kind, found)?;
     let fault = first_default_fault(alloc, all.as_slice())?;
     at_field(alloc, name, fault)
@@ -298,9 +303,13 @@ fn default_fault(alloc: Global, value: &Value) -> Result<Option<DocumentFault>, 
 }
 
 /// Whether the JSON represents a value.
+#[tactic(auto, using(crate::proofs::FilelessDefaults::fileless_is_value))]
 fn is_value(alloc: Global, json: &Value) -> Result<bool, AllocError>
     ensures { IfOk result (λ is. is ≡ is_value (view json.now)) }
 {
+    if stands_fileless(json) {
+        return Ok(true);
+    }
     match from_json(alloc, json) {
         Ok(value) => {
             mem::drop(value);

@@ -13,3 +13,4 @@ pub mod Stable
 pub mod Texts
 pub mod Told
 pub mod Whole
+pub mod WithoutFiles

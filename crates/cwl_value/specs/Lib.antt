@@ -1,6 +1,7 @@
 pub mod Canonical
 pub mod Codes
 pub mod Erased
+pub mod Fileless
 pub mod Json
 pub mod Laws
 pub mod NameParts

@@ -1,5 +1,6 @@
 //! What the definitions come to: each law is the contract of a function that does nothing.
 ghost use Rattle.cwl_value.specs.Canonical.{TextsTellJsonApart};
+ghost use Rattle.cwl_value.specs.Fileless.{FilelessJsonStandsForValues};
 ghost use Rattle.cwl_value.specs.Laws.{ListingsAreInOrder};
 ghost use Rattle.cwl_value.specs.Plain.{JsonTellsValuesApart, TextsTellValuesApart};
 
@@ -21,4 +22,9 @@ pub fn json_tells_values_apart()
 /// Plain values are told apart by their canonical texts.
 pub fn texts_tell_values_apart()
     ensures { TextsTellValuesApart }
+{}
+
+/// JSON whose numbers are whole and in which no object has the class of a File or Directory stands for a value that holds neither.
+pub fn fileless_json_stands_for_values()
+    ensures { FilelessJsonStandsForValues }
 {}

@@ -4,6 +4,7 @@
 //! - `read_value` and `from_json` give exactly the value that JSON stands for, or a refusal whose cause holds.
 //! - `to_json` gives exactly the JSON of a value, and `canonical_text` its text, without space and with sorted keys.
 //! - `clone_in` gives an equal value, and `erased` one without places.
+//! - `holds_files` says whether a File or Directory is in a value, and `stands_fileless` whether JSON is seen to stand for one without.
 //! - `place_text` prints the place of a job.
 //! - `listings_are_in_order` is a law: a listing is written in the order of its names.
 //! - `texts_tell_json_apart` is one too: JSON without fractions that has one text is one. So are
@@ -17,6 +18,7 @@ mod copy;
 mod depth;
 mod distinct;
 mod erase;
+mod fileless;
 mod laws;
 mod members;
 mod names;
@@ -30,8 +32,10 @@ mod write;
 pub use copy::{copy_fields, copy_items, copy_job};
 pub use distinct::{is_taken, names_differ};
 pub use erase::{erased, erased_fields, erased_items};
+pub use fileless::{holds_files, stands_fileless};
 pub use laws::{
-    json_tells_values_apart, listings_are_in_order, texts_tell_json_apart, texts_tell_values_apart,
+    fileless_json_stands_for_values, json_tells_values_apart, listings_are_in_order,
+    texts_tell_json_apart, texts_tell_values_apart,
 };
 pub use names::name_parts;
 pub use place::{JobPlace, Place, Segment};

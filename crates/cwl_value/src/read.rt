@@ -19,7 +19,7 @@ use serde_json::value::Map;
 use serde_json::{Number, Value as Json};
 use std::alloc::Global;
 
-const GREATEST_DEPTH: usize = 100;
+pub(crate) const GREATEST_DEPTH: usize = 100;
 
 /// Reads a value from JSON text (CWL v1.2, "Data concepts", File and Directory).
 ///

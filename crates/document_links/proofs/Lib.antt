@@ -2,6 +2,7 @@ pub mod Absent
 pub mod Bounding
 pub mod Counted
 pub mod Differ
+pub mod Fileless
 pub mod Made
 pub mod Missing
 pub mod Named

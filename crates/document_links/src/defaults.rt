@@ -7,8 +7,10 @@ ghost use Rattle.url.specs.Parts.{Parts};
 ghost use Rattle.document_links.specs.Defaults.{default_fault, defaults_fault, each_on, on_base, step_input_on, tool_input_on, tool_on, workflow_input_on};
 
 use crate::places::has_long;
-use cwl_process::{Entries, StepInput, Tool, ToolInput, WorkflowInput, default_at};
-use cwl_value::Value as CwlValue;
+use cwl_process::{
+    Entries, StepInput, Tool, ToolInput, WorkflowInput, default_at, have_fileless_defaults,
+};
+use cwl_value::{Value as CwlValue, holds_files};
 use document_table::{Cause, DocumentFault, Kind, entries, here, under};
 use file_values::{FileError, resolve};
 use plain_data::Text;
@@ -146,10 +148,14 @@ fn default_on(
     }
 }
 
-/// The value on a base, where each place in it has a path.
+/// The value on a base, where each place in it has a path. A value without places is handed on.
+#[tactic(auto, using(crate::proofs::Fileless::value_stays))]
 fn on_base(alloc: Global, base: &Url, value: CwlValue) -> Result<Option<CwlValue>, AllocError>
     ensures { IfOk result (λ found. found ≡ on_base base.now value) }
 {
+    if !holds_files(&value) {
+        return Ok(Some(value));
+    }
     if has_long(base, &value) {
         mem::drop(value);
         return Ok(None);
@@ -163,7 +169,8 @@ fn on_base(alloc: Global, base: &Url, value: CwlValue) -> Result<Option<CwlValue
 
 // ---- what is wrong
 
-/// The first default, of the objects in a field's list or map, with a place that has no path.
+/// The first default, of the objects in a field's list or map, with a place that has no path. Those without Files and Directories are not read.
+#[tactic(auto, using(crate::proofs::Fileless::no_default_fault))]
 pub(crate) fn defaults_fault(
     alloc: Global,
     base: &Url,
@@ -177,6 +184,9 @@ pub(crate) fn defaults_fault(
     let Some(found) = value.get(name) else {
         return Ok(None);
     };
+    if have_fileless_defaults(found) {
+        return Ok(None);
+    }
     let all = entries(alloc, kind, found)?;
     match first_default_fault(alloc, base, all.as_slice())? {
         None => Ok(None),

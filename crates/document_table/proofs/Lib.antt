@@ -1,4 +1,5 @@
 pub mod Alone
+pub mod Climbing
 pub mod Cuts
 pub mod Described
 pub mod Faultless
@@ -6,6 +7,7 @@ pub mod IdMaps
 pub mod Ids
 pub mod Known
 pub mod Places
+pub mod Printed
 pub mod Roots
 pub mod Seen
 pub mod Whole

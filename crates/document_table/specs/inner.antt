@@ -1,2 +1,2 @@
-pub mod Leaf
+pub mod Climbs
 pub mod Places

@@ -55,7 +55,7 @@ fn listed_entries<'v>(
     ensures ids { OnOk result (HasForm (Objects kind) (array (items_view items.now.items))
         → IsDistinct bytes_eq (keys_of (listed_entries kind (items_view items.now.items)))) }
 {
-    let mut found = Vec::new(alloc);
+    let mut found = Vec::with_capacity(alloc, items.len())?;
     for item in items {
         if let Some(name) = name_in(kind, item) {
             found.push((name, item))?;
@@ -76,7 +76,7 @@ fn mapped_entries(
         → IsDistinct bytes_eq
         (keys_of (mapped_entries kind (members_view members.now.entries)))) }
 {
-    let mut found = Vec::new(alloc);
+    let mut found = Vec::with_capacity(alloc, members.len())?;
     for (name, value) in members.iter() {
         found.push((subject_name(kind, name.as_str()), value))?;
     }

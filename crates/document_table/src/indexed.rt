@@ -132,9 +132,11 @@ fn put_first(
         ≡ option_or (get_by_text places.old other)
         (cond (bytes_eq other id.now) (Some index) None)) }
 {
-    if places.contains_key(id) {
-        return Ok(());
+    match places.insert(String::from_str(alloc, id)?, index)? {
+        None => Ok(()),
+        Some(first) => {
+            let _index = places.insert(String::from_str(alloc, id)?, first)?;
+            Ok(())
+        }
     }
-    places.insert(String::from_str(alloc, id)?, index)?;
-    Ok(())
 }

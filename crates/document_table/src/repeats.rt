@@ -2,12 +2,14 @@
 ghost use Rattle.std.specs.Prelude.{◌≡◌, [], IfOk, map, option_map};
 ghost use Rattle.serde_json.specs.View.{items_view, members_view, view};
 ghost use Rattle.document_table.specs.Repeats.{key_names, name_in, named_kind, names_in, repeat_after, repeated_key, repeated_name, subject_name};
+ghost use Rattle.document_table.specs.inner.Climbs.{climb, climb_from};
 
 use crate::form::{Form, Kind};
 use crate::layout::{Layout, subject_of};
 use crate::texts::plain_id;
 use serde_json::{Map, Value};
 use std::alloc::{AllocError, Global};
+use std::cmp::Ordering;
 use std::collections::BTreeSet;
 
 /// The first name of an item that stands before it too.
@@ -43,7 +45,7 @@ fn names_in(alloc: Global, kind: Kind, items: &Vec<Value>) -> Result<Vec<&str>, 
     ensures { IfOk result (λ names. map (λ name. name.now) names.items
         ≡ names_in kind (items_view items.now.items)) }
 {
-    let mut names = Vec::new(alloc);
+    let mut names = Vec::with_capacity(alloc, items.len())?;
     for item in items {
         if let Some(name) = name_in(kind, item) {
             names.push(name)?;
@@ -101,7 +103,7 @@ fn key_names(
     ensures { IfOk result (λ names. map (λ name. name.now) names.items
         ≡ key_names kind (members_view members.now.entries)) }
 {
-    let mut names = Vec::new(alloc);
+    let mut names = Vec::with_capacity(alloc, members.len())?;
     for (key, value) in members.iter() {
         let _ = value;
         names.push(subject_name(kind, key.as_str()))?;
@@ -109,7 +111,8 @@ fn key_names(
     Ok(names)
 }
 
-/// The first of the names that stands before it too.
+/// The first of the names that stands before it too. Names that climb, as the keys of a map do, need no memory.
+#[tactic(auto, using(crate::proofs::Climbing::no_repeat))]
 pub(crate) fn first_repeat<'n>(
     alloc: Global,
     names: &[&'n str],
@@ -117,6 +120,9 @@ pub(crate) fn first_repeat<'n>(
     ensures { IfOk result (λ found. option_map (λ name. name.now) found
         ≡ repeat_after [] (map (λ name. name.now) names.now)) }
 {
+    if climb(names) {
+        return Ok(None);
+    }
     let mut seen = BTreeSet::new(alloc);
     for name in names {
         if !seen.insert(*name)? {
@@ -124,4 +130,27 @@ pub(crate) fn first_repeat<'n>(
         }
     }
     Ok(None)
+}
+
+/// Whether each of the names is above the one before it.
+fn climb(names: &[&str]) -> bool
+    ensures { result ≡ climb (map (λ name. name.now) names.now) }
+{
+    match names.split_first() {
+        None => true,
+        Some((first, others)) => climb_from(*first, others),
+    }
+}
+
+fn climb_from(first: &str, others: &[&str]) -> bool
+    ensures { result ≡ climb_from first.now (map (λ name. name.now) others.now) }
+{
+    let mut last = first;
+    for name in others {
+        match last.cmp(*name) {
+            Ordering::Less => last = *name,
+            _ => return false,
+        }
+    }
+    true
 }

@@ -2,6 +2,7 @@
 use Rattle.std.proofs.Common.{◌≡◌, ℕ, Bool, true, false, true≢false, ◌||◌, List, [], ◌∷◌, ◌++◌, map, refl, sym, ap, ◌∙◌, rules}
 use Rattle.std.specs.List.{AllByRecursion}
 use Rattle.plain_data.specs.ByName.{map_values}
+use Rattle.cwl_value.specs.Fileless.{holds_files, some_true}
 use Rattle.cwl_value.proofs.Induction.{Cases, induction}
 use Rattle.cwl_value.specs.declared.value.Value.{Value, out-Value, the_lemmas}
 use Rattle.cwl_value.specs.declared.value.Value as value
@@ -9,7 +10,7 @@ use Rattle.cwl_value.specs.declared.value.FileVal.{FileVal}
 use Rattle.cwl_value.specs.declared.value.DirVal.{DirVal}
 use Rattle.input_files.specs.Given.{Fields, files_in, files_among, own_file, with_file, with_files}
 use Rattle.input_files.specs.Beside.{file_beside}
-use Rattle.input_files.specs.Laws.{some_true, holds_files, UntouchedWithoutFiles}
+use Rattle.input_files.specs.Laws.{UntouchedWithoutFiles}
 use Rattle.input_files.specs.Measured.{Measures, is_there, as_measured}
 use Rattle.input_files.specs.Present.{all_true}
 use Rattle.input_files.specs.Paths.{Paths, joined, paths_of}

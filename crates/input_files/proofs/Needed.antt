@@ -23,7 +23,8 @@ use Rattle.staging.proofs.Numbered.{contains_cons}
 use Rattle.staging.proofs.Together.{nothing_in}
 use Rattle.input_files.specs.Beside.{looked_for}
 use Rattle.input_files.specs.Given.{Name, Fields, NamedInput, value_under}
-use Rattle.input_files.specs.Laws.{some_true, is_at, holds_at, dir_holds_path, file_holds_path, holds_path, Needs, PathsAreThoseNeeded}
+use Rattle.cwl_value.specs.Fileless.{some_true}
+use Rattle.input_files.specs.Laws.{is_at, holds_at, dir_holds_path, file_holds_path, holds_path, Needs, PathsAreThoseNeeded}
 use Rattle.input_files.specs.Paths.{Paths, own_path, joined, paths_of, paths_of_file, paths_of_dir, paths_of_fields, default_adds, input_adds, with_new, each_once}
 
 -- lists

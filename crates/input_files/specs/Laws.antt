@@ -1,10 +1,10 @@
 -- What follows from the definitions: what is asked of a value without Files and Directories, which paths are measured, what a measured value
 -- says, and what is read of files.
 use Rattle.std.specs.Prelude.{◌≡◌, ◌≢◌, ◌↔◌, ◌≤◌, ℕ, Bool, true, false, not, ◌&&◌, ◌||◌, List, [], map, All, AllPairs, Contains, Some, Ok, unwrap_or, bytes_eq}
-use Rattle.std.specs.List.{list_any}
 use Rattle.std.specs.Option.{option_map_or}
 use Rattle.plain_data.specs.ByName.{names, value_at}
 use Rattle.cwl_process.specs.declared.tool.SecondaryFile.{SecondaryFile}
+use Rattle.cwl_value.specs.Fileless.{holds_files, some_true}
 use Rattle.cwl_value.specs.declared.place.Place.{Place}
 use Rattle.cwl_value.specs.declared.place.Place.TheVariants as place
 use Rattle.cwl_value.specs.declared.value.Value.{Value, fold-Value}
@@ -23,20 +23,6 @@ use Rattle.input_files.specs.Present.{all_true, value_there, is_made, is_present
 use Rattle.input_files.specs.declared.contents.TheConstants.{MOST_CONTENTS}
 
 -- Nothing is asked of a value without Files and Directories, and it stays as it is.
-
-abbrev pub some_true : List Bool → Bool
-some_true flags = list_any (λ flag. flag) flags
-
-abbrev pub files_at : Value-F Bool Bool Bool → Bool
-files_at (Value-F.FileVal file) = true
-files_at (Value-F.DirVal dir) = true
-files_at (Value-F.List flags) = some_true flags
-files_at (Value-F.Fields flags) = some_true (map (λ e. e.1) flags)
-files_at _ = false
-
--- whether a value is a File or Directory, or holds one at any depth
-abbrev pub holds_files : Value → Bool
-holds_files = fold-Value Bool Bool Bool files_at (λ dir. true) (λ file. true)
 
 pub record IsUntouched (measures : Measures) (declared : List SecondaryFile) (v : Value) : Type 0 where
   pub there : is_there measures v ≡ true

@@ -1,6 +1,7 @@
-use Rattle.std.proofs.Common.{◌≡◌, ◌++◌, drop, false, string_bytes}
+use Rattle.std.proofs.Common.{◌≡◌, ◌++◌, drop}
+use Rattle.json.specs.Tree.{items_tokens, members_tokens}
 use Rattle.serde_json.specs.View.{items_view, members_view}
-use Rattle.serde_json.specs.Written.{items_have_float, items_text, members_have_float, members_text}
+use Rattle.serde_json.specs.Written.{items_have_float, items_outline, members_have_float, members_outline}
 use Rattle.document_table.specs.Kept.{kept_items, kept_members}
 use Rattle.document_table.proofs.kept.+writing.Given as goal
 
@@ -9,7 +10,8 @@ invariant-write_items-loop-item l =
     let all = kept_items l.form (items_view l.item-items) in
     let rest = kept_items l.form (items_view (drop l.item-index l.item-items)) in
     record {
-      text : string_bytes l.out ++ items_text l.later rest ≡ string_bytes l.initial.out ++ items_text false all;
+      before : l.out.before ≡ l.initial.out.before;
+      text : l.out.tokens ++ items_tokens (items_outline rest) ≡ l.initial.out.tokens ++ items_tokens (items_outline all);
       float : items_have_float rest ≡ items_have_float all;
     }
 
@@ -18,6 +20,7 @@ invariant-write_members-loop-name l =
     let all = kept_members l.layout (members_view l.members.entries) in
     let rest = kept_members l.layout (members_view l.name-iterator) in
     record {
-      text : string_bytes l.out ++ members_text l.later rest ≡ string_bytes l.initial.out ++ members_text false all;
+      before : l.out.before ≡ l.initial.out.before;
+      text : l.out.tokens ++ members_tokens (members_outline rest) ≡ l.initial.out.tokens ++ members_tokens (members_outline all);
       float : members_have_float rest ≡ members_have_float all;
     }
