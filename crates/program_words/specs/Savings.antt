@@ -9,7 +9,7 @@ zeros_before n = if nat_lt n 10 then codes "00" else if nat_lt n 100 then codes 
 abbrev pub with_comma : ℕ → List ℕ
 with_comma n = decimal (n / 1000) ++ codes "," ++ zeros_before (n % 1000) ++ decimal (n % 1000)
 
--- a number below a million, with a comma before its last three digits; a run has at most 4,096 jobs
+-- a number below a million, with a comma before its last three digits; a run has at most 16,384 jobs
 abbrev pub grouped : ℕ → List ℕ
 grouped n = if nat_lt n 1000 then decimal n else with_comma n
 
