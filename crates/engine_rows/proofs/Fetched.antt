@@ -1,33 +1,10 @@
 -- Files that are fetched as they were archived are among those that were archived.
-use Rattle.std.proofs.Common.{◌≡◌, ℕ, Bool, true, false, List, [], ◌∷◌, refl}
-use Rattle.std.specs.Prelude.{◌&&◌, ◌||◌, bytes_eq}
+use Rattle.std.proofs.Common.{◌≡◌, true, List, [], ◌∷◌, refl}
 use Rattle.std.specs.List.{list_any}
 use Rattle.std.proofs.lemmas.Slice.Eq.{bytes_eq-Decides}
 use Rattle.proc_host.specs.Answers.{are_among}
+use Rattle.process_machine.proofs.Taken.{both, either, first_of_both, named, or_else, second_of_both}
 use Rattle.staging.specs.declared.found.Found.{Found}
-
-either : (a b : Bool) → a ≡ true → (a || b) ≡ true
-either true b is = refl
-either false b is = absurd (cc)
-
-or_else : (a b : Bool) → b ≡ true → (a || b) ≡ true
-or_else true b is = refl
-or_else false b is = is
-
-first_of_both : (a b : Bool) → (a && b) ≡ true → a ≡ true
-first_of_both true b is = refl
-first_of_both false b is = absurd (cc)
-
-second_of_both : (a b : Bool) → (a && b) ≡ true → b ≡ true
-second_of_both true b is = is
-second_of_both false b is = absurd (cc)
-
-both : (a b : Bool) → a ≡ true → b ≡ true → (a && b) ≡ true
-both true b is also = also
-both false b is also = absurd (cc)
-
-abbrev named : List ℕ → Found → Bool
-named name file = bytes_eq file.name name
 
 -- one file more before the others
 among_more : (file : Found) (files found : List Found) → are_among files found ≡ true → are_among (file ∷ files) found ≡ true

@@ -2,7 +2,7 @@ mod Above
 mod Ahead
 mod AheadOf
 mod Flags
-mod Graphs
+pub mod Graphs
 mod Going
 mod GoingOn
 mod Gone
@@ -10,7 +10,7 @@ mod Grows
 mod Index
 pub mod Knowing
 mod KeptFault
-mod Limits
+pub mod Limits
 mod Loops
 mod Marks
 mod MetMore

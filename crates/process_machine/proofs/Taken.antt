@@ -8,27 +8,27 @@ use Rattle.proc_host.specs.Answers.{are_among}
 use Rattle.process_machine.specs.inner.Taken.{AreTaken, of_none, was_absent, was_there}
 use Rattle.staging.specs.declared.found.Found.{Found}
 
-either : (a b : Bool) → a ≡ true → (a || b) ≡ true
+pub either : (a b : Bool) → a ≡ true → (a || b) ≡ true
 either true b is = refl
 either false b is = absurd (cc)
 
-or_else : (a b : Bool) → b ≡ true → (a || b) ≡ true
+pub or_else : (a b : Bool) → b ≡ true → (a || b) ≡ true
 or_else true b is = refl
 or_else false b is = is
 
-first_of_both : (a b : Bool) → (a && b) ≡ true → a ≡ true
+pub first_of_both : (a b : Bool) → (a && b) ≡ true → a ≡ true
 first_of_both true b is = refl
 first_of_both false b is = absurd (cc)
 
-second_of_both : (a b : Bool) → (a && b) ≡ true → b ≡ true
+pub second_of_both : (a b : Bool) → (a && b) ≡ true → b ≡ true
 second_of_both true b is = is
 second_of_both false b is = absurd (cc)
 
-both : (a b : Bool) → a ≡ true → b ≡ true → (a && b) ≡ true
+pub both : (a b : Bool) → a ≡ true → b ≡ true → (a && b) ≡ true
 both true b is also = also
 both false b is also = absurd (cc)
 
-abbrev named : List ℕ → Found → Bool
+abbrev pub named : List ℕ → Found → Bool
 named name file = bytes_eq file.name name
 
 -- one file more has its name, and the others keep theirs
