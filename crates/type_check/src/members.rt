@@ -4,13 +4,12 @@ ghost use Rattle.std.specs.List.{list_any};
 ghost use Rattle.cwl_types.specs.declared.types.MemberType.{out-MemberType};
 ghost use Rattle.type_check.specs.Depths.{lists_at};
 ghost use Rattle.type_check.specs.Overlaps.{plain_meets};
-ghost use Rattle.type_check.specs.inner.Members.{AreMembers, ArePlainsOf, AreSymbolsOf, all_lent, answer_for, has_symbol, is_held, is_in, texts_at};
+ghost use Rattle.type_check.specs.inner.Members.{AreInOrder, AreMembers, ArePlainsOf, AreSymbolsOf, all_lent, answer_for, has_symbol, is_held, is_in, texts_at};
 
 use crate::overlapping::plain_meets;
 use cwl_types::{MemberType, PlainType};
 use plain_data::{Items, Text};
 use std::alloc::{AllocError, Global};
-use std::collections::BTreeSet;
 
 /// For each type by its name, whether it overlaps one of the members.
 #[derive(Clone, Copy, Drop)]
@@ -33,8 +32,8 @@ pub(crate) struct Members<'t> {
     lists: bool,
     /// Whether Any or string is one of them: enums overlap it.
     texts: bool,
-    /// The symbols of all enums.
-    symbols: BTreeSet<&'t str>,
+    /// The symbols of all enums, in order.
+    symbols: Vec<&'t str>,
 }
 
 impl<'t> Members<'t> {
@@ -76,20 +75,32 @@ impl<'t> Members<'t> {
 
     /// Whether an enum overlaps one of the members.
     pub(crate) fn meets_enum(&self, symbols: &Items<Text>) -> bool
-        ensures { result
-            ≡ (self.now.texts || list_any (λ symbol. is_held symbol self.now.symbols) symbols.now) }
+        requires { AreInOrder self.now.symbols.items }
+        ensures { result ≡ (self.now.texts
+            || list_any (λ symbol. is_held symbol self.now.symbols.items) symbols.now) }
     {
         self.texts || self.has_some(symbols)
     }
 
     fn has_some(&self, symbols: &Items<Text>) -> bool
-        ensures { result ≡ list_any (λ symbol. is_held symbol self.now.symbols) symbols.now }
+        requires { AreInOrder self.now.symbols.items }
+        ensures { result ≡ list_any (λ symbol. is_held symbol self.now.symbols.items) symbols.now }
     {
-        symbols
-            .as_slice()
-            .iter()
-            .any(|symbol| self.symbols.contains(symbol.as_str()))
+        for symbol in symbols.as_slice() {
+            if has(self.symbols.as_slice(), symbol.as_str()) {
+                return true;
+            }
+        }
+        false
     }
+}
+
+/// Whether a text is one of these, which are in order.
+fn has(held: &[&str], text: &str) -> bool
+    requires { AreInOrder held.now }
+    ensures { result ≡ is_held text.now held.now }
+{
+    held.binary_search(&text).is_ok()
 }
 
 fn plains_of(members: &[&MemberType]) -> Plains
@@ -145,22 +156,21 @@ fn has_texts(member: &MemberType) -> bool
     }
 }
 
-fn symbols_of<'t>(
-    alloc: Global,
-    members: &[&'t MemberType],
-) -> Result<BTreeSet<&'t str>, AllocError>
-    ensures { IfOk result (λ held. AreSymbolsOf held (all_lent members.now)) }
+fn symbols_of<'t>(alloc: Global, members: &[&'t MemberType]) -> Result<Vec<&'t str>, AllocError>
+    ensures { IfOk result (λ held. AreInOrder held.items
+        × AreSymbolsOf held.items (all_lent members.now)) }
 {
-    let mut held = BTreeSet::new(alloc);
+    let mut held = Vec::new(alloc);
     for member in members {
         add_symbols(&mut held, *member)?;
     }
+    held.sort_unstable();
     Ok(held)
 }
 
-fn add_symbols<'t>(held: &mut BTreeSet<&'t str>, member: &'t MemberType) -> Result<(), AllocError>
-    ensures { OnOk result ((text : List ℕ) → is_held text held.new
-        ≡ (is_held text held.old || has_symbol text member.now)) }
+fn add_symbols<'t>(held: &mut Vec<&'t str>, member: &'t MemberType) -> Result<(), AllocError>
+    ensures { OnOk result ((text : List ℕ) → is_held text held.new.items
+        ≡ (is_held text held.old.items || has_symbol text member.now)) }
 {
     match member {
         MemberType::Plain(_) => Ok(()),
@@ -169,12 +179,12 @@ fn add_symbols<'t>(held: &mut BTreeSet<&'t str>, member: &'t MemberType) -> Resu
     }
 }
 
-fn add_texts<'t>(held: &mut BTreeSet<&'t str>, symbols: &'t Items<Text>) -> Result<(), AllocError>
-    ensures { OnOk result ((text : List ℕ) → is_held text held.new
-        ≡ (is_held text held.old || is_in text symbols.now)) }
+fn add_texts<'t>(held: &mut Vec<&'t str>, symbols: &'t Items<Text>) -> Result<(), AllocError>
+    ensures { OnOk result ((text : List ℕ) → is_held text held.new.items
+        ≡ (is_held text held.old.items || is_in text symbols.now)) }
 {
     for symbol in symbols.as_slice() {
-        held.insert(symbol.as_str())?;
+        held.push(symbol.as_str())?;
     }
     Ok(())
 }

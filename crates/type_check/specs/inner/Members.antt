@@ -1,10 +1,9 @@
 -- For private clauses: what is known of the members of one level.
 use Rattle.std.specs.Borrow.{Bor}
 use Rattle.std.specs.Prelude.{◌≡◌, ℕ, Bool, false, List, map}
-use Rattle.std.specs.BTreeSet as sorted
-use Rattle.std.specs.BTreeSet.{BTreeSet}
 use Rattle.std.specs.Cmp.Lexicographic.{slice_cmp}
 use Rattle.std.specs.List.{list_any}
+use Rattle.std.specs.List.Sorted.{IsSorted}
 use Rattle.std.specs.Ordering.{nat_cmp}
 use Rattle.std.specs.Str.{bytes_eq}
 use Rattle.cwl_types.specs.declared.types.MemberType.{MemberType, out-MemberType}
@@ -23,9 +22,12 @@ lent member = member.now
 abbrev pub all_lent : List (Bor MemberType) → List MemberType
 all_lent members = map lent members
 
--- a set has a text
-abbrev pub is_held : List ℕ → BTreeSet (Bor (List ℕ)) → Bool
-is_held text held = sorted.contains_by (λ k. slice_cmp nat_cmp text k.now) held
+-- one of the texts that are held is this one
+abbrev pub is_held : List ℕ → List (Bor (List ℕ)) → Bool
+is_held text held = list_any (λ k. bytes_eq k.now text) held
+
+abbrev pub AreInOrder : List (Bor (List ℕ)) → Type 0
+AreInOrder held = IsSorted (λ x y. slice_cmp nat_cmp x.now y.now) held
 
 abbrev pub is_in : List ℕ → List (List ℕ) → Bool
 is_in text symbols = list_any (λ other. bytes_eq other text) symbols
@@ -59,8 +61,8 @@ answer_for p plain.File = p.file
 answer_for p plain.Directory = p.directory
 answer_for p plain.Any = p.any
 
--- the set has the symbols of the enums and no other
-abbrev pub AreSymbolsOf : BTreeSet (Bor (List ℕ)) → List MemberType → Type 0
+-- what is held are the symbols of the enums and no other
+abbrev pub AreSymbolsOf : List (Bor (List ℕ)) → List MemberType → Type 0
 AreSymbolsOf held members = (text : List ℕ) → is_held text held ≡ list_any (has_symbol text) members
 
 abbrev pub ArePlainsOf : Plains → List MemberType → Type 0
@@ -71,4 +73,5 @@ pub record AreMembers (found : Members) (members : List MemberType) : Type 0 whe
   pub plains : ArePlainsOf found.plains members
   pub lists : found.lists ≡ some_has_lists members
   pub texts : found.texts ≡ some_has_texts members
-  pub symbols : AreSymbolsOf found.symbols members
+  pub order : AreInOrder found.symbols.items
+  pub symbols : AreSymbolsOf found.symbols.items members

@@ -8,6 +8,6 @@ pub loop-symbol-preserved : goal.loop-symbol-preserved
 loop-symbol-preserved c =
     let i = c.loop-symbol.symbol-index in
     let text = c.symbol-item.result in
-    one_held c.args.symbols.now (λ q. is_held q c.args.held.now || is_in q c.args.symbols.now) i c.loop-symbol.held c.insert.new.self c.as_str.result text
+    one_held c.args.symbols.now (λ q. is_held q c.args.held.now.items || is_in q c.args.symbols.now) i c.loop-symbol.held.items c.push.new.self.items c.as_str.result text
     c.as_str.ensures.bytes (subst (λ texts. i < length texts) c.as_slice-symbol-items.ensures c.loop-symbol-test.true)
-    (c.symbol-item.is ∙ ap (λ texts. get_or texts i text) c.as_slice-symbol-items.ensures) c.in_ok-insert.ensures.updates c.loop-symbol.invariant
+    (c.symbol-item.is ∙ ap (λ texts. get_or texts i text) c.as_slice-symbol-items.ensures) c.in_ok-push.ensures.items c.loop-symbol.invariant

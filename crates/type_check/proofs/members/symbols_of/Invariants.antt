@@ -4,4 +4,4 @@ use Rattle.type_check.proofs.Kept.{Notes}
 use Rattle.type_check.proofs.members.symbols_of.Given as goal
 
 abbrev pub invariant-loop-member : goal.invariant-loop-member
-invariant-loop-member l = Notes l.held (drop l.member-index l.members) (all_lent l.fn.members)
+invariant-loop-member l = Notes l.held.items (drop l.member-index l.members) (all_lent l.fn.members)

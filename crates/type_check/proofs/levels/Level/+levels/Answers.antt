@@ -22,8 +22,8 @@ meets-returns-in-Enum t c =
     let found = c.in-Some.found.now in
     let symbols = c.in-Enum.symbols in
     c.meets_enum.ensures
-    ∙ ap (λ b. b || list_any (λ text. is_held text found.symbols) symbols) c.in-Some.ensures.texts
-    ∙ ap (λ b. some_has_texts ms || b) (any_alike (λ text. is_held text found.symbols) (λ text. list_any (has_symbol text) ms) symbols c.in-Some.ensures.symbols)
+    ∙ ap (λ b. b || list_any (λ text. is_held text found.symbols.items) symbols) c.in-Some.ensures.texts
+    ∙ ap (λ b. some_has_texts ms || b) (any_alike (λ text. is_held text found.symbols.items) (λ text. list_any (has_symbol text) ms) symbols c.in-Some.ensures.symbols)
     ∙ sym (ap (λ m. list_any (members_overlap m) ms) c.in-Enum.is ∙ enum_among symbols ms)
 
 pub meets-returns-else-has_lists : goal.meets-returns-else-has_lists

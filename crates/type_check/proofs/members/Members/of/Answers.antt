@@ -10,5 +10,6 @@ returns c = record {
   plains = c.plains_of.ensures;
   lists = c.some_has_lists.ensures ∙ sym (any_mapped lent (λ m. lists_at (out-MemberType m)) c.args.members.now);
   texts = c.some_has_texts.ensures ∙ sym (any_mapped lent (λ m. texts_at (out-MemberType m)) c.args.members.now);
-  symbols = c.in_ok-symbols.ensures;
+  order = c.in_ok-symbols.ensures.0;
+  symbols = c.in_ok-symbols.ensures.1;
 }
