@@ -24,6 +24,6 @@ with_sign (negative z) whole none is = (refl, ap signed_decimal (same_Some z who
 with_sign (float x) whole none is = absurd (none-some whole is)
 
 pub not_whole : (n : Num) → as_u64 n ≡ None → as_i64 n ≡ None → is_float n ≡ true
-not_whole (unsigned m) none no = absurd (some_is_not_none m none)
-not_whole (negative z) none no = absurd (some_is_not_none z no)
-not_whole (float x) none no = refl
+not_whole (unsigned m) none nor = absurd (some_is_not_none m none)
+not_whole (negative z) none nor = absurd (some_is_not_none z nor)
+not_whole (float x) none nor = refl
