@@ -122,6 +122,7 @@ fn places_in(alloc: Global, items: &Vec<Value>) -> Result<BTreeMap<String, usize
 }
 
 /// Puts an index under an id that has none.
+#[tactic(auto, using(std::proofs::lemmas::Map::Text::text_keys))]
 fn put_first(
     alloc: Global,
     places: &mut BTreeMap<String, usize>,
