@@ -1,6 +1,7 @@
 -- What follows from the definitions: what is asked of a value without Files and Directories, which paths are measured, what a measured value
 -- says, and what is read of files.
 use Rattle.std.specs.Prelude.{◌≡◌, ◌≢◌, ◌↔◌, ◌≤◌, ℕ, Bool, true, false, not, ◌&&◌, ◌||◌, List, [], map, All, AllPairs, Contains, Some, Ok, unwrap_or, bytes_eq}
+use Rattle.std.specs.List.{list_any}
 use Rattle.std.specs.Option.{option_map_or}
 use Rattle.plain_data.specs.ByName.{names, value_at}
 use Rattle.cwl_process.specs.declared.tool.SecondaryFile.{SecondaryFile}
