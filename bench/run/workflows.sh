@@ -1,6 +1,7 @@
 #!/bin/bash
 # How long the program takes for workflows of trivial jobs, four at once, beside `make -j4`, and beside `ninja -j4` where that is installed, for the
-# same commands: medians of 3, and their ratios. A scatter of N jobs that each write a file, and a chain of N jobs that each copy one.
+# same commands: medians of 3, and their ratios. A scatter of N jobs that each write a file, and a chain of N jobs that each copy one. The jobs of the
+# chain have a number each: of equal jobs the first would tell what the others give. Its last file is asked for, so that each job is needed.
 # Needs bash, python3, make and rt. PROGRAM=PATH takes a program that is built already; SIZES names other numbers of jobs.
 set -euo pipefail
 top=$(cd "$(dirname "$0")/../.." && pwd)
@@ -18,13 +19,14 @@ import json, sys
 n = int(sys.argv[1])
 write = {"class": "CommandLineTool", "baseCommand": "printf", "stdout": "o", "outputs": {"o": "stdout"}}
 write["inputs"] = {"t": {"type": "string", "inputBinding": {}}}
-copy = {**write, "baseCommand": "cat", "inputs": {"f": {"type": "File", "inputBinding": {}}}}
+copy = {**write, "baseCommand": "cat", "inputs": {"n": "int", "f": {"type": "File", "inputBinding": {}}}}
 scatter = {"e": {"run": write, "in": {"t": "ts"}, "out": ["o"], "scatter": "t"}}
 chain = {"s0": {"run": write, "in": {"t": {"default": "x"}}, "out": ["o"]}}
 for at in range(1, n):
-    chain[f"s{at}"] = {"run": copy, "in": {"f": f"s{at - 1}/o"}, "out": ["o"]}
-for name, inputs, steps in (("scatter", {"ts": "string[]"}, scatter), ("chain", {}, chain)):
-    document = {"cwlVersion": "v1.2", "class": "Workflow", "inputs": inputs, "outputs": {}, "steps": steps}
+    chain[f"s{at}"] = {"run": copy, "in": {"n": {"default": at}, "f": f"s{at - 1}/o"}, "out": ["o"]}
+last = {"o": {"type": "File", "outputSource": f"s{n - 1}/o"}}
+for name, inputs, outputs, steps in (("scatter", {"ts": "string[]"}, {}, scatter), ("chain", {}, last, chain)):
+    document = {"cwlVersion": "v1.2", "class": "Workflow", "inputs": inputs, "outputs": outputs, "steps": steps}
     with open(f"{name}.json", "w") as it:
         json.dump(document, it)
 with open("scatter.inputs", "w") as it:
