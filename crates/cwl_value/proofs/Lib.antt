@@ -1,4 +1,5 @@
 pub mod AllRead
+pub mod BareFiles
 pub mod Differing
 pub mod Induction
 pub mod JsonDepths

@@ -57,7 +57,8 @@ pub(crate) fn summed_in(
     Ok((checksum, size))
 }
 
-fn place_in(alloc: Global, members: &Map<String, Json>) -> Result<Place, ValueRefusal>
+/// The location, or else the path.
+pub(crate) fn place_in(alloc: Global, members: &Map<String, Json>) -> Result<Place, ValueRefusal>
     ensures ok { IfOk result
         (λ place. place_read (member (codes "location") (members_view members.now.entries))
         (member (codes "path") (members_view members.now.entries)) ≡ Ok place) }

@@ -1,16 +1,16 @@
 //! From JSON to values.
-ghost use Rattle.std.specs.Prelude.{◌≡◌, ◌≢◌, Ok, Err, IfOk, IfErr};
+ghost use Rattle.std.specs.Prelude.{◌≡◌, ◌≢◌, Ok, Err, IfOk, IfErr, codes, length};
 ghost use Rattle.plain_data.specs.ByName.{value_at};
 ghost use Rattle.serde_json.specs.Find.{as_i64, is_float};
 ghost use Rattle.serde_json.specs.View.{view, number_view, items_view, members_view};
-ghost use Rattle.cwl_value.specs.Reading.{reading, value_read, whole_read, all_read, items_read, members_read, fields_read, object_read, file_read, file_form, dir_read, list_read, list_form};
+ghost use Rattle.cwl_value.specs.Reading.{reading, value_read, whole_read, all_read, items_read, members_read, fields_read, object_read, file_read, file_form, dir_read, list_read, list_form, class_in};
 ghost use Rattle.cwl_value.specs.Texts.{ReadsAs};
 ghost use Rattle.cwl_value.specs.declared.value.Value.{out-Value};
 ghost use Rattle.cwl_value.specs.declared.refusal.ValueRefusal.TheVariants.{OutOfMemory};
 
 use crate::beside::{listing_of, secondary_of};
 use crate::depth::nests_within;
-use crate::members::{class_of, placed_in, summed_in};
+use crate::members::{class_of, place_in, placed_in, summed_in};
 use crate::place::Place;
 use crate::refusal::{FileField, ValueRefusal};
 use crate::value::{DirVal, FileVal, Value};
@@ -119,12 +119,16 @@ fn read_fields(alloc: Global, members: &Map<String, Json>) -> Result<Keyed<Value
 
 #[cycle(read)]
 fn read_file(alloc: Global, members: &Map<String, Json>) -> Result<FileVal, ValueRefusal>
+    requires { class_in (members_view members.now.entries) ≡ codes "File" }
     ensures ok { IfOk result (λ f. file_read (members_view members.now.entries)
         (members_read (members_view members.now.entries)) ≡ Ok f) }
     ensures err { IfErr result (λ e. e ≢ OutOfMemory
         → file_read (members_view members.now.entries)
         (members_read (members_view members.now.entries)) ≡ Err e) }
 {
+    if members.len() == 2 {
+        return bare_file(alloc, members);
+    }
     let placed = placed_in(alloc, members)?;
     let summed = summed_in(alloc, members)?;
     let listed = read_list(alloc, members, "secondaryFiles", FileField::SecondaryFiles)?;
@@ -147,6 +151,20 @@ fn read_dir(alloc: Global, members: &Map<String, Json>) -> Result<DirVal, ValueR
         basename,
         listing,
     })
+}
+
+// A File of two members: its class, and one that has to be its place. No other is looked for.
+fn bare_file(alloc: Global, members: &Map<String, Json>) -> Result<FileVal, ValueRefusal>
+    requires class { class_in (members_view members.now.entries) ≡ codes "File" }
+    requires two { length members.now.entries ≡ 2 }
+    ensures ok { IfOk result (λ f. file_read (members_view members.now.entries)
+        (members_read (members_view members.now.entries)) ≡ Ok f) }
+    ensures err { IfErr result (λ e. e ≢ OutOfMemory
+        → file_read (members_view members.now.entries)
+        (members_read (members_view members.now.entries)) ≡ Err e) }
+{
+    let place = place_in(alloc, members)?;
+    file_of(alloc, (place, None), (None, None), None)
 }
 
 // The File of what was read, unless its secondary files don't fit beside it.
