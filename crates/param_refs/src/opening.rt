@@ -33,5 +33,5 @@ fn opens_here(bytes: &[u8]) -> bool
 pub(crate) fn has_backslash(text: &str) -> bool
     ensures { result ≡ list_any (λ b. b == 92) text.now }
 {
-    text.as_bytes().iter().any(|byte| *byte == b'\\')
+    text.as_bytes().contains(&b'\\')
 }

@@ -1,5 +1,5 @@
 //! What is at the front of a text: symbols, segments and references.
-ghost use Rattle.std.specs.Prelude.{◌≡◌, ◌<◌, ◌++◌, ◌∷◌, false, codes, IfOk, IfErr, MatchOption};
+ghost use Rattle.std.specs.Prelude.{◌≡◌, ◌≢◌, ℕ, ◌<◌, List, ◌++◌, ◌∷◌, false, codes, IfOk, IfErr, MatchOption};
 ghost use Rattle.std.specs.Char.{is_ascii_digit};
 ghost use Rattle.std.specs.List.{list_all};
 ghost use Rattle.param_refs.specs.Grammar.{is_symbol_byte, is_number, BeginsNone};
@@ -24,7 +24,7 @@ pub(crate) fn reference(alloc: Global, text: &str) -> Result<(Reference, &str), 
         return Err(RefError::Refused(RefFault::NotAReference));
     };
     let (segments, rest) = segments(alloc, rest)?;
-    let Some(rest) = rest.strip_prefix(')') else {
+    let Some(rest) = past(rest, ')') else {
         return Err(RefError::Refused(RefFault::NotAReference));
     };
     let symbol = Text::from_text(alloc, symbol)?;
@@ -77,11 +77,11 @@ fn first_piece(text: &str) -> Option<(Piece<'_>, &str)>
     ensures { MatchOption result (NoSegment text.now)
         (λ t. SegmentThen text.now (segment_of t.0) t.1.now) }
 {
-    if let Some(rest) = text.strip_prefix('.') {
+    if let Some(rest) = past(text, '.') {
         let (symbol, rest) = symbol(rest)?;
         return Some((Piece::Key(symbol), rest));
     }
-    let inside = text.strip_prefix('[')?;
+    let inside = past(text, '[')?;
     bracketed(inside)
 }
 
@@ -106,7 +106,7 @@ fn in_quotes(text: &str, quote: char) -> Option<(Piece<'_>, &str)>
     ensures { MatchOption result (NoQuotes quote text.now)
         (λ t. SegmentThen (91 ∷ text.now) (segment_of t.0) t.1.now) }
 {
-    let inside = text.strip_prefix(quote)?;
+    let inside = past(text, quote)?;
     let (key, rest) = quoted(inside, quote)?;
     Some((Piece::Key(key), rest))
 }
@@ -127,8 +127,8 @@ fn symbol_length(text: &str) -> usize
     ensures { IsSymbolLength text.now result }
 {
     let bytes = text.as_bytes();
-    for at in 0..bytes.len() {
-        if !is_symbol_byte(bytes[at]) {
+    for (at, byte) in bytes.iter().enumerate() {
+        if !is_symbol_byte(*byte) {
             return at;
         }
     }
@@ -148,11 +148,25 @@ fn quoted(text: &str, quote: char) -> Option<(&str, &str)>
         (λ taken. QuotedThen quote text.now taken.0.now taken.1.now) }
 {
     let (key, after) = text.split_once(quote)?;
-    let rest = after.strip_prefix(']')?;
+    let rest = past(after, ']')?;
     if has_backslash(key) {
         return None;
     }
     Some((key, rest))
+}
+
+// What is past this character, where a text begins with it.
+fn past(text: &str, mark: char) -> Option<&str>
+    requires { mark < 128 }
+    ensures { MatchOption result ((rest : List ℕ) → text.now ≢ mark ∷ rest)
+        (λ rest. text.now ≡ mark ∷ rest.now) }
+{
+    let bytes = text.as_bytes();
+    if bytes.is_empty() || char::from(bytes[0]) != mark {
+        return None;
+    }
+    let (_, rest) = text.split_at(1);
+    Some(rest)
 }
 
 // Digits up to a closing bracket, and what follows it.

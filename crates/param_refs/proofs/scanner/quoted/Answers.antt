@@ -1,5 +1,5 @@
-use Rattle.std.proofs.Common.{Some, None, lit<, sym, ◌∙◌}
-use Rattle.std.proofs.lemmas.Str.Pattern.{split_parts, strip_prefix_char}
+use Rattle.std.proofs.Common.{Some, None, sym, ◌∙◌}
+use Rattle.std.proofs.lemmas.Str.Pattern.{split_parts}
 use Rattle.param_refs.proofs.Scanned.{unquoted, unclosed, escaped_key, quoted_then}
 use Rattle.param_refs.proofs.scanner.quoted.Goals as goal
 
@@ -11,7 +11,7 @@ returns-in_err-rest c =
     let key = c.in_ok-key.key in
     let after = c.in_ok-key.after in
     let parts = split_parts c.args.quote c.args.text.now (Some (key, after)) c.in_ok-key.ensures.cases c.requires in
-    rw c.from_residual-in_err-rest.ensures (unclosed c.args.quote c.args.text.now key.now after.now parts.0 parts.1 (strip_prefix_char 93 after.now None c.in_err-rest.ensures.cases (lit< tt)))
+    rw c.from_residual-in_err-rest.ensures (unclosed c.args.quote c.args.text.now key.now after.now parts.0 parts.1 c.in_err-rest.ensures)
 
 pub returns-then-has_backslash : goal.returns-then-has_backslash
 returns-then-has_backslash c =
@@ -25,5 +25,4 @@ returns c =
     let key = c.in_ok-key.key in
     let after = c.in_ok-key.after in
     let parts = split_parts c.args.quote c.args.text.now (Some (key, after)) c.in_ok-key.ensures.cases c.requires in
-    let close = strip_prefix_char 93 after.now (Some c.in_ok-rest.rest) c.in_ok-rest.ensures.cases (lit< tt) in
-    quoted_then c.args.quote c.args.text.now key.now after.now c.in_ok-rest.rest.now parts.0 parts.1 close (sym c.has_backslash.ensures ∙ c.if-has_backslash.false)
+    quoted_then c.args.quote c.args.text.now key.now after.now c.in_ok-rest.rest.now parts.0 parts.1 c.in_ok-rest.ensures (sym c.has_backslash.ensures ∙ c.if-has_backslash.false)
