@@ -89,37 +89,37 @@ elements-List vs = search (rules, the_lemmas)
 -- ---- looking a member up
 
 -- what a look-up finds after a member that may be absent was put in
-abbrev picked : Bool → Option Data → Option Data → Option Data
+abbrev pub picked : Bool → Option Data → Option Data → Option Data
 picked true (Some d) before = Some d
 picked true None before = before
 picked false o before = before
 
-picked-None : (b : Bool) (before : Option Data) → before ≡ picked b None before
+pub picked-None : (b : Bool) (before : Option Data) → before ≡ picked b None before
 picked-None true before = refl
 picked-None false before = refl
 
-picked-first : (o : Option Data) → picked true o None ≡ o
+pub picked-first : (o : Option Data) → picked true o None ≡ o
 picked-first None = refl
 picked-first (Some d) = refl
 
-get_member-put_at : (q k : List ℕ) (d : Data) (ms : Members) (b : Bool) → bytes_eq q k ≡ b → get_member q (put k d ms) ≡ picked b (Some d) (get_member q ms)
+pub get_member-put_at : (q k : List ℕ) (d : Data) (ms : Members) (b : Bool) → bytes_eq q k ≡ b → get_member q (put k d ms) ≡ picked b (Some d) (get_member q ms)
 get_member-put_at q k d ms true is = subst (λ n. get_member n (put k d ms) ≡ Some d) (sym ((bytes_decides q k).0 is)) (get_member-put k d ms)
 get_member-put_at q k d ms false is = get_member-put_other q k d ms (λ same. true≢false (sym ((bytes_decides q k).1 same) ∙ is))
 
-get_member-with_member : (q k : List ℕ) (o : Option Data) (ms : Members) → get_member q (with_member k o ms) ≡ picked (bytes_eq q k) o (get_member q ms)
+pub get_member-with_member : (q k : List ℕ) (o : Option Data) (ms : Members) → get_member q (with_member k o ms) ≡ picked (bytes_eq q k) o (get_member q ms)
 get_member-with_member q k None ms = picked-None (bytes_eq q k) (get_member q ms)
 get_member-with_member q k (Some d) ms = get_member-put_at q k d ms (bytes_eq q k) refl
 
 -- what it finds after several
-abbrev last_of : List ℕ → List (List ℕ × Option Data) → Option Data → Option Data
+abbrev pub last_of : List ℕ → List (List ℕ × Option Data) → Option Data → Option Data
 last_of q [] before = before
 last_of q (e ∷ es) before = last_of q es (picked (bytes_eq q e.0) e.1 before)
 
-get_member-from : (q : List ℕ) (es : List (List ℕ × Option Data)) (ms : Members) → get_member q (fold (λ members m. with_member m.0 m.1 members) ms es) ≡ last_of q es (get_member q ms)
+pub get_member-from : (q : List ℕ) (es : List (List ℕ × Option Data)) (ms : Members) → get_member q (fold (λ members m. with_member m.0 m.1 members) ms es) ≡ last_of q es (get_member q ms)
 get_member-from q [] ms = refl
 get_member-from q (e ∷ es) ms = get_member-from q es (with_member e.0 e.1 ms) ∙ ap (last_of q es) (get_member-with_member q e.0 e.1 ms)
 
-get_member-members_of : (q : List ℕ) (es : List (List ℕ × Option Data)) → get_member q (members_of es) ≡ last_of q es None
+pub get_member-members_of : (q : List ℕ) (es : List (List ℕ × Option Data)) → get_member q (members_of es) ≡ last_of q es None
 get_member-members_of q es = get_member-from q es no_members
 
 told_or : (o : Ordering) (d : Data) (r : Option Data) (s : Option Value) → s ≡ option_map told r → cond (is_eq o) (Some (told d)) s ≡ option_map told (match_ordering o r (Some d) r)

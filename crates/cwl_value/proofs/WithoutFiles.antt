@@ -8,10 +8,12 @@ use Rattle.serde_json.specs.Find.{as_i64, is_float}
 use Rattle.cwl_value.specs.Fileless.{FilelessJsonStandsForValues, holds_files, is_class_of_files, is_fileless, items_are_fileless, members_are_fileless, some_true}
 use Rattle.cwl_value.specs.Reading.{Reads, all_read, and_map, class_in, fields_read, greatest_depth, items_read, members_read, value_read, whole_form}
 use Rattle.cwl_value.specs.declared.refusal.ValueRefusal.TheVariants.{TooDeep}
+use Rattle.cwl_value.specs.declared.value.DirVal.{DirVal}
+use Rattle.cwl_value.specs.declared.value.FileVal.{FileVal}
 use Rattle.cwl_value.specs.declared.value.Value.{Value, the_lemmas}
 use Rattle.cwl_value.specs.declared.value.Value as value
 
-neither : (a b : Bool) → a ≡ false → b ≡ false → (a || b) ≡ false
+pub neither : (a b : Bool) → a ≡ false → b ≡ false → (a || b) ≡ false
 neither a b first second = ap (λ x. x || b) first ∙ second
 
 record Stands (d : Data) : Type 0 where
@@ -43,11 +45,17 @@ none_whole z = search (rules, the_lemmas)
 none_text : (s : List ℕ) → holds_files (value.Text s) ≡ false
 none_text s = search (rules, the_lemmas)
 
-held_list : (vs : List Value) → holds_files (value.List vs) ≡ some_true (map holds_files vs)
+pub held_list : (vs : List Value) → holds_files (value.List vs) ≡ some_true (map holds_files vs)
 held_list vs = search (rules, the_lemmas)
 
-held_fields : (es : List (List ℕ × Value)) → holds_files (value.Fields es) ≡ some_true (map (λ e. e.1) (map_values holds_files es))
+pub held_fields : (es : List (List ℕ × Value)) → holds_files (value.Fields es) ≡ some_true (map (λ e. e.1) (map_values holds_files es))
 held_fields es = search (rules, the_lemmas)
+
+pub held_file : (f : FileVal) → holds_files (value.FileVal f) ≡ true
+held_file f = search (rules, the_lemmas)
+
+pub held_dir : (d : DirVal) → holds_files (value.DirVal d) ≡ true
+held_dir d = search (rules, the_lemmas)
 
 whole_stands : (n : Num) (o : Option ℤ) → as_i64 n ≡ o → is_some o ≡ true → Stands (number n)
 whole_stands n (Some z) is some = record { v = value.Whole z; read = ap (λ o. whole_form o (is_float n)) is; none = none_whole z }
