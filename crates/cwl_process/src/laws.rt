@@ -1,12 +1,17 @@
 //! What follows from the definitions.
-ghost use Rattle.std.specs.Prelude.{◌≡◌, ◌≤◌, ℕ, List, true, false, codes};
+ghost use Rattle.std.specs.Prelude.{◌≡◌, ◌≤◌, ℕ, List, true, false, codes, None};
 ghost use Rattle.serde_json.specs.Data.{Data, boolean, depth, number, unsigned};
+ghost use Rattle.document_table.specs.Entries.{entries};
+ghost use Rattle.document_table.specs.declared.form.Kind.{Kind};
 ghost use Rattle.document_table.specs.declared.form.Kind.TheVariants as kind;
 ghost use Rattle.cwl_process.specs.Acting.{variable_in};
 ghost use Rattle.cwl_process.specs.Bindings.{binding_in, secondary_in};
+ghost use Rattle.cwl_process.specs.FilelessDefaults.{have_fileless_defaults};
+ghost use Rattle.cwl_process.specs.FirstFaults.{first_in};
 ghost use Rattle.cwl_process.specs.Laws.{HintsCountLast, IgnoresDescriptions, InheritedRequirementCounts, IsDefault, OwnRequirementCounts, ReadsMapsAsLists, WrittenTellsToolsApart};
 ghost use Rattle.cwl_process.specs.Parameters.{output_binding_in, tool_input_in, tool_output_in, workflow_input_in, workflow_output_in};
 ghost use Rattle.cwl_process.specs.Processes.{process_in, step_in};
+ghost use Rattle.cwl_process.specs.Together.{default_fault};
 ghost use Rattle.cwl_process.specs.Workflows.{step_input_in};
 ghost use Rattle.cwl_process.specs.declared.process.Process.{Process};
 ghost use Rattle.cwl_process.specs.declared.tool.Asked.{Asked};
@@ -67,4 +72,10 @@ pub fn the_nearest_requirement_counts()
     ensures own { OwnRequirementCounts }
     ensures inherited { InheritedRequirementCounts }
     ensures hints { HintsCountLast }
+{}
+
+/// Nothing is wrong with defaults that are seen to be without Files and Directories, so none of them has to be read to say so.
+pub fn nothing_is_wrong_with_fileless_defaults()
+    ensures { (kind : Kind) (d : Data) → have_fileless_defaults d ≡ true
+        → first_in default_fault (entries kind d) ≡ None }
 {}

@@ -1,5 +1,5 @@
 -- Values without Files and Directories are the same on every base, so nothing is wrong with them as defaults.
-use Rattle.std.proofs.Common.{◌≡◌, ℕ, Bool, true, false, true≢false, ◌||◌, List, [], ◌∷◌, map, Option, Some, None, Ok, refl, sym, ap, ◌∙◌, codes, rules}
+use Rattle.std.proofs.Common.{◌≡◌, ℕ, Bool, true, false, true≢false, List, [], ◌∷◌, map, Option, Some, None, Ok, refl, sym, ap, ◌∙◌, codes, rules}
 use Rattle.std.specs.Prelude.{if◌then◌else◌, option_and_then}
 use Rattle.std.specs.List.{AllByRecursion}
 use Rattle.std.specs.Option.{option_map_or}
@@ -13,10 +13,10 @@ use Rattle.cwl_value.specs.declared.value.DirVal.{DirVal}
 use Rattle.cwl_value.specs.declared.value.FileVal.{FileVal}
 use Rattle.cwl_value.specs.declared.value.Value.{Value, the_lemmas}
 use Rattle.cwl_value.specs.declared.value.Value as value
-use Rattle.cwl_value.proofs.WithoutFiles.{fileless_read}
+use Rattle.cwl_value.proofs.WithoutFiles.{fileless_read, held_dir, held_fields, held_file, held_list, neither}
 use Rattle.cwl_value.proofs.Induction.{Cases, induction}
 use Rattle.file_values.specs.Location.{and_map}
-use Rattle.file_values.specs.Resolved.{all_found, any_of, fields_found, has_long, resolved}
+use Rattle.file_values.specs.Resolved.{all_found, fields_found, has_long, resolved}
 use Rattle.document_table.specs.Entries.{entries}
 use Rattle.document_table.specs.declared.form.Kind.{Kind}
 use Rattle.cwl_process.specs.FilelessDefaults.{has_fileless_default, have_fileless_defaults}
@@ -25,9 +25,6 @@ use Rattle.cwl_process.specs.Parameters.{if_read}
 use Rattle.cwl_process.proofs.FilelessDefaults.{none_first}
 use Rattle.url.specs.Parts.{Parts}
 use Rattle.document_links.specs.Defaults.{default_fault, if_found, on_base, unplaced}
-
-neither : (a b : Bool) → a ≡ false → b ≡ false → (a || b) ≡ false
-neither a b first second = ap (λ x. x || b) first ∙ second
 
 -- ---- values
 
@@ -40,7 +37,7 @@ module _ (base : Parts) where
   P v = holds_files v ≡ false → Stays v
 
   record AllStay (vs : List Value) : Type 0 where
-    pub long : any_of (map (has_long base) vs) ≡ false
+    pub long : some_true (map (has_long base) vs) ≡ false
     pub same : all_found (map (resolved base) vs) ≡ Ok vs
 
   all : (vs : List Value) → AllByRecursion P vs → some_true (map holds_files vs) ≡ false → AllStay vs
@@ -49,10 +46,10 @@ module _ (base : Parts) where
       let parts = or_parts (holds_files v) (some_true (map holds_files vs)) none in
       let here = each.0 parts.0 in
       let rest = all vs each.1 parts.1 in
-      record { long = neither (has_long base v) (any_of (map (has_long base) vs)) here.long rest.long; same = rw (here.same, rest.same) refl }
+      record { long = neither (has_long base v) (some_true (map (has_long base) vs)) here.long rest.long; same = rw (here.same, rest.same) refl }
 
   record FieldsStay (es : List (List ℕ × Value)) : Type 0 where
-    pub long : any_of (map (λ e. e.1) (map_values (has_long base) es)) ≡ false
+    pub long : some_true (map (λ e. e.1) (map_values (has_long base) es)) ≡ false
     pub same : fields_found (map_values (resolved base) es) ≡ Ok es
 
   all_fields : (es : List (List ℕ × Value)) → AllByRecursion (λ (e : List ℕ × Value). P e.1) es → some_true (map (λ e. e.1) (map_values holds_files es)) ≡ false → FieldsStay es
@@ -62,14 +59,11 @@ module _ (base : Parts) where
       let here = each.0 parts.0 in
       let rest = all_fields es each.1 parts.1 in
       record {
-        long = neither (has_long base e.1) (any_of (map (λ (e : List ℕ × Bool). e.1) (map_values (has_long base) es))) here.long rest.long;
+        long = neither (has_long base e.1) (some_true (map (λ (e : List ℕ × Bool). e.1) (map_values (has_long base) es))) here.long rest.long;
         same = rw (here.same, rest.same) refl;
       }
 
-  held_list : (vs : List Value) → holds_files (value.List vs) ≡ some_true (map holds_files vs)
-  held_list vs = search (rules, the_lemmas)
-
-  long_list : (vs : List Value) → has_long base (value.List vs) ≡ any_of (map (has_long base) vs)
+  long_list : (vs : List Value) → has_long base (value.List vs) ≡ some_true (map (has_long base) vs)
   long_list vs = search (rules, the_lemmas)
 
   resolved_list : (vs : List Value) → resolved base (value.List vs) ≡ and_map value.List (all_found (map (resolved base) vs))
@@ -80,10 +74,7 @@ module _ (base : Parts) where
       let them = all vs each (sym (held_list vs) ∙ none) in
       record { long = long_list vs ∙ them.long; same = resolved_list vs ∙ ap (and_map value.List) them.same }
 
-  held_fields : (es : List (List ℕ × Value)) → holds_files (value.Fields es) ≡ some_true (map (λ e. e.1) (map_values holds_files es))
-  held_fields es = search (rules, the_lemmas)
-
-  long_fields : (es : List (List ℕ × Value)) → has_long base (value.Fields es) ≡ any_of (map (λ e. e.1) (map_values (has_long base) es))
+  long_fields : (es : List (List ℕ × Value)) → has_long base (value.Fields es) ≡ some_true (map (λ e. e.1) (map_values (has_long base) es))
   long_fields es = search (rules, the_lemmas)
 
   resolved_fields : (es : List (List ℕ × Value)) → resolved base (value.Fields es) ≡ and_map value.Fields (fields_found (map_values (resolved base) es))
@@ -93,12 +84,6 @@ module _ (base : Parts) where
   fields_case es each none =
       let them = all_fields es each (sym (held_fields es) ∙ none) in
       record { long = long_fields es ∙ them.long; same = resolved_fields es ∙ ap (and_map value.Fields) them.same }
-
-  held_file : (f : FileVal) → holds_files (value.FileVal f) ≡ true
-  held_file f = search (rules, the_lemmas)
-
-  held_dir : (d : DirVal) → holds_files (value.DirVal d) ≡ true
-  held_dir d = search (rules, the_lemmas)
 
   cases : Cases P (λ f. Unit {0}) (λ d. Unit {0})
   cases = record {

@@ -1,6 +1,7 @@
 //! Where a place is too long for `url`.
 ghost use Rattle.std.specs.Prelude.{◌≡◌, map};
 ghost use Rattle.plain_data.specs.ByName.{map_values};
+ghost use Rattle.cwl_value.specs.Fileless.{some_true};
 ghost use Rattle.file_values.specs.Location as location;
 ghost use Rattle.file_values.specs.Resolved as spec;
 
@@ -43,7 +44,7 @@ fn dir_has_long(base: &Url, dir: &DirVal) -> bool
 
 #[cycle(places)]
 fn items_have_long(base: &Url, items: &Items<Value>) -> bool
-    ensures { result ≡ spec.any_of (map (spec.has_long base.now) items.now) }
+    ensures { result ≡ some_true (map (spec.has_long base.now) items.now) }
 {
     for item in items.as_slice() {
         if has_long(base, item) {
@@ -56,7 +57,7 @@ fn items_have_long(base: &Url, items: &Items<Value>) -> bool
 #[cycle(places)]
 fn fields_have_long(base: &Url, fields: &Keyed<Value>) -> bool
     ensures { result
-        ≡ spec.any_of (map (λ e. e.1) (map_values (spec.has_long base.now) fields.now)) }
+        ≡ some_true (map (λ e. e.1) (map_values (spec.has_long base.now) fields.now)) }
 {
     for field in fields.as_slice() {
         if has_long(base, &field.1) {

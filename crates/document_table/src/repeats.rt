@@ -111,7 +111,7 @@ fn key_names(
     Ok(names)
 }
 
-/// The first of the names that stands before it too. Names that climb, as the keys of a map do, need no memory.
+/// The first of the names that stands before it too. Where the names climb, as the keys of a map do, no set of them is made.
 #[tactic(auto, using(crate::proofs::Climbing::no_repeat))]
 pub(crate) fn first_repeat<'n>(
     alloc: Global,

@@ -9,7 +9,8 @@ use Rattle.plain_data.specs.ByName.{map_values, IsByName}
 use Rattle.plain_data.proofs.ByName.{by_name_along, by_name_taken}
 use Rattle.cwl_value.specs.declared.value.Value.{Value}
 use Rattle.file_values.specs.Location.{Finds, and_map, and_then, Refuses}
-use Rattle.file_values.specs.Resolved.{all_found, fields_found, any_of}
+use Rattle.cwl_value.specs.Fileless.{some_true}
+use Rattle.file_values.specs.Resolved.{all_found, fields_found}
 use Rattle.file_values.specs.declared.refusal.FileError.{FileError}
 use Rattle.file_values.specs.declared.refusal.FileError.TheVariants.{Refused, OutOfMemory}
 use Rattle.file_values.specs.declared.refusal.FileFault.{FileFault}
@@ -73,21 +74,21 @@ module _ {T : Type 0} where
   all_found-stop : (rs : List (Finds T)) (r : Finds T) (rest : List (Finds T)) (xs : List T) (e : FileFault) → all_found rs ≡ Ok xs → r ≡ Err e → all_found (rs ++ r ∷ rest) ≡ Err e
   all_found-stop rs r rest xs e before now = all_found-append rs (r ∷ rest) ∙ rw (before, now) refl
 
-any_of-there : (before after : List Bool) (flag : Bool) → flag ≡ true → any_of (before ++ flag ∷ after) ≡ true
-any_of-there before after flag is =
-    list_any-append (λ b. b) before (flag ∷ after) ∙ or_right (any_of before) (flag || any_of after) (ap (λ b. b || any_of after) is)
+some_true-there : (before after : List Bool) (flag : Bool) → flag ≡ true → some_true (before ++ flag ∷ after) ≡ true
+some_true-there before after flag is =
+    list_any-append (λ b. b) before (flag ∷ after) ∙ or_right (some_true before) (flag || some_true after) (ap (λ b. b || some_true after) is)
 
 module _ {S T : Type 0} (f : S → Finds T) where
   pub found_more : (done : List S) (x : S) (found : List T) (y : T) → all_found (map f done) ≡ Ok found → f x ≡ Ok y → all_found (map f (done ++ x ∷ [])) ≡ Ok (found ++ y ∷ [])
   found_more done x found y before now = ap all_found (map-append f done (x ∷ [])) ∙ all_found-push (map f done) (f x) found y before now
 
   pub found_stop : (g : S → Bool) (done : List S) (x : S) (rest : List S) (found : List T) (e : FileError) → all_found (map f done) ≡ Ok found → Refuses (f x) (g x) e
-      → Refuses (all_found (map f (done ++ x ∷ rest))) (any_of (map g (done ++ x ∷ rest))) e
+      → Refuses (all_found (map f (done ++ x ∷ rest))) (some_true (map g (done ++ x ∷ rest))) e
   found_stop g done x rest found OutOfMemory before h = tt
   found_stop g done x rest found (Refused e) before (inl is) =
       inl (ap all_found (map-append f done (x ∷ rest)) ∙ all_found-stop (map f done) (f x) (map f rest) found e before is)
   found_stop g done x rest found (Refused e) before (inr far) =
-      inr (far.0, ap any_of (map-append g done (x ∷ rest)) ∙ any_of-there (map g done) (map g rest) (g x) far.1)
+      inr (far.0, ap some_true (map-append g done (x ∷ rest)) ∙ some_true-there (map g done) (map g rest) (g x) far.1)
 
 -- at an index of a list
 whole : {S : Type 0} (xs : List S) (k : ℕ) (x : S) → k < length xs → x ≡ get_or xs k x → xs ≡ take k xs ++ x ∷ drop (k + 1) xs
@@ -99,9 +100,9 @@ module _ {S T : Type 0} (f : S → Finds T) where
       ap (λ l. all_found (map f l)) (take_more xs k x within ∙ ap (λ z. take k xs ++ z ∷ []) (sym is)) ∙ found_more f (take k xs) x found y before now
 
   pub items_stop : (g : S → Bool) (xs : List S) (k : ℕ) (x : S) (found : List T) (e : FileError) → k < length xs → x ≡ get_or xs k x → all_found (map f (take k xs)) ≡ Ok found → Refuses (f x) (g x) e
-      → Refuses (all_found (map f xs)) (any_of (map g xs)) e
+      → Refuses (all_found (map f xs)) (some_true (map g xs)) e
   items_stop g xs k x found e within is before now =
-      subst (λ l. Refuses (all_found (map f l)) (any_of (map g l)) e) (sym (whole xs k x within is)) (found_stop f g (take k xs) x (drop (k + 1) xs) found e before now)
+      subst (λ l. Refuses (all_found (map f l)) (some_true (map g l)) e) (sym (whole xs k x within is)) (found_stop f g (take k xs) x (drop (k + 1) xs) found e before now)
 
 -- ---- fields
 
@@ -121,12 +122,12 @@ fields_more f done e found v before now =
     fields-as_found f (done ++ e ∷ []) ∙ found_more (field_found f) done e found (e.0, v) (sym (fields-as_found f done) ∙ before) (ap (and_map (λ v. (e.0, v))) now)
 
 pub fields_stop : (f : Value → Finds Value) (g : Value → Bool) (done : List (Field Value)) (e : Field Value) (rest found : List (Field Value)) (why : FileError) → fields_found (map_values f done) ≡ Ok found → Refuses (f e.1) (g e.1) why
-    → Refuses (fields_found (map_values f (done ++ e ∷ rest))) (any_of (map (λ e. e.1) (map_values g (done ++ e ∷ rest)))) why
+    → Refuses (fields_found (map_values f (done ++ e ∷ rest))) (some_true (map (λ e. e.1) (map_values g (done ++ e ∷ rest)))) why
 fields_stop f g done e rest found why before now =
     let all = done ++ e ∷ rest in
     let stop = found_stop (field_found f) (λ e. g e.1) done e rest found why (sym (fields-as_found f done) ∙ before) (refused_map (λ (v : Value). (e.0, v)) (f e.1) (g e.1) why now) in
-    let flags : any_of (map (λ e. e.1) (map_values g all)) ≡ any_of (map (λ e. g e.1) all) = ap any_of (map-map (λ (e : Field Bool). e.1) (λ e. (e.0, g e.1)) all) in
-    subst (λ r. Refuses r (any_of (map (λ e. e.1) (map_values g all))) why) (sym (fields-as_found f all))
+    let flags : some_true (map (λ e. e.1) (map_values g all)) ≡ some_true (map (λ e. g e.1) all) = ap some_true (map-map (λ (e : Field Bool). e.1) (λ e. (e.0, g e.1)) all) in
+    subst (λ r. Refuses r (some_true (map (λ e. e.1) (map_values g all))) why) (sym (fields-as_found f all))
     (subst (λ flag. Refuses (all_found (map (field_found f) all)) flag why) (sym flags) stop)
 
 -- the names stay
@@ -148,9 +149,9 @@ fields_more_at f es k e found v within is before now =
     ap (λ l. fields_found (map_values f l)) (take_more es k e within ∙ ap (λ z. take k es ++ z ∷ []) (sym is)) ∙ fields_more f (take k es) e found v before now
 
 pub fields_stop_at : (f : Value → Finds Value) (g : Value → Bool) (es : List (Field Value)) (k : ℕ) (e : Field Value) (found : List (Field Value)) (why : FileError) → k < length es → e ≡ get_or es k e → fields_found (map_values f (take k es)) ≡ Ok found → Refuses (f e.1) (g e.1) why
-    → Refuses (fields_found (map_values f es)) (any_of (map (λ e. e.1) (map_values g es))) why
+    → Refuses (fields_found (map_values f es)) (some_true (map (λ e. e.1) (map_values g es))) why
 fields_stop_at f g es k e found why within is before now =
-    subst (λ l. Refuses (fields_found (map_values f l)) (any_of (map (λ e. e.1) (map_values g l))) why) (sym (whole es k e within is)) (fields_stop f g (take k es) e (drop (k + 1) es) found why before now)
+    subst (λ l. Refuses (fields_found (map_values f l)) (some_true (map (λ e. e.1) (map_values g l))) why) (sym (whole es k e within is)) (fields_stop f g (take k es) e (drop (k + 1) es) found why before now)
 
 -- and so does their order
 pub fields_by_name : (f : Value → Finds Value) (n : ℕ) (entries found : List (Field Value)) → fields_found (map_values f (take n entries)) ≡ Ok found → IsByName entries → IsByName found

@@ -10,7 +10,8 @@ use Rattle.cwl_value.specs.declared.value.FileVal.{FileVal, out-FileVal, roll-Fi
 use Rattle.cwl_value.specs.declared.value.DirVal.{DirVal, out-DirVal, roll-DirVal}
 use Rattle.file_values.specs.declared.refusal.FileError.{FileError}
 use Rattle.file_values.specs.Location.{Finds, and_map, and_then, Refuses}
-use Rattle.file_values.specs.Resolved.{all_found, any_of, place_resolved, named, file_at, listing_resolved, resolved, file_resolved, dir_resolved, has_long, file_has_long, dir_has_long, is_long_place}
+use Rattle.cwl_value.specs.Fileless.{some_true}
+use Rattle.file_values.specs.Resolved.{all_found, place_resolved, named, file_at, listing_resolved, resolved, file_resolved, dir_resolved, has_long, file_has_long, dir_has_long, is_long_place}
 use Rattle.file_values.proofs.Finding.{refused_here, refused_after, refused_left, refused_right, refused_any, moved}
 
 module _ (base : Parts) where
@@ -26,7 +27,7 @@ module _ (base : Parts) where
       and_then (all_found (map (resolved base) f.secondary)) (at f place name)))
 
   abbrev file_long : FileVal-F Value DirVal FileVal → Bool
-  file_long f = is_long_place base f.place || any_of (map (has_long base) f.secondary)
+  file_long f = is_long_place base f.place || some_true (map (has_long base) f.secondary)
 
   file_resolved-roll : (f : FileVal-F Value DirVal FileVal) → file_resolved base (roll-FileVal f) ≡ file_steps f
   file_resolved-roll f = search (rules, the_lemmas)
@@ -49,7 +50,7 @@ module _ (base : Parts) where
       moved _ _ _ _ e (file_resolved-out f) (file_long-out f) (refused_any _ _ e (refused_after (place_resolved base (out-FileVal f).place) _ place _ e placed (refused_here (named (out-FileVal f).basename place) _ _ e h)))
 
   pub file_at_items : (f : FileVal) (place : Place) (name : List ℕ) (e : FileError) → place_resolved base (out-FileVal f).place ≡ Ok place → named (out-FileVal f).basename place ≡ Ok name
-      → Refuses (all_found (map (resolved base) (out-FileVal f).secondary)) (any_of (map (has_long base) (out-FileVal f).secondary)) e → Refuses (file_resolved base f) (file_has_long base f) e
+      → Refuses (all_found (map (resolved base) (out-FileVal f).secondary)) (some_true (map (has_long base) (out-FileVal f).secondary)) e → Refuses (file_resolved base f) (file_has_long base f) e
   file_at_items f place name e placed has_name h =
       moved _ _ _ _ e (file_resolved-out f) (file_long-out f)
       (refused_right _ _ _ e (refused_after (place_resolved base (out-FileVal f).place) _ place _ e placed (refused_after (named (out-FileVal f).basename place) _ name _ e has_name (refused_here (all_found (map (resolved base) (out-FileVal f).secondary)) _ _ e h))))
@@ -72,7 +73,7 @@ module _ (base : Parts) where
       and_map (λ listing. made_dir place name listing) (listing_resolved (option_map (map (resolved base)) d.listing))))
 
   abbrev dir_long : DirVal-F Value DirVal FileVal → Bool
-  dir_long d = is_long_place base d.place || option_map_or any_of (option_map (map (has_long base)) d.listing) false
+  dir_long d = is_long_place base d.place || option_map_or some_true (option_map (map (has_long base)) d.listing) false
 
   dir_resolved-roll : (d : DirVal-F Value DirVal FileVal) → dir_resolved base (roll-DirVal d) ≡ dir_steps d
   dir_resolved-roll d = search (rules, the_lemmas)

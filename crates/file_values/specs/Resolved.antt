@@ -1,8 +1,8 @@
 -- A value whose Files and Directories have paths and names (CWL v1.2, "File", "Directory").
 use Rattle.std.specs.Prelude.{ℕ, Bool, false, ◌||◌, ◌&&◌, if◌then◌else◌, List, [], ◌∷◌, map, codes, Option, Some, None, Ok, Err}
-use Rattle.std.specs.List.{list_any}
 use Rattle.std.specs.Option.{option_map_or}
 use Rattle.url.specs.Parts.{Parts}
+use Rattle.cwl_value.specs.Fileless.{some_true}
 use Rattle.cwl_value.specs.Reading.{is_name}
 use Rattle.cwl_value.specs.Secondary.{is_new, are_distinct}
 use Rattle.cwl_value.specs.declared.place.Place.{Place}
@@ -110,20 +110,17 @@ is_long_place base (place.Url location) = is_long base location
 is_long_place base (place.Path path) = is_long base (codes ".")
 is_long_place base (place.Made job name) = false
 
-abbrev pub any_of : List Bool → Bool
-any_of flags = list_any (λ flag. flag) flags
-
 abbrev pub long_file : Parts → FileVal-F Bool Bool Bool → Bool
-long_file base f = is_long_place base f.place || any_of f.secondary
+long_file base f = is_long_place base f.place || some_true f.secondary
 
 abbrev pub long_dir : Parts → DirVal-F Bool Bool Bool → Bool
-long_dir base d = is_long_place base d.place || option_map_or any_of d.listing false
+long_dir base d = is_long_place base d.place || option_map_or some_true d.listing false
 
 abbrev pub long_value : Value-F Bool Bool Bool → Bool
 long_value (Value-F.FileVal f) = f
 long_value (Value-F.DirVal d) = d
-long_value (Value-F.List flags) = any_of flags
-long_value (Value-F.Fields flags) = any_of (map (λ e. e.1) flags)
+long_value (Value-F.List flags) = some_true flags
+long_value (Value-F.Fields flags) = some_true (map (λ e. e.1) flags)
 long_value _ = false
 
 -- some place in the value is that long

@@ -2,6 +2,7 @@
 ghost use Rattle.std.specs.Prelude.{◌≡◌, ◌==◌, false, Ok, IfOk, IfErr, map};
 ghost use Rattle.std.specs.List.{list_any};
 ghost use Rattle.plain_data.specs.ByName.{map_values};
+ghost use Rattle.cwl_value.specs.Fileless.{some_true};
 ghost use Rattle.cwl_value.specs.Reading.{is_name};
 ghost use Rattle.cwl_value.specs.declared.value.FileVal.{out-FileVal};
 ghost use Rattle.file_values.specs.Location.{Refuses};
@@ -96,7 +97,7 @@ fn resolved_items(
     ensures ok { IfOk result (λ vs. spec.all_found (map (spec.resolved base.now) items.now)
         ≡ Ok vs) }
     ensures err { IfErr result (Refuses (spec.all_found (map (spec.resolved base.now) items.now))
-        (spec.any_of (map (spec.has_long base.now) items.now))) }
+        (some_true (map (spec.has_long base.now) items.now))) }
 {
     let mut found = Items::new(alloc);
     for item in items.as_slice() {
@@ -115,7 +116,7 @@ fn resolved_fields(
         (λ es. spec.fields_found (map_values (spec.resolved base.now) fields.now) ≡ Ok es) }
     ensures err { IfErr result
         (Refuses (spec.fields_found (map_values (spec.resolved base.now) fields.now))
-        (spec.any_of (map (λ e. e.1) (map_values (spec.has_long base.now) fields.now)))) }
+        (some_true (map (λ e. e.1) (map_values (spec.has_long base.now) fields.now)))) }
 {
     let mut found = Vec::new(alloc);
     for field in fields.as_slice() {

@@ -4,6 +4,7 @@ use Rattle.std.specs.List.{AllByRecursion}
 use Rattle.plain_data.specs.ByName.{map_values}
 use Rattle.cwl_value.specs.Fileless.{holds_files, some_true}
 use Rattle.cwl_value.proofs.Induction.{Cases, induction}
+use Rattle.cwl_value.proofs.WithoutFiles.{held_dir, held_fields, held_file, held_list}
 use Rattle.cwl_value.specs.declared.value.Value.{Value, out-Value, the_lemmas}
 use Rattle.cwl_value.specs.declared.value.Value as value
 use Rattle.cwl_value.specs.declared.value.FileVal.{FileVal}
@@ -56,9 +57,6 @@ module _ (measures : Measures) (h : FileVal → FileVal) where
         as_is = ap (λ (w : Value). w ∷ map (with_file h) vs) here.as_is ∙ ap (λ (l : List Value). v ∷ l) rest.as_is;
       }
 
-  holds_list : (vs : List Value) → holds_files (value.List vs) ≡ some_true (map holds_files vs)
-  holds_list vs = search (rules, the_lemmas)
-
   there_list : (vs : List Value) → is_there measures (value.List vs) ≡ all_true (map (is_there measures) vs)
   there_list vs = search (rules, the_lemmas)
 
@@ -76,7 +74,7 @@ module _ (measures : Measures) (h : FileVal → FileVal) where
 
   list_case : (vs : List Value) → AllByRecursion P vs → P (value.List vs)
   list_case vs each none =
-      let them = all vs each (sym (holds_list vs) ∙ none) in
+      let them = all vs each (sym (held_list vs) ∙ none) in
       record {
         there = there_list vs ∙ them.there;
         stays = measured_list vs ∙ ap value.List them.stay;
@@ -104,9 +102,6 @@ module _ (measures : Measures) (h : FileVal → FileVal) where
         unmeasured = ap (λ (l : Paths). l ++ joined (map (λ (e : List ℕ × Paths). e.1) (map_values paths_of es))) here.unmeasured ∙ rest.unmeasured;
       }
 
-  holds_fields : (es : Fields) → holds_files (value.Fields es) ≡ some_true (map (λ e. e.1) (map_values holds_files es))
-  holds_fields es = search (rules, the_lemmas)
-
   there_fields : (es : Fields) → is_there measures (value.Fields es) ≡ all_true (map (λ e. e.1) (map_values (is_there measures) es))
   there_fields es = search (rules, the_lemmas)
 
@@ -118,7 +113,7 @@ module _ (measures : Measures) (h : FileVal → FileVal) where
 
   fields_case : (es : Fields) → AllByRecursion (λ (e : List ℕ × Value). P e.1) es → P (value.Fields es)
   fields_case es each none =
-      let them = all_fields es each (sym (holds_fields es) ∙ none) in
+      let them = all_fields es each (sym (held_fields es) ∙ none) in
       record {
         there = there_fields es ∙ them.there;
         stays = measured_fields es ∙ ap value.Fields them.stay;
@@ -128,12 +123,6 @@ module _ (measures : Measures) (h : FileVal → FileVal) where
         no_files = search (rules, the_lemmas);
         all_as_is = search (rules, the_lemmas);
       }
-
-  held_file : (f : FileVal) → holds_files (value.FileVal f) ≡ true
-  held_file f = search (rules, the_lemmas)
-
-  held_dir : (d : DirVal) → holds_files (value.DirVal d) ≡ true
-  held_dir d = search (rules, the_lemmas)
 
   cases : Cases P (λ f. Unit {0}) (λ d. Unit {0})
   cases = record {

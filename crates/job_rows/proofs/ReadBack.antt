@@ -1,5 +1,5 @@
 -- The JSON of storable values reads as these values.
-use Rattle.std.proofs.Common.{◌≡◌, ◌≢◌, ℕ, ℤ, pos, negsuc, ◌^◌, Bool, true, false, true≢false, cond, IsTrue, List, [], ◌∷◌, ◌++◌, Option, Some, None, option_map, Ok, Err, bytes_eq, codes, refl, sym, ap, subst, ◌∙◌, append_assoc, append-nil, rules, Ordering, Less, Equal, Greater}
+use Rattle.std.proofs.Common.{◌≡◌, ◌≢◌, ℕ, ℤ, pos, negsuc, ◌^◌, Bool, true, false, cond, IsTrue, List, [], ◌∷◌, ◌++◌, Option, Some, None, option_map, Ok, Err, bytes_eq, codes, refl, sym, ap, subst, ◌∙◌, append_assoc, append-nil, rules, Ordering, Less, Equal, Greater}
 use Rattle.std.specs.Prelude.{option_and_then, unwrap_or, nat_lt}
 use Rattle.std.specs.Ordering.{is_eq, match_ordering, ordering_reverse, nat_cmp}
 use Rattle.std.specs.Cmp.Lexicographic.{slice_cmp, bytes_decides, nat_list_cmp_total}
@@ -12,8 +12,7 @@ use Rattle.plain_data.proofs.ByName.{by_name_mapped}
 use Rattle.serde_json.specs.Data.{Data, string, object, array, Members, no_members, member, put}
 use Rattle.serde_json.specs.Find.{get_member, as_str, of_integer}
 use Rattle.serde_json.specs.View.{items_of}
-use Rattle.serde_json.proofs.Views.{get_member-put, get_member-put_other}
-use Rattle.cwl_value.specs.Json.{json_of, items_json, fields_json, file_members, dir_members, members_of, with_member, text_json, size_json, unless_empty}
+use Rattle.cwl_value.specs.Json.{json_of, items_json, fields_json, file_members, dir_members, members_of, text_json, size_json, unless_empty}
 use Rattle.cwl_value.specs.Plain.{FitsWhole}
 use Rattle.cwl_value.specs.Reading.{Reads, and_map, and_then, all_read, value_read, items_read, members_read, fields_read, object_read, placed_read, summed_read, list_read, secondary_read, listing_read, basename_read, text_read, size_read, whole_read, class_in}
 use Rattle.cwl_value.specs.Secondary.{fit_beside, fit_inside}
@@ -25,43 +24,10 @@ use Rattle.cwl_value.specs.declared.value.Value.TheOpen.{Value-F}
 use Rattle.cwl_value.specs.declared.value.FileVal.{FileVal, roll-FileVal}
 use Rattle.cwl_value.specs.declared.value.DirVal.{DirVal, roll-DirVal}
 use Rattle.cwl_value.proofs.JsonOf.{json_of-Null, json_of-Bool, json_of-Whole, json_of-Text, json_of-FileVal, json_of-DirVal, json_of-List, json_of-Fields, file_data-roll, dir_data-roll}
+use Rattle.cwl_value.proofs.Told.{picked, last_of, get_member-members_of}
 use Rattle.job_rows.specs.Storable.{IsNamed, IsStorable, AreStorable, AreStorableFields, OutputsReadBack}
 
 -- ---- looking a member up
-
--- what a look-up finds after a member that may be absent was put in
-abbrev picked : Bool → Option Data → Option Data → Option Data
-picked true (Some d) before = Some d
-picked true None before = before
-picked false o before = before
-
-picked-None : (b : Bool) (before : Option Data) → before ≡ picked b None before
-picked-None true before = refl
-picked-None false before = refl
-
-picked-first : (o : Option Data) → picked true o None ≡ o
-picked-first None = refl
-picked-first (Some d) = refl
-
-get_member-put_at : (q k : List ℕ) (d : Data) (ms : Members) (b : Bool) → bytes_eq q k ≡ b → get_member q (put k d ms) ≡ picked b (Some d) (get_member q ms)
-get_member-put_at q k d ms true is = subst (λ n. get_member n (put k d ms) ≡ Some d) (sym ((bytes_decides q k).0 is)) (get_member-put k d ms)
-get_member-put_at q k d ms false is = get_member-put_other q k d ms (λ same. true≢false (sym ((bytes_decides q k).1 same) ∙ is))
-
-get_member-with_member : (q k : List ℕ) (o : Option Data) (ms : Members) → get_member q (with_member k o ms) ≡ picked (bytes_eq q k) o (get_member q ms)
-get_member-with_member q k None ms = picked-None (bytes_eq q k) (get_member q ms)
-get_member-with_member q k (Some d) ms = get_member-put_at q k d ms (bytes_eq q k) refl
-
--- what it finds after several
-abbrev last_of : List ℕ → List (List ℕ × Option Data) → Option Data → Option Data
-last_of q [] before = before
-last_of q (e ∷ es) before = last_of q es (picked (bytes_eq q e.0) e.1 before)
-
-get_member-from : (q : List ℕ) (es : List (List ℕ × Option Data)) (ms : Members) → get_member q (fold (λ members m. with_member m.0 m.1 members) ms es) ≡ last_of q es (get_member q ms)
-get_member-from q [] ms = refl
-get_member-from q (e ∷ es) ms = get_member-from q es (with_member e.0 e.1 ms) ∙ ap (last_of q es) (get_member-with_member q e.0 e.1 ms)
-
-get_member-members_of : (q : List ℕ) (es : List (List ℕ × Option Data)) → get_member q (members_of es) ≡ last_of q es None
-get_member-members_of q es = get_member-from q es no_members
 
 read_or : (o : Ordering) (d : Data) (r : Option Data) (s : Option (Reads Value)) → s ≡ option_map value_read r → cond (is_eq o) (Some (value_read d)) s ≡ option_map value_read (match_ordering o r (Some d) r)
 read_or Less d r s same = same
