@@ -72,12 +72,12 @@ is_within (Some n) end first is = is.1
 
 -- ---- what is found
 
-is_equal : (o : Ordering) → is_eq o ≡ true → o ≡ Equal
+pub is_equal : (o : Ordering) → is_eq o ≡ true → o ≡ Equal
 is_equal Less is = absurd cc
 is_equal Equal is = refl
 is_equal Greater is = absurd cc
 
-itself : (n : ℕ) → is_eq (nat_cmp n n) ≡ true
+pub itself : (n : ℕ) → is_eq (nat_cmp n n) ≡ true
 itself n = ap is_eq (tied_itself nat_cmp_total n)
 
 module _ (place : JobPlace) where

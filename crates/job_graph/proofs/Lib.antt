@@ -17,6 +17,7 @@ mod MetMore
 mod OneOpen
 mod OneTuple
 mod OpenKept
+mod Noting
 mod Outs
 mod Vertices
 mod Quotients

@@ -6,6 +6,7 @@ pub mod Index
 pub mod Inside
 pub mod Kept
 pub mod Levels
+pub mod Makers
 pub mod Marks
 pub mod OneTuple
 pub mod Outputs

@@ -23,6 +23,7 @@ mod laws;
 mod learned;
 mod links;
 mod made;
+mod makers;
 mod mark;
 mod one_tuple;
 mod open;

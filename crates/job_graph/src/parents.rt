@@ -5,7 +5,7 @@ ghost use Rattle.job_graph.specs.Made.{any_made, dir_holds, file_holds, holds_ma
 
 use crate::place::is_same_place;
 use cwl_value::{DirVal, FileVal, JobPlace, Place, Value};
-use plain_data::{Items, Keyed, Text};
+use plain_data::{Items, Keyed};
 
 fn is_of(job: &JobPlace, place: &Place) -> bool
     ensures { result ≡ is_of job.now place.now }
@@ -78,14 +78,7 @@ fn fields_hold(job: &JobPlace, fields: &Keyed<Value>) -> bool
 pub(crate) fn any_made(job: &JobPlace, fields: &Keyed<Value>) -> bool
     ensures { result ≡ any_made job.now fields.now }
 {
-    any_made_in(job, fields.as_slice())
-}
-
-/// The same of named values in a slice.
-pub(crate) fn any_made_in(job: &JobPlace, fields: &[(Text, Value)]) -> bool
-    ensures { result ≡ any_made job.now fields.now }
-{
-    for field in fields {
+    for field in fields.as_slice() {
         if holds_made(job, &field.1) {
             return true;
         }

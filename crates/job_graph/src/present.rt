@@ -8,7 +8,7 @@ ghost use Rattle.job_graph.specs.inner.Ended.{vertex_by};
 use crate::costs::Costs;
 use crate::fault::UnfoldError;
 use crate::growth::KnownJob;
-use crate::parents::any_made_in;
+use crate::makers::Makers;
 use cwl_value::Value;
 use plain_data::{Items, Text};
 use plan_checker::{Graph, GraphError, Vertex};
@@ -27,9 +27,10 @@ pub(crate) fn vertices_of(
     ensures { IfOk result (λ vertices. vertices.items
         ≡ map (vertex_by outs.now) (zip ended.now (zip known.now costs.now))) }
 {
+    let makers = Makers::of(alloc, outs)?;
     let mut vertices = Vec::with_capacity(alloc, known.len())?;
     for number in 0..known.len() {
-        let vertex = vertex_of(alloc, outs, ended[number], &known[number], costs[number])?;
+        let vertex = vertex_of(alloc, &makers, ended[number], &known[number], costs[number])?;
         vertices.push(vertex)?;
     }
     Ok(vertices)
@@ -38,22 +39,32 @@ pub(crate) fn vertices_of(
 /// The vertex of a known job. It is needed where it has not ended, or made a File or Directory in a known output of the process.
 fn vertex_of(
     alloc: Global,
-    outs: &[(Text, Value)],
+    makers: &Makers<'_>,
     has_ended: bool,
     known: &KnownJob<'_>,
     costs: Costs,
 ) -> Result<Vertex, AllocError>
     ensures { IfOk result (λ vertex. vertex
-        ≡ vertex_by outs.now (has_ended, (known.now, costs))) }
+        ≡ vertex_by makers.now (has_ended, (known.now, costs))) }
 {
-    let parents = Items::from_vec(Vec::from_slice(alloc, known.parents.as_slice())?);
-    let needed = !has_ended || any_made_in(&known.job.place, outs);
+    let parents = copied(alloc, known.parents.as_slice())?;
+    let needed = !has_ended || makers.has(&known.job.place);
     Ok(Vertex {
         load: costs.load,
         compute: costs.compute,
         parents,
         needed,
     })
+}
+
+/// A copy of these numbers. Most jobs have no parents, and a graph is made for each plan.
+fn copied(alloc: Global, numbers: &[usize]) -> Result<Items<usize>, AllocError>
+    ensures { IfOk result (λ items. items ≡ numbers.now) }
+{
+    if numbers.is_empty() {
+        return Ok(Items::new(alloc));
+    }
+    Ok(Items::from_vec(Vec::from_slice(alloc, numbers)?))
 }
 
 /// The graph of vertices that fit in one.
