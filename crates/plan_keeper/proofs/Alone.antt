@@ -1,23 +1,23 @@
 -- Where vertices stand apart, the marks and charges of each by itself are the Least plan and what certifies it.
-use Rattle.std.proofs.Common.{◌≡◌, ◌≢◌, ◌⊎◌, ℕ, zero, suc, ◌+◌, ◌<◌, ◌≤◌, min, nat_le, leb, Bool, true, false, cond, Option, Some, None, IsSome, List, [], ◌∷◌, ◌++◌, length, get_or, map, sum, All, Contains, subst, sym, refl, ap, ◌∙◌, inl, inr, ⊎_elim, true≢false, arith}
+use Rattle.std.proofs.Common.{◌≡◌, ◌≢◌, ◌⊎◌, ℕ, zero, suc, ◌<◌, ◌≤◌, leb, Bool, true, false, cond, Option, Some, None, List, [], ◌∷◌, length, get_or, map, sum, All, Contains, subst, sym, refl, ap, ◌∙◌, inl, inr, ⊎_elim, true≢false, arith}
 use Rattle.std.proofs.lemmas.Bool.{leb-true, leb-false}
-use Rattle.std.proofs.lemmas.List.{get_or-map, length-map, length-append, get_or_append_left, get_or_push, get_or_past}
+use Rattle.std.proofs.lemmas.List.{get_or-map, length-map}
 use Rattle.std.proofs.lemmas.List.Elements.{All-contains}
 use Rattle.plan_checker.specs.declared.vertex.Vertex.{Vertex}
 use Rattle.plan_checker.specs.declared.plan.Mark.{Mark}
 use Rattle.plan_checker.specs.declared.plan.Mark.TheVariants.{Load, Compute, Prune}
 use Rattle.plan_checker.specs.declared.charges.Charges.{Charges}
-use Rattle.plan_checker.specs.Graph.{vertex, no_vertex, Fits, IsGraph}
+use Rattle.plan_checker.specs.Graph.{vertex, no_vertex, IsGraph}
 use Rattle.plan_checker.specs.Plan.{mark, cost, cost_of, IsAllowed, IsValid}
 use Rattle.plan_checker.specs.Charges.{passes, IsCounted, IsFair, AreFair}
 use Rattle.plan_checker.specs.Least.{IsLeast, IsCheapest}
 use Rattle.plan_checker.specs.Certificate.{IsCertificate}
 use Rattle.plan_checker.proofs.SumsBelow.{below_or_last}
 use Rattle.plan_checker.proofs.Duality.{certificate_is_cheapest}
-use Rattle.plan_keeper.specs.Free.{IsFree, IsWanted, IsMarkedFree}
+use Rattle.plan_keeper.specs.Free.{IsFree, IsMarkedFree}
 use Rattle.plan_keeper.specs.Taken.{flow, Planned, IsSameAt, IsUncharged}
-use Rattle.plan_keeper.specs.Parts.{IsPart, IsReadAt, IsInPart, IsMadeOfParts}
-use Rattle.plan_keeper.specs.Apart.{StandsApart, AreApart, kept_alone, alone, price, charge, no_passes, AreMarkedApart, AreChargesApart}
+use Rattle.plan_keeper.specs.Parts.{IsPart, IsReadAt, IsInPart}
+use Rattle.plan_keeper.specs.Apart.{AreApart, kept_alone, alone, price, charge, no_passes, AreMarkedApart, AreChargesApart}
 use Rattle.plan_keeper.proofs.Flows.{none_passed}
 use Rattle.plan_keeper.proofs.Parts.{contains_or_not, parts_make_the_plan}
 

@@ -1,11 +1,10 @@
 -- Marks of vertices that stand apart, one vertex after the other.
-use Rattle.std.proofs.Common.{◌≡◌, ◌≢◌, ℕ, suc, ◌+◌, ◌<◌, List, [], ◌∷◌, ◌++◌, length, get_or, Contains, subst, sym, refl, ap, ◌∙◌, ⊎_elim, arith}
-use Rattle.std.proofs.lemmas.List.{length-append, get_or_append_left, get_or_push, get_or_default}
-use Rattle.std.proofs.lemmas.List.Elements.{All-contains}
+use Rattle.std.proofs.Common.{◌≡◌, ◌≢◌, ℕ, suc, ◌+◌, ◌<◌, List, [], length, map, get_or, All, Contains, subst, sym, refl, ap, ◌∙◌, ⊎_elim, arith}
+use Rattle.std.proofs.lemmas.List.{length-map, get_or-map, get_or_default}
 use Rattle.plan_checker.specs.declared.vertex.Vertex.{Vertex}
 use Rattle.plan_checker.specs.declared.plan.Mark.{Mark}
 use Rattle.plan_checker.specs.declared.plan.Mark.TheVariants.{Load, Compute, Prune}
-use Rattle.plan_checker.specs.Graph.{vertex, IsGraph}
+use Rattle.plan_checker.specs.Graph.{vertex, no_vertex, IsGraph}
 use Rattle.plan_checker.specs.Plan.{mark}
 use Rattle.plan_checker.proofs.SumsBelow.{below_or_last}
 use Rattle.plan_keeper.specs.Apart.{alone, AreMarkedApart}
@@ -31,20 +30,24 @@ loads_none marks parents its ne = record {
   others = λ i none. refl;
 }
 
-pub marked_more : (graph : List Vertex) (marks new pushed : List Mark) (n : ℕ) → IsGraph graph → n < length graph → AreMarkedApart graph marks n → LoadsFor marks new (vertex graph n).parents (alone (vertex graph n)) → pushed ≡ new ++ alone (vertex graph n) ∷ [] → AreMarkedApart graph pushed (n + 1)
-marked_more graph marks new pushed n good hn m l e =
-    let last : List Mark = alone (vertex graph n) ∷ [] in
-    let count = m.count in
-    let same = l.count in
-    let many = length-append new last in
-    let long = ap length e in
-    let lower : (j i : ℕ) → j < length graph → Contains (vertex graph j).parents i → i < j = λ j i hj there. All-contains (λ x. x < j) (vertex graph j).parents i (good j hj).below there in
-    let before : (i : ℕ) → i < length new → mark pushed i ≡ mark new i = λ i hi. ap (λ ms. mark ms i) e ∙ get_or_append_left new last Prune i hi in
-    let at : mark pushed n ≡ alone (vertex graph n) = ap (λ ms. mark ms n) e ∙ get_or_push new (alone (vertex graph n)) Prune n (omega arith) in
-    let is_loaded : (j : ℕ) → j < suc n → alone (vertex graph j) ≡ Compute → (i : ℕ) → Contains (vertex graph j).parents i → mark pushed i ≡ Load =
-    λ j hj computed i there.
-    let low = lower j i (omega arith) there in
-    before i (omega arith) ∙ ⊎_elim
+-- each vertex is marked as by itself, but the parents of those of the first n that are computed are loaded
+pub record IsLoadedBelow (graph : List Vertex) (marks : List Mark) (n : ℕ) : Type 0 where
+  pub count : length marks ≡ length graph
+  pub loaded : (j : ℕ) → j < n → alone (vertex graph j) ≡ Compute → (i : ℕ) → Contains (vertex graph j).parents i → mark marks i ≡ Load
+  pub others : (i : ℕ) → i < length graph → ((j : ℕ) → j < n → alone (vertex graph j) ≡ Compute → ¬ Contains (vertex graph j).parents i) → mark marks i ≡ alone (vertex graph i)
+
+-- each is marked as by itself, and no parents are loaded yet
+pub marked_first : (graph : List Vertex) (marks : List Mark) → marks ≡ map alone graph → IsLoadedBelow graph marks 0
+marked_first graph marks e = record {
+  count = ap length e ∙ length-map graph alone;
+  loaded = λ j hj. absurd (omega arith);
+  others = λ i hi none. ap (λ ms. mark ms i) e ∙ get_or-map alone graph i no_vertex Prune hi;
+}
+
+pub marked_more : (graph : List Vertex) (marks new : List Mark) (n : ℕ) → IsLoadedBelow graph marks n → LoadsFor marks new (vertex graph n).parents (alone (vertex graph n)) → IsLoadedBelow graph new (n + 1)
+marked_more graph marks new n m l =
+    let is_loaded : (j : ℕ) → j < suc n → alone (vertex graph j) ≡ Compute → (i : ℕ) → Contains (vertex graph j).parents i → mark new i ≡ Load =
+    λ j hj computed i there. ⊎_elim
     (λ lt. l.stays i (m.loaded j lt computed i there))
     (λ (is : j ≡ n).
     let P : ℕ → Type 0 = λ k. alone (vertex graph k) ≡ Compute in
@@ -52,22 +55,40 @@ marked_more graph marks new pushed n good hn m l e =
     l.loaded (subst P is computed) i (subst Q is there))
     (below_or_last n j hj)
     in
-    let is_other : (i : ℕ) → i < suc n → ((j : ℕ) → j < n + 1 → alone (vertex graph j) ≡ Compute → ¬ Contains (vertex graph j).parents i) → mark pushed i ≡ alone (vertex graph i) =
-    λ i hi none. ⊎_elim
-    (λ lt. before i (omega arith) ∙ l.others i (none n (omega arith)) ∙ m.others i lt (λ j hj. none j (omega arith)))
-    (λ (is : i ≡ n). let P : ℕ → Type 0 = λ k. mark pushed k ≡ alone (vertex graph k) in subst P (sym is) at)
-    (below_or_last n i hi)
-    in
     record {
-      count = omega arith;
+      count = l.count ∙ m.count;
       loaded = λ j hj. is_loaded j (omega arith);
-      others = λ i hi. is_other i (omega arith);
+      others = λ i hi none. l.others i (none n (omega arith)) ∙ m.others i hi (λ j hj. none j (omega arith));
     }
 
--- the same, of a vertex and a mark that were read
-pub marked_at : (graph : List Vertex) (marks new pushed : List Mark) (n : ℕ) (job : Vertex) (its : Mark) → IsGraph graph → n < length graph → job ≡ vertex graph n → its ≡ alone job → AreMarkedApart graph marks n → LoadsFor marks new job.parents its → pushed ≡ new ++ its ∷ [] → AreMarkedApart graph pushed (n + 1)
-marked_at graph marks new pushed n job its good hn read marked m l e =
-    let same : its ≡ alone (vertex graph n) = marked ∙ ap alone read in
-    let P : Vertex → Type 0 = λ v. LoadsFor marks new v.parents its in
-    let Q : Mark → Type 0 = λ x. LoadsFor marks new (vertex graph n).parents x in
-    marked_more graph marks new pushed n good hn m (subst Q same (subst P read l)) (e ∙ ap (λ x. new ++ x ∷ []) same)
+-- the same, of a vertex that was read
+pub marked_at : (graph : List Vertex) (marks new : List Mark) (n : ℕ) (job : Vertex) → job ≡ vertex graph n → IsLoadedBelow graph marks n → LoadsFor marks new job.parents (alone job) → IsLoadedBelow graph new (n + 1)
+marked_at graph marks new n job read m l =
+    let P : Vertex → Type 0 = λ v. LoadsFor marks new v.parents (alone v) in
+    marked_more graph marks new n m (subst P read l)
+
+-- once all have been gone through
+pub all_marked : (graph : List Vertex) (marks : List Mark) (n : ℕ) → n ≡ length graph → IsLoadedBelow graph marks n → AreMarkedApart graph marks (length graph)
+all_marked graph marks n e m =
+    let P : ℕ → Type 0 = IsLoadedBelow graph marks in
+    let all : IsLoadedBelow graph marks (length graph) = subst P e m in
+    record { count = all.count; loaded = all.loaded; others = all.others }
+
+-- each parent of a vertex that was read has a mark
+pub parents_marked : (graph : List Vertex) (marks : List Mark) (n : ℕ) (job : Vertex) → IsGraph graph → n < length graph → job ≡ vertex graph n → length marks ≡ length graph → All (λ parent. parent < length marks) job.parents
+parents_marked graph marks n job good hn read count =
+    let below : (i : ℕ) (d : ℕ) → i < length (vertex graph n).parents → get_or (vertex graph n).parents i d < n = λ i d hi. (good n hn).below i d hi in
+    let there : All (λ parent. parent < length marks) (vertex graph n).parents = λ i d hi. let low = below i d hi in omega arith in
+    let P : Vertex → Type 0 = λ v. All (λ parent. parent < length marks) v.parents in
+    subst P (sym read) there
+
+-- of no parents none is loaded
+pub loads_no_parents : (marks : List Mark) (parents : List ℕ) (its : Mark) → parents ≡ [] → LoadsFor marks marks parents its
+loads_no_parents marks parents its e =
+    let P : List ℕ → Type 0 = λ xs. LoadsFor marks marks xs its in
+    subst P (sym e) (record {
+      count = refl;
+      loaded = λ c i (there : Contains [] i). let h : there.0 < 0 = there.1 in absurd (omega arith);
+      stays = λ i e. e;
+      others = λ i none. refl;
+    })

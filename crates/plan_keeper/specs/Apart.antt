@@ -1,5 +1,5 @@
 -- Graphs in which each vertex that isn't free stands alone, as those of a first run do: their plans are read off.
-use Rattle.std.specs.Prelude.{◌≡◌, ◌⊎◌, ℕ, ◌<◌, min, nat_le, cond, Bool, Option, Some, None, List, length, map, All, Contains, slice_index_or}
+use Rattle.std.specs.Prelude.{◌≡◌, ◌⊎◌, ℕ, ◌<◌, min, nat_le, cond, Option, Some, None, List, length, map, All, Contains}
 use Rattle.plan_checker.specs.declared.vertex.Vertex.{Vertex}
 use Rattle.plan_checker.specs.declared.plan.Mark.{Mark}
 use Rattle.plan_checker.specs.declared.plan.Mark.TheVariants.{Load, Compute, Prune}

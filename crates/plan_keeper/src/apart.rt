@@ -44,10 +44,11 @@ fn are_apart(vertices: &[Vertex]) -> bool
     vertices.iter().all(|vertex| stands_apart(vertices, vertex))
 }
 
+/// The parents are looked at first: most vertices have none, and need no other look.
 fn stands_apart(vertices: &[Vertex], vertex: &Vertex) -> bool
     ensures { IsTrue result ↔ StandsApart vertices.now vertex.now }
 {
-    is_free(vertex) || all_free(vertices, vertex.parents.as_slice())
+    all_free(vertices, vertex.parents.as_slice()) || is_free(vertex)
 }
 
 fn all_free(vertices: &[Vertex], numbers: &[usize]) -> bool
@@ -78,12 +79,20 @@ fn marks_of(alloc: Global, vertices: &[Vertex]) -> Result<Vec<Mark>, AllocError>
     ensures { IfOk result (λ marks. AreMarkedApart vertices.now marks.items
         (length vertices.now)) }
 {
+    let mut marks = marks_alone(alloc, vertices)?;
+    for (number, vertex) in vertices.iter().enumerate() {
+        load_parents(&mut marks, vertex);
+    }
+    Ok(marks)
+}
+
+/// What is done with each vertex by itself. There is room for all from the start, so no push asks for it.
+fn marks_alone(alloc: Global, vertices: &[Vertex]) -> Result<Vec<Mark>, AllocError>
+    ensures { IfOk result (λ marks. marks.items ≡ map alone vertices.now) }
+{
     let mut marks = Vec::with_capacity(alloc, vertices.len())?;
-    for number in 0..vertices.len() {
-        let vertex = &vertices[number];
-        let mark = mark_alone(vertex);
-        load_parents(&mut marks, vertex, mark);
-        marks.push(mark)?;
+    for (number, vertex) in vertices.iter().enumerate() {
+        marks.push_reserved(mark_alone(vertex));
     }
     Ok(marks)
 }
@@ -101,13 +110,16 @@ fn mark_alone(vertex: &Vertex) -> Mark
     }
 }
 
-/// Marks the parents of a vertex as loaded, where it is computed.
-#[tactic(auto, using(crate::proofs::Marked::loads_for, crate::proofs::Marked::loads_none))]
-fn load_parents(marks: &mut Vec<Mark>, vertex: &Vertex, mark: Mark)
+/// Marks the parents of a vertex as loaded, where it is computed. Most vertices have none, and need no other look.
+#[tactic(auto, using(crate::proofs::Marked::loads_for, crate::proofs::Marked::loads_none, crate::proofs::Marked::loads_no_parents))]
+fn load_parents(marks: &mut Vec<Mark>, vertex: &Vertex)
     requires { All (λ parent. parent < length marks.old.items) vertex.now.parents }
-    ensures { LoadsFor marks.old.items marks.new.items vertex.now.parents mark }
+    ensures { LoadsFor marks.old.items marks.new.items vertex.now.parents (alone vertex.now) }
 {
-    match mark {
+    if vertex.parents.is_empty() {
+        return;
+    }
+    match mark_alone(vertex) {
         Mark::Compute => load_all(marks, vertex.parents.as_slice()),
         Mark::Load | Mark::Prune => {}
     }
@@ -140,10 +152,11 @@ fn charges_of(alloc: Global, vertices: &[Vertex]) -> Result<Charges, AllocError>
 fn amounts_of(alloc: Global, vertices: &[Vertex]) -> Result<Vec<u64>, AllocError>
     ensures { IfOk result (λ amounts. amounts.items ≡ map charge vertices.now) }
 {
-    vertices
-        .iter()
-        .map(|vertex| charge_of(vertex))
-        .collect(alloc)
+    let mut amounts = Vec::with_capacity(alloc, vertices.len())?;
+    for (number, vertex) in vertices.iter().enumerate() {
+        amounts.push_reserved(charge_of(vertex));
+    }
+    Ok(amounts)
 }
 
 /// What is charged to a vertex.
@@ -164,15 +177,19 @@ fn passes_of(alloc: Global, vertices: &[Vertex]) -> Result<Items<Items<u64>>, Al
     ensures { IfOk result (λ pass. pass ≡ map no_passes vertices.now) }
 {
     let mut pass = Vec::with_capacity(alloc, vertices.len())?;
-    for number in 0..vertices.len() {
-        pass.push(zeros(alloc, vertices[number].parents.as_slice())?)?;
+    for (number, vertex) in vertices.iter().enumerate() {
+        pass.push_reserved(zeros(alloc, vertex.parents.as_slice())?);
     }
     Ok(Items::from_vec(pass))
 }
 
+/// A row of zeros. An empty one takes no memory, and is made without a loop.
 fn zeros(alloc: Global, parents: &[usize]) -> Result<Items<u64>, AllocError>
     ensures { IfOk result (λ row. row ≡ map (λ parent. 0) parents.now) }
 {
+    if parents.is_empty() {
+        return Ok(Items::new(alloc));
+    }
     let row = parents.iter().map(|_parent| 0).collect(alloc)?;
     Ok(Items::from_vec(row))
 }

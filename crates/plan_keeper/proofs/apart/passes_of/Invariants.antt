@@ -1,6 +1,10 @@
-use Rattle.std.proofs.Common.{◌≡◌, take, map}
+use Rattle.std.proofs.Common.{◌≡◌, take, map, length, vec_len, vec_capacity}
 use Rattle.plan_keeper.specs.Apart.{no_passes}
 use Rattle.plan_keeper.proofs.apart.passes_of.Given as goal
 
 abbrev pub invariant-loop-number : goal.invariant-loop-number
-invariant-loop-number l = l.pass.items ≡ map no_passes (take l.number l.vertices)
+invariant-loop-number l = record {
+  pass : l.pass.items ≡ map no_passes (take l.number l.vertices);
+  pass_count : vec_len l.pass ≡ l.number;
+  pass_room : vec_capacity l.pass ≡ length l.vertices;
+}

@@ -1,0 +1,10 @@
+use Rattle.std.proofs.Common.{◌≡◌, take, map, length, vec_len, vec_capacity}
+use Rattle.plan_keeper.specs.Apart.{charge}
+use Rattle.plan_keeper.proofs.apart.amounts_of.Given as goal
+
+abbrev pub invariant-loop-number : goal.invariant-loop-number
+invariant-loop-number l = record {
+  amounts : l.amounts.items ≡ map charge (take l.number l.vertices);
+  amounts_count : vec_len l.amounts ≡ l.number;
+  amounts_room : vec_capacity l.amounts ≡ length l.vertices;
+}
