@@ -39,7 +39,7 @@ module _ (old new : BTreeMap ℕ (Bor JobPlace)) (others : List (Bor JobPlace)) 
     where
       by : (same : Bool) → is_at (nat_cmp mark) (mark_of job) ≡ same
           → (option_map_or (is_this job) (cond same (Some place) (get nat_cmp old (mark_of job))) false || list_any (is_this job) others)
-            ≡ ((is_under job old || list_any (is_this job) others) || is_same_place place.now job)
+          ≡ ((is_under job old || list_any (is_this job) others) || is_same_place place.now job)
       by true same =
           swapped (is_under job old) (is_same_place place.now job) (list_any (is_this job) others)
           (ap (λ o. option_map_or (is_this job) o false) (ap (get nat_cmp old) (sym (exact_unsigned mark (mark_of job) (is_equal (nat_cmp mark (mark_of job)) same))) ∙ none))
@@ -57,6 +57,7 @@ module _ (old new : BTreeMap ℕ (Bor JobPlace)) (others : List (Bor JobPlace)) 
           ap (λ m. option_map_or (is_this job) (get nat_cmp old m) false) (ap mark_of (sym same) ∙ sym marked)
           ∙ ap (λ o. option_map_or (is_this job) o false) got
           ∙ ap (is_same_place found.now) (sym same) ∙ here
+
       by : (b : Bool) → is_same_place place.now job ≡ b → (is_under job old || list_any (is_this job) others) ≡ ((is_under job old || list_any (is_this job) others) || b)
       by true is = let held = ap (λ x. x || list_any (is_this job) others) (there (same_place place.now job is)) in held ∙ sym (ap (λ x. x || true) held)
       by false is = sym (or-false (is_under job old || list_any (is_this job) others))
