@@ -80,7 +80,7 @@ fn marks_of(alloc: Global, vertices: &[Vertex]) -> Result<Vec<Mark>, AllocError>
         (length vertices.now)) }
 {
     let mut marks = marks_alone(alloc, vertices)?;
-    for (number, vertex) in vertices.iter().enumerate() {
+    for vertex in vertices {
         load_parents(&mut marks, vertex);
     }
     Ok(marks)
@@ -91,7 +91,7 @@ fn marks_alone(alloc: Global, vertices: &[Vertex]) -> Result<Vec<Mark>, AllocErr
     ensures { IfOk result (λ marks. marks.items ≡ map alone vertices.now) }
 {
     let mut marks = Vec::with_capacity(alloc, vertices.len())?;
-    for (number, vertex) in vertices.iter().enumerate() {
+    for vertex in vertices {
         marks.push_reserved(mark_alone(vertex));
     }
     Ok(marks)
@@ -153,7 +153,7 @@ fn amounts_of(alloc: Global, vertices: &[Vertex]) -> Result<Vec<u64>, AllocError
     ensures { IfOk result (λ amounts. amounts.items ≡ map charge vertices.now) }
 {
     let mut amounts = Vec::with_capacity(alloc, vertices.len())?;
-    for (number, vertex) in vertices.iter().enumerate() {
+    for vertex in vertices {
         amounts.push_reserved(charge_of(vertex));
     }
     Ok(amounts)
@@ -177,7 +177,7 @@ fn passes_of(alloc: Global, vertices: &[Vertex]) -> Result<Items<Items<u64>>, Al
     ensures { IfOk result (λ pass. pass ≡ map no_passes vertices.now) }
 {
     let mut pass = Vec::with_capacity(alloc, vertices.len())?;
-    for (number, vertex) in vertices.iter().enumerate() {
+    for vertex in vertices {
         pass.push_reserved(zeros(alloc, vertex.parents.as_slice())?);
     }
     Ok(Items::from_vec(pass))
