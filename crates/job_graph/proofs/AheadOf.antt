@@ -17,6 +17,7 @@ use Rattle.job_graph.specs.inner.Going.{EndedBelow, earlier, facts_before}
 use Rattle.job_graph.specs.inner.Growth.{IsAhead, IsKnownMet, walk_in}
 use Rattle.job_graph.specs.inner.Inside.{Stands, walks_in}
 use Rattle.job_graph.specs.inner.Kept.{KeepsRoot, met_by, root_walk}
+use Rattle.job_graph.specs.inner.Nested.{facts_with}
 use Rattle.job_graph.specs.inner.Views.{made_from, resolved_of}
 use Rattle.job_graph.proofs.Ahead.{amidst, among, one_of}
 use Rattle.job_graph.proofs.OpenKept.{still_kept}
@@ -30,9 +31,6 @@ pub earlier_push : {X : Type 0} (xs : List X) (x : X) → earlier (xs ++ x ∷ [
 earlier_push xs x =
     let n : length (xs ++ x ∷ []) - 1 ≡ length xs = omega (arith, length_push xs x) in
     ap (λ (n : ℕ). take n (xs ++ x ∷ [])) n ∙ take-append_seam xs (x ∷ [])
-
-abbrev pub facts_with : Facts → List KeptResolved → Facts
-facts_with facts learned = record facts { learned = learned }
 
 module _ (old : Progress) (resolved : KeptResolved) (more : List KeptResolved) (is : more ≡ old.facts.learned ++ resolved ∷ []) where
   pub before_is : facts_before (facts_with old.facts more) ≡ old.facts

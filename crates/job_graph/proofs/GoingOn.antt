@@ -57,7 +57,7 @@ any_turned p xs x is = by (list_any p xs) (p x) (sym (list_any-append p xs (x �
     by true false is = refl
     by false false is = absurd cc
 
-turned : (a b : Name) → bytes_eq a b ≡ false → bytes_eq b a ≡ false
+pub turned : (a b : Name) → bytes_eq a b ≡ false → bytes_eq b a ≡ false
 turned a b is = by (bytes_eq b a) refl
   where
     by : (c : Bool) → bytes_eq b a ≡ c → bytes_eq b a ≡ false

@@ -60,7 +60,7 @@ in_left m [] ys at = absurd at
 in_left m (x ∷ xs) ys (inl here) = inl here
 in_left m (x ∷ xs) ys (inr later) = inr (in_left m xs ys later)
 
-in_right : (m : Met) (xs ys : List Met) → IsIn m ys → IsIn m (xs ++ ys)
+pub in_right : (m : Met) (xs ys : List Met) → IsIn m ys → IsIn m (xs ++ ys)
 in_right m [] ys at = at
 in_right m (x ∷ xs) ys at = inr (in_right m xs ys at)
 

@@ -7,13 +7,16 @@ mod Going
 mod GoingOn
 mod Gone
 mod Grows
+mod Handing
 mod Index
+mod Inward
 pub mod Knowing
 mod KeptFault
 pub mod Limits
 mod Loops
 mod Marks
 mod MetMore
+mod Nesting
 mod OneOpen
 mod OneTuple
 mod OpenKept
@@ -21,6 +24,7 @@ mod Noting
 mod Outs
 mod Vertices
 mod Quotients
+mod RootBegun
 mod RootWalk
 mod Rooted
 mod SettledWalk

@@ -1,9 +1,7 @@
--- What a scattered step meets and gives, where a place inside one of its tuples was learned and another tuple holds its outputs back.
-use Rattle.std.proofs.Common.{◌≡◌, ◌∙◌, ◌≢◌, ⊎_elim, inl, inr, ℕ, zero, suc, ◌+◌, ◌<◌, List, [], ◌∷◌, ◌++◌, get_or, length, map, take, Bool, true, false, cond, not, Option, Some, None, Result, Ok, Err, bytes_eq, option_map, unwrap_or, refl, sym, ap, ap₂, subst, subst₂, append-nil, arith}
-use Rattle.std.specs.Prelude.{◌||◌, IfOk, IfSome, is_some}
+-- What a step meets and gives, where a place inside one of its tuples was learned, and whether its outputs stay.
+use Rattle.std.proofs.Common.{◌≡◌, ◌∙◌, ◌≢◌, ◌⊎◌, inl, inr, ℕ, zero, suc, ◌+◌, ◌<◌, List, [], ◌∷◌, ◌++◌, get_or, length, map, Bool, true, false, cond, not, Option, Some, None, Result, Ok, Err, bytes_eq, option_map, unwrap_or, refl, sym, ap, ap₂, subst, subst₂, append-nil, arith}
+use Rattle.std.specs.Prelude.{◌||◌, IfOk, is_some}
 use Rattle.std.specs.List.{flat_map, list_all}
-use Rattle.std.specs.Map.{keys_of}
-use Rattle.std.proofs.lemmas.List.{take_more}
 use Rattle.std.proofs.lemmas.Slice.Eq.{bytes_eq-Decides}
 use Rattle.cwl_process.specs.declared.workflow.WorkflowOutput.{WorkflowOutput}
 use Rattle.cwl_value.specs.declared.place.Segment.{Segment}
@@ -13,26 +11,25 @@ use Rattle.document_links.specs.declared.process.Step.{Step, out-Step}
 use Rattle.plain_data.specs.ByName.{value_at}
 use Rattle.scatter_shape.specs.Gathered.{gathered}
 use Rattle.workflow_check.specs.Sound.{IsIn}
-use Rattle.job_graph.specs.Apart.{differ, ids_differ, step_ids_differ}
+use Rattle.job_graph.specs.Apart.{ids_differ, step_ids_differ}
 use Rattle.job_graph.specs.Words.{Name, Fields, JobPlace}
 use Rattle.job_graph.specs.Jobs.{Met, Outs, Walk, all_there, with_first}
 use Rattle.job_graph.specs.Links.{Env, all_given, given, out_under, output_value}
-use Rattle.job_graph.specs.Scatter.{at_tuple, lengths_under, method_of, tuples_for}
+use Rattle.job_graph.specs.Scatter.{at_tuple, method_of, tuples_for}
 use Rattle.job_graph.specs.Equations.{Meaning, StepMeaning, StepOf, all_instances, entered, fault_at, instance, meaning_of, out_gathered, over_lengths, over_tuples, scattered, step_meaning_of, step_place, step_walk}
 use Rattle.job_graph.specs.More.{IsGrown, Stays}
 use Rattle.job_graph.specs.declared.made.Facts.{Facts}
 use Rattle.job_graph.specs.inner.Going.{EndedBelow, LeavesOut, facts_before, goes_through}
 use Rattle.job_graph.specs.inner.Levels.{step_of, steps_of, steps_walk}
-use Rattle.job_graph.specs.inner.OneTuple.{GoesAt, HasAll, HoldsBack, MeetsAnew, StepMeets, StepsMeet, lacks, lacks_one, mets_for, walk_for, walks_for}
+use Rattle.job_graph.specs.inner.OneTuple.{GoesAt, HasAll, HoldsBack, OutsStay, StaysBy, StaysWith, StepMeets, StepsMeet, count_known, lacks, lacks_one, mets_for, one_if, times, walk_for, walks_for}
 use Rattle.job_graph.specs.inner.Rounds.{IsSettled, StandsBy, walk_at}
 use Rattle.job_graph.specs.inner.Views.{made_from}
 use Rattle.job_graph.proofs.Going.{keeps_where}
-use Rattle.job_graph.proofs.GoingOn.{in_push}
-use Rattle.job_graph.proofs.Gone.{in_left, in_one, leaves_all, leaves_append, leaves_itself}
+use Rattle.job_graph.proofs.Gone.{in_left, in_one, in_right, leaves_all, leaves_append, leaves_itself}
+use Rattle.job_graph.proofs.Loops.{not_some}
 use Rattle.job_graph.proofs.SettledWalk.{settled_walk}
 use Rattle.job_graph.proofs.laws_of_walks.Beside.{Elsewhere, elsewhere_by, none_first, none_later}
-use Rattle.job_graph.proofs.laws_of_walks.GoesOn.{made_alike, step_alike, step_grows}
-use Rattle.job_graph.proofs.laws_of_walks.Part.{stays_itself}
+use Rattle.job_graph.proofs.laws_of_walks.GoesOn.{made_alike, step_alike}
 use Rattle.job_graph.proofs.laws_of_walks.Places.{beyond, instance_at, segment, step_is, walk_places}
 use Rattle.job_graph.proofs.laws_of_walks.Processes.{StepLevel, step_level}
 use Rattle.job_graph.proofs.laws_of_walks.Same.{agrees, instance_agrees}
@@ -74,19 +71,10 @@ element [] i x below is = absurd (omega (arith, below))
 element (y ∷ ys) zero x below is = inl is
 element (y ∷ ys) (suc i) x below is = let less : i < length ys = omega (arith, below) in inr (element ys i x less is)
 
--- what holds of those before one and of this one
-pub one_more : {X : Type 0} (P : X → Type 0) (xs : List X) (i : ℕ) (x : X) → i < length xs → x ≡ get_or xs i x → ((y : X) → IsIn y (take i xs) → P y) → P x
-    → (y : X) → IsIn y (take (i + 1) xs) → P y
-one_more P xs i x below is before last y among =
-    let front : take (i + 1) xs ≡ take i xs ++ x ∷ [] = take_more xs i x below ∙ ap (λ z. take i xs ++ z ∷ []) (sym is) in
-    ⊎_elim (λ one. before y one) (λ same. subst P (sym same) last) (in_push y x (take i xs) (subst (IsIn y) front among))
-
-pub had_one : {X : Type 0} (f : X → Walk) (old : List Met) (xs : List X) (i : ℕ) (x : X) → i < length xs → x ≡ get_or xs i x → HasAll old (flat_map (λ w. w.met) (map f xs)) → HasAll old (f x).met
-had_one f old xs i x below is all = λ m among. all m (in_one (λ (w : Walk). w.met) f m x xs (element xs i x below is) among)
-
-one_there : (a b : Option Value) (v : Value) → (is_some a || not (is_some b)) ≡ true → b ≡ Some v → is_some a ≡ true
-one_there (Some x) b v either there = refl
-one_there None b v either there = sym (ap (λ (o : Option Value). not (is_some o)) there) ∙ either
+none_there : (a b : Option Value) → (is_some a || not (is_some b)) ≡ true → is_some a ≡ false → b ≡ None
+none_there (Some x) b either none = absurd cc
+none_there None (Some v) either none = absurd cc
+none_there None None either none = refl
 
 known_stays : (a b : Option Value) → is_some a ≡ true → Stays a b → b ≡ a
 known_stays None b some stays = absurd cc
@@ -114,7 +102,7 @@ module _ (facts : Facts) (step : Step) (id : Name) (place : JobPlace) (values : 
   inside = sym (step_is step) ∙ apart
 
   -- what another tuple meets and gives is as it was
-  pub tuple_alike : (one : List ℕ) → one ≢ tuple → walk before one ≡ walk facts one
+  tuple_alike : (one : List ℕ) → one ≢ tuple → walk before one ≡ walk facts one
   tuple_alike one other =
       instance_agrees (Elsewhere r r) level (meaning before) (meaning facts)
       (agrees facts.measures (made_from before) (made_from facts) (Elsewhere r r) (made_alike facts place (segment id tuple ∷ at.rest) at.below) level.process)
@@ -123,52 +111,96 @@ module _ (facts : Facts) (step : Step) (id : Name) (place : JobPlace) (values : 
       (beyond place id one (walk before one).met
       (instance_at level (meaning before) (walk_places facts.measures (made_from before) level.process inside) (step_place place id one) (at_tuple level.scatter one values))))
 
-  pub others_met : (one : List ℕ) → one ≢ tuple → (old : List Met) → HasAll old (walk before one).met → LeavesOut old [] (walk facts one).met
+  not_same : (one : List ℕ) → bytes_eq one tuple ≡ false → one ≢ tuple
+  not_same one is same = let both : true ≡ false = sym ((bytes_eq-Decides one tuple).1 same) ∙ is in absurd cc
+
+  others_met : (one : List ℕ) → one ≢ tuple → (old : List Met) → HasAll old (walk before one).met → LeavesOut old [] (walk facts one).met
   others_met one other old all =
       leaves_all old (walk facts one).met (λ m among. all m (subst (λ (w : Walk). IsIn m w.met) (sym (tuple_alike one other)) among))
 
-  module _ (outs : Outs) (tuples : List (List ℕ)) (held : HoldsBack facts step id place values outs tuples tuple) (lengths : List ℕ) where
-    abbrev whole : Facts → Walk
-    whole of = all_instances (step_of of step) lengths (walks_for of step id place values tuples)
+  -- what all tuples meet, where this one is not there, and where it is there once
+  none_meets : (old : List Met) (some : List (List ℕ)) → times tuple some ≡ 0 → HasAll old (mets_for before step id place values some) → LeavesOut old [] (mets_for facts step id place values some)
+  none_meets old [] none all = leaves_itself old []
+  none_meets old (one ∷ some) none all =
+      by (bytes_eq one tuple) refl (λ rest. none_meets old some rest (λ m at. all m (in_right m (walk before one).met (mets_for before step id place values some) at)))
+    where
+      sum : one_if (bytes_eq one tuple) + times tuple some ≡ 0
+      sum = none
 
-    abbrev out : Facts → Name → Option Value
-    out of name = out_gathered (method_of level.method) lengths (walks_for of step id place values tuples) name
+      by : (b : Bool) → bytes_eq one tuple ≡ b → (times tuple some ≡ 0 → LeavesOut old [] (mets_for facts step id place values some)) → LeavesOut old [] (mets_for facts step id place values (one ∷ some))
+      by true is later = let here : one_if (bytes_eq one tuple) ≡ 1 = ap one_if is in absurd (omega (arith, sum, here))
+      by false is later =
+          let rest : times tuple some ≡ 0 = omega (arith, sum) in
+          leaves_append old [] (walk facts one).met [] (mets_for facts step id place values some)
+          (others_met one (not_same one is) old (λ m at. all m (in_left m (walk before one).met (mets_for before step id place values some) at)))
+          (later rest)
 
-    abbrev held_out : Facts → Name → Option Value
-    held_out of name = out_under name (Some (walk of held.one).outs)
+  pub once_meets : (met old : List Met) (some : List (List ℕ)) → times tuple some ≡ 1 → HasAll old (mets_for before step id place values some) → LeavesOut old met (walk facts tuple).met
+      → LeavesOut old met (mets_for facts step id place values some)
+  once_meets met old [] once all last = let no : 0 ≡ 1 = once in absurd (omega (arith, no))
+  once_meets met old (one ∷ some) once all last =
+      by (bytes_eq one tuple) refl (λ rest. once_meets met old some rest (λ m at. all m (in_right m (walk before one).met (mets_for before step id place values some) at)) last)
+    where
+      sum : one_if (bytes_eq one tuple) + times tuple some ≡ 1
+      sum = once
 
-    none_out : (of : Facts) (name : Name) → held_out of name ≡ None → out of name ≡ None
-    none_out of name none =
-        ap (option_map (gathered (method_of level.method) lengths))
-        (none_of_all (λ (w : Walk). out_under name (Some w.outs)) (walk of held.one) (walks_for of step id place values tuples) (in_map (walk of) held.one tuples held.among) none)
+      by : (b : Bool) → bytes_eq one tuple ≡ b → (times tuple some ≡ 1 → LeavesOut old met (mets_for facts step id place values some)) → LeavesOut old met (mets_for facts step id place values (one ∷ some))
+      by true is later =
+          let here : one_if (bytes_eq one tuple) ≡ 1 = ap one_if is in
+          let rest : times tuple some ≡ 0 = omega (arith, sum, here) in
+          subst (λ (xs : List Met). LeavesOut old xs (mets_for facts step id place values (one ∷ some))) (append-nil met)
+          (leaves_append old met (walk facts one).met [] (mets_for facts step id place values some)
+          (subst (λ (t : List ℕ). LeavesOut old met (walk facts t).met) (sym ((bytes_eq-Decides one tuple).0 is)) last)
+          (none_meets old some rest (λ m at. all m (in_right m (walk before one).met (mets_for before step id place values some) at))))
+      by false is later =
+          let here : one_if (bytes_eq one tuple) ≡ 0 = ap one_if is in
+          let rest : times tuple some ≡ 1 = omega (arith, sum, here) in
+          leaves_append old [] (walk facts one).met met (mets_for facts step id place values some)
+          (others_met one (not_same one is) old (λ m at. all m (in_left m (walk before one).met (mets_for before step id place values some) at)))
+          (later rest)
 
-    module _ (gave : outs ≡ (whole before).outs) (grown : IsGrown (whole before) (whole facts)) where
-      out_alike : (name : Name) → IsIn name level.outputs → out facts name ≡ out before name
-      out_alike name among = by (held_out facts name) refl
-        where
-          there : (of : Facts) → out_under name (Some (whole of).outs) ≡ out of name
-          there of = under_names (out of) name level.outputs among
+-- ---- where one tuple holds the outputs of the step back
 
-          stays : Stays (out before name) (out facts name)
-          stays = subst₂ (λ (a b : Option Value). Stays a b) (there before) (there facts) (grown.outs name)
+module _ (facts : Facts) (step : Step) (id : Name) (place : JobPlace) (values : Fields) (outs : Outs) (tuples : List (List ℕ))
+    (held : HoldsBack facts step id place values outs tuples) (lengths : List ℕ) where
+  abbrev whole : Facts → Walk
+  whole of = all_instances (step_of of step) lengths (walks_for of step id place values tuples)
 
-          known : out_under name (Some outs) ≡ out before name
-          known = ap (λ (os : Outs). out_under name (Some os)) gave ∙ there before
+  abbrev out : Facts → Name → Option Value
+  out of name = out_gathered (method_of (out-Step step).method) lengths (walks_for of step id place values tuples) name
 
-          by : (o : Option Value) → held_out facts name ≡ o → out facts name ≡ out before name
-          by None is =
-              none_out facts name is ∙ sym (none_out before name (ap (λ (w : Walk). out_under name (Some w.outs)) (tuple_alike held.one held.apart) ∙ is))
-          by (Some v) is =
-              known_stays (out before name) (out facts name)
-              (sym (ap is_some known) ∙ one_there (out_under name (Some outs)) (held_out facts name) v (each_of (lacks_one outs (walk facts held.one).outs) level.outputs held.none name among) is)
-              stays
+  abbrev held_walk : Walk
+  held_walk = walk_for facts step id place values held.one
 
-      outs_alike : (whole facts).outs ≡ (whole before).outs
-      outs_alike = named_alike (out facts) (out before) level.outputs out_alike
+  none_out : (name : Name) → out_under name (Some held_walk.outs) ≡ None → out facts name ≡ None
+  none_out name none =
+      ap (option_map (gathered (method_of (out-Step step).method) lengths))
+      (none_of_all (λ (w : Walk). out_under name (Some w.outs)) held_walk (walks_for facts step id place values tuples) (in_map (walk_for facts step id place values) held.one tuples held.among) none)
 
-    pub anew : (met : List Met) → ((old : List Met) → HasAll old (mets_for before step id place values tuples) → LeavesOut old met (mets_for facts step id place values tuples))
-        → MeetsAnew outs (whole before) (whole facts) met
-    anew met leaves = record { outs = outs_alike; leaves = leaves }
+  module _ (gave : outs ≡ (whole (facts_before facts)).outs) (grown : IsGrown (whole (facts_before facts)) (whole facts)) where
+    out_alike : (name : Name) → IsIn name (out-Step step).outputs → out facts name ≡ out (facts_before facts) name
+    out_alike name among = by (is_some (out_under name (Some outs))) refl
+      where
+        there : (of : Facts) → out_under name (Some (whole of).outs) ≡ out of name
+        there of = under_names (out of) name (out-Step step).outputs among
+
+        stays : Stays (out (facts_before facts) name) (out facts name)
+        stays = subst₂ (λ (a b : Option Value). Stays a b) (there (facts_before facts)) (there facts) (grown.outs name)
+
+        known : out_under name (Some outs) ≡ out (facts_before facts) name
+        known = ap (λ (os : Outs). out_under name (Some os)) gave ∙ there (facts_before facts)
+
+        by : (b : Bool) → is_some (out_under name (Some outs)) ≡ b → out facts name ≡ out (facts_before facts) name
+        by true is = known_stays (out (facts_before facts) name) (out facts name) (sym (ap is_some known) ∙ is) stays
+        by false is =
+            none_out name (none_there (out_under name (Some outs)) (out_under name (Some held_walk.outs)) (each_of (lacks_one outs held_walk.outs) (out-Step step).outputs held.none name among) is)
+            ∙ sym (not_some (out_under name (Some outs)) is) ∙ known
+
+    outs_same : (whole facts).outs ≡ (whole (facts_before facts)).outs
+    outs_same = named_alike (out facts) (out (facts_before facts)) (out-Step step).outputs out_alike
+
+  pub outs_stay : OutsStay outs (whole (facts_before facts)) (whole facts)
+  outs_stay gave grown = outs_same gave grown
 
 -- ---- a step whose inputs are known
 
@@ -177,40 +209,25 @@ pub over_these : (s : StepOf) (id : Name) (place : JobPlace) (fields : Fields) (
     → all_instances s lengths (map (λ t. instance s (step_place place id t) (at_tuple s.scatter t fields)) tuples) ≡ over_lengths s id place fields (Ok lengths)
 over_these s id place fields lengths tuples is = ap (over_tuples s id place fields lengths) is
 
-module _ {A : Type 0} (P Q : A → Type 0) (weaker : (a : A) → P a → Q a) where
-  found_weaker : (found : Option A) → IfSome found P → IfSome found Q
-  found_weaker None holds = tt
-  found_weaker (Some a) holds = weaker a holds
-
-  pub if_found : {E : Type 0} (result : Result (Option A) E) → IfOk result (λ found. IfSome found P) → IfOk result (λ found. IfSome found Q)
-  if_found (Ok found) holds = found_weaker found holds
-  if_found (Err error) holds = tt
+pub where_held : {E P Q : Type 0} → (P → Q) → (result : Result Bool E) → IfOk result (λ held. held ≡ true → P) → IfOk result (λ held. held ≡ true → Q)
+where_held weaker (Ok held) holds = λ is. weaker (holds is)
+where_held weaker (Err error) holds = tt
 
 module _ (facts : Facts) (place : JobPlace) (inputs : Fields) (env : Env) (s : Name × Step) where
   abbrev earlier : Facts
   earlier = facts_before facts
 
-  walk_is : (of : Facts) (values : Fields) → all_given (entries_of of.measures (out-Step s.1).inputs inputs env) ≡ Some values
+  pub walk_is : (of : Facts) (values : Fields) → all_given (entries_of of.measures (out-Step s.1).inputs inputs env) ≡ Some values
       → walk_at of place inputs env s ≡ scattered (step_of of s.1) s.0 place values (out-Step s.1).scatter
   walk_is of values is =
       ap (λ (x : Step). step_meaning_of of.measures (made_from of) x s.0 place inputs env) (sym (roll-out-Step s.1))
       ∙ ap (λ (m : StepMeaning). m s.0 place inputs env) (step_level of.measures (made_from of) (out-Step s.1))
       ∙ ap (entered (step_of of s.1) s.0 place (faults_in (step_place place s.0 []) (entries_of of.measures (out-Step s.1).inputs inputs env))) is
 
-  pub step_anew : (tuple : List ℕ) → GoesAt facts place s.0 tuple → (values : Fields) → Some values ≡ all_given (entries_of facts.measures (out-Step s.1).inputs inputs env)
-      → (outs : Outs) → StandsBy earlier place inputs env s (Some outs) → (met : List Met)
-      → MeetsAnew outs (scattered (step_of earlier s.1) s.0 place values (out-Step s.1).scatter) (scattered (step_of facts s.1) s.0 place values (out-Step s.1).scatter) met
-      → StepMeets facts place inputs env s met
-  step_anew tuple at values is outs stands met anew =
-      let was : walk_at earlier place inputs env s ≡ scattered (step_of earlier s.1) s.0 place values (out-Step s.1).scatter = walk_is earlier values (sym is) in
-      let now : walk_at facts place inputs env s ≡ scattered (step_of facts s.1) s.0 place values (out-Step s.1).scatter = walk_is facts values (sym is) in
-      let grown : IsGrown (walk_at earlier place inputs env s) (walk_at facts place inputs env s) =
-      step_grows facts place (segment s.0 tuple ∷ at.rest) at.below s inputs env env (λ step name. stays_itself _) in
-      record {
-        outs = ap (λ (w : Walk). w.outs) now ∙ anew.outs (stands.1 ∙ ap (λ (w : Walk). w.outs) was) (subst₂ IsGrown was now grown) ∙ sym (ap (λ (w : Walk). w.outs) was);
-        leaves = λ old all.
-            subst (λ (w : Walk). LeavesOut old met w.met) (sym now) (anew.leaves old (λ m among. all m (subst (λ (w : Walk). IsIn m w.met) (sym was) among)));
-      }
+  pub step_stays : (values : Fields) → Some values ≡ all_given (entries_of facts.measures (out-Step s.1).inputs inputs env) → (outs : Outs)
+      → OutsStay outs (scattered (step_of earlier s.1) s.0 place values (out-Step s.1).scatter) (scattered (step_of facts s.1) s.0 place values (out-Step s.1).scatter)
+      → OutsStay outs (walk_at earlier place inputs env s) (walk_at facts place inputs env s)
+  step_stays values is outs = subst₂ (OutsStay outs) (sym (walk_is earlier values (sym is))) (sym (walk_is facts values (sym is)))
 
   -- a step that the place does not go through
   pub step_past : (ended : JobPlace) → EndedBelow facts place ended → step_ids_differ s.1 ≡ true → goes_through ended s.0 ≡ false → StepMeets facts place inputs env s []
@@ -220,11 +237,6 @@ module _ (facts : Facts) (place : JobPlace) (inputs : Fields) (env : Env) (s : N
         outs = sym (ap (λ (w : Walk). w.outs) same);
         leaves = λ old all. leaves_all old (walk_at facts place inputs env s).met (λ m among. all m (subst (λ (w : Walk). IsIn m w.met) (sym same) among));
       }
-
--- the last place goes on from the first segment of what is below
-pub goes_at : (facts : Facts) (place ended : JobPlace) → EndedBelow facts place ended → (g : Segment) → 0 < length ended → g ≡ get_or ended 0 g → GoesAt facts place g.step g.index
-goes_at facts place [] below g some is = absurd (omega (arith, some))
-goes_at facts place (t ∷ rest) below g some is = record { rest = rest; below = subst (λ (s : Segment). EndedBelow facts place (s ∷ rest)) (sym is) below }
 
 -- ---- all steps
 
@@ -268,31 +280,17 @@ module _ (facts : Facts) (place ended : JobPlace) (below : EndedBelow facts plac
 
 -- ---- by the code's own words
 
-module _ {A E : Type 0} (facts : Facts) (place : JobPlace) (inputs : Fields) (env : Env) (s : Name × Step) (tuple : List ℕ) (at : GoesAt facts place s.0 tuple)
-    (values : Fields) (known : Some values ≡ all_given (entries_of facts.measures (out-Step s.1).inputs inputs env)) (outs : Outs) (stands : StandsBy (facts_before facts) place inputs env s (Some outs))
-    (mets : A → List Met) where
-  pub anew_found : (result : Result (Option A) E)
-      → IfOk result (λ found. IfSome found (λ met. MeetsAnew outs (scattered (step_of (facts_before facts) s.1) s.0 place values (out-Step s.1).scatter)
-      (scattered (step_of facts s.1) s.0 place values (out-Step s.1).scatter) (mets met)))
-      → IfOk result (λ found. IfSome found (λ met. StepMeets facts place inputs env s (mets met)))
-  anew_found =
-      if_found (λ met. MeetsAnew outs (scattered (step_of (facts_before facts) s.1) s.0 place values (out-Step s.1).scatter) (scattered (step_of facts s.1) s.0 place values (out-Step s.1).scatter) (mets met))
-      (λ met. StepMeets facts place inputs env s (mets met)) (λ met. step_anew facts place inputs env s tuple at values known outs stands (mets met))
+module _ (facts : Facts) (place : JobPlace) (inputs : Fields) (env : Env) (s : Name × Step) (outs others : Outs) where
+  stays_some : (names : List Name) → names ≢ [] → (lacks (out-Step s.1).outputs outs others ≡ true) ⊎ OutsStay outs (walk_at (facts_before facts) place inputs env s) (walk_at facts place inputs env s)
+      → StaysBy facts place inputs env s outs others names
+  stays_some [] some either = absurd (some refl)
+  stays_some (name ∷ names) some either = either
 
-module _ (facts : Facts) (step : Step) (id : Name) (place : JobPlace) (values : Fields) (outs : Outs) (lengths : List ℕ) where
-  abbrev one : StepOf
-  one = step_of (facts_before facts) step
+  module _ (found : Option Outs) (is : found ≡ Some outs) where
+    pub stays_alone : (out-Step s.1).scatter ≡ [] → count_known outs ≡ count_known others → StaysWith facts place inputs env s others found
+    stays_alone none many =
+        subst (StaysWith facts place inputs env s others) (sym is) (subst (StaysBy facts place inputs env s outs others) (sym none) many)
 
-  abbrev other : StepOf
-  other = step_of facts step
-
-  pub over_found : {A E : Type 0} (mets : A → List Met) (tuples : List (List ℕ)) → Ok tuples ≡ tuples_for (method_of (out-Step step).method) lengths → (result : Result (Option A) E)
-      → IfOk result (λ found. IfSome found (λ met. (lengths : List ℕ) → MeetsAnew outs (all_instances one lengths (walks_for (facts_before facts) step id place values tuples))
-      (all_instances other lengths (walks_for facts step id place values tuples)) (mets met)))
-      → IfOk result (λ found. IfSome found (λ met. MeetsAnew outs (over_lengths one id place values (Ok lengths)) (over_lengths other id place values (Ok lengths)) (mets met)))
-  over_found mets tuples is =
-      if_found
-      (λ met. (lengths : List ℕ) → MeetsAnew outs (all_instances one lengths (walks_for (facts_before facts) step id place values tuples))
-      (all_instances other lengths (walks_for facts step id place values tuples)) (mets met))
-      (λ met. MeetsAnew outs (over_lengths one id place values (Ok lengths)) (over_lengths other id place values (Ok lengths)) (mets met))
-      (λ met anew. subst₂ (λ (was now : Walk). MeetsAnew outs was now (mets met)) (over_these one id place values lengths tuples is) (over_these other id place values lengths tuples is) (anew lengths))
+    pub stays_among : (out-Step s.1).scatter ≢ [] → (lacks (out-Step s.1).outputs outs others ≡ true) ⊎ OutsStay outs (walk_at (facts_before facts) place inputs env s) (walk_at facts place inputs env s)
+        → StaysWith facts place inputs env s others found
+    stays_among some either = subst (StaysWith facts place inputs env s others) (sym is) (stays_some (out-Step s.1).scatter some either)

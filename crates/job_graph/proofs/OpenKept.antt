@@ -1,5 +1,5 @@
 -- What is kept stays where a job is learned while one beside it is open.
-use Rattle.std.proofs.Common.{◌≡◌, ◌∙◌, ⊎_elim, inl, inr, List, [], ◌∷◌, ◌++◌, map, true, Option, Some, None, refl, sym, ap, subst}
+use Rattle.std.proofs.Common.{◌≡◌, ◌∙◌, ⊎_elim, inl, inr, List, [], ◌∷◌, ◌++◌, map, true, Option, Some, None, refl, sym, ap, subst, arith}
 use Rattle.std.specs.List.{AllByRecursion, flat_map, list_all}
 use Rattle.cwl_process.specs.declared.workflow.WorkflowOutput.{WorkflowOutput}
 use Rattle.document_links.specs.declared.process.Process.{Process, out-Process}
@@ -21,6 +21,7 @@ use Rattle.job_graph.specs.inner.Levels.{steps_of, steps_walk}
 use Rattle.job_graph.specs.inner.Rounds.{IsSettled, StandsBy, walk_at}
 use Rattle.job_graph.specs.inner.Views.{made_from}
 use Rattle.job_graph.proofs.Going.{keeps_where}
+use Rattle.job_graph.proofs.Nesting.{one_fewer}
 use Rattle.job_graph.proofs.RootWalk.{inside_workflow, of_root, of_workflow, root_apart, steps_apart}
 use Rattle.job_graph.proofs.SettledWalk.{settled_walk}
 use Rattle.job_graph.proofs.laws_of_walks.Beside.{Beside, HasAt, StepStill, has_append, has_holds}
@@ -110,6 +111,8 @@ module _ (facts : Facts) (r : JobPlace) (below : EndedBelow facts [] r) (w : Job
           inputs = root.inputs;
           settled = still_settled kept.inputs (out-Workflow v).steps (steps_apart v (root_apart p v is apart)) (inside_workflow v (root_apart p v is apart)) kept.env root.settled
               (of_steps kept.inputs kept.env (out-Workflow v).outputs (out-Workflow v).steps root.settled at);
+          since = omega (arith, root.since, one_fewer facts [] r below);
+          along = λ now. absurd (omega (arith, root.since, one_fewer facts [] r below, now));
         }
 
     pub still_kept : HasAt w (root_walk before fields p).met → (kept : Option Kept) → KeepsRoot before fields p kept → KeepsRoot facts fields p kept

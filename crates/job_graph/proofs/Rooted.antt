@@ -1,20 +1,24 @@
 -- What is kept of the walk from the root, by the code's own words.
-use Rattle.std.proofs.Common.{◌≡◌, ◌∙◌, List, [], ◌∷◌, ◌++◌, map, Result, Ok, Err, refl, sym, ap, subst}
-use Rattle.std.specs.Prelude.{IfOk}
-use Rattle.document_links.specs.declared.process.Workflow.{Workflow}
+use Rattle.std.proofs.Common.{◌≡◌, ◌∙◌, ℕ, List, [], ◌∷◌, ◌++◌, length, map, Result, Ok, Err, refl, sym, ap, subst, arith}
+use Rattle.std.specs.Prelude.{IfOk, reverse}
+use Rattle.document_links.specs.declared.process.Workflow.{Workflow, out-Workflow}
 use Rattle.cwl_process.specs.declared.tool.Tool.{Tool}
 use Rattle.document_links.specs.declared.process.Process.{Process}
 use Rattle.document_links.specs.declared.process.Process as process
 use Rattle.input_files.specs.Measured.{Measures}
 use Rattle.job_graph.specs.Equations.{Meaning, meaning_of, workflow_meaning_of}
-use Rattle.job_graph.specs.Inputs.{tool_inputs_for}
+use Rattle.job_graph.specs.Inputs.{tool_inputs_for, workflow_inputs_for}
+use Rattle.job_graph.specs.Links.{Env}
 use Rattle.job_graph.specs.Words.{Fields, JobPlace}
 use Rattle.job_graph.specs.Jobs.{Made, Met, Walk, tool_walk}
 use Rattle.job_graph.specs.declared.kept.Rooted.{Rooted}
 use Rattle.job_graph.specs.declared.made.Facts.{Facts}
 use Rattle.job_graph.specs.declared.made.Resolved.{Resolved as KeptResolved}
+use Rattle.job_graph.specs.declared.nested.Nested.{Nested}
 use Rattle.job_graph.specs.inner.Going.{EndedBelow, LeavesOut, earlier}
-use Rattle.job_graph.specs.inner.Kept.{HasRooted, KeepsWorkflow}
+use Rattle.job_graph.specs.inner.Kept.{HasRooted, IsOfRoot, KeepsWorkflow}
+use Rattle.job_graph.specs.inner.Nested.{KeepsAlong}
+use Rattle.job_graph.specs.inner.Rounds.{IsSettled}
 use Rattle.job_graph.specs.inner.Views.{met_of}
 use Rattle.job_graph.proofs.AheadOf.{earlier_push}
 use Rattle.job_graph.proofs.Gone.{leaves_itself}
@@ -35,6 +39,12 @@ module _ {E : Type 0} (facts : Facts) (fields : Fields) (w : Workflow) (walk : W
   pub rooted_kept : (result : Result Rooted E) → IfOk result (HasRooted facts fields w walk) → IfOk result (λ found. KeepsWorkflow facts fields w found.kept)
   rooted_kept (Ok found) has = has.kept
   rooted_kept (Err error) has = tt
+
+-- what is kept of a root workflow whose steps are settled, and inside one of them
+pub root_kept : (facts : Facts) (fields : Fields) (w : Workflow) (inputs : Fields) (env : Env) (nested : List Nested) (since : ℕ) → workflow_inputs_for facts.measures (out-Workflow w).inputs fields ≡ Ok inputs
+    → IsSettled facts [] inputs (out-Workflow w).steps env → since ≡ length facts.learned → KeepsAlong facts [] inputs (out-Workflow w).steps env (reverse nested)
+    → IsOfRoot facts fields w (record { inputs = inputs; env = env; nested = nested; since = since })
+root_kept facts fields w inputs env nested since is settled now along = record { inputs = is; settled = settled; since = omega (arith, now); along = λ same. along }
 
 -- from a root that is a tool, and from one that is a workflow
 module _ (measures : Measures) (made : Made) (p : Process) (place : JobPlace) (fields : Fields) where

@@ -1,5 +1,5 @@
 //! What is kept of the walk from the root, so that it goes on where one more place is learned.
-ghost use Rattle.std.specs.Prelude.{◌≡◌, IfOk, [], map, true};
+ghost use Rattle.std.specs.Prelude.{◌≡◌, ◌⊎◌, ◌+◌, IfOk, [], map, true};
 ghost use Rattle.job_graph.specs.Apart.{ids_differ, workflow_ids_differ};
 ghost use Rattle.job_graph.specs.Equations.{workflow_meaning_of};
 ghost use Rattle.job_graph.specs.inner.Going.{LeavesOut, facts_before};
@@ -9,19 +9,23 @@ ghost use Rattle.job_graph.specs.inner.Views.{made_from, met_of};
 use crate::inputs::workflow_inputs;
 use crate::links::Env;
 use crate::made::Facts;
-use crate::one_tuple::walk_further;
+use crate::nested::{Deeper, Nested, walk_deeper, with_nested};
 use crate::walk::{Walk, failed_process, walk_tool};
-use crate::workflow::{Walked, walk_keeping};
+use crate::workflow::walk_keeping;
 use cwl_value::{Segment, Value};
 use document_links::{Process, Workflow};
 use plain_data::{Items, Keyed};
 use std::alloc::{AllocError, Global};
 
-/// The inputs of the root workflow, and the outputs of those of its steps that were walked.
+/// The inputs of the root workflow, the outputs of those of its steps that were walked, and what is kept inside one of them.
 #[derive(Drop)]
 pub(crate) struct Kept {
     pub inputs: Keyed<Value>,
     pub env: Env,
+    /// What is kept along the place that was learned last, the outermost last.
+    pub nested: Items<Nested>,
+    /// How many places were learned by then. Once more are, `nested` says nothing.
+    pub since: usize,
 }
 
 /// The walk from the root, and what is kept of it. Of a tool nothing is.
@@ -73,14 +77,18 @@ fn walk_whole<'a>(
 {
     let root = Items::new(alloc);
     match workflow_inputs(alloc, &facts.measures, workflow.inputs.as_slice(), fields)? {
-        Err(cause) => {
-            let walk = failed_process(alloc, &root, cause, &workflow.outputs)?;
-            Ok(Rooted { walk, kept: None })
-        }
         Ok(inputs) => {
             let outputs = workflow.outputs.as_slice();
             let walked = walk_keeping(alloc, facts, &workflow.steps, outputs, &root, &inputs)?;
-            Ok(with_kept(inputs, walked))
+            Ok(with_kept(
+                inputs,
+                with_nested(walked, Items::new(alloc)),
+                facts.learned.len(),
+            ))
+        }
+        Err(cause) => {
+            let walk = failed_process(alloc, &root, cause, &workflow.outputs)?;
+            Ok(Rooted { walk, kept: None })
         }
     }
 }
@@ -111,29 +119,50 @@ fn go_on<'a>(
         return walk_whole(alloc, facts, workflow, fields);
     };
     let root = Items::new(alloc);
-    let Kept { inputs, env } = kept;
+    let Kept {
+        inputs,
+        env,
+        nested,
+        since,
+    } = kept;
+    let nested = where_new(alloc, nested, since, facts.learned.len());
+    let steps = &workflow.steps;
     let outputs = workflow.outputs.as_slice();
     let ended: &[Segment] = last.at.place.as_slice();
-    let walked = walk_further(
-        alloc,
-        facts,
-        &workflow.steps,
-        outputs,
-        &root,
-        &inputs,
-        env,
-        ended,
+    let deeper = walk_deeper(
+        alloc, facts, steps, outputs, &root, &inputs, env, nested, ended,
     )?;
-    Ok(with_kept(inputs, walked))
+    Ok(with_kept(inputs, deeper, facts.learned.len()))
 }
 
-fn with_kept<'a>(inputs: Keyed<Value>, walked: Walked<'a>) -> Rooted<'a>
-    ensures walk { result.walk ≡ walked.entry.walk }
-    ensures kept { result.kept ≡ Some (record { inputs = inputs; env = walked.entry.env }) }
+/// What is kept inside, where one place alone was learned since.
+fn where_new(alloc: Global, nested: Items<Nested>, since: usize, learned: usize) -> Items<Nested>
+    ensures { (result ≡ []) ⊎ ((result ≡ nested) × (since + 1 ≡ learned)) }
 {
-    let Walked { walk, env } = walked;
+    if since < learned && learned - since == 1 {
+        return nested;
+    }
+    drop(nested);
+    Items::new(alloc)
+}
+
+fn with_kept<'a>(inputs: Keyed<Value>, deeper: Deeper<'a>, since: usize) -> Rooted<'a>
+    ensures walk { result.walk ≡ deeper.entry.walk }
+    ensures kept { result.kept ≡ Some (record {
+      inputs = inputs;
+      env = deeper.entry.env;
+      nested = deeper.entry.nested;
+      since = since;
+    }) }
+{
+    let Deeper { walk, env, nested } = deeper;
     Rooted {
         walk,
-        kept: Some(Kept { inputs, env }),
+        kept: Some(Kept {
+            inputs,
+            env,
+            nested,
+            since,
+        }),
     }
 }

@@ -177,7 +177,8 @@ fn note_items<'v>(noted: &mut Noted<'v>, items: &'v [Value]) -> Result<(), Alloc
 #[cycle(noting)]
 fn note_fields<'v>(noted: &mut Noted<'v>, fields: &'v Keyed<Value>) -> Result<(), AllocError>
     ensures { OnOk result ((job : JobPlace) → is_noted job noted.new
-        ≡ (is_noted job noted.old || some_true (map (λ f. f.1) (map_values (holds_made job) fields.now)))) }
+        ≡ (is_noted job noted.old
+        || some_true (map (λ f. f.1) (map_values (holds_made job) fields.now)))) }
 {
     for field in fields.as_slice() {
         note_value(noted, &field.1)?;

@@ -1,5 +1,5 @@
 //! Places of jobs.
-ghost use Rattle.std.specs.Prelude.{◌≡◌, IfOk};
+ghost use Rattle.std.specs.Prelude.{◌≡◌, IfOk, drop};
 ghost use Rattle.job_graph.specs.Words.{is_same_place, segment_eq};
 ghost use Rattle.job_graph.specs.Equations.{step_place};
 ghost use Rattle.job_graph.specs.Beside.{are_at_end, is_beside};
@@ -80,4 +80,14 @@ pub(crate) fn step_place(
     let mut found = copy_job(alloc, place)?;
     found.push(Segment { step, index })?;
     Ok(found)
+}
+
+/// The segments of a place after its first one.
+pub(crate) fn after_first(place: &[Segment]) -> &[Segment]
+    ensures { result.now ≡ drop 1 place.now }
+{
+    match place {
+        [] => &[],
+        [_, rest @ ..] => rest,
+    }
 }

@@ -289,7 +289,7 @@ fn run_where<'a>(
 }
 
 /// Whether a step is not skipped.
-fn goes_on(
+pub(crate) fn goes_on(
     when: &Option<Template>,
     fields: &Keyed<Value>,
 ) -> Result<Result<bool, Cause>, AllocError>

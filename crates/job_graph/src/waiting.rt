@@ -7,7 +7,7 @@ ghost use Rattle.job_graph.specs.Equations.{step_walk};
 ghost use Rattle.job_graph.specs.Jobs.{Met as SeenMet};
 ghost use Rattle.job_graph.specs.inner.Going.{AreKept, AreLookedAt, EndedBelow, HasGone, IsAbove, LeavesOut, WalksOne, WalksReaders, WasMet, facts_before, is_from, reads, reads_one};
 ghost use Rattle.job_graph.specs.inner.Levels.{steps_of, steps_walk};
-ghost use Rattle.job_graph.specs.inner.Rounds.{AllMeet, Holds, IsSettled, is_stuck, walk_at};
+ghost use Rattle.job_graph.specs.inner.Rounds.{AllMeet, EnvGrows, Holds, IsSettled, is_stuck, walk_at};
 ghost use Rattle.job_graph.specs.inner.Views.{met_of};
 ghost use Rattle.plain_data.specs.ByName.{value_at};
 ghost use Rattle.workflow_check.specs.Sound.{IsIn};
@@ -58,6 +58,7 @@ pub(crate) fn walk_on<'a>(
         ≡ (steps_walk outputs.now (steps_of facts.now steps.now) place.now inputs.now).outs) }
     ensures env { IfOk result
         (λ walked. IsSettled facts.now place.now inputs.now steps.now walked.env) }
+    ensures grown { IfOk result (λ walked. EnvGrows env walked.env) }
 {
     let going = go_on(alloc, facts, steps, place, inputs, env, ended)?;
     let Going {
@@ -116,7 +117,7 @@ fn go_on<'a>(
 }
 
 /// The number of the step that was walked and that a place goes through.
-fn step_above(steps: &[(Text, Step)], env: &Env, ended: &[Segment]) -> Option<usize>
+pub(crate) fn step_above(steps: &[(Text, Step)], env: &Env, ended: &[Segment]) -> Option<usize>
     ensures { IsAbove ended.now env.now steps.now result }
 {
     match ended {

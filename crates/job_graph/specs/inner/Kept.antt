@@ -1,5 +1,5 @@
 -- What is kept of the walk from the root.
-use Rattle.std.specs.Prelude.{◌≡◌, List, [], Option, Some, None, Ok}
+use Rattle.std.specs.Prelude.{◌≡◌, ◌≤◌, length, reverse, List, [], Option, Some, None, Ok}
 use Rattle.document_links.specs.declared.process.Process.{Process, out-Process}
 use Rattle.document_links.specs.declared.process.Process.TheOpen.{Process-F}
 use Rattle.document_links.specs.declared.process.Step.{Step}
@@ -12,13 +12,16 @@ use Rattle.job_graph.specs.declared.kept.Kept.{Kept}
 use Rattle.job_graph.specs.declared.kept.Rooted.{Rooted}
 use Rattle.job_graph.specs.declared.made.Facts.{Facts}
 use Rattle.job_graph.specs.inner.Going.{facts_before}
+use Rattle.job_graph.specs.inner.Nested.{KeepsAlong}
 use Rattle.job_graph.specs.inner.Rounds.{IsSettled}
 use Rattle.job_graph.specs.inner.Views.{made_from, walk_of}
 
--- the inputs of a root workflow, and the outputs of its steps
+-- the inputs of a root workflow, the outputs of its steps, and what is inside one of them while nothing more is learned
 pub record IsOfRoot (facts : Facts) (fields : Fields) (w : Workflow) (kept : Kept) : Type 0 where
   pub inputs : workflow_inputs_for facts.measures (out-Workflow w).inputs fields ≡ Ok kept.inputs
   pub settled : IsSettled facts [] kept.inputs (out-Workflow w).steps kept.env
+  pub since : kept.since ≤ length facts.learned
+  pub along : kept.since ≡ length facts.learned → KeepsAlong facts [] kept.inputs (out-Workflow w).steps kept.env (reverse kept.nested)
 
 abbrev pub KeepsWorkflow : Facts → Fields → Workflow → Option Kept → Type 0
 KeepsWorkflow facts fields w None = Unit {0}

@@ -1,5 +1,5 @@
--- What a scattered step meets and gives, where a place inside one of its tuples was learned.
-use Rattle.std.specs.Prelude.{◌≡◌, ◌≢◌, ◌||◌, ℕ, Bool, true, not, List, ◌∷◌, Some, is_some, map}
+-- What a step meets and gives, where a place inside one of its tuples was learned.
+use Rattle.std.specs.Prelude.{◌≡◌, ◌⊎◌, ◌||◌, ◌+◌, ℕ, zero, suc, Bool, true, cond, not, List, [], ◌∷◌, Option, Some, None, bytes_eq, is_some, map}
 use Rattle.std.specs.List.{flat_map, list_all}
 use Rattle.std.specs.Map.{keys_of}
 use Rattle.document_links.specs.declared.process.Step.{Step, out-Step}
@@ -37,6 +37,21 @@ module _ (facts : Facts) (step : Step) (id : Name) (place : JobPlace) (values : 
   abbrev pub mets_for : List (List ℕ) → List Met
   mets_for tuples = flat_map (λ w. w.met) (walks_for tuples)
 
+abbrev pub one_if : Bool → ℕ
+one_if found = cond found (suc zero) zero
+
+-- how often a tuple is among others
+abbrev pub times : List ℕ → List (List ℕ) → ℕ
+times tuple [] = zero
+times tuple (one ∷ tuples) = one_if (bytes_eq one tuple) + times tuple tuples
+
+-- ---- whether outputs stay
+
+-- how many of the outputs are known
+abbrev pub count_known : Outs → ℕ
+count_known [] = zero
+count_known (out ∷ outs) = one_if (is_some out.1) + count_known outs
+
 -- whether a name has a value in the first outputs, or none in the others
 abbrev pub lacks_one : Outs → Outs → Name → Bool
 lacks_one outs others name = is_some (out_under name (Some outs)) || not (is_some (out_under name (Some others)))
@@ -44,19 +59,29 @@ lacks_one outs others name = is_some (out_under name (Some outs)) || not (is_som
 abbrev pub lacks : List Name → Outs → Outs → Bool
 lacks names outs others = list_all (lacks_one outs others) names
 
--- a tuple other than this one has no value for each output that the step has none for
-pub record HoldsBack (facts : Facts) (step : Step) (id : Name) (place : JobPlace) (values : Fields) (outs : Outs) (tuples : List (List ℕ)) (tuple : List ℕ) : Type 0 where
+-- one of the tuples has no value for each output that the step has none for
+pub record HoldsBack (facts : Facts) (step : Step) (id : Name) (place : JobPlace) (values : Fields) (outs : Outs) (tuples : List (List ℕ)) : Type 0 where
   pub one : List ℕ
   pub among : IsIn one tuples
-  pub apart : one ≢ tuple
   pub none : lacks (out-Step step).outputs outs (walk_for facts step id place values one).outs ≡ true
 
--- ---- what is met anew
+-- what a walk gave before it gives now, where what is known stays
+abbrev pub OutsStay : Outs → Walk → Walk → Type 0
+OutsStay given was now = given ≡ was.outs → IsGrown was now → now.outs ≡ was.outs
 
--- by a walk that gave these outputs before: they stay, where what is known stays
-pub record MeetsAnew (given : Outs) (was now : Walk) (met : List Met) : Type 0 where
-  pub outs : given ≡ was.outs → IsGrown was now → now.outs ≡ was.outs
-  pub leaves : (old : List Met) → HasAll old was.met → LeavesOut old met now.met
+module _ (facts : Facts) (place : JobPlace) (inputs : Fields) (env : Env) (s : Name × Step) where
+  -- of a step that gave these outputs, where the process of one tuple gives others now: as many, of a step that is not scattered; or none that
+  -- the step lacks; or another tuple holds the step's back
+  abbrev pub StaysBy : Outs → Outs → List Name → Type 0
+  StaysBy outs others [] = count_known outs ≡ count_known others
+  StaysBy outs others (name ∷ names) =
+      (lacks (out-Step s.1).outputs outs others ≡ true) ⊎ OutsStay outs (walk_at (facts_before facts) place inputs env s) (walk_at facts place inputs env s)
+
+  abbrev pub StaysWith : Outs → Option Outs → Type 0
+  StaysWith others None = ⊥
+  StaysWith others (Some outs) = StaysBy outs others (out-Step s.1).scatter
+
+-- ---- what is met anew
 
 module _ (facts : Facts) (place : JobPlace) (inputs : Fields) (env : Env) where
   -- by a step

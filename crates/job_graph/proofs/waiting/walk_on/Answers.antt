@@ -21,3 +21,6 @@ pub returns-clause-outs : goal.returns-clause-outs
 returns-clause-outs c =
     whole_outs c.args.facts.now c.args.place.now c.args.ended.now c.requires.ended c.args.inputs.now c.args.steps.now c.requires.apart c.args.env c.requires.before c.in_ok-going.going c.in_ok-going.ensures c.args.outputs.now
     c.in_ok-walk.walk.outs c.in_ok-walk.ensures.outs
+
+pub returns-clause-grown : goal.returns-clause-grown
+returns-clause-grown c = c.in_ok-going.ensures.goes.grown

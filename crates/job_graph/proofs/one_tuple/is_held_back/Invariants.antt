@@ -1,4 +1,0 @@
-use Rattle.job_graph.proofs.one_tuple.is_held_back.Given as goal
-
-abbrev pub invariant-loop-back : goal.invariant-loop-back
-invariant-loop-back l = Unit {0}
