@@ -19,15 +19,12 @@ use Rattle.job_graph.specs.inner.Going.{EndedBelow, HasAbove, facts_before, goes
 use Rattle.job_graph.specs.inner.Levels.{steps_of}
 use Rattle.job_graph.specs.inner.Rounds.{EnvGrows, IsSettled, Keeps, StandsBy, WasReady, count, is_ready, walk_at}
 use Rattle.job_graph.specs.inner.Views.{made_from}
+use Rattle.job_graph.proofs.Index.{not_both}
 use Rattle.job_graph.proofs.laws_of_walks.GoesOn.{rounds_grow, step_alike, step_grows}
 use Rattle.job_graph.proofs.laws_of_walks.Part.{stays_itself}
 use Rattle.job_graph.proofs.laws_of_walks.Places.{same_ids}
 use Rattle.job_graph.proofs.laws_of_walks.Settled.{count_keeps, each_of, grows_on, one_step, ready_stays, up_to, walk_stays}
 use Rattle.job_graph.proofs.laws_of_walks.Waits.{put_at}
-
-not_both : (b : Bool) → b ≡ false → b ≡ true → ⊥
-not_both true one other = absurd cc
-not_both false one other = absurd cc
 
 -- ---- what was known before one more place was learned
 
@@ -81,7 +78,7 @@ module _ (facts : Facts) (place ended : JobPlace) (below : EndedBelow facts plac
     not_through s among outs there = by (goes_through ended s.0) refl
       where
         by : (b : Bool) → goes_through ended s.0 ≡ b → goes_through ended s.0 ≡ false
-        by true is = absurd (not_both false refl (none s among is (ap is_some there)))
+        by true is = absurd (not_both false (none s among is (ap is_some there)) refl)
         by false is = is
 
     stands_still : (s : Name × Step) → IsIn s steps → (found : Option Outs) → value_at s.0 old ≡ found → StandsBy before place inputs old s found → StandsBy facts place inputs old s found
@@ -143,7 +140,7 @@ module _ (facts : Facts) (place ended : JobPlace) (below : EndedBelow facts plac
         by (g ∷ rest) goes = ap (λ (id : Name). bytes_eq id s.0) ((bytes_eq-Decides g.step k.0).0 goes) ∙ turned (bytes_eq k.0 s.0) refl
           where
             turned : (b : Bool) → bytes_eq k.0 s.0 ≡ b → bytes_eq k.0 s.0 ≡ false
-            turned true same = absurd (not_both (bytes_eq s.0 k.0) is ((bytes_eq-Decides s.0 k.0).1 (sym ((bytes_eq-Decides k.0 s.0).0 same))))
+            turned true same = absurd (not_both (bytes_eq s.0 k.0) ((bytes_eq-Decides s.0 k.0).1 (sym ((bytes_eq-Decides k.0 s.0).0 same))) is)
             turned false same = same
 
     stands_k : (s : Name × Step) → IsIn s steps → StandsBy facts place inputs later s (value_at s.0 later)

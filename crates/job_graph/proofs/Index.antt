@@ -80,13 +80,13 @@ is_equal Greater is = absurd cc
 pub itself : (n : ℕ) → is_eq (nat_cmp n n) ≡ true
 itself n = ap is_eq (tied_itself nat_cmp_total n)
 
+pub not_both : (b : Bool) → b ≡ true → b ≡ false → ⊥
+not_both true is none = absurd cc
+not_both false is none = absurd cc
+
 module _ (place : JobPlace) where
   abbrev at_place : Resolved → Bool
   at_place r = is_same_place r.place place
-
-  not_both : (b : Bool) → b ≡ true → b ≡ false → ⊥
-  not_both true is none = absurd cc
-  not_both false is none = absurd cc
 
   not_there : (x : KeptResolved) → has_mark (mark_of place) x ≡ false → at_place (resolved_of x) ≡ false
   not_there x none = other_mark x.at.place place (λ same.

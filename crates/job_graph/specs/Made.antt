@@ -1,6 +1,7 @@
 -- Values elsewhere: each File and Directory in them at another place; and which jobs made those in a value.
 use Rattle.std.specs.Prelude.{Bool, false, ◌||◌, List, Option, Some, None, map}
 use Rattle.std.specs.List.{list_any}
+use Rattle.cwl_value.specs.Fileless.{some_true}
 use Rattle.cwl_value.specs.declared.value.Value.{Value, fold-Value, roll-Value}
 use Rattle.cwl_value.specs.declared.value.Value.TheOpen.{Value-F, FileVal-F, DirVal-F}
 use Rattle.cwl_value.specs.declared.value.FileVal.{FileVal, roll-FileVal, fold-FileVal}
@@ -40,9 +41,6 @@ fields_made job fields = fields_moved (made_place job) fields
 abbrev pub is_of : JobPlace → Place → Bool
 is_of job (Place.Made maker name) = is_same_place maker job
 is_of job place = false
-
-abbrev pub some_true : List Bool → Bool
-some_true found = list_any (λ b. b) found
 
 -- where each of its parts is known to hold one or not
 abbrev pub holds_at : Value-F Bool Bool Bool → Bool

@@ -3,7 +3,8 @@ ghost use Rattle.std.specs.Prelude.{◌≡◌, ◌||◌, IfOk, OnOk, false, map}
 ghost use Rattle.std.specs.List.{list_any};
 ghost use Rattle.plain_data.specs.ByName.{map_values};
 ghost use Rattle.job_graph.specs.Words.{JobPlace, is_same_place};
-ghost use Rattle.job_graph.specs.Made.{any_made, dir_holds, file_holds, holds_made, is_of, some_true};
+ghost use Rattle.cwl_value.specs.Fileless.{some_true};
+ghost use Rattle.job_graph.specs.Made.{any_made, dir_holds, file_holds, holds_made, is_of};
 ghost use Rattle.job_graph.specs.inner.Makers.{is_noted, is_this};
 
 use crate::mark::mark_of;

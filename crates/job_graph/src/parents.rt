@@ -1,7 +1,8 @@
 //! Which jobs made the files in a job's inputs.
 ghost use Rattle.std.specs.Prelude.{◌≡◌, map};
 ghost use Rattle.plain_data.specs.ByName.{map_values};
-ghost use Rattle.job_graph.specs.Made.{any_made, dir_holds, file_holds, holds_made, is_of, some_true};
+ghost use Rattle.cwl_value.specs.Fileless.{some_true};
+ghost use Rattle.job_graph.specs.Made.{any_made, dir_holds, file_holds, holds_made, is_of};
 
 use crate::place::is_same_place;
 use cwl_value::{DirVal, FileVal, JobPlace, Place, Value};

@@ -4,7 +4,7 @@ use Rattle.plain_data.specs.ByName.{map_values}
 use Rattle.cwl_value.specs.declared.value.Value.{Value, the_lemmas}
 use Rattle.cwl_value.specs.declared.value.Value as value
 use Rattle.job_graph.specs.Words.{Fields}
-use Rattle.job_graph.specs.Made.{some_true}
+use Rattle.cwl_value.specs.Fileless.{some_true}
 use Rattle.run_rules.specs.Delivered.{has_file}
 
 fields_file : (fields : Fields) → has_file (value.Fields fields) ≡ some_true (map (λ f. f.1) (map_values has_file fields))

@@ -1,7 +1,7 @@
 //! Whether values hold files.
 ghost use Rattle.std.specs.Prelude.{◌≡◌, map};
 ghost use Rattle.run_rules.specs.Delivered.{has_file};
-ghost use Rattle.job_graph.specs.Made.{some_true};
+ghost use Rattle.cwl_value.specs.Fileless.{some_true};
 
 use cwl_value::Value;
 use plain_data::{Items, Keyed};

@@ -1,6 +1,7 @@
 -- Which processes can leave files: those with an output whose type has a File or Directory, or a value that holds one.
 use Rattle.std.specs.Prelude.{ℕ, Bool, true, false, List, map}
 use Rattle.std.specs.List.{list_any}
+use Rattle.cwl_value.specs.Fileless.{some_true}
 use Rattle.cwl_types.specs.declared.types.PlainType.{PlainType}
 use Rattle.cwl_types.specs.declared.types.PlainType.TheVariants as plain
 use Rattle.cwl_types.specs.declared.types.MemberType.{MemberType, fold-MemberType}
@@ -25,9 +26,6 @@ abbrev pub holds_at : MemberType-F Bool Bool → Bool
 holds_at (MemberType-F.Plain kind) = is_file kind
 holds_at (MemberType-F.Array holds) = holds
 holds_at (MemberType-F.Enum symbols) = false
-
-abbrev pub some_true : List Bool → Bool
-some_true answers = list_any (λ answer. answer) answers
 
 abbrev pub items_hold : ArrayType-F Bool Bool → Bool
 items_hold array = some_true array.items

@@ -27,7 +27,8 @@ use Rattle.collected_outputs.specs.Throughout.{FileTest, DirTest, all_pass, all_
 use Rattle.collected_outputs.proofs.Inside.{each_name}
 use Rattle.collected_outputs.proofs.Throughout.{dir_level, dir_pass, dir_value, fields_pass, file_level, file_pass, file_value, list_passes, seen_dir, seen_file}
 use Rattle.job_graph.specs.Jobs.{Job}
-use Rattle.job_graph.specs.Made.{any_made, dir_holds, file_holds, holds_made, is_of, some_true}
+use Rattle.cwl_value.specs.Fileless.{some_true}
+use Rattle.job_graph.specs.Made.{any_made, dir_holds, file_holds, holds_made, is_of}
 use Rattle.job_graph.specs.Makers.{AreNamed, AreUnmade}
 use Rattle.job_graph.specs.Unfold.{Resolved}
 use Rattle.job_graph.specs.Words.{Name, Fields, JobPlace}

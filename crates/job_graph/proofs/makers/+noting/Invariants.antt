@@ -2,7 +2,8 @@ use Rattle.std.proofs.Common.{◌≡◌, drop, map}
 use Rattle.std.specs.Prelude.{◌||◌}
 use Rattle.plain_data.specs.ByName.{map_values}
 use Rattle.job_graph.specs.Words.{JobPlace}
-use Rattle.job_graph.specs.Made.{holds_made, some_true}
+use Rattle.cwl_value.specs.Fileless.{some_true}
+use Rattle.job_graph.specs.Made.{holds_made}
 use Rattle.job_graph.specs.inner.Makers.{is_noted}
 use Rattle.job_graph.proofs.makers.+noting.Given as goal
 

@@ -1,6 +1,7 @@
 use Rattle.std.proofs.Common.{◌≡◌, map, drop}
 use Rattle.plain_data.specs.ByName.{map_values}
-use Rattle.job_graph.specs.Made.{holds_made, some_true}
+use Rattle.cwl_value.specs.Fileless.{some_true}
+use Rattle.job_graph.specs.Made.{holds_made}
 use Rattle.job_graph.proofs.parents.+holds.Given as goal
 
 abbrev pub invariant-fields_hold-loop-field : goal.invariant-fields_hold-loop-field

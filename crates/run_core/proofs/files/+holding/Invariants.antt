@@ -1,5 +1,5 @@
 use Rattle.std.proofs.Common.{◌≡◌, map, drop}
-use Rattle.job_graph.specs.Made.{some_true}
+use Rattle.cwl_value.specs.Fileless.{some_true}
 use Rattle.run_rules.specs.Delivered.{has_file}
 use Rattle.run_core.proofs.files.+holding.Given as goal
 
