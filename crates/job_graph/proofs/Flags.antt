@@ -9,10 +9,10 @@ use Rattle.job_graph.specs.declared.growth.KnownJob.{KnownJob}
 use Rattle.job_graph.specs.declared.made.Resolved.{Resolved as KeptResolved}
 use Rattle.job_graph.specs.declared.progress.Progress.{Progress}
 use Rattle.job_graph.specs.Words.{Fields, JobPlace, is_same_place}
-use Rattle.job_graph.specs.KnownJobs.{known_of}
-use Rattle.job_graph.specs.PresentJobGraph.{vertex_of}
+use Rattle.job_graph.specs.KnownJobs.{jobs_in, known_of}
+use Rattle.job_graph.specs.PresentJobGraph.{needed_among, vertex_of}
 use Rattle.job_graph.specs.Unfold.{Resolved, outputs_at}
-use Rattle.job_graph.specs.inner.Ended.{ended_after, ended_of, has_ended, vertex_by}
+use Rattle.job_graph.specs.inner.Ended.{ended_after, ended_of, has_ended, needed_by, vertex_by}
 use Rattle.job_graph.specs.inner.Inside.{IsFlagged}
 use Rattle.job_graph.specs.inner.Views.{resolved_of}
 
@@ -96,6 +96,20 @@ flags_more old resolved more known flags flagged is same set =
     set old.facts.learned resolved is (flagged ∙ ap (ended_of (map resolved_of old.facts.learned)) (sym same)) ∙ ap (ended_of (map resolved_of more)) same
 
 -- ---- vertices by flags
+
+pub needs_by : (learned : List Resolved) (outs : Fields) (known : List KnownJob) → map (needed_by outs) (zip (ended_of learned known) known) ≡ needed_among learned outs (jobs_in known)
+needs_by learned outs [] = refl
+needs_by learned outs (k ∷ ks) = ap (λ (bs : List Bool). needed_by outs (has_ended learned k, k) ∷ bs) (needs_by learned outs ks)
+
+-- of what the fields are, where they are lent
+pub needs_are : (held : Progress) (needed : List Bool) (outs : Fields) (flags : List Bool) (known : List KnownJob) → IsFlagged held →
+    needed ≡ map (needed_by outs) (zip flags known) → outs ≡ held.outputs.named.items → flags ≡ held.ended.items → known ≡ held.known.items →
+    needed ≡ needed_among (map resolved_of held.facts.learned) held.outputs.named.items (jobs_in held.known.items)
+needs_are held needed outs flags known flagged made outs_are flags_are known_are =
+    made
+    ∙ ap (λ (named : Fields). map (needed_by named) (zip flags known)) outs_are
+    ∙ ap₂ (λ (fs : List Bool) (ks : List KnownJob). map (needed_by held.outputs.named.items) (zip fs ks)) (flags_are ∙ flagged) known_are
+    ∙ needs_by (map resolved_of held.facts.learned) held.outputs.named.items held.known.items
 
 pub vertices_by : (learned : List Resolved) (outs : Fields) (known : List KnownJob) (costs : List Costs) →
     map (vertex_by outs) (zip (ended_of learned known) (zip known costs)) ≡ map (vertex_of learned outs) (zip (map known_of known) costs)

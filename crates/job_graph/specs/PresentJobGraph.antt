@@ -21,6 +21,10 @@ pub record AreWithin (costs : Costs) : Type 0 where
 abbrev pub is_needed : List Resolved → Fields → JobPlace → Bool
 is_needed learned outs place = not (is_some (outputs_at learned place)) || any_made place outs
 
+-- the same of each of these jobs
+abbrev pub needed_among : List Resolved → Fields → List Job → List Bool
+needed_among learned outs jobs = map (λ job. is_needed learned outs job.place) jobs
+
 -- the vertex of a known job with its costs
 abbrev pub vertex_of : List Resolved → Fields → Known × Costs → Vertex
 vertex_of learned outs entry = record {

@@ -3,7 +3,7 @@ ghost use Rattle.std.specs.Prelude.{◌≡◌, IfErr, IfOk, length, map};
 ghost use Rattle.std.specs.List.{zip};
 ghost use Rattle.plan_checker.specs.Graph.{IsGraph};
 ghost use Rattle.job_graph.specs.declared.fault.UnfoldError.{UnfoldError};
-ghost use Rattle.job_graph.specs.inner.Ended.{vertex_by};
+ghost use Rattle.job_graph.specs.inner.Ended.{needed_by, vertex_by};
 
 use crate::costs::Costs;
 use crate::fault::UnfoldError;
@@ -36,7 +36,33 @@ pub(crate) fn vertices_of(
     Ok(vertices)
 }
 
-/// The vertex of a known job. It is needed where it has not ended, or made a File or Directory in a known output of the process.
+/// Whether each of these known jobs is needed, where the process has these known outputs.
+pub(crate) fn needed_of(
+    alloc: Global,
+    outs: &[(Text, Value)],
+    ended: &[bool],
+    known: &[KnownJob<'_>],
+) -> Result<Vec<bool>, AllocError>
+    requires { length ended.now ≡ length known.now }
+    ensures { IfOk result (λ needed. needed.items
+        ≡ map (needed_by outs.now) (zip ended.now known.now)) }
+{
+    let makers = Makers::of(alloc, outs)?;
+    let mut needed = Vec::with_capacity(alloc, known.len())?;
+    for number in 0..known.len() {
+        needed.push(is_needed(&makers, ended[number], &known[number]))?;
+    }
+    Ok(needed)
+}
+
+/// Whether a known job is needed: it has not ended, or made a File or Directory in a known output of the process.
+fn is_needed(makers: &Makers<'_>, has_ended: bool, known: &KnownJob<'_>) -> bool
+    ensures { result ≡ needed_by makers.now (has_ended, known.now) }
+{
+    !has_ended || makers.has(&known.job.place)
+}
+
+/// The vertex of a known job.
 fn vertex_of(
     alloc: Global,
     makers: &Makers<'_>,
@@ -48,7 +74,7 @@ fn vertex_of(
         ≡ vertex_by makers.now (has_ended, (known.now, costs))) }
 {
     let parents = copied(alloc, known.parents.as_slice())?;
-    let needed = !has_ended || makers.has(&known.job.place);
+    let needed = is_needed(makers, has_ended, known);
     Ok(Vertex {
         load: costs.load,
         compute: costs.compute,

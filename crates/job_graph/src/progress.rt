@@ -3,7 +3,7 @@ ghost use Rattle.std.specs.Prelude.{◌≡◌, [], All, List, IfErr, IfOk, None,
 ghost use Rattle.job_graph.specs.Apart.{ids_differ};
 ghost use Rattle.job_graph.specs.Equations.{walker};
 ghost use Rattle.job_graph.specs.Jobs.{Walker};
-ghost use Rattle.job_graph.specs.PresentJobGraph.{AreWithin, present_job_graph};
+ghost use Rattle.job_graph.specs.PresentJobGraph.{AreWithin, needed_among, present_job_graph};
 ghost use Rattle.job_graph.specs.Unfold.{Resolved as LearnedJob, unfolded};
 ghost use Rattle.job_graph.specs.Unfolding.{Blames};
 ghost use Rattle.job_graph.specs.inner.Going.{facts_before};
@@ -24,7 +24,7 @@ use crate::learned::Learned;
 use crate::made::{Facts, Resolved};
 use crate::open::is_one_open;
 use crate::outcome::{Outputs, are_there, are_whole, those_named};
-use crate::present::{graph_of, vertices_of};
+use crate::present::{graph_of, needed_of, vertices_of};
 use crate::walk::Walk;
 use cwl_value::Value;
 use document_links::Process;
@@ -138,6 +138,24 @@ impl<'a> Progress<'a> {
         let known = self.known.as_slice();
         let vertices = vertices_of(self.alloc, outs, ended, known, costs)?;
         graph_of(self.alloc, vertices)
+    }
+
+    /// Whether each known job is needed, or the fault that was met.
+    pub(crate) fn needed(&self) -> Result<Vec<bool>, UnfoldError>
+        requires { Stands self.now }
+        ensures ok { IfOk result (λ needed. needed.items
+            ≡ needed_among (seen self.now).learned (seen self.now).outs (seen self.now).known) }
+        ensures goes_on { OnOk result (self.now.fault ≡ None) }
+        ensures err { IfErr result (Blames (seen self.now).refused) }
+    {
+        if let Some(fault) = &self.fault {
+            return Err(UnfoldError::Refused(fault.clone_in(self.alloc)?));
+        }
+        let outs = self.outputs.named.as_slice();
+        let ended = self.ended.as_slice();
+        let known = self.known.as_slice();
+        let needed = needed_of(self.alloc, outs, ended, known)?;
+        Ok(needed)
     }
 
     /// Adds what was learned, and what is known then. No walk is made while another job of the same scattered step is open, since

@@ -2,7 +2,7 @@
 ghost use Rattle.std.specs.Prelude.{◌≡◌, [], All, IfErr, IfOk, None, OnErr, OnOk, length, map, option_map, take};
 ghost use Rattle.job_graph.specs.Equations.{walker};
 ghost use Rattle.job_graph.specs.KnownJobs.{jobs_in, known_of};
-ghost use Rattle.job_graph.specs.PresentJobGraph.{AreWithin, present_job_graph};
+ghost use Rattle.job_graph.specs.PresentJobGraph.{AreWithin, needed_among, present_job_graph};
 ghost use Rattle.job_graph.specs.Unfold.{known_from, unfolded};
 ghost use Rattle.job_graph.specs.Unfolding.{AnswersAlike, Blames, Knows, Learns};
 
@@ -85,6 +85,17 @@ impl<'a> Unfolding<'a> {
         ensures { option_map (λ outputs. outputs.now) result ≡ self.now.result }
     {
         self.progress.outputs()
+    }
+
+    /// Whether each known job is needed, as the present job graph has it: it has not ended, or made a File or Directory in a known
+    /// output of the process. After a refused `learn` it answers that refusal.
+    pub fn needed(&self) -> Result<Vec<bool>, UnfoldError>
+        ensures ok { IfOk result (λ needed. needed.items
+            ≡ needed_among self.now.learned self.now.outs self.now.known) }
+        ensures goes_on { OnOk result (self.now.refused ≡ None) }
+        ensures err { IfErr result (Blames self.now.refused) }
+    {
+        self.progress.needed()
     }
 
     /// Returns the present job graph: the known jobs with these costs, as a planner takes them. After a refused `learn` it

@@ -19,11 +19,15 @@ ended_of learned known = map (has_ended learned) known
 abbrev pub ended_after : JobPlace → Bool × KnownJob → Bool
 ended_after place entry = entry.0 || is_same_place place entry.1.job.place
 
+-- whether a known job is needed, by its flag, where the process has these known outputs
+abbrev pub needed_by : Fields → Bool × KnownJob → Bool
+needed_by outs entry = not entry.0 || any_made entry.1.job.place outs
+
 -- the vertex of a known job with its flag and its costs
 abbrev pub vertex_by : Fields → Bool × (KnownJob × Costs) → Vertex
 vertex_by outs entry = record {
   load = entry.1.1.load;
   compute = entry.1.1.compute;
   parents = entry.1.0.parents;
-  needed = not entry.0 || any_made entry.1.0.job.place outs;
+  needed = needed_by outs (entry.0, entry.1.0);
 }
