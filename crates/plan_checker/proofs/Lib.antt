@@ -3,6 +3,7 @@ pub mod Duality
 pub mod OneLeast
 pub mod ChildLists
 pub mod ParentLists
+pub mod GraphChanges
 pub mod Settled
 pub mod Texts
 pub mod Numbers

@@ -1,5 +1,5 @@
 -- Job graphs: vertices with costs and parents, within the limits. A vertex is a job, as in Helix (Xin et al., 2018).
-use Rattle.std.specs.Prelude.{ℕ, ◌+◌, ◌<◌, ◌≤◌, List, [], length, false, None, All, EachIndex, slice_index_or}
+use Rattle.std.specs.Prelude.{◌≡◌, ℕ, ◌+◌, ◌<◌, ◌≤◌, List, [], ◌∷◌, ◌++◌, length, false, None, All, EachIndex, slice_index_or}
 use Rattle.std.specs.Option.{ForSome}
 use Rattle.std.specs.List.Sorted.{IsStrictlyIncreasing}
 use Rattle.plan_checker.specs.declared.vertex.Vertex.{Vertex}
@@ -47,3 +47,8 @@ pub record IsFirstMisfit (graph : List Vertex) (i : ℕ) : Type 0 where
 abbrev pub IsRefused : List Vertex → GraphError → Type 0
 IsRefused graph (BadGraph i) = IsFirstMisfit graph i
 IsRefused graph OutOfMemory = Unit {0}
+
+-- why a vertex after those of a graph is refused: it does not fit there, or out of memory
+abbrev pub IsRefusedLast : List Vertex → Vertex → GraphError → Type 0
+IsRefusedLast graph job (BadGraph i) = (i ≡ length graph) × ¬ FitsAt (graph ++ job ∷ []) i
+IsRefusedLast graph job OutOfMemory = Unit {0}

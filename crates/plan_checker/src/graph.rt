@@ -1,8 +1,9 @@
 //! Graphs of jobs.
 
-ghost use Rattle.std.specs.Prelude.{◌≡◌, ℕ, ◌+◌, ◌-◌, ◌<◌, ◌≤◌, ◌^◌, ◌↔◌, length, sum_by, IsTrue, IfOk, OnOk, IfErr, MatchOption, All, slice_index_or, []};
+ghost use Rattle.std.specs.Prelude.{◌≡◌, ℕ, ◌+◌, ◌-◌, ◌<◌, ◌≤◌, ◌^◌, ◌↔◌, ◌∷◌, ◌++◌, length, sum_by, IsTrue, IfOk, OnOk, IfErr, MatchOption, All, slice_index_or, slice_set, []};
+ghost use Rattle.std.specs.Option.{ForSome};
 ghost use Rattle.std.specs.List.Sorted.{IsStrictlyIncreasing};
-ghost use Rattle.plan_checker.specs.Graph.{Fits, IsGraph, IsFirstMisfit, IsRefused};
+ghost use Rattle.plan_checker.specs.Graph.{vertex, entries_below, Fits, IsGraph, IsFirstMisfit, IsRefused, IsRefusedLast};
 ghost use Rattle.plan_checker.specs.Charges.{IsCounted, passes, received};
 ghost use Rattle.plan_checker.specs.inner.Children.{AddsChild, AreChildren, amount_from};
 
@@ -24,21 +25,23 @@ pub const MOST_COST: u64 = 1_000_000_000_000;
 /// Vertices within the limits, each with its parents below it; contracts see the list of them.
 #[derive(Debug, Drop)]
 pub struct Graph {
-    vertices: Items<Vertex>,
+    vertices: Vec<Vertex>,
     children: Vec<Items<Child>>,
+    /// How many parent entries the vertices have.
+    entries: usize,
 }
 
 impl Model for Graph {
-    ghost use Rattle.std.specs.Prelude.{List};
+    ghost use Rattle.std.specs.Prelude.{List, ◌≡◌, length};
     ghost use Rattle.plan_checker.specs.declared.vertex.Vertex.{Vertex};
-    ghost use Rattle.plan_checker.specs.Graph.{IsGraph};
+    ghost use Rattle.plan_checker.specs.Graph.{IsGraph, entries_below};
     ghost use Rattle.plan_checker.specs.inner.Children.{AddsChild, AreChildren, amount_from};
 
     ghost Value = { List Vertex };
 
-    ghost view = { λ graph. graph.vertices };
+    ghost view = { λ graph. graph.vertices.items };
 
-    ghost invariant = { λ graph. IsGraph graph.vertices × AreChildren graph.vertices graph.children.items };
+    ghost invariant = { λ graph. IsGraph graph.vertices.items × AreChildren graph.vertices.items graph.children.items × (graph.entries ≡ entries_below graph.vertices.items (length graph.vertices.items)) };
 }
 
 impl Graph {
@@ -59,8 +62,14 @@ impl Graph {
         requires { IsGraph vertices }
         ensures { IfOk result (λ graph. graph ≡ vertices) }
     {
-        let children = children_of(alloc, vertices.as_slice())?;
-        Ok(Graph { vertices, children })
+        let vertices = vertices.into_vec();
+        let entries = entries_of(&vertices);
+        let children = children_of(alloc, &vertices)?;
+        Ok(Graph {
+            vertices,
+            children,
+            entries,
+        })
     }
 
     /// The vertices, in their order.
@@ -69,6 +78,57 @@ impl Graph {
         ensures within { IsGraph self.now }
     {
         self.vertices.as_slice()
+    }
+
+    /// Gives a vertex other costs, and says anew whether it is needed. Its parents stay.
+    pub fn set(&mut self, number: usize, load: Option<u64>, compute: u64, needed: bool)
+        requires there { number < length self.old }
+        requires load { ForSome load (λ cost. cost ≤ MOST_COST) }
+        requires compute { (1 ≤ compute) × (compute ≤ MOST_COST) }
+        ensures { let job = record (vertex self.old number)
+            { load = load; compute = compute; needed = needed } in
+            self.new ≡ slice_set self.old number job }
+    {
+        let job = &mut self.vertices[number];
+        job.load = load;
+        job.compute = compute;
+        job.needed = needed;
+    }
+
+    /// Adds a vertex after the others, or names it where it doesn't fit. The graph is gone then.
+    pub fn with(self, vertex: Vertex) -> Result<Graph, GraphError>
+        ensures ok { IfOk result (λ graph. graph ≡ self ++ vertex ∷ []) }
+        ensures within { OnOk result (IsGraph (self ++ vertex ∷ [])) }
+        ensures refused { IfErr result (IsRefusedLast self vertex) }
+    {
+        let number = self.vertices.len();
+        if !fits(number, self.entries, &vertex) {
+            return Err(GraphError::BadGraph(number));
+        }
+        Ok(self.longer(vertex)?)
+    }
+
+    /// The graph with a vertex after the others.
+    fn longer(self, vertex: Vertex) -> Result<Graph, AllocError>
+        requires { IsGraph (self ++ vertex ∷ []) }
+        ensures { IfOk result (λ graph. graph ≡ self ++ vertex ∷ []) }
+    {
+        let Graph {
+            mut vertices,
+            mut children,
+            entries,
+        } = self;
+        let number = vertices.len();
+        let entries = entries + vertex.parents.len();
+        let alloc = *children.allocator();
+        children.push(Items::new(alloc))?;
+        add_child(&mut children, number, vertex.parents.as_slice())?;
+        vertices.push(vertex)?;
+        Ok(Graph {
+            vertices,
+            children,
+            entries,
+        })
     }
 
     /// What the children of a vertex pass to it, which may not fit in 64 bits.
@@ -128,6 +188,18 @@ fn rise_below(numbers: &[usize], limit: usize) -> bool
         ↔ (All (λ n. n < limit) numbers.now × IsStrictlyIncreasing numbers.now) }
 {
     numbers.iter().all(|n| *n < limit) && numbers.windows(2).all(|pair| pair[0] < pair[1])
+}
+
+/// How many parent entries these vertices have.
+fn entries_of(vertices: &[Vertex]) -> usize
+    requires { IsGraph vertices.now }
+    ensures { result ≡ entries_below vertices.now (length vertices.now) }
+{
+    let mut entries = 0;
+    for vertex in vertices {
+        entries += vertex.parents.len();
+    }
+    entries
 }
 
 /// The children of each vertex.
