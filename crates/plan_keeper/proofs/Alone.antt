@@ -232,19 +232,19 @@ free_is_not_computed (Some load) compute true free e =
     (λ gt. let lt = leb-false load compute gt in absurd (omega arith))
     (either (leb load compute))
 
-computed_is_costly : (job : Vertex) → alone job ≡ Compute → ¬ IsFree job
+pub computed_is_costly : (job : Vertex) → alone job ≡ Compute → ¬ IsFree job
 unfolding mark_of
 computed_is_costly job e free = free_is_not_computed job.load job.compute job.needed free e
 
 -- the parents of what is computed are free
-parent_is_free : (graph : List Vertex) (j i : ℕ) → AreApart graph → j < length graph → alone (vertex graph j) ≡ Compute → Contains (vertex graph j).parents i → IsFree (vertex graph i)
+pub parent_is_free : (graph : List Vertex) (j i : ℕ) → AreApart graph → j < length graph → alone (vertex graph j) ≡ Compute → Contains (vertex graph j).parents i → IsFree (vertex graph i)
 parent_is_free graph j i apart hj computed there =
     ⊎_elim
     (λ free. absurd (computed_is_costly (vertex graph j) computed free))
     (λ all. All-contains (λ p. IsFree (vertex graph p)) (vertex graph j).parents i all there)
     (apart j no_vertex hj)
 
-computes_or_not : (m : Mark) → (m ≡ Compute) ⊎ (m ≢ Compute)
+pub computes_or_not : (m : Mark) → (m ≡ Compute) ⊎ (m ≢ Compute)
 computes_or_not Load = inr (λ e. cc)
 computes_or_not Compute = inl refl
 computes_or_not Prune = inr (λ e. cc)
@@ -313,6 +313,10 @@ unfolding cost_to
 free_charge load compute false free = refl
 free_charge None compute true free = absurd (cc)
 free_charge (Some load) compute true free = let zero_is : load ≡ 0 = cc in omega arith
+
+pub free_charged : (job : Vertex) → IsFree job → charge job ≡ 0
+unfolding cost_to
+free_charged job free = free_charge job.load job.compute job.needed free
 
 free_marked : (graph : List Vertex) (marks : List Mark) (i : ℕ) → AreApart graph → AreMarkedApart graph marks (length graph) → i < length graph → IsFree (vertex graph i) → IsMarkedFree graph marks i
 unfolding mark_of

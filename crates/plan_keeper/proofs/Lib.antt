@@ -9,3 +9,6 @@ pub mod Parts
 pub mod Unreached
 pub mod Alone
 pub mod Marked
+pub mod Remarked
+pub mod Freed
+pub mod Grown

@@ -4,4 +4,5 @@ pub mod Parts
 pub mod Unreached
 pub mod Loads
 pub mod Apart
+pub mod Kept
 pub mod Laws

@@ -22,6 +22,10 @@ pub fn plan_apart(alloc: Global, graph: &Graph) -> Result<Option<(Plan, Charges)
     ensures least { IfOk result (λ found. IfSome found (λ made. IsLeast graph.now made.0.marks)) }
     ensures certified { IfOk result (λ found. IfSome found (λ made.
         IsCertificate graph.now made.0.marks made.1)) }
+    ensures marked { IfOk result (λ found. IfSome found (λ made.
+        AreMarkedApart graph.now made.0.marks (length graph.now))) }
+    ensures charged { IfOk result (λ found. IfSome found (λ made.
+        AreChargesApart graph.now made.1)) }
 {
     let vertices = graph.vertices();
     if !are_apart(vertices) {
@@ -45,7 +49,7 @@ fn are_apart(vertices: &[Vertex]) -> bool
 }
 
 /// The parents are looked at first: most vertices have none, and need no other look.
-fn stands_apart(vertices: &[Vertex], vertex: &Vertex) -> bool
+pub(crate) fn stands_apart(vertices: &[Vertex], vertex: &Vertex) -> bool
     ensures { IsTrue result ↔ StandsApart vertices.now vertex.now }
 {
     all_free(vertices, vertex.parents.as_slice()) || is_free(vertex)
@@ -98,7 +102,7 @@ fn marks_alone(alloc: Global, vertices: &[Vertex]) -> Result<Vec<Mark>, AllocErr
 }
 
 /// What is done with a vertex by itself.
-fn mark_alone(vertex: &Vertex) -> Mark
+pub(crate) fn mark_alone(vertex: &Vertex) -> Mark
     ensures { result ≡ alone vertex.now }
 {
     if !vertex.needed {
@@ -112,7 +116,7 @@ fn mark_alone(vertex: &Vertex) -> Mark
 
 /// Marks the parents of a vertex as loaded, where it is computed. Most vertices have none, and need no other look.
 #[tactic(auto, using(crate::proofs::Marked::loads_for, crate::proofs::Marked::loads_none, crate::proofs::Marked::loads_no_parents))]
-fn load_parents(marks: &mut Vec<Mark>, vertex: &Vertex)
+pub(crate) fn load_parents(marks: &mut Vec<Mark>, vertex: &Vertex)
     requires { All (λ parent. parent < length marks.old.items) vertex.now.parents }
     ensures { LoadsFor marks.old.items marks.new.items vertex.now.parents (alone vertex.now) }
 {
@@ -160,7 +164,7 @@ fn amounts_of(alloc: Global, vertices: &[Vertex]) -> Result<Vec<u64>, AllocError
 }
 
 /// What is charged to a vertex.
-fn charge_of(vertex: &Vertex) -> u64
+pub(crate) fn charge_of(vertex: &Vertex) -> u64
     ensures { result ≡ charge vertex.now }
 {
     if !vertex.needed {
@@ -184,7 +188,7 @@ fn passes_of(alloc: Global, vertices: &[Vertex]) -> Result<Items<Items<u64>>, Al
 }
 
 /// A row of zeros. An empty one takes no memory, and is made without a loop.
-fn zeros(alloc: Global, parents: &[usize]) -> Result<Items<u64>, AllocError>
+pub(crate) fn zeros(alloc: Global, parents: &[usize]) -> Result<Items<u64>, AllocError>
     ensures { IfOk result (λ row. row ≡ map (λ parent. 0) parents.now) }
 {
     if parents.is_empty() {
