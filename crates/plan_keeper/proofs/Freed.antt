@@ -59,9 +59,9 @@ was_computed graph number compute needed h j computed eq =
     let Q : Vertex → Type 0 = λ job. alone job ≡ Compute in
     computed_is_costly (freed (vertex graph number) compute needed) (subst Q (changed graph number compute needed h) (subst P eq computed)) refl
 
--- a vertex that isn't the changed one, nor a parent of it where it was computed, has its mark
-stays_apart : (graph : List Vertex) (number compute : ℕ) (needed : Bool) → number < length graph → (i : ℕ) (its : Mark) → i ≢ number → (alone (vertex graph number) ≡ Compute → ¬ Contains (vertex graph number).parents i) → IsMarkApart graph i its → IsMarkApart (after graph number compute needed) i its
-stays_apart graph number compute needed h i its ne gone was =
+-- a vertex that is marked by itself as it was, and is no parent of what was computed, has its mark
+stays_apart : (graph : List Vertex) (number compute : ℕ) (needed : Bool) → number < length graph → (i : ℕ) (its : Mark) → alone (vertex graph i) ≡ alone (vertex (after graph number compute needed) i) → (alone (vertex graph number) ≡ Compute → ¬ Contains (vertex graph number).parents i) → IsMarkApart graph i its → IsMarkApart (after graph number compute needed) i its
+stays_apart graph number compute needed h i its own gone was =
     let count = length-set graph number (freed (vertex graph number) compute needed) in
     let same : (j : ℕ) → j ≢ number → vertex (after graph number compute needed) j ≡ vertex graph j = unchanged graph number compute needed in
     let Computes : Vertex → Type 0 = λ job. alone job ≡ Compute in
@@ -75,7 +75,7 @@ stays_apart graph number compute needed h i its ne gone was =
           (λ (eq : j ≡ number). let P : ℕ → Type 0 = λ k. Has (vertex graph k) in let Q : ℕ → Type 0 = λ k. Computes (vertex graph k) in gone (subst Q eq computed) (subst P eq there))
           (λ other. none j (omega arith) (subst Computes (sym (same j other)) computed) (subst Has (sym (same j other)) there))
           (cases_eq j number))
-          ∙ ap alone (sym (same i ne));
+          ∙ own;
     }
 
 freed_marked : (graph : List Vertex) (number compute : ℕ) (needed : Bool) (marks new : List Mark) → number < length graph → IsGraph (after graph number compute needed) → AreMarkedApart graph marks (length graph) → IsRemarked (after graph number compute needed) marks new number (alone (vertex graph number)) → AreMarkedApart (after graph number compute needed) new (length (after graph number compute needed))
@@ -84,18 +84,24 @@ freed_marked graph number compute needed marks new h good marked re =
     let count = length-set graph number (freed (vertex graph number) compute needed) in
     let parents : (vertex now number).parents ≡ (vertex graph number).parents = ap (λ job. job.parents) (changed graph number compute needed h) in
     let P : ℕ → Type 0 = λ k. IsMarkApart now k (mark new k) in
-    let stays : (i : ℕ) → i < length now → i ≢ number → (alone (vertex graph number) ≡ Compute → ¬ Contains (vertex graph number).parents i) → P i =
-    λ i hi ne gone. re.stays i (stays_apart graph number compute needed h i (mark marks i) ne gone (each_has graph marks marked i (omega arith)))
+    let stays : (i : ℕ) → i < length now → alone (vertex graph i) ≡ alone (vertex now i) → (alone (vertex graph number) ≡ Compute → ¬ Contains (vertex graph number).parents i) → P i =
+    λ i hi own gone. re.stays i (stays_apart graph number compute needed h i (mark marks i) own gone (each_has graph marks marked i (omega arith)))
+    in
+    let own : (i : ℕ) → i ≢ number → alone (vertex graph i) ≡ alone (vertex now i) = λ i ne. ap alone (sym (unchanged graph number compute needed i ne)) in
+    let made : P number = ⊎_elim
+    (λ same. stays number (omega arith) same (λ computed. absurd (was_computed graph number compute needed h number (sym same ∙ computed) refl)))
+    (λ here. here)
+    re.made
     in
     let each : (i : ℕ) → i < length now → P i =
     λ i hi. ⊎_elim
-    (λ eq. subst P (sym eq) re.made)
+    (λ eq. subst P (sym eq) made)
     (λ ne. ⊎_elim
     (λ computed. ⊎_elim
     (λ there. let Q : List ℕ → Type 0 = λ xs. Contains xs i in re.parents computed i (subst Q (sym parents) there))
-    (λ gone. stays i hi ne (λ _. gone))
+    (λ gone. stays i hi (own i ne) (λ _. gone))
     (contains_or_not (vertex graph number).parents i))
-    (λ spare. stays i hi ne (λ computed. absurd (spare computed)))
+    (λ spare. stays i hi (own i ne) (λ computed. absurd (spare computed)))
     (computes_or_not (alone (vertex graph number))))
     (cases_eq i number)
     in

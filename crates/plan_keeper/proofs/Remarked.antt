@@ -1,5 +1,5 @@
 -- Marks of vertices that stand apart, made anew one after the other.
-use Rattle.std.proofs.Common.{◌≡◌, ◌≢◌, ◌⊎◌, ℕ, ◌+◌, ◌<◌, List, length, get_or, set, Contains, subst, sym, refl, ap, ◌∙◌, ⊎_elim, arith, get_or-set_same, get_or-set_other}
+use Rattle.std.proofs.Common.{◌≡◌, ◌≢◌, ◌⊎◌, ℕ, ◌+◌, ◌<◌, List, length, get_or, set, Contains, subst, sym, refl, ap, ◌∙◌, inl, inr, ⊎_elim, arith, get_or-set_same, get_or-set_other}
 use Rattle.std.proofs.lemmas.Bool.{cases_eq}
 use Rattle.std.proofs.lemmas.List.{length-set, get_or_default}
 use Rattle.std.proofs.lemmas.List.Elements.{All-contains}
@@ -69,7 +69,7 @@ remarked_all graph old new number its was parents hi good e after =
     let all : AreRemarked graph (set old number its) new (vertex graph number).parents (length (vertex graph number).parents) = subst Q e after in
     record {
       count = all.count ∙ length-set old number its;
-      made = all.stays number (set_at graph old number its hi good);
+      made = inr (all.stays number (set_at graph old number its hi good));
       parents = λ computed i (there : Contains (vertex graph number).parents i).
           subst P (get_or_default (vertex graph number).parents there.0 0 i there.1 ∙ there.2) (all.made there.0 there.1);
       stays = λ i at. all.stays i (set_keeps graph old number its hi good i at);
@@ -79,7 +79,7 @@ remarked_all graph old new number its was parents hi good e after =
 pub remarked_one : (graph : List Vertex) (old : List Mark) (number : ℕ) (its was : Mark) → number < length old → IsMarkApart graph number its → was ≢ Compute → IsRemarked graph old (set old number its) number was
 remarked_one graph old number its was hi good ne = record {
   count = length-set old number its;
-  made = set_at graph old number its hi good;
+  made = inr (set_at graph old number its hi good);
   parents = λ computed. absurd (ne computed);
   stays = λ i at. set_keeps graph old number its hi good i at;
 }

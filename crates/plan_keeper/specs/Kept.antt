@@ -1,5 +1,5 @@
 -- Plans of vertices that stand apart, which are kept while their graphs change.
-use Rattle.std.specs.Prelude.{◌≡◌, ℕ, ◌<◌, Bool, Some, List, length, slice_index, slice_set, All, Contains}
+use Rattle.std.specs.Prelude.{◌≡◌, ◌⊎◌, ℕ, ◌<◌, Bool, Some, List, length, slice_index, slice_set, All, Contains}
 use Rattle.plan_checker.specs.declared.vertex.Vertex.{Vertex}
 use Rattle.plan_checker.specs.declared.plan.Mark.{Mark}
 use Rattle.plan_checker.specs.declared.plan.Mark.TheVariants.{Load, Compute}
@@ -36,10 +36,10 @@ pub record AreRemarked (graph : List Vertex) (old new : List Mark) (numbers : Li
   pub made : (k : ℕ) → k < n → IsMarkApart graph (slice_index numbers k) (mark new (slice_index numbers k))
   pub stays : (i : ℕ) → IsMarkApart graph i (mark old i) → IsMarkApart graph i (mark new i)
 
--- a vertex has its mark, and its parents where it was computed, and what had its mark has it
+-- a vertex has its mark, if that by itself is another than it was, its parents where it was computed, and what had its mark has it
 pub record IsRemarked (graph : List Vertex) (old new : List Mark) (number : ℕ) (was : Mark) : Type 0 where
   pub count : length new ≡ length old
-  pub made : IsMarkApart graph number (mark new number)
+  pub made : (was ≡ alone (vertex graph number)) ⊎ IsMarkApart graph number (mark new number)
   pub parents : was ≡ Compute → (i : ℕ) → Contains (vertex graph number).parents i → IsMarkApart graph i (mark new i)
   pub stays : (i : ℕ) → IsMarkApart graph i (mark old i) → IsMarkApart graph i (mark new i)
 

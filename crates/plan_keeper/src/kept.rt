@@ -79,7 +79,8 @@ fn clear(alloc: Global, amounts: &mut Items<u64>, number: usize)
     mem::drop(mem::replace(amounts, Items::from_vec(held)));
 }
 
-/// Marks a vertex anew, and its parents where it was computed: no child of it is computed then.
+/// Marks a vertex anew where it was marked otherwise by itself, and its parents where it was computed: no child of it is
+/// computed then.
 fn remark(marks: &mut Vec<Mark>, vertices: &[Vertex], number: usize, was: Mark)
     requires graph { IsGraph vertices.now }
     requires counted { length marks.old.items ≡ length vertices.now }
@@ -90,7 +91,7 @@ fn remark(marks: &mut Vec<Mark>, vertices: &[Vertex], number: usize, was: Mark)
     if was == Mark::Compute {
         marks[number] = mark_alone(&vertices[number]);
         remark_all(marks, vertices, vertices[number].parents.as_slice());
-    } else {
+    } else if was != mark_alone(&vertices[number]) {
         marks[number] = mark_now(vertices, number);
     }
 }

@@ -19,8 +19,8 @@ returns-then-eq c =
     remarked_all vertices c.args.marks.now.items c.remark_all.new.marks.items number c.mark_alone.result c.args.was c.as_slice.result.now
     (omega arith) good parents c.remark_all.ensures
 
-pub returns-else-eq : goal.returns-else-eq
-returns-else-eq c =
+pub returns-then-ne : goal.returns-then-ne
+returns-then-ne c =
     let counted = c.requires.counted in
     let there = c.requires.there in
     let spare : c.args.was ≢ Compute = search rules in
