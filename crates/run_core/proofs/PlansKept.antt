@@ -18,7 +18,7 @@ use Rattle.run_core.specs.inner.Standing.{KeepsPlans}
 use Rattle.run_core.specs.inner.Marks.{marks_in}
 use Rattle.run_core.specs.inner.Planning.{shown}
 use Rattle.run_core.specs.Core.{Shows}
-use Rattle.run_plan.specs.declared.planned.Planned.{Planned}
+use Rattle.plan_keeper.specs.declared.planned.Planned.{Planned}
 use Rattle.run_core.proofs.standing.Leaving.{KnowsSome, is_none, learns_by}
 use Rattle.job_graph.specs.Jobs.{Job}
 

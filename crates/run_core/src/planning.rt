@@ -5,15 +5,15 @@ ghost use Rattle.job_graph.specs.Unfold.{Fault};
 ghost use Rattle.plan_checker.specs.Plan.{mark};
 ghost use Rattle.run_core.specs.inner.Course.{known_in as jobs_in, past_of, with_plan};
 ghost use Rattle.run_core.specs.inner.Marks.{is_compute, is_load, marks_in};
-ghost use Rattle.run_core.specs.inner.Planning.{AllThere, AreCosts, IsPlanAt, IsToldPlan, PlansNothing, Replans, SomeAway, costs_at};
+ghost use Rattle.run_core.specs.inner.Planning.{AllThere, AreCosts, IsLentTo, IsPlanAt, IsToldPlan, PlansNothing, Replans, SomeAway, costs_at};
 
 use crate::PlanNote;
 use crate::course::known_in;
 use crate::fetching::can_load;
 use crate::state::{Course, Given};
 use job_graph::{Costs, UnfoldError};
-use plan_checker::{Charges, Mark};
-use run_plan::{Planned, Standing, costs_of, plan_for};
+use plan_checker::Mark;
+use run_plan::{KeptPlan, Standing, costs_of, plan_on};
 use std::alloc::{AllocError, Global};
 use std::mem;
 
@@ -37,7 +37,7 @@ pub(crate) fn replan(
 }
 
 /// The plan is in force from now on, and noted.
-fn keep(given: &Given<'_>, course: &mut Course<'_>, made: Planned) -> Result<(), AllocError>
+fn keep(given: &Given<'_>, course: &mut Course<'_>, made: KeptPlan) -> Result<(), AllocError>
     ensures past { OnOk result (past_of course.new
         ≡ with_plan given.now.answers made (past_of course.old)) }
     ensures known { course.new.known ≡ course.old.known }
@@ -46,7 +46,7 @@ fn keep(given: &Given<'_>, course: &mut Course<'_>, made: Planned) -> Result<(),
 {
     let note = PlanNote {
         after: given.answers,
-        cost: made.cost,
+        cost: made.made().cost,
     };
     match course.plans.push(note) {
         Ok(()) => {
@@ -72,29 +72,28 @@ fn some_are_away(course: &Course<'_>) -> bool
     false
 }
 
-/// The plan of the jobs that are known now. After a fault of what is known there is none, and the end is settled.
+/// The plan of the jobs that are known now, which takes the one in force away. After a fault of what is known there is none, and the
+/// end is settled.
 fn planned_anew(
     alloc: Global,
     given: &Given<'_>,
-    course: &Course<'_>,
-) -> Result<Option<Planned>, AllocError>
-    ensures { IfOk result (λ made. MatchOption made (PlansNothing course.now)
-        (IsPlanAt given.now course.now)) }
+    course: &mut Course<'_>,
+) -> Result<Option<KeptPlan>, AllocError>
+    ensures made { IfOk result (λ made. MatchOption made (PlansNothing course.old)
+        (IsPlanAt given.now course.old)) }
+    ensures rest { IfOk result (IsLentTo course.old course.new) }
+    ensures tickets { course.new.tickets.items ≡ course.old.tickets.items }
+    ensures folders { course.new.folders ≡ course.old.folders }
 {
     let costs = costs_in(alloc, given, course)?;
     match &course.known {
         None => Ok(None),
-        Some(known) => if_planned(plan_for(
-            alloc,
-            known,
-            costs.as_slice(),
-            last_charges(&course.planned),
-        )),
+        Some(known) => if_planned(plan_on(alloc, known, costs.as_slice(), &mut course.planned)),
     }
 }
 
 /// The plan, unless the fault of what is known is told.
-fn if_planned(told: Result<Planned, UnfoldError>) -> Result<Option<Planned>, AllocError>
+fn if_planned(told: Result<KeptPlan, UnfoldError>) -> Result<Option<KeptPlan>, AllocError>
     ensures { IfOk result (IsToldPlan told) }
 {
     match told {
@@ -104,14 +103,6 @@ fn if_planned(told: Result<Planned, UnfoldError>) -> Result<Option<Planned>, All
             Ok(None)
         }
         Err(UnfoldError::OutOfMemory) => Err(AllocError),
-    }
-}
-
-/// The charges of the plan in force.
-fn last_charges(planned: &Option<Planned>) -> Option<&Charges> {
-    match planned {
-        None => None,
-        Some(made) => Some(&made.charges),
     }
 }
 
@@ -143,12 +134,12 @@ fn costs_at(given: &Given<'_>, course: &Course<'_>, number: usize) -> Costs
 }
 
 /// The marks of the plan in force; none before the first planning point.
-pub(crate) fn marks_in<'s>(planned: &'s Option<Planned>) -> &'s [Mark]
+pub(crate) fn marks_in<'s>(planned: &'s Option<KeptPlan>) -> &'s [Mark]
     ensures { result.now ≡ marks_in planned.now }
 {
     match planned {
         None => &[],
-        Some(made) => made.plan.marks.as_slice(),
+        Some(kept) => kept.made().plan.marks.as_slice(),
     }
 }
 

@@ -136,7 +136,10 @@ impl<'a> RunCore<'a> {
     {
         match &self.course.planned {
             None => None,
-            Some(made) => Some((&made.graph, &made.plan, &made.charges)),
+            Some(kept) => {
+                let made = kept.made();
+                Some((&made.graph, &made.plan, &made.charges))
+            }
         }
     }
 

@@ -9,7 +9,7 @@ use job_graph::Unfolding;
 use job_rows::Row;
 use plain_data::{Items, Keyed, Text};
 use proc_host::HostRequest;
-use run_plan::{Planned, Rates};
+use run_plan::{KeptPlan, Rates};
 use staging::{Found, Measure};
 
 /// What a run is of.
@@ -160,7 +160,7 @@ pub(crate) struct Course<'a> {
     /// What went wrong without changing the end.
     pub notes: Vec<Note>,
     /// The plan in force, of the last planning point.
-    pub planned: Option<Planned>,
+    pub planned: Option<KeptPlan>,
     /// The cost of each plan, by planning point.
     pub plans: Vec<PlanNote>,
     /// The jobs that are known, once all input files are measured.

@@ -1,1 +1,2 @@
+mod Brought
 mod RoundedUp

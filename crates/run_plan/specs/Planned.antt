@@ -4,7 +4,7 @@ use Rattle.plan_checker.specs.declared.vertex.Vertex.{Vertex}
 use Rattle.plan_checker.specs.Plan.{cost}
 use Rattle.plan_checker.specs.Least.{IsLeast}
 use Rattle.plan_checker.specs.Certificate.{IsCertificate}
-use Rattle.run_plan.specs.declared.planned.Planned.{Planned}
+use Rattle.plan_keeper.specs.declared.planned.Planned.{Planned}
 
 -- the Least plan of a graph of these vertices, with charges that certify it and what it costs
 pub record IsPlanOf (vertices : List Vertex) (made : Planned) : Type 0 where

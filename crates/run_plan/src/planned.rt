@@ -6,30 +6,22 @@ ghost use Rattle.plan_checker.specs.Certificate.{IsCertificate};
 ghost use Rattle.plan_checker.specs.Least.{IsLeast};
 ghost use Rattle.run_plan.specs.Planned.{IsPlanOf};
 
+use crate::kept::KeptPlan;
 use flow_planner::{OutOfMemory, plan, plan_again};
 use job_graph::{Costs, UnfoldError, Unfolding};
 use plan_checker::{Charges, Graph, Plan};
-use plan_keeper::{plan_apart, plan_cost};
+use plan_keeper::{Planned, keep_apart, kept_is_planned, plan_cost};
 use std::alloc::{AllocError, Global};
 use std::mem;
 
-/// A graph with its Least plan, charges that certify it, and what it costs.
-#[derive(Drop)]
-pub struct Planned {
-    pub graph: Graph,
-    pub plan: Plan,
-    pub charges: Charges,
-    pub cost: u64,
-}
-
 /// Makes the present job graph of the jobs that are known, each with its costs, and plans it; faster where there are charges of
-/// the plan before. After a refused `learn` it answers that refusal.
+/// a plan before. After a refused `learn` it answers that refusal.
 pub fn plan_for(
     alloc: Global,
     known: &Unfolding<'_>,
     costs: &[Costs],
     last: Option<&Charges>,
-) -> Result<Planned, UnfoldError>
+) -> Result<KeptPlan, UnfoldError>
     requires each { length costs.now ≡ length known.now.known }
     requires within { All AreWithin costs.now }
     ensures ok { IfOk result (IsPlanOf
@@ -40,12 +32,31 @@ pub fn plan_for(
     Ok(planned_graph(alloc, graph, last)?)
 }
 
-/// Plans a graph.
-fn planned_graph(alloc: Global, graph: Graph, last: Option<&Charges>) -> Result<Planned, AllocError>
+/// Plans a graph: the plan is read off where all that isn't free stands apart.
+fn planned_graph(
+    alloc: Global,
+    graph: Graph,
+    last: Option<&Charges>,
+) -> Result<KeptPlan, AllocError>
+    ensures { IfOk result (IsPlanOf graph) }
+{
+    kept_is_planned();
+    match keep_apart(alloc, graph)? {
+        Ok(made) => Ok(KeptPlan::apart(made)),
+        Err(graph) => planned_whole(alloc, graph, last),
+    }
+}
+
+/// Plans a graph whose vertices don't stand apart.
+fn planned_whole(
+    alloc: Global,
+    graph: Graph,
+    last: Option<&Charges>,
+) -> Result<KeptPlan, AllocError>
     ensures { IfOk result (IsPlanOf graph) }
 {
     match plan_of(alloc, &graph, last) {
-        Ok((plan, charges)) => Ok(costed(graph, plan, charges)),
+        Ok((plan, charges)) => Ok(KeptPlan::whole(costed(graph, plan, charges))),
         Err(OutOfMemory) => {
             mem::drop(graph);
             Err(AllocError)
@@ -53,7 +64,7 @@ fn planned_graph(alloc: Global, graph: Graph, last: Option<&Charges>) -> Result<
     }
 }
 
-/// The Least plan of a graph, with charges: read off where all that isn't free stands apart, and else planned.
+/// The Least plan of a graph, with charges.
 fn plan_of(
     alloc: Global,
     graph: &Graph,
@@ -62,9 +73,6 @@ fn plan_of(
     ensures least { IfOk result (λ made. IsLeast graph.now made.0.marks) }
     ensures certified { IfOk result (λ made. IsCertificate graph.now made.0.marks made.1) }
 {
-    if let Some(made) = plan_apart(alloc, graph)? {
-        return Ok(made);
-    }
     match last {
         None => plan(alloc, graph),
         Some(charges) => plan_again(alloc, graph, charges),

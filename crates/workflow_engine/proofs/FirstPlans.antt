@@ -20,7 +20,7 @@ use Rattle.plan_checker.specs.declared.plan.Mark.{Mark}
 use Rattle.plan_checker.specs.declared.vertex.Vertex.{Vertex}
 use Rattle.run_plan.specs.Costs.{costs_of}
 use Rattle.run_plan.specs.Planned.{IsPlanOf}
-use Rattle.run_plan.specs.declared.planned.Planned.{Planned as Made}
+use Rattle.plan_keeper.specs.declared.planned.Planned.{Planned as Made}
 use Rattle.run_rules.specs.Allowed.{IsFree}
 use Rattle.run_rules.specs.Costs.{costs_at, graph_at}
 use Rattle.run_rules.specs.Events.{Event, are_looked_up, has_no_find, is_archived, is_at_hand, is_held, measures, resolved, row_at, unfolding_at}

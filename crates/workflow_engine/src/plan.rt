@@ -19,7 +19,7 @@ use plain_data::{Items, Keyed};
 use plan_checker::each_has_least;
 use proc_host::Host;
 use run_core::Options;
-use run_plan::{Rates, Standing, costs_of, plan_for};
+use run_plan::{KeptPlan, Rates, Standing, costs_of, plan_for};
 use std::alloc::{AllocError, Global};
 use std::mem;
 
@@ -115,12 +115,12 @@ fn first_plan(
 /// A plan with the places of its jobs, or why there is none.
 fn planned_of(
     places: Items<JobPlace>,
-    told: Result<run_plan::Planned, UnfoldError>,
+    told: Result<KeptPlan, UnfoldError>,
 ) -> Result<Planned, PlanFault>
     ensures { result ≡ told_plan places told }
 {
     match told {
-        Ok(made) => Ok(placed(places, made)),
+        Ok(kept) => Ok(placed(places, kept.into_made())),
         Err(error) => {
             mem::drop(places);
             Err(fault_of(error))
@@ -129,10 +129,10 @@ fn planned_of(
 }
 
 /// A plan with the places of its jobs.
-fn placed(places: Items<JobPlace>, made: run_plan::Planned) -> Planned
+fn placed(places: Items<JobPlace>, made: plan_keeper::Planned) -> Planned
     ensures { result ≡ planned_of places made }
 {
-    let run_plan::Planned {
+    let plan_keeper::Planned {
         graph,
         plan,
         charges,

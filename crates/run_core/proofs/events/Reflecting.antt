@@ -32,7 +32,7 @@ use Rattle.job_rows.specs.declared.row.Row.{Row}
 use Rattle.run_core.specs.declared.state.Course.{Course}
 use Rattle.run_core.specs.declared.state.Flight.{Flight}
 use Rattle.run_core.specs.declared.state.Kept.{Kept}
-use Rattle.run_plan.specs.declared.planned.Planned.{Planned}
+use Rattle.plan_keeper.specs.declared.planned.Planned.{Planned}
 use Rattle.run_core.specs.inner.Course.{GivesUp, Past, TakesOut, again, known_in, past_of, place_at, too_often, with_end, with_giving_up, with_staging, with_start, with_answer, with_hand, failure_by, failure_in, put_note, with_note, store_note, drop_note, is_lost_in, key_in, with_load, with_loss, late_note, with_plan}
 use Rattle.run_core.specs.inner.Due.{IsKept}
 use Rattle.run_core.specs.inner.Keeps.{AreTriedOnce, Keeps, Reflects, course_of, numbers_of, AreFound}

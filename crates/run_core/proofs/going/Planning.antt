@@ -15,7 +15,7 @@ use Rattle.job_graph.specs.Unfold.{Resolved, Unfolded, unfolded}
 use Rattle.job_graph.specs.Words.{Fields}
 use Rattle.job_rows.specs.declared.row.Row.{Row}
 use Rattle.run_plan.specs.Costs.{LoadRates, costs_of}
-use Rattle.run_plan.specs.declared.planned.Planned.{Planned}
+use Rattle.plan_keeper.specs.declared.planned.Planned.{Planned}
 use Rattle.run_rules.specs.declared.outcome.PlanNote.{PlanNote}
 use Rattle.run_rules.specs.declared.request.Pair.{Pair}
 use Rattle.run_rules.specs.declared.setting.Options.{Options}

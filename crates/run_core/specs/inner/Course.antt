@@ -16,7 +16,7 @@ use Rattle.run_rules.specs.declared.outcome.RunFault.{RunFault}
 use Rattle.job_graph.specs.Jobs.{Job}
 use Rattle.job_graph.specs.Unfold.{Known, known_from, or_else}
 use Rattle.job_graph.specs.Words.{JobPlace, is_same_place}
-use Rattle.run_plan.specs.declared.planned.Planned.{Planned}
+use Rattle.plan_keeper.specs.declared.planned.Planned.{Planned}
 use Rattle.run_core.specs.declared.state.Course.{Course}
 use Rattle.run_core.specs.declared.state.Flight.{Flight}
 use Rattle.run_core.specs.declared.job_states.JobState.{JobState}

@@ -7,7 +7,7 @@ use Rattle.job_graph.specs.declared.fault.UnfoldError.{UnfoldError}
 use Rattle.job_graph.specs.declared.unfolding.Unfolding.{Unfolding}
 use Rattle.run_plan.specs.Costs.{costs_of}
 use Rattle.run_plan.specs.Planned.{IsPlanOf}
-use Rattle.run_plan.specs.declared.planned.Planned.{Planned}
+use Rattle.plan_keeper.specs.declared.planned.Planned.{Planned}
 use Rattle.run_core.specs.declared.state.Course.{Course}
 use Rattle.run_core.specs.declared.state.Given.{Given}
 use Rattle.run_core.specs.Machine.{PlanNow, plan_of}
@@ -57,6 +57,11 @@ abbrev pub IsToldPlan : Result Planned UnfoldError → Option Planned → Type 0
 IsToldPlan (Ok made) told = told ≡ Some made
 IsToldPlan (Err (UnfoldError.Refused fault)) told = told ≡ None
 IsToldPlan (Err UnfoldError.OutOfMemory) told = ⊥
+
+-- the plan in force is taken away where there is a new one, and else all stays
+abbrev pub IsLentTo : Course → Course → Option Planned → Type 0
+IsLentTo old new None = new ≡ old
+IsLentTo old new (Some made) = new ≡ record old { planned = None }
 
 -- the plan is made anew where some known job isn't at hand; else the last one stays in force
 pub data Replans (given : Given) (old : Course) : Course → Type 0 where

@@ -23,7 +23,7 @@ use Rattle.proc_host.specs.declared.call.HostAnswer.{HostAnswer}
 use Rattle.proc_host.specs.declared.call.HostFault.{HostFault}
 use Rattle.proc_host.specs.declared.call.HostRequest.{HostRequest}
 use Rattle.run_plan.specs.Costs.{LoadRates, costs_of}
-use Rattle.run_plan.specs.declared.planned.Planned.{Planned as Made}
+use Rattle.plan_keeper.specs.declared.planned.Planned.{Planned as Made}
 use Rattle.run_rules.specs.End.{settled}
 use Rattle.run_rules.specs.Events.{Event, are_measured, file_measured, find_failed, host_failed, measures, no_row, nothing_due, resolved, row_at, row_found}
 use Rattle.run_rules.specs.PlannedFirst.{are_looks}

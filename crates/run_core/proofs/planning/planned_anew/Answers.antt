@@ -1,16 +1,16 @@
-use Rattle.std.specs.Prelude.{MatchOption}
-use Rattle.std.proofs.Common.{◌≡◌, List, length, Option, Some, Result, Ok, Err, IfOk, IfErr, sym, subst}
+use Rattle.std.specs.Prelude.{MatchOption, OnOk}
+use Rattle.std.proofs.Common.{◌≡◌, ◌≢◌, List, length, Option, None, Some, Result, Ok, Err, IfOk, IfErr, ap, sym, subst}
 use Rattle.job_graph.specs.PresentJobGraph.{present_job_graph}
 use Rattle.job_graph.specs.Unfolding.{Blames, fault_of}
 use Rattle.job_graph.specs.declared.costs.Costs.{Costs}
 use Rattle.job_graph.specs.declared.fault.UnfoldError.{UnfoldError}
 use Rattle.job_graph.specs.declared.unfolding.Unfolding.{Unfolding}
 use Rattle.run_plan.specs.Planned.{IsPlanOf}
-use Rattle.run_plan.specs.declared.planned.Planned.{Planned}
+use Rattle.plan_keeper.specs.declared.planned.Planned.{Planned}
 use Rattle.run_core.specs.declared.state.Course.{Course}
 use Rattle.run_core.specs.declared.state.Given.{Given}
 use Rattle.run_core.specs.inner.Course.{known_in, past_of}
-use Rattle.run_core.specs.inner.Planning.{AreCosts, IsPlanAt, IsToldPlan, PlansNothing, refused}
+use Rattle.run_core.specs.inner.Planning.{AreCosts, IsLentTo, IsPlanAt, IsToldPlan, PlansNothing, refused}
 use Rattle.run_core.proofs.Lists.{if_ok}
 use Rattle.run_core.proofs.planning.planned_anew.Goals as goal
 
@@ -25,11 +25,24 @@ by_told given course kept known costs its (Err (UnfoldError.Refused fault)) plan
     subst (λ (m : Option Planned). MatchOption m (PlansNothing course) (IsPlanAt given course)) (sym is) (refused kept (fault_of fault) known blames)
 by_told given course kept known costs its (Err UnfoldError.OutOfMemory) planned blames made is = absurd is
 
-pub returns : goal.returns
-returns c =
+-- the plan in force is away where there is a new one
+lent_by_told : (old : Course) (last : Option Planned) (told : Result Planned UnfoldError) → OnOk told (last ≡ None) → IfErr told (λ error. error ≢ UnfoldError.OutOfMemory → last ≡ old.planned) →
+    (made : Option Planned) → IsToldPlan told made → IsLentTo old (record old { planned = last }) made
+lent_by_told old last (Ok plan) taken stays made is =
+    subst (IsLentTo old (record old { planned = last })) (sym is) (ap (λ (planned : Option Planned). record old { planned = planned }) taken)
+lent_by_told old last (Err (UnfoldError.Refused fault)) taken stays made is =
+    subst (IsLentTo old (record old { planned = last })) (sym is) (ap (λ (planned : Option Planned). record old { planned = planned }) (stays (λ e. absurd cc)))
+lent_by_told old last (Err UnfoldError.OutOfMemory) taken stays made is = absurd is
+
+pub returns-clause-made : goal.returns-clause-made
+returns-clause-made c =
     if_ok c.if_planned.result
     (by_told c.args.given.now c.args.course.now c.in-Some.known c.in-Some.is c.as_slice.result.now
     (subst (λ (costs : List Costs). AreCosts c.args.given.now (past_of c.args.course.now) (length (known_in c.args.course.now.known)) costs) (sym c.as_slice.ensures.value)
     c.in_ok-costs.ensures.costs)
-    c.plan_for.result c.plan_for.ensures.ok c.plan_for.ensures.err)
+    c.plan_on.result c.plan_on.ensures.ok c.plan_on.ensures.err)
     c.if_planned.ensures
+
+pub returns-clause-rest : goal.returns-clause-rest
+returns-clause-rest c =
+    if_ok c.if_planned.result (lent_by_told c.args.course.now c.plan_on.new.last c.plan_on.result c.plan_on.ensures.taken c.plan_on.ensures.stays) c.if_planned.ensures

@@ -1,7 +1,9 @@
 use Rattle.std.specs.Prelude.{MatchBool, MatchOption}
-use Rattle.std.proofs.Common.{Bool, Option, refl, subst}
-use Rattle.run_plan.specs.declared.planned.Planned.{Planned}
-use Rattle.run_core.specs.inner.Planning.{AllThere, IsPlanAt, PlansNothing, SomeAway, fails, plans, stays}
+use Rattle.std.proofs.Common.{◌≡◌, ◌∙◌, Bool, None, Option, ap, refl, subst}
+use Rattle.plan_keeper.specs.declared.planned.Planned.{Planned}
+use Rattle.run_core.specs.declared.state.Course.{Course}
+use Rattle.run_core.specs.inner.Course.{past_of, with_plan}
+use Rattle.run_core.specs.inner.Planning.{AllThere, IsLentTo, IsPlanAt, PlansNothing, SomeAway, fails, plans, stays}
 use Rattle.run_core.proofs.Lists.{where_ok}
 use Rattle.run_core.proofs.planning.replan.Goals as goal
 
@@ -13,16 +15,21 @@ returns-then-not-some_are_away-clause-replans c =
 
 pub returns-in-None-clause-replans : goal.returns-in-None-clause-replans
 returns-in-None-clause-replans c =
-    fails c.args.course.now
-    (subst (λ (made : Option Planned). MatchOption made (PlansNothing c.args.course.now) (IsPlanAt c.args.given.now c.args.course.now)) c.in-None.is c.in_ok-planned_anew.ensures)
-    refl refl
+    let stays : c.planned_anew.new.course ≡ c.args.course.now = subst (IsLentTo c.args.course.now c.planned_anew.new.course) c.in-None.is c.in_ok-planned_anew.ensures.rest in
+    fails c.planned_anew.new.course
+    (subst (λ (made : Option Planned). MatchOption made (PlansNothing c.args.course.now) (IsPlanAt c.args.given.now c.args.course.now)) c.in-None.is c.in_ok-planned_anew.ensures.made)
+    (ap past_of stays) (ap (λ (course : Course). course.known) stays)
 
 pub returns-in-Some-clause-replans : goal.returns-in-Some-clause-replans
 returns-in-Some-clause-replans c =
+    let lent : c.planned_anew.new.course ≡ record c.args.course.now { planned = None } =
+    subst (IsLentTo c.args.course.now c.planned_anew.new.course) c.in-Some.is c.in_ok-planned_anew.ensures.rest in
     where_ok c.keep.result
     (λ past.
     plans c.in-Some.made c.keep.new.course
     (subst (λ (away : Bool). MatchBool away (SomeAway c.args.course.now) (AllThere c.args.course.now)) c.if-not-some_are_away.false c.some_are_away.ensures)
-    (subst (λ (made : Option Planned). MatchOption made (PlansNothing c.args.course.now) (IsPlanAt c.args.given.now c.args.course.now)) c.in-Some.is c.in_ok-planned_anew.ensures)
-    past c.keep.ensures.known)
+    (subst (λ (made : Option Planned). MatchOption made (PlansNothing c.args.course.now) (IsPlanAt c.args.given.now c.args.course.now)) c.in-Some.is
+    c.in_ok-planned_anew.ensures.made)
+    (past ∙ ap (λ (course : Course). with_plan c.args.given.now.answers c.in-Some.made (past_of course)) lent)
+    (c.keep.ensures.known ∙ ap (λ (course : Course). course.known) lent))
     c.keep.ensures.past

@@ -1,0 +1,113 @@
+-- A graph that is brought up to date, one vertex after the other.
+use Rattle.std.specs.List.{zip}
+use Rattle.std.proofs.Common.{◌≡◌, ◌≢◌, ◌∙◌, ℕ, suc, ◌+◌, ◌<◌, ◌≤◌, min, Bool, List, [], ◌∷◌, ◌++◌, Option, Some, length, map, take, get_or, set, sym, refl, ap, ap₂, ⊎_elim, arith, get_or-set_other, get_or-set_same}
+use Rattle.std.proofs.Math.Seq.{take-suc}
+use Rattle.std.proofs.lemmas.List.{get_or-map, get_or-take, get_or_default, take_all, length-map, length-set, length-take-le, same_lists}
+use Rattle.std.proofs.lemmas.Slice.Zip.{get_or-zip, length-zip}
+use Rattle.job_graph.specs.Jobs.{Job}
+use Rattle.job_graph.specs.KnownJobs.{jobs_in, known_of}
+use Rattle.job_graph.specs.PresentJobGraph.{is_needed, needed_among, present_job_graph, vertex_of as present_vertex}
+use Rattle.job_graph.specs.Unfold.{Known, Resolved, known_from}
+use Rattle.job_graph.specs.Words.{Fields}
+use Rattle.job_graph.specs.declared.costs.Costs.{Costs}
+use Rattle.job_graph.specs.declared.growth.KnownJob.{KnownJob}
+use Rattle.plan_checker.specs.Graph.{no_vertex, vertex}
+use Rattle.plan_checker.specs.declared.vertex.Vertex.{Vertex}
+use Rattle.plan_checker.proofs.SumsBelow.{below_or_last}
+use Rattle.plan_keeper.specs.Kept.{freed}
+use Rattle.run_plan.specs.Again.{AreFirst, IsBrought, vertex_of, vertices_of}
+
+-- a vertex that is as it should be
+pub as_it_was : (graph : List Vertex) (number : ℕ) (job : Vertex) (held parents : List ℕ) (costs : Costs) (needed : Bool) → job ≡ vertex graph number → held ≡ job.parents → held ≡ parents →
+    job ≡ vertex_of job.parents costs needed → IsBrought graph graph number (vertex_of parents costs needed)
+as_it_was graph number job held parents costs needed read has same is = record {
+  there = sym read ∙ is ∙ ap (λ (ps : List ℕ). vertex_of ps costs needed) (sym has ∙ same);
+  others = λ i other. refl;
+}
+
+-- one that is free now
+pub as_freed : (old new : List Vertex) (number : ℕ) (job : Vertex) (held parents : List ℕ) (costs : Costs) (needed : Bool) → number < length old → job ≡ vertex old number → held ≡ job.parents →
+    held ≡ parents → costs.load ≡ Some 0 → new ≡ set old number (freed (vertex old number) costs.compute needed) → IsBrought old new number (vertex_of parents costs needed)
+as_freed old new number job held parents costs needed there read has same free is =
+    let its : Option ℕ → List ℕ → Vertex = λ load ps. record { load = load; compute = costs.compute; parents = ps; needed = needed } in
+    let parents_are : (vertex old number).parents ≡ parents = ap (λ (v : Vertex). v.parents) (sym read) ∙ sym has ∙ same in
+    record {
+      there =
+          ap (λ (graph : List Vertex). vertex graph number) is
+          ∙ get_or-set_same old number (freed (vertex old number) costs.compute needed) no_vertex there
+          ∙ ap₂ its (sym free) parents_are;
+      others = λ i other. ap (λ (graph : List Vertex). vertex graph i) is ∙ get_or-set_other old number i (freed (vertex old number) costs.compute needed) no_vertex other;
+    }
+
+-- the first n vertices are as they should be
+pub record AreBroughtBelow (graph all : List Vertex) (count n : ℕ) : Type 0 where
+  pub as_many : length graph ≡ count
+  pub below : (i : ℕ) → i < n → vertex graph i ≡ vertex all i
+
+pub brought_more : (old new all : List Vertex) (count n : ℕ) (job : Vertex) → AreBroughtBelow old all count n → IsBrought old new n job → job ≡ vertex all n → length new ≡ length old →
+    AreBroughtBelow new all count (n + 1)
+brought_more old new all count n job before now is same = record {
+  as_many = same ∙ before.as_many;
+  below = λ i hi.
+      ⊎_elim
+      (λ (lt : i < n). now.others i (λ e. absurd (omega (arith, e))) ∙ before.below i lt)
+      (λ (last : i ≡ n). ap (vertex new) last ∙ now.there ∙ is ∙ ap (vertex all) (sym last))
+      (below_or_last n i (omega (arith, hi)));
+}
+
+-- once all have been gone through
+pub all_brought : (graph all : List Vertex) (count n : ℕ) → AreBroughtBelow graph all count n → count ≤ n → count ≤ length all → AreFirst graph all
+all_brought graph all count n brought done within =
+    let as_many = brought.as_many in
+    let few : length graph ≤ length all = omega arith in
+    same_lists graph (take (length graph) all) (sym (length-take-le (length graph) all few))
+    (λ k d (hk : k < length graph).
+    let hn : k < n = omega arith in
+    get_or_default graph k d no_vertex hk ∙ brought.below k hn ∙ sym (get_or_default all k d no_vertex (omega arith)) ∙ sym (get_or-take (length graph) all k d hk))
+
+-- the vertex of a number, by its parts
+module _ (known : List KnownJob) (costs : List Costs) (needed : List Bool) (as_many : length costs ≡ length known) (flags : length needed ≡ length known) where
+  zipped : length (zip known (zip costs needed)) ≡ length known
+  zipped =
+      let inner = length-zip costs needed in
+      let outer = length-zip known (zip costs needed) in
+      omega (arith, inner, outer, as_many, flags)
+
+  pub vertices_count : length (vertices_of known costs needed) ≡ length known
+  vertices_count = length-map (zip known (zip costs needed)) (λ (e : KnownJob × (Costs × Bool)). vertex_of e.0.parents e.1.0 e.1.1) ∙ zipped
+
+  pub vertex_at : (i : ℕ) (job : KnownJob) (cost : Costs) (flag : Bool) → i < length known → job ≡ get_or known i job → cost ≡ get_or costs i cost → flag ≡ get_or needed i flag →
+      vertex_of job.parents cost flag ≡ vertex (vertices_of known costs needed) i
+  vertex_at i job cost flag hi read paid said =
+      let its : KnownJob × (Costs × Bool) → Vertex = λ e. vertex_of e.0.parents e.1.0 e.1.1 in
+      let inner : get_or (zip costs needed) i (cost, flag) ≡ (cost, flag) =
+      get_or-zip costs needed i (cost, flag) (omega (arith, hi, as_many)) (omega (arith, hi, flags)) ∙ ap₂ (λ (c : Costs) (b : Bool). (c, b)) (sym paid) (sym said) in
+      let some = length-zip costs needed in
+      let outer : get_or (zip known (zip costs needed)) i (job, (cost, flag)) ≡ (job, (cost, flag)) =
+      get_or-zip known (zip costs needed) i (job, (cost, flag)) hi (omega (arith, hi, as_many, flags, some))
+      ∙ ap₂ (λ (k : KnownJob) (e : Costs × Bool). (k, e)) (sym read) inner in
+      let all = zipped in
+      sym (get_or-map its (zip known (zip costs needed)) i (job, (cost, flag)) no_vertex (omega (arith, hi, all)) ∙ ap its outer)
+
+-- the first n of them, one after the other
+pub first_more : (graph all : List Vertex) (n : ℕ) (job : Vertex) → graph ≡ take n all → n < length all → job ≡ vertex all n → graph ++ job ∷ [] ≡ take (n + 1) all
+first_more graph all n job first within is =
+    let next : suc n ≡ n + 1 = omega arith in
+    ap₂ (λ (front : List Vertex) (v : Vertex). front ++ v ∷ []) first is ∙ sym (take-suc all n no_vertex within) ∙ ap (λ (m : ℕ). take m all) next
+
+pub all_first : (graph all : List Vertex) (n : ℕ) → graph ≡ take n all → length all ≤ n → graph ≡ all
+all_first graph all n first within = first ∙ take_all n all within
+
+-- the vertices are those of the present job graph
+module _ (learned : List Resolved) (outs : Fields) where
+  by_parts : (known : List KnownJob) (costs : List Costs) →
+      vertices_of known costs (needed_among learned outs (jobs_in known)) ≡ map (present_vertex learned outs) (zip (map known_of known) costs)
+  by_parts [] costs = refl
+  by_parts (k ∷ ks) [] = refl
+  by_parts (k ∷ ks) (c ∷ cs) = ap (λ (vs : List Vertex). present_vertex learned outs (known_of k, c) ∷ vs) (by_parts ks cs)
+
+  pub are_present : (known : List KnownJob) (costs : List Costs) (needed : List Bool) (jobs : List Job) → jobs_in known ≡ jobs → map known_of known ≡ known_from [] jobs →
+      needed ≡ needed_among learned outs jobs → vertices_of known costs needed ≡ present_job_graph learned jobs outs costs
+  are_present known costs needed jobs are parents flags =
+      ap (vertices_of known costs) (flags ∙ ap (needed_among learned outs) (sym are)) ∙ by_parts known costs
+      ∙ ap (λ (ks : List Known). map (present_vertex learned outs) (zip ks costs)) parents

@@ -1,0 +1,41 @@
+use Rattle.std.specs.Prelude.{slice_index_or}
+use Rattle.std.proofs.Common.{rules, ◌≡◌, ◌∙◌, ◌<◌, ◌≤◌, ℕ, Bool, false, List, None, ap, arith, length, sym}
+use Rattle.std.proofs.lemmas.List.{get_or_default}
+use Rattle.job_graph.specs.declared.costs.Costs.{Costs}
+use Rattle.job_graph.specs.declared.growth.KnownJob.{KnownJob}
+use Rattle.plan_checker.specs.Graph.{vertex}
+use Rattle.plan_checker.specs.declared.vertex.Vertex.{Vertex}
+use Rattle.run_plan.specs.Again.{IsBrought, vertex_of, vertices_of}
+use Rattle.run_plan.proofs.Brought.{all_brought, brought_more, vertex_at, vertices_count}
+use Rattle.run_plan.proofs.again.bring_old.Goals as goal
+
+pub loop-number-preserved : goal.loop-number-preserved
+loop-number-preserved c =
+    let all : List Vertex = vertices_of c.args.known.now c.args.costs.now c.args.needed.now in
+    let number : ℕ = c.loop-number.number in
+    let below : number < length c.vertices-count.result.now = search rules in
+    let few : length c.vertices-count.result.now ≤ length c.args.known.now = search rules in
+    let there : number < length c.args.known.now = omega (arith, below, few) in
+    let its : Costs = slice_index_or c.args.costs.now number (record { load = None; compute = 0 }) in
+    let flag : Bool = slice_index_or c.args.needed.now number false in
+    let now : IsBrought c.loop-number.made.graph c.bring_one.new.made.graph number (vertex_of c.as_slice-parents.result.now its flag) = search rules in
+    let is : vertex_of c.as_slice-parents.result.now its flag ≡ vertex all number =
+    ap (λ (parents : List ℕ). vertex_of parents its flag) c.as_slice-parents.ensures
+    ∙ ap (λ (job : KnownJob). vertex_of job.parents its flag) (sym c.index-known-number.is)
+    ∙ vertex_at c.args.known.now c.args.costs.now c.args.needed.now c.requires.costs c.requires.needed number c.index-known-number.result its flag there c.index-known-number.is
+    (get_or_default c.args.costs.now number (record { load = None; compute = 0 }) its (omega (arith, there, c.requires.costs)))
+    (get_or_default c.args.needed.now number false flag (omega (arith, there, c.requires.needed))) in
+    record {
+      kept = c.bring_one.ensures.kept;
+      brought =
+          brought_more c.loop-number.made.graph c.bring_one.new.made.graph all (length c.vertices-count.result.now) number (vertex_of c.as_slice-parents.result.now its flag)
+          c.loop-number.invariant.brought now is c.bring_one.ensures.count;
+    }
+
+pub returns-clause-brought : goal.returns-clause-brought
+returns-clause-brought c =
+    let all : List Vertex = vertices_of c.args.known.now c.args.costs.now c.args.needed.now in
+    let count = vertices_count c.args.known.now c.args.costs.now c.args.needed.now c.requires.costs c.requires.needed in
+    let past : length c.vertices-count.result.now ≤ c.loop-number.number = search rules in
+    let few : length c.vertices-count.result.now ≤ length c.args.known.now = search rules in
+    λ yes. all_brought c.loop-number.made.graph all (length c.vertices-count.result.now) c.loop-number.number c.loop-number.invariant.brought past (omega (arith, few, count))

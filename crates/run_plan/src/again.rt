@@ -1,0 +1,215 @@
+//! The plan of the jobs that are known, by the one that was made before.
+ghost use Rattle.std.specs.Prelude.{◌≡◌, ◌≢◌, ◌≤◌, All, ◌++◌, ◌∷◌, ◌<◌, [], IfErr, IfOk, IfSome, IsTrue, None, OnOk, length, take};
+ghost use Rattle.job_graph.specs.PresentJobGraph.{AreWithin, needed_among, present_job_graph};
+ghost use Rattle.job_graph.specs.Unfolding.{Blames};
+ghost use Rattle.job_graph.specs.declared.fault.UnfoldError.{UnfoldError};
+ghost use Rattle.plan_checker.specs.Graph.{vertex};
+ghost use Rattle.plan_keeper.specs.Kept.{IsKeptApart};
+ghost use Rattle.run_plan.specs.Again.{AreFirst, IsBrought, vertex_of, vertices_of};
+ghost use Rattle.run_plan.specs.Planned.{IsPlanOf};
+
+use crate::kept::KeptPlan;
+use crate::planned::plan_for;
+use job_graph::{Costs, KnownJob, UnfoldError, Unfolding};
+use plain_data::Items;
+use plan_checker::{GraphError, Vertex};
+use plan_keeper::{Planned, add_vertex, free_vertex, kept_is_planned};
+use std::alloc::{AllocError, Global};
+use std::mem;
+
+/// Plans the present job graph of the jobs that are known, each with its costs, and takes the last plan away. Where the vertices
+/// of its graph stand apart, only those are looked at closely that have changed since. After a refused `learn` it answers that
+/// refusal, and the last plan stays.
+pub fn plan_on(
+    alloc: Global,
+    known: &Unfolding<'_>,
+    costs: &[Costs],
+    last: &mut Option<KeptPlan>,
+) -> Result<KeptPlan, UnfoldError>
+    requires each { length costs.now ≡ length known.now.known }
+    requires within { All AreWithin costs.now }
+    ensures ok { IfOk result (IsPlanOf
+        (present_job_graph known.now.learned known.now.known known.now.outs costs.now)) }
+    ensures taken { OnOk result (last.new ≡ None) }
+    ensures err { IfErr result (Blames known.now.refused) }
+    ensures stays { IfErr result (λ error. error ≢ UnfoldError.OutOfMemory
+        → last.new ≡ last.old) }
+{
+    let needed = known.needed()?;
+    match mem::replace(last, None) {
+        None => plan_for(alloc, known, costs, None),
+        Some(kept) => match kept.into_apart() {
+            Err(made) => plan_for(alloc, known, costs, Some(&made.charges)),
+            Ok(made) => plan_by(alloc, known, costs, needed.as_slice(), made),
+        },
+    }
+}
+
+/// Brings the plan before up to date, or plans from nothing.
+fn plan_by(
+    alloc: Global,
+    known: &Unfolding<'_>,
+    costs: &[Costs],
+    needed: &[bool],
+    made: Planned,
+) -> Result<KeptPlan, UnfoldError>
+    requires kept { IsKeptApart made }
+    requires each { length costs.now ≡ length known.now.known }
+    requires needed { needed.now ≡ needed_among known.now.learned known.now.outs known.now.known }
+    requires within { All AreWithin costs.now }
+    ensures ok { IfOk result (IsPlanOf
+        (present_job_graph known.now.learned known.now.known known.now.outs costs.now)) }
+    ensures err { IfErr result (Blames known.now.refused) }
+{
+    kept_is_planned();
+    match brought(alloc, made, known.known(), costs, needed)? {
+        Some(made) => Ok(KeptPlan::apart(made)),
+        None => plan_for(alloc, known, costs, None),
+    }
+}
+
+/// The plan before, brought up to date; none where the vertices don't stand apart any more.
+fn brought(
+    alloc: Global,
+    made: Planned,
+    known: &[KnownJob<'_>],
+    costs: &[Costs],
+    needed: &[bool],
+) -> Result<Option<Planned>, AllocError>
+    requires kept { IsKeptApart made }
+    requires costs { length costs.now ≡ length known.now }
+    requires needed { length needed.now ≡ length known.now }
+    requires within { All AreWithin costs.now }
+    ensures { IfOk result (λ found. IfSome found (λ made. IsKeptApart made
+        × (made.graph ≡ vertices_of known.now costs.now needed.now))) }
+{
+    let mut made = made;
+    if !bring_old(alloc, &mut made, known, costs, needed) {
+        return Ok(None);
+    }
+    add_new(alloc, made, known, costs, needed)
+}
+
+/// Brings the vertices up to date that there are. Returns whether they are.
+fn bring_old(
+    alloc: Global,
+    made: &mut Planned,
+    known: &[KnownJob<'_>],
+    costs: &[Costs],
+    needed: &[bool],
+) -> bool
+    requires kept { IsKeptApart made.old }
+    requires costs { length costs.now ≡ length known.now }
+    requires needed { length needed.now ≡ length known.now }
+    requires within { All AreWithin costs.now }
+    ensures kept { IsKeptApart made.new }
+    ensures brought { IsTrue result → AreFirst made.new.graph
+        (vertices_of known.now costs.now needed.now) }
+{
+    let count = made.graph.vertices().len();
+    if count > known.len() {
+        return false;
+    }
+    for number in 0..count {
+        let parents = known[number].parents.as_slice();
+        if !bring_one(alloc, made, number, parents, costs[number], needed[number]) {
+            return false;
+        }
+    }
+    true
+}
+
+/// Brings a vertex up to date. Returns whether it is: one that has changed must be free now.
+fn bring_one(
+    alloc: Global,
+    made: &mut Planned,
+    number: usize,
+    parents: &[usize],
+    costs: Costs,
+    needed: bool,
+) -> bool
+    requires kept { IsKeptApart made.old }
+    requires there { number < length made.old.graph }
+    requires within { AreWithin costs }
+    ensures kept { IsKeptApart made.new }
+    ensures brought { IsTrue result → IsBrought made.old.graph made.new.graph number
+        (vertex_of parents.now costs needed) }
+    ensures count { length made.new.graph ≡ length made.old.graph }
+{
+    let vertex = &made.graph.vertices()[number];
+    if vertex.parents.as_slice() != parents {
+        return false;
+    }
+    if has(vertex, costs, needed) {
+        return true;
+    }
+    if costs.load != Some(0) {
+        return false;
+    }
+    free_vertex(alloc, made, number, costs.compute, needed);
+    true
+}
+
+/// Whether a vertex has these costs, and is needed or not as this says.
+fn has(vertex: &Vertex, costs: Costs, needed: bool) -> bool
+    ensures { IsTrue result → vertex.now ≡ vertex_of vertex.now.parents costs needed }
+{
+    vertex.needed == needed && vertex.compute == costs.compute && vertex.load == costs.load
+}
+
+/// Adds the vertices of jobs that have become known since.
+fn add_new(
+    alloc: Global,
+    made: Planned,
+    known: &[KnownJob<'_>],
+    costs: &[Costs],
+    needed: &[bool],
+) -> Result<Option<Planned>, AllocError>
+    requires kept { IsKeptApart made }
+    requires first { AreFirst made.graph (vertices_of known.now costs.now needed.now) }
+    requires costs { length costs.now ≡ length known.now }
+    requires needed { length needed.now ≡ length known.now }
+    ensures { IfOk result (λ found. IfSome found (λ made. IsKeptApart made
+        × (made.graph ≡ vertices_of known.now costs.now needed.now))) }
+{
+    let mut made = made;
+    for number in made.graph.vertices().len()..known.len() {
+        let vertex = new_vertex(alloc, &known[number], costs[number], needed[number])?;
+        match added(alloc, made, vertex)? {
+            Some(more) => made = more,
+            None => return Ok(None),
+        }
+    }
+    Ok(Some(made))
+}
+
+/// The vertex of a job that has become known.
+fn new_vertex(
+    alloc: Global,
+    known: &KnownJob<'_>,
+    costs: Costs,
+    needed: bool,
+) -> Result<Vertex, AllocError>
+    ensures { IfOk result (λ vertex. vertex ≡ vertex_of known.now.parents costs needed) }
+{
+    let parents = Items::from_vec(Vec::from_slice(alloc, known.parents.as_slice())?);
+    Ok(Vertex {
+        load: costs.load,
+        compute: costs.compute,
+        parents,
+        needed,
+    })
+}
+
+/// Adds a vertex; none where it doesn't stand apart.
+fn added(alloc: Global, made: Planned, vertex: Vertex) -> Result<Option<Planned>, AllocError>
+    requires { IsKeptApart made }
+    ensures { IfOk result (λ found. IfSome found (λ more. IsKeptApart more
+        × (more.graph ≡ made.graph ++ vertex ∷ []))) }
+{
+    match add_vertex(alloc, made, vertex) {
+        Ok(found) => Ok(found),
+        Err(GraphError::OutOfMemory) => Err(AllocError),
+        Err(GraphError::BadGraph(_)) => Ok(None),
+    }
+}
