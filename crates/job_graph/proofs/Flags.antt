@@ -1,6 +1,6 @@
 -- Flags of the known jobs: what sets them, and what they say once they are set.
 use Rattle.std.proofs.Common.{◌≡◌, ◌∙◌, ℕ, List, [], ◌∷◌, ◌++◌, map, length, take, drop, find, get_or, Bool, true, false, cond, Option, Some, None, option_map, refl, sym, ap, ap₂, arith}
-use Rattle.std.specs.Prelude.{◌||◌, is_some}
+use Rattle.std.specs.Prelude.{◌||◌, is_some, not}
 use Rattle.std.specs.List.{zip}
 use Rattle.std.proofs.Math.Seq.{get_or-append_seam}
 use Rattle.std.proofs.lemmas.List.{length-map, length_push, map-append, take-append-drop}
@@ -10,11 +10,13 @@ use Rattle.job_graph.specs.declared.made.Resolved.{Resolved as KeptResolved}
 use Rattle.job_graph.specs.declared.progress.Progress.{Progress}
 use Rattle.job_graph.specs.Words.{Fields, JobPlace, is_same_place}
 use Rattle.job_graph.specs.KnownJobs.{jobs_in, known_of}
+use Rattle.job_graph.specs.Made.{any_made}
 use Rattle.job_graph.specs.PresentJobGraph.{needed_among, vertex_of}
 use Rattle.job_graph.specs.Unfold.{Resolved, outputs_at}
 use Rattle.job_graph.specs.inner.Ended.{ended_after, ended_of, has_ended, needed_by, vertex_by}
 use Rattle.job_graph.specs.inner.Inside.{IsFlagged}
 use Rattle.job_graph.specs.inner.Views.{resolved_of}
+use Rattle.job_graph.proofs.Marks.{same_either_way}
 
 -- ---- once one more place is learned
 
@@ -41,7 +43,10 @@ one_more (r ∷ rs) one place =
 pub ended_more : (learned : List Resolved) (one : Resolved) (known : List KnownJob) →
     map (ended_after one.place) (zip (ended_of learned known) known) ≡ ended_of (learned ++ one ∷ []) known
 ended_more learned one [] = refl
-ended_more learned one (k ∷ ks) = ap₂ (λ (b : Bool) (bs : List Bool). b ∷ bs) (sym (one_more learned one k.job.place)) (ended_more learned one ks)
+ended_more learned one (k ∷ ks) =
+    ap₂ (λ (b : Bool) (bs : List Bool). b ∷ bs)
+    (ap (λ (same : Bool). has_ended learned k || same) (same_either_way k.job.place one.place) ∙ sym (one_more learned one k.job.place))
+    (ended_more learned one ks)
 
 same_last : {X : Type 0} (before early : List X) (one last : X) → before ++ one ∷ [] ≡ early ++ last ∷ [] → one ≡ last
 same_last before early one last is =
@@ -100,6 +105,18 @@ flags_more old resolved more known flags flagged is same set =
 pub needs_by : (learned : List Resolved) (outs : Fields) (known : List KnownJob) → map (needed_by outs) (zip (ended_of learned known) known) ≡ needed_among learned outs (jobs_in known)
 needs_by learned outs [] = refl
 needs_by learned outs (k ∷ ks) = ap (λ (bs : List Bool). needed_by outs (has_ended learned k, k) ∷ bs) (needs_by learned outs ks)
+
+-- while no job made a File or Directory in the outputs, a job is needed where it is open
+stays_open : (flag made : Bool) → made ≡ false → not flag ≡ (not flag || made)
+stays_open true made none = sym none
+stays_open false made none = refl
+
+pub open_are_needed : (outs : Fields) (flags : List Bool) (known : List KnownJob) → ((job : JobPlace) → any_made job outs ≡ false) → length flags ≡ length known →
+    map not flags ≡ map (needed_by outs) (zip flags known)
+open_are_needed outs [] known none as_many = refl
+open_are_needed outs (b ∷ bs) [] none as_many = absurd (omega (arith, as_many))
+open_are_needed outs (b ∷ bs) (k ∷ ks) none as_many =
+    ap₂ (λ (one : Bool) (rest : List Bool). one ∷ rest) (stays_open b (any_made k.job.place outs) (none k.job.place)) (open_are_needed outs bs ks none (omega (arith, as_many)))
 
 -- of what the fields are, where they are lent
 pub needs_are : (held : Progress) (needed : List Bool) (outs : Fields) (flags : List Bool) (known : List KnownJob) → IsFlagged held →

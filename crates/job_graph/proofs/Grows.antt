@@ -1,5 +1,5 @@
 -- What is added to the known jobs, by the code's own words.
-use Rattle.std.proofs.Common.{◌≡◌, ◌∙◌, ℕ, ◌+◌, ◌<◌, ◌≤◌, ◌⊎◌, inl, inr, List, [], ◌∷◌, ◌++◌, length, Bool, true, false, cond, Option, Some, None, Result, Ok, Err, refl, sym, ap, subst, take, drop, append_assoc, arith, get_or, add-one}
+use Rattle.std.proofs.Common.{◌≡◌, ◌∙◌, ℕ, suc, ◌+◌, ◌<◌, ◌≤◌, ◌⊎◌, inl, inr, List, [], ◌∷◌, ◌++◌, length, Bool, true, false, cond, Option, Some, None, Result, Ok, Err, refl, sym, ap, subst, take, drop, append_assoc, arith, get_or, add-one}
 use Rattle.std.proofs.Math.Seq.{drop-cons, take-append_seam, take-length}
 use Rattle.std.specs.Prelude.{◌||◌}
 use Rattle.std.specs.List.{list_any}
@@ -140,6 +140,13 @@ pub parents_at : (known : List KnownJob) (n : ℕ) (one : KnownJob) (inputs : Fi
     parents_from n (jobs_in (drop n known)) inputs
     ≡ cond (any_made one.job.place inputs) (n ∷ parents_from (n + 1) (jobs_in (drop (n + 1) known)) inputs) (parents_from (n + 1) (jobs_in (drop (n + 1) known)) inputs)
 parents_at known n one inputs below is = rw (drop-cons known n one, ← is) (simp add-one)
+
+-- where no job made what is in the inputs
+pub no_parents : (inputs : Fields) → ((job : JobPlace) → any_made job inputs ≡ false) → (n : ℕ) (jobs : List Job) → parents_from n jobs inputs ≡ []
+no_parents inputs none n [] = refl
+no_parents inputs none n (maker ∷ makers) =
+    ap (λ (made : Bool). cond made (n ∷ parents_from (suc n) makers inputs) (parents_from (suc n) makers inputs)) (none maker.place)
+    ∙ no_parents inputs none (suc n) makers
 
 -- ---- whether a job is known
 

@@ -7,7 +7,7 @@ use Rattle.plan_checker.specs.Graph.{IsGraph}
 use Rattle.job_graph.specs.declared.costs.Costs.{Costs}
 use Rattle.job_graph.specs.declared.growth.KnownJob.{KnownJob}
 use Rattle.job_graph.specs.declared.progress.Progress.{Progress}
-use Rattle.job_graph.specs.KnownJobs.{job_of, known_of}
+use Rattle.job_graph.specs.KnownJobs.{job_of}
 use Rattle.job_graph.specs.Words.{Fields}
 use Rattle.job_graph.specs.PresentJobGraph.{AreWithin, present_job_graph, vertex_of}
 use Rattle.job_graph.specs.Unfold.{Known, is_within_limits}

@@ -4,12 +4,13 @@ ghost use Rattle.std.specs.List.{zip};
 ghost use Rattle.job_graph.specs.declared.made.Resolved.{Resolved as KeptResolved};
 ghost use Rattle.job_graph.specs.inner.Ended.{ended_after, ended_of, has_ended};
 ghost use Rattle.job_graph.specs.inner.Growth.{Grows};
+ghost use Rattle.job_graph.specs.inner.Marks.{mark_of};
 ghost use Rattle.job_graph.specs.inner.Views.{met_of, resolved_of};
 
 use crate::fault::UnfoldError;
-use crate::growth::{KnownJob, grow};
+use crate::growing::grow;
+use crate::growth::KnownJob;
 use crate::learned::Learned;
-use crate::place::is_same_place;
 use crate::walk::Met;
 use cwl_value::Segment;
 use plain_data::Items;
@@ -63,7 +64,7 @@ fn has_ended(learned: &Learned, known: &KnownJob<'_>) -> bool
     learned.outputs_at(&known.job.place).is_some()
 }
 
-/// Sets the flags of the jobs at the place that was learned last. Places are compared, and none is looked up.
+/// Sets the flags of the jobs at the place that was learned last. Marks are compared, and none is looked up.
 pub(crate) fn end_last(ended: &mut Vec<bool>, learned: &Learned, known: &[KnownJob<'_>])
     requires { length ended.old.items ≡ length known.now }
     ensures { (before : List KeptResolved) (one : KeptResolved)
@@ -73,24 +74,26 @@ pub(crate) fn end_last(ended: &mut Vec<bool>, learned: &Learned, known: &[KnownJ
 {
     match learned.last() {
         None => (),
-        Some(last) => end_at(ended, known, last.at.place.as_slice()),
+        Some(last) => end_at(ended, known, last.at.place.as_slice(), last.at.mark()),
     }
 }
 
-/// Sets the flags of the jobs at a place.
-fn end_at(ended: &mut Vec<bool>, known: &[KnownJob<'_>], place: &[Segment])
-    requires { length ended.old.items ≡ length known.now }
+/// Sets the flags of the jobs at a place, whose mark is given too.
+fn end_at(ended: &mut Vec<bool>, known: &[KnownJob<'_>], place: &[Segment], mark: u64)
+    requires long { length ended.old.items ≡ length known.now }
+    requires mark { mark ≡ mark_of place.now }
     ensures { ended.new.items ≡ map (ended_after place.now) (zip ended.old.items known.now) }
 {
     for number in 0..known.len() {
-        ended[number] = is_ended(ended[number], &known[number], place);
+        ended[number] = is_ended(ended[number], &known[number], place, mark);
     }
 }
 
-fn is_ended(had_ended: bool, known: &KnownJob<'_>, place: &[Segment]) -> bool
+fn is_ended(had_ended: bool, known: &KnownJob<'_>, place: &[Segment], mark: u64) -> bool
+    requires { mark ≡ mark_of place.now }
     ensures { result ≡ ended_after place.now (had_ended, known.now) }
 {
-    had_ended || is_same_place(place, known.job.place.as_slice())
+    had_ended || known.is_at(place, mark)
 }
 
 /// Looks up anew which of the jobs have ended. Needs no memory.

@@ -1,11 +1,12 @@
 //! The jobs that made the Files and Directories in some values, found without going down the values for each job.
-ghost use Rattle.std.specs.Prelude.{◌≡◌, ◌||◌, IfOk, OnOk, false, map};
+ghost use Rattle.std.specs.Prelude.{◌≡◌, ◌||◌, IfOk, OnOk, false, map, true};
 ghost use Rattle.std.specs.List.{list_any};
 ghost use Rattle.plain_data.specs.ByName.{map_values};
 ghost use Rattle.job_graph.specs.Words.{JobPlace, is_same_place};
 ghost use Rattle.cwl_value.specs.Fileless.{some_true};
 ghost use Rattle.job_graph.specs.Made.{any_made, dir_holds, file_holds, holds_made, is_of};
 ghost use Rattle.job_graph.specs.inner.Makers.{is_noted, is_this};
+ghost use Rattle.job_graph.specs.inner.Marks.{mark_of};
 
 use crate::mark::mark_of;
 use crate::place::is_same_place;
@@ -47,11 +48,19 @@ impl<'v> Makers<'v> {
         Ok(Makers { fields, noted })
     }
 
-    /// Whether the job at a place made one.
-    pub(crate) fn has(&self, job: &JobPlace) -> bool
+    /// Whether no job made one.
+    pub(crate) fn is_empty(&self) -> bool
+        ensures { result ≡ true → (job : JobPlace) → any_made job self.now ≡ false }
+    {
+        self.noted.is_empty()
+    }
+
+    /// Whether the job at a place made one, where the mark of the place is given too.
+    pub(crate) fn has(&self, job: &JobPlace, mark: u64) -> bool
+        requires { mark ≡ mark_of job.now }
         ensures { result ≡ any_made job.now self.now }
     {
-        self.noted.has(job)
+        self.noted.has(job, mark)
     }
 }
 
@@ -73,13 +82,17 @@ impl<'v> Noted<'v> {
         }
     }
 
-    fn has(&self, job: &JobPlace) -> bool
+    fn is_empty(&self) -> bool
+        ensures { result ≡ true → (job : JobPlace) → is_noted job self.now ≡ false }
+    {
+        self.by_mark.is_empty() && self.others.is_empty()
+    }
+
+    fn has(&self, job: &JobPlace, mark: u64) -> bool
+        requires { mark ≡ mark_of job.now }
         ensures { result ≡ is_noted job.now self.now }
     {
-        if self.by_mark.is_empty() && self.others.is_empty() {
-            return false;
-        }
-        if let Some(place) = self.by_mark.get(&mark_of(job.as_slice())) {
+        if let Some(place) = self.by_mark.get(&mark) {
             if is_same_place(place.as_slice(), job.as_slice()) {
                 return true;
             }

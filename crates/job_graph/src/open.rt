@@ -1,30 +1,29 @@
 //! Jobs that are open beside one that ends.
-ghost use Rattle.std.specs.Prelude.{◌≡◌, map};
-ghost use Rattle.job_graph.specs.KnownJobs.{jobs_in};
-ghost use Rattle.job_graph.specs.Beside.{is_one_open, is_open_beside};
-ghost use Rattle.job_graph.specs.inner.Views.{resolved_of};
+ghost use Rattle.std.specs.Prelude.{◌≡◌, length};
+ghost use Rattle.std.specs.List.{list_any, zip};
+ghost use Rattle.job_graph.specs.inner.Ended.{open_by};
 
 use crate::growth::KnownJob;
-use crate::learned::Learned;
 use crate::place::is_beside;
 use cwl_value::JobPlace;
 
-/// Whether another job of the scattered step at a place has not ended. Jobs end in nearly the order in which they became known, so the search begins
-/// with the last one.
-pub(crate) fn is_one_open(learned: &Learned, place: &JobPlace, known: &[KnownJob<'_>]) -> bool
-    ensures { result ≡ is_one_open (map resolved_of learned.now) place.now (jobs_in known.now) }
+/// Whether another job of the scattered step at a place has not ended, by the flags that say which have. Jobs end in nearly the order in which they
+/// became known, so the search begins with the last one. Places are compared of jobs alone that have not ended.
+pub(crate) fn is_one_open(ended: &[bool], place: &JobPlace, known: &[KnownJob<'_>]) -> bool
+    requires { length ended.now ≡ length known.now }
+    ensures { result ≡ list_any (open_by place.now) (zip ended.now known.now) }
 {
     for back in 0..known.len() {
         let number = known.len() - 1 - back;
-        if is_open_beside(learned, place, &known[number].job.place) {
+        if is_open(ended[number], place, &known[number]) {
             return true;
         }
     }
     false
 }
 
-fn is_open_beside(learned: &Learned, place: &JobPlace, other: &JobPlace) -> bool
-    ensures { result ≡ is_open_beside (map resolved_of learned.now) place.now other.now }
+fn is_open(has_ended: bool, place: &JobPlace, known: &KnownJob<'_>) -> bool
+    ensures { result ≡ open_by place.now (has_ended, known.now) }
 {
-    is_beside(place.as_slice(), other.as_slice()) && learned.outputs_at(other).is_none()
+    !has_ended && is_beside(place.as_slice(), known.job.place.as_slice())
 }

@@ -1,5 +1,5 @@
 //! The present job graph: the known jobs as a planner takes them.
-ghost use Rattle.std.specs.Prelude.{◌≡◌, IfErr, IfOk, length, map};
+ghost use Rattle.std.specs.Prelude.{◌≡◌, IfErr, IfOk, length, map, not};
 ghost use Rattle.std.specs.List.{zip};
 ghost use Rattle.plan_checker.specs.Graph.{IsGraph};
 ghost use Rattle.job_graph.specs.declared.fault.UnfoldError.{UnfoldError};
@@ -36,7 +36,8 @@ pub(crate) fn vertices_of(
     Ok(vertices)
 }
 
-/// Whether each of these known jobs is needed, where the process has these known outputs.
+/// Whether each of these known jobs is needed, where the process has these known outputs. While no job has made a File or
+/// Directory in them, the flags alone say so.
 pub(crate) fn needed_of(
     alloc: Global,
     outs: &[(Text, Value)],
@@ -48,9 +49,37 @@ pub(crate) fn needed_of(
         ≡ map (needed_by outs.now) (zip ended.now known.now)) }
 {
     let makers = Makers::of(alloc, outs)?;
+    if makers.is_empty() {
+        return open_ones(alloc, ended);
+    }
+    needed_for(alloc, &makers, ended, known)
+}
+
+/// Whether each job is open, by the flags of those that have ended.
+fn open_ones(alloc: Global, ended: &[bool]) -> Result<Vec<bool>, AllocError>
+    ensures { IfOk result (λ flags. flags.items ≡ map not ended.now) }
+{
+    let mut flags = Vec::with_capacity(alloc, ended.len())?;
+    for has_ended in ended {
+        flags.push_reserved(!*has_ended);
+    }
+    Ok(flags)
+}
+
+/// Whether each of these known jobs is needed, where these jobs made what is in the known outputs.
+fn needed_for(
+    alloc: Global,
+    makers: &Makers<'_>,
+    ended: &[bool],
+    known: &[KnownJob<'_>],
+) -> Result<Vec<bool>, AllocError>
+    requires { length ended.now ≡ length known.now }
+    ensures { IfOk result (λ needed. needed.items
+        ≡ map (needed_by makers.now) (zip ended.now known.now)) }
+{
     let mut needed = Vec::with_capacity(alloc, known.len())?;
     for number in 0..known.len() {
-        needed.push(is_needed(&makers, ended[number], &known[number]))?;
+        needed.push(is_needed(makers, ended[number], &known[number]))?;
     }
     Ok(needed)
 }
@@ -59,7 +88,7 @@ pub(crate) fn needed_of(
 fn is_needed(makers: &Makers<'_>, has_ended: bool, known: &KnownJob<'_>) -> bool
     ensures { result ≡ needed_by makers.now (has_ended, known.now) }
 {
-    !has_ended || makers.has(&known.job.place)
+    !has_ended || makers.has(&known.job.place, known.mark())
 }
 
 /// The vertex of a known job.

@@ -171,7 +171,7 @@ impl<'a> Progress<'a> {
             ≡ self.old.known.items) }
     {
         let place = &resolved.at.place;
-        let is_open = is_one_open(&self.facts.learned, place, self.known.as_slice());
+        let is_open = is_one_open(self.ended.as_slice(), place, self.known.as_slice());
         self.facts.learned.push(resolved)?;
         end_last(&mut self.ended, &self.facts.learned, self.known.as_slice());
         if is_open {

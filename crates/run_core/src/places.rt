@@ -8,7 +8,7 @@ use crate::folders::{Left, left_folder, path_in};
 use crate::job_states::JobState;
 use cwl_value::{DirVal, FileVal, JobPlace, Place, Value};
 use file_values::path_to_location;
-use job_graph::{KnownJob, is_same_place};
+use job_graph::{KnownJob, Sought};
 use plain_data::{Items, Keyed, Text};
 use std::alloc::{AllocError, Global};
 
@@ -168,8 +168,9 @@ fn left_in(sources: Sources<'_, '_>, place: &JobPlace) -> Left
 fn number_in(sources: Sources<'_, '_>, place: &JobPlace) -> u64
     ensures { result ≡ number_at_source sources.entry place.now }
 {
+    let sought = Sought::new(place.as_slice());
     for (known, job) in sources.known.iter().zip(sources.jobs) {
-        if is_same_place(known.job.place.as_slice(), place.as_slice()) {
+        if sought.is_of(known) {
             return job.folder;
         }
     }
@@ -180,8 +181,9 @@ fn number_in(sources: Sources<'_, '_>, place: &JobPlace) -> u64
 fn fetched_in(sources: Sources<'_, '_>, place: &JobPlace) -> bool
     ensures { result ≡ fetched_at_source sources.entry place.now }
 {
+    let sought = Sought::new(place.as_slice());
     for (known, job) in sources.known.iter().zip(sources.jobs) {
-        if is_same_place(known.job.place.as_slice(), place.as_slice()) {
+        if sought.is_of(known) {
             return job.fetched;
         }
     }

@@ -1,7 +1,8 @@
 -- Which of the known jobs have ended, as flags beside them.
-use Rattle.std.specs.Prelude.{◌||◌, not, Bool, List, is_some, map}
+use Rattle.std.specs.Prelude.{◌&&◌, ◌||◌, not, Bool, List, is_some, map}
 use Rattle.plan_checker.specs.declared.vertex.Vertex.{Vertex}
 use Rattle.job_graph.specs.Words.{Fields, JobPlace, is_same_place}
+use Rattle.job_graph.specs.Beside.{is_beside}
 use Rattle.job_graph.specs.Made.{any_made}
 use Rattle.job_graph.specs.Unfold.{Resolved, outputs_at}
 use Rattle.job_graph.specs.declared.costs.Costs.{Costs}
@@ -17,7 +18,11 @@ ended_of learned known = map (has_ended learned) known
 
 -- a job's flag once a place is learned: it had ended, or is at this place
 abbrev pub ended_after : JobPlace → Bool × KnownJob → Bool
-ended_after place entry = entry.0 || is_same_place place entry.1.job.place
+ended_after place entry = entry.0 || is_same_place entry.1.job.place place
+
+-- whether a known job is open beside a place, by its flag
+abbrev pub open_by : JobPlace → Bool × KnownJob → Bool
+open_by place entry = not entry.0 && is_beside place entry.1.job.place
 
 -- whether a known job is needed, by its flag, where the process has these known outputs
 abbrev pub needed_by : Fields → Bool × KnownJob → Bool

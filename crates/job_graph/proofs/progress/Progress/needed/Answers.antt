@@ -1,4 +1,4 @@
-use Rattle.std.proofs.Common.{◌≡◌, ◌∙◌, ap, length}
+use Rattle.std.proofs.Common.{◌∙◌, ap, length}
 use Rattle.job_graph.proofs.Flags.{flags_fit, needs_are}
 use Rattle.job_graph.proofs.progress.Progress.needed.Goals as goal
 

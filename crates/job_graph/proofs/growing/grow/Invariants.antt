@@ -2,7 +2,7 @@ use Rattle.std.proofs.Common.{◌≡◌, ◌++◌, Ok, map}
 use Rattle.std.specs.Vec.Iter.{into_iter_items}
 use Rattle.job_graph.specs.inner.Growth.{Grows}
 use Rattle.job_graph.specs.inner.Views.{met_of}
-use Rattle.job_graph.proofs.growth.grow.Given as goal
+use Rattle.job_graph.proofs.growing.grow.Given as goal
 
 abbrev pub invariant-loop-one : goal.invariant-loop-one
 invariant-loop-one l = record {

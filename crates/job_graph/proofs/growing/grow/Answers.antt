@@ -6,7 +6,7 @@ use Rattle.job_graph.specs.Jobs.{Met}
 use Rattle.job_graph.specs.inner.Growth.{Grows}
 use Rattle.job_graph.specs.inner.Views.{met_of}
 use Rattle.job_graph.proofs.Grows.{grows_front, grows_more}
-use Rattle.job_graph.proofs.growth.grow.Goals as goal
+use Rattle.job_graph.proofs.growing.grow.Goals as goal
 
 pub loop-one-preserved : goal.loop-one-preserved
 loop-one-preserved c = record {
